@@ -1,0 +1,4 @@
+pub mod Disk
+pub mod Memory
+pub mod Moments
+pub mod Ranges
