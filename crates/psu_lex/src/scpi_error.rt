@@ -169,3 +169,10 @@ impl ScpiError {
         self.class().event_bit()
     }
 }
+
+/// What fills the unused places of a list of fixed capacity.
+impl Default for ScpiError {
+    fn default() -> Self {
+        ScpiError::QueueOverflow
+    }
+}
