@@ -62,7 +62,7 @@ same_map (i ∷ a) (j ∷ b) sa sb same =
         let other : bytes_eq j.key k ≡ false = subst (λ x. bytes_eq x k ≡ false) key e in
         sym (ap (λ (t : Bool). cond t (Some i.value) (get a k)) e) ∙ same k ∙ ap (λ (t : Bool). cond t (Some j.value) (get b k)) other
 
-same_items : (a b : List Item) → AllByRecursion Fits a → AllByRecursion Fits b → area a ≡ area b → a ≡ b
+pub same_items : (a b : List Item) → AllByRecursion Fits a → AllByRecursion Fits b → area a ≡ area b → a ≡ b
 same_items a b fa fb e =
     let more = front_of b a [] fb fa (e ∙ sym (append-nil (area b))) in
     let none : more.0 ≡ [] = nothing more.0 more.2 in
