@@ -24,11 +24,11 @@ pub enum BrokenCause {
 /// the map after its batch.
 #[derive(Drop)]
 pub struct Broken<D: Disk, A: Allocator + Copy> {
-    disk: D,
-    limit: u16,
-    before: Items<A>,
-    batch: Batch<A>,
-    cause: BrokenCause,
+    pub(crate) disk: D,
+    pub(crate) limit: u16,
+    pub(crate) before: Items<A>,
+    pub(crate) batch: Batch<A>,
+    pub(crate) cause: BrokenCause,
     ghost limit_least: { 4 ≤ limit },
     ghost limit_most: { limit ≤ 480 },
     ghost room: { 512 * (2 + 2 * limit) ≤ D.extent disk },

@@ -14,11 +14,11 @@ use std::alloc::Allocator;
 /// A map on a disk. Whatever a power loss leaves of the disk stands for the map.
 #[derive(Drop)]
 pub struct Store<D: Disk, A: Allocator + Copy> {
-    disk: D,
-    root: Root,
-    limit: u16,
-    number: u64,
-    items: Items<A>,
+    pub(crate) disk: D,
+    pub(crate) root: Root,
+    pub(crate) limit: u16,
+    pub(crate) number: u64,
+    pub(crate) items: Items<A>,
     ghost limit_least: { 4 ≤ limit },
     ghost limit_most: { limit ≤ 480 },
     ghost room: { 512 * (2 + 2 * limit) ≤ D.extent disk },

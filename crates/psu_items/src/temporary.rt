@@ -1,6 +1,8 @@
 // Until the batch stands.
 ghost use Rattle.std.specs.Prelude.{◌≡◌, List, IfOk};
+ghost use Rattle.psu_items.specs.Map.{IsSorted};
 ghost use Rattle.psu_items.specs.Temporary.{changed, Edit as EditData};
+ghost use Rattle.psu_items.specs.Map.{IsSorted};
 ghost use Rattle.psu_items.specs.TemporaryBatch.{view_edits};
 
 use crate::Items;
@@ -29,7 +31,8 @@ impl<A: Allocator + Copy> Model for Batch<A> {
 impl<A: Allocator + Copy> Items<A> {
     // The map after a batch.
     pub fn changed(&self, alloc: A, batch: &Batch<A>) -> Result<Items<A>, AllocError>
-        ensures { IfOk result (λ items. items ≡ changed self.now batch.now) }
+        ensures found { IfOk result (λ items. items ≡ changed self.now batch.now) }
+        ensures sorted { IfOk result IsSorted }
     {
         let _ = alloc;
         let _ = batch;
