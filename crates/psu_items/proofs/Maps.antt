@@ -1,5 +1,5 @@
 -- The laws of the map: what `get` finds after each change, and that `get` says all of it.
-use Rattle.std.proofs.Common.{◌≡◌, ℕ, zero, suc, ◌<◌, Bool, true, false, cond, List, [], ◌∷◌, length, get_or, Option, Some, None, refl, sym, ◌∙◌, ap, subst, arith}
+use Rattle.std.proofs.Common.{◌≡◌, ℕ, zero, suc, ◌≤◌, drop, Bool, true, false, cond, List, [], ◌∷◌, length, get_or, Option, Some, None, refl, sym, ◌∙◌, ap, subst, arith}
 use Rattle.std.specs.List.{AllByRecursion}
 use Rattle.std.specs.Str.{bytes_eq}
 use Rattle.std.specs.Ordering.{nat_cmp, is_lt}
@@ -116,3 +116,16 @@ sorted-edited items key (Some value) sorted = sorted-put items key value sorted
 pub sorted-changed : (items : List Item) (edits : List Edit) → IsSorted items → IsSorted (changed items edits)
 sorted-changed items [] sorted = sorted
 sorted-changed items (e ∷ edits) sorted = sorted-changed (edited items e.key e.value) edits (sorted-edited items e.key e.value sorted)
+
+-- where no edit is left, all are made
+pub all_made : (items now : List Item) (batch edits : List Edit) (n : ℕ) → edits ≡ batch → length edits ≤ n → changed now (drop n edits) ≡ changed items edits → Assigns items batch now
+all_made items now batch edits n same over made k =
+    let none : drop n edits ≡ [] = drop-none n edits over in
+    let all : now ≡ changed items batch = sym (ap (changed now) none) ∙ made ∙ ap (changed items) same in
+    ap (λ (l : List Item). get l k) all ∙ get-changed items batch k
+  where
+    drop-none : (n : ℕ) (l : List Edit) → length l ≤ n → drop n l ≡ []
+    drop-none zero [] le = refl
+    drop-none (suc n) [] le = refl
+    drop-none zero (e ∷ l) le = absurd (omega arith)
+    drop-none (suc n) (e ∷ l) le = drop-none n l (omega arith)

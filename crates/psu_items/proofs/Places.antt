@@ -7,7 +7,7 @@ use Rattle.std.specs.Cmp.Lexicographic.{slice_cmp}
 use Rattle.psu_items.specs.Map.{Item, item_of, get, put, without, Before, IsSorted, Sets}
 use Rattle.psu_items.specs.Place.{key_at, IsPlace, IsAt, IsGap}
 use Rattle.psu_items.proofs.Keys.{other_key, same_true, before_not_same, after_not_same, turned, is_lt-before, is_lt-not_before}
-use Rattle.psu_items.proofs.Maps.{all_after, get-put, sorted-put}
+use Rattle.psu_items.proofs.Maps.{all_after, get-put, sorted-put, sorted-without}
 
 at-tail : (i : Item) (items : List Item) (key : List ℕ) (at : ℕ) → IsPlace (i ∷ items) key (suc at) → IsPlace items key at
 at-tail i items key at place = record {
@@ -89,3 +89,10 @@ put_sorted fields items after key value seen sorted is = subst IsSorted (sym is)
 
 pub put_sets : (items after : List Item) (key value : List ℕ) → after ≡ put items key value → Sets items after key value
 put_sets items after key value is k = ap (λ (l : List Item). get l k) is ∙ get-put items key value k
+
+-- the fields of a map without the item at the place of a key
+pub remove-is_without : (fields items : List Item) (key : List ℕ) (at : ℕ) → fields ≡ items → IsSorted fields → IsAt items key at → remove fields at ≡ without items key
+remove-is_without fields items key at seen sorted is = rw seen (remove-without items key at (subst IsSorted seen sorted) is)
+
+pub without_sorted : (fields items after : List Item) (key : List ℕ) → fields ≡ items → IsSorted fields → after ≡ without items key → IsSorted after
+without_sorted fields items after key seen sorted is = subst IsSorted (sym is) (sorted-without items key (subst IsSorted seen sorted))
