@@ -1,6 +1,6 @@
 use Rattle.std.proofs.Common.{sym, subst, ◌∙◌}
 use Rattle.psu_items.specs.Map.{IsSorted}
-use Rattle.psu_items.proofs.Places.{remove-is_without, without_sorted, without-gap}
+use Rattle.psu_items.proofs.Sorted.{remove-is_without, without_sorted, without-gap}
 use Rattle.psu_items.proofs.items.Items.remove.Goals as goal
 
 pub invariant_of-self : goal.invariant_of-self
