@@ -11,10 +11,10 @@ use Rattle.psu_disk.specs.Ranges.{length-range, range_index, range_kept, range_w
 use Rattle.psu_items.specs.declared.root.Root.{Root}
 use Rattle.psu_items.specs.Map.{Item, get, cost, IsSorted}
 use Rattle.psu_items.specs.Area.{item, area, Fits, Distinct, StandsFor}
-use Rattle.psu_items.specs.Temporary.{CanHold}
+use Rattle.psu_items.specs.Area.{CanHold}
 use Rattle.psu_items.specs.Image.{gate_at, area_at, number_in, length_in, RootHolds}
 use Rattle.psu_items.specs.Writing.{head, IsStaged, Spares, Spells}
-use Rattle.psu_items.proofs.Sorted.{get_before}
+use Rattle.psu_items.proofs.Maps.{get_before}
 use Rattle.psu_items.proofs.Places.{gate_low, area_high, area_fits}
 
 -- a range inside of another

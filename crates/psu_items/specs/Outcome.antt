@@ -3,7 +3,7 @@ use Rattle.std.specs.Prelude.{◌≡◌, ◌≢◌, ℕ, ◌+◌, ◌≤◌, ◌
 use Rattle.psu_disk.specs.Disk.{HasFailed}
 use Rattle.psu_disk.specs.declared.disk.Disk.{Ghosts}
 use Rattle.psu_items.specs.Map.{Item}
-use Rattle.psu_items.specs.Temporary.{Edit, changed}
+use Rattle.psu_items.specs.Batch.{Edit, changed}
 use Rattle.psu_items.specs.declared.format_fault.FormatFault.{FormatFault}
 use Rattle.psu_items.specs.declared.refused.Refused.{Refused}
 use Rattle.psu_items.specs.declared.store.Store.{Store}

@@ -2,7 +2,7 @@
 ghost use Rattle.std.specs.Prelude.{◌≡◌, ◌⊎◌, ◌*◌, ◌+◌, ◌≤◌, List, ℕ, IfOk, IfErr};
 ghost use Rattle.psu_disk.specs.Disk.{HasFailed, Left};
 ghost use Rattle.psu_items.specs.Image.{EachIsEither, IsEither};
-ghost use Rattle.psu_items.specs.Temporary.{changed};
+ghost use Rattle.psu_items.specs.Batch.{changed};
 ghost use Rattle.psu_items.specs.declared.broken.BrokenCause.TheVariants.{Device, Strange};
 
 use crate::{Batch, Items, Store};

@@ -3,7 +3,8 @@ ghost use Rattle.std.specs.Prelude.{◌≡◌, ◌+◌, ◌≤◌, ◌^◌, ◌�
 ghost use Rattle.psu_disk.specs.Disk.{LeavesOnly};
 ghost use Rattle.psu_items.specs.Image.{EachStands, EachIsEither, IsEither};
 ghost use Rattle.psu_items.specs.Writing.{Spells};
-ghost use Rattle.psu_items.specs.Temporary.{CanHold, changed};
+ghost use Rattle.psu_items.specs.Area.{CanHold};
+ghost use Rattle.psu_items.specs.Batch.{changed};
 
 use crate::codec::encode;
 use crate::replace::replace;

@@ -4,9 +4,9 @@ ghost use Rattle.psu_disk.specs.Disk.{Left, Range, LeavesOnly, HasCause, HasFail
 ghost use Rattle.psu_items.specs.Image.{area_at, RootHolds};
 ghost use Rattle.psu_items.specs.Finding.{HoldsNone, cause_of};
 
-use crate::codec::decode;
+use crate::codec::{DecodeFault, decode};
 use crate::head::{check, read_head};
-use crate::{DecodeFault, Items, OpenCause, Root};
+use crate::{Items, OpenCause, Root};
 use psu_disk::Disk;
 use std::alloc::Allocator;
 

@@ -3,7 +3,7 @@ use Rattle.psu_items.specs.declared.root.Root.{Root}
 use Rattle.psu_items.specs.Map.{Item}
 use Rattle.psu_items.specs.Image.{other}
 use Rattle.psu_items.specs.Resting.{IsKept}
-use Rattle.psu_items.specs.Temporary.{changed}
+use Rattle.psu_items.specs.Batch.{changed}
 use Rattle.psu_items.specs.Writing.{Spells}
 use Rattle.psu_items.proofs.Resting.{kept_stands}
 use Rattle.psu_items.proofs.Single.{kept_is}
