@@ -25,6 +25,10 @@ pub record IsPicked (first second : Option ℕ) (root : Root) (number : ℕ) (bo
   pub lower : IfSome (of_root (other root) first second) (λ n. n < number)
   pub both_open : both ≡ is_some (of_root (other root) first second)
 
+-- a root counts in an image, with this number, beside another open gate or alone
+abbrev pub IsPickedIn : List ℕ → Root → ℕ → Bool → Type 0
+IsPickedIn image root number both = IsPicked (standing First image) (standing Second image) root number both
+
 -- no gate is open, or both are and have one number
 abbrev pub IsNonePicked : Option ℕ → Option ℕ → OpenCause → Type 0
 IsNonePicked first second Device = ⊤
