@@ -1,13 +1,14 @@
 -- The steps of an opening, one after another.
-use Rattle.std.proofs.Common.{◌≡◌, inl, inr, ℕ, ◌*◌, ◌+◌, ◌≤◌, Bool, List, length, sym, ◌∙◌, subst}
+use Rattle.std.proofs.Common.{◌≡◌, inl, inr, ⊎_elim, ℕ, ◌*◌, ◌+◌, ◌≤◌, Bool, List, length, sym, ◌∙◌, subst}
 use Rattle.psu_disk.specs.Disk.{DiskState, Left, Only, LeavesOnly}
 use Rattle.psu_disk.specs.Moments.{and_then, weaken}
+use Rattle.psu_disk.specs.Ranges.{reads_left}
 use Rattle.psu_items.specs.declared.root.Root.{Root}
 use Rattle.psu_items.specs.Map.{Item}
-use Rattle.psu_items.specs.Image.{RootHolds, Stands}
+use Rattle.psu_items.specs.Image.{RootHolds, Stands, EachStands, IsEither, EachIsEither}
 use Rattle.psu_items.specs.Finding.{IsPickedIn, SameRoots, IsOldOrSame}
 use Rattle.psu_items.proofs.Resting.{stands}
-use Rattle.psu_items.proofs.Settling.{picked_counts}
+use Rattle.psu_items.proofs.Settling.{picked_counts, same_stands}
 use Rattle.psu_items.proofs.Loading.{quiet_runs}
 
 -- old is the disk before it, found when the root that counts is found, loaded when its map is read
@@ -33,3 +34,11 @@ module _ {D : Type 0} (state : D → DiskState) (old found loaded : D) (same_fou
 -- what was read stands
 pub stood : (x y : List ℕ) (root : Root) (number : ℕ) (both : Bool) (limit : ℕ) (map : List Item) → y ≡ x → IsPickedIn x root number both → RootHolds root y limit map → Stands x limit map
 stood x y root number both limit map same picked holds = stands root x limit map (picked_counts root number both x picked) (subst (λ (z : List ℕ). RootHolds root z limit map) same holds)
+
+-- what each image stood for before an opening, each stands for after it
+pub still_stands : (old : DiskState) (limit : ℕ) (map : List Item) → EachStands old limit map → (x : List ℕ) → IsOldOrSame old x → Stands x limit map
+still_stands old limit map all x either = ⊎_elim (all x) (λ same. same_stands old.bytes x limit map same (all old.bytes (reads_left old))) either
+
+pub still_either : (old : DiskState) (limit : ℕ) (before target : List Item) → EachIsEither old limit before target → (x : List ℕ) → IsOldOrSame old x → IsEither limit before target x
+still_either old limit before target all x either =
+    ⊎_elim (all x) (λ same. ⊎_elim (λ st. inl (same_stands old.bytes x limit before same st)) (λ st. inr (same_stands old.bytes x limit target same st)) (all old.bytes (reads_left old))) either
