@@ -42,7 +42,9 @@ impl<T: Drop> From<AllocFailed<T>> for DecodeFault {
 /// The map that an area holds, its items in any order and at most 240.
 pub(crate) fn decode<A: Allocator + Copy>(alloc: A, bytes: &[u8]) -> Result<Items<A>, DecodeFault>
     ensures found { IfOk result (StandsFor bytes.now) }
+    ensures sorted { IfOk result IsSorted }
     ensures count { IfOk result (λ map. length map ≤ 240) }
+    ensures only { IfOk result (λ map. (other : List Item) → IsSorted other → StandsFor bytes.now other → other ≡ map) }
     ensures none { IfErr result (λ e. e ≡ Bad → (map : List Item) → IsSorted map → StandsFor bytes.now map → length map ≤ 240 → ⊥) }
 {
     let mut map = Items::new(alloc);
@@ -102,7 +104,9 @@ pub(crate) fn encode<A: Allocator + Copy>(
     items: &Items<A>,
 ) -> Result<Vec<u8, A>, AllocError>
     requires { AllByRecursion Fits items.now }
-    ensures { IfOk result (λ v. v.items ≡ area items.now) }
+    ensures bytes { IfOk result (λ v. v.items ≡ area items.now) }
+    ensures sorted { IsSorted items.now }
+    ensures stands { IfOk result (λ v. StandsFor v.items items.now) }
 {
     let mut out = Vec::new(alloc);
     for pair in items.pairs() {
