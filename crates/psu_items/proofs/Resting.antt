@@ -9,7 +9,6 @@ use Rattle.psu_items.specs.declared.root.Root.{Root}
 use Rattle.psu_items.specs.declared.root.Root.TheVariants.{First, Second}
 use Rattle.psu_items.specs.Image.{gate, Counts, counting, RootHolds, Stands, EachStands}
 use Rattle.psu_items.specs.Resting.{AtRest, IsKept}
-use Rattle.psu_items.proofs.Single.{kept_is}
 
 pub counting_is : (root : Root) (image : List ℕ) → Counts root image → counting image ≡ root
 counting_is First image counts = elim (cases_eq (gate Second image) 165) [
@@ -33,6 +32,3 @@ at_rest_stands root limit number map image rest = stands root image limit map (r
 -- a store at rest
 pub kept_stands : (disk : DiskState) (root : Root) (limit number : ℕ) (map : List Item) → IsKept disk root limit number map → EachStands disk limit map
 kept_stands disk root limit number map kept image left = at_rest_stands root limit number map image (subst (AtRest root limit number map) (sym (kept.only image left)) kept.rest)
-
-pub store_stands : (disk : DiskState) (root : Root) (limit number : ℕ) (map : List Item) → ∥ IsKept disk root limit number map ∥₁ → EachStands disk limit map
-store_stands disk root limit number map kept = kept_stands disk root limit number map (kept_is disk root limit number map kept)

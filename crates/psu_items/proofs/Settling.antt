@@ -144,8 +144,10 @@ none_counts x n first second root counts = by_root root counts
   where
     one : (gate First x ≡ 165) × (number_in First x ≡ n)
     one = stands_open First x n first
+
     two : (gate Second x ≡ 165) × (number_in Second x ≡ n)
     two = stands_open Second x n second
+
     by_root : (r : Root) → Counts r x → ⊥
     by_root First counts = omega (arith, one.1, two.1, counts.highest two.0)
     by_root Second counts = omega (arith, one.1, two.1, counts.highest one.0)

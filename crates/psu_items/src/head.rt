@@ -56,7 +56,11 @@ pub fn check(head: &Head, size: u64) -> Result<(), OpenCause>
         return Err(OpenCause::BadVersion);
     }
     let limit = u64::from(head.limit);
-    if limit < 4 || limit > 480 || size < 512 * (2 + 2 * limit) || u64::from(head.used) > 512 * limit {
+    if limit < 4
+        || limit > 480
+        || size < 512 * (2 + 2 * limit)
+        || u64::from(head.used) > 512 * limit
+    {
         return Err(OpenCause::BadRoot);
     }
     Ok(())

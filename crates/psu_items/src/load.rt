@@ -54,7 +54,11 @@ fn read_area<D: Disk, A: Allocator + Copy>(
 }
 
 /// Reads the map that a root and its area hold.
-pub fn load<D: Disk, A: Allocator + Copy>(alloc: A, disk: &mut D, root: Root) -> Result<Held<A>, OpenCause>
+pub fn load<D: Disk, A: Allocator + Copy>(
+    alloc: A,
+    disk: &mut D,
+    root: Root,
+) -> Result<Held<A>, OpenCause>
     requires { 1024 ≤ D.extent disk.old }
     ensures extent { D.extent disk.new ≡ D.extent disk.old }
     ensures works { OnOk result (D.failures disk.new ≡ D.failures disk.old) }

@@ -42,7 +42,10 @@ fn settle<D: Disk>(disk: &mut D, picked: &Picked) -> Result<(), DiskFault>
 }
 
 /// Finds the map that a disk stands for, and leaves its root as the only open one.
-pub fn read_back<D: Disk, A: Allocator + Copy>(alloc: A, disk: &mut D) -> Result<Opened<A>, OpenCause>
+pub fn read_back<D: Disk, A: Allocator + Copy>(
+    alloc: A,
+    disk: &mut D,
+) -> Result<Opened<A>, OpenCause>
     requires { 1024 ≤ D.extent disk.old }
     ensures extent { D.extent disk.new ≡ D.extent disk.old }
     ensures works { OnOk result (D.failures disk.new ≡ D.failures disk.old) }

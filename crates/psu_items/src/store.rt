@@ -4,6 +4,8 @@ ghost use Rattle.psu_disk.specs.Disk.{LeavesOnly, HasCause, HasFailed};
 ghost use Rattle.psu_items.specs.Image.{EachStands, Stands, IsRefusal};
 ghost use Rattle.psu_items.specs.Map.{Item};
 ghost use Rattle.psu_items.specs.Resting.{IsKept};
+ghost use Rattle.psu_items.specs.Single.{IsKept-IsProp};
+ghost use Rattle.std.proofs.Props.{props};
 ghost use Rattle.psu_items.specs.declared.format_fault.FormatCause.TheVariants.{Device as NotWritten};
 ghost use Rattle.psu_items.specs.declared.open_cause.OpenCause.TheVariants.{Device};
 ghost use Rattle.psu_items.specs.declared.root.Root.TheVariants.{First};
@@ -25,7 +27,7 @@ pub struct Store<D: Disk, A: Allocator + Copy> {
     ghost limit_least: { 4 ≤ limit },
     ghost limit_most: { limit ≤ 480 },
     ghost room: { 512 * (2 + 2 * limit) ≤ D.extent disk },
-    pub ghost kept: { D.honest → ∥ IsKept (D.state disk) root limit number items ∥₁ },
+    ghost kept: { D.honest → IsKept (D.state disk) root limit number items } by { Prim.hlevel (props, IsKept-IsProp) },
 }
 
 // Makes the first root the only one, over an empty area.
