@@ -1,5 +1,5 @@
 -- What the words of a root and the bytes of its area say of the map that they hold.
-use Rattle.std.proofs.Common.{◌≡◌, ℕ, ◌*◌, ◌+◌, ◌<◌, ◌≤◌, List, length, sym, ◌∙◌, ap, subst, arith}
+use Rattle.std.proofs.Common.{◌≡◌, ℕ, ◌<◌, ◌≤◌, List, length, sym, ◌∙◌, ap, subst, arith}
 use Rattle.psu_disk.specs.Disk.{DiskState, Left, Range, LeavesOnly}
 use Rattle.psu_disk.specs.Moments.{and_then}
 use Rattle.psu_items.specs.declared.head.Head.{Head}

@@ -7,7 +7,7 @@ use Rattle.psu_items.specs.declared.root.Root.{Root}
 use Rattle.psu_items.specs.declared.root.Root.TheVariants.{First, Second}
 use Rattle.psu_items.specs.Map.{Item}
 use Rattle.psu_items.specs.Area.{StandsFor}
-use Rattle.psu_items.specs.Image.{other, gate_at, area_at, gate, mark_in, version_in, limit_in, number_in, length_in, RootHolds}
+use Rattle.psu_items.specs.Image.{other, gate_at, area_at, gate, number_in, length_in, RootHolds}
 use Rattle.psu_items.specs.Writing.{Spares}
 
 pub other_other : (root : Root) → other (other root) ≡ root

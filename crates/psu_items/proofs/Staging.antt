@@ -1,5 +1,5 @@
 -- What it leaves to write a root and its area, but for the gate.
-use Rattle.std.proofs.Common.{◌≡◌, ◌⊎◌, inl, inr, ⊎_elim, ℕ, ◌+◌, ◌*◌, ◌/◌, ◌^◌, ◌<◌, ◌≤◌, List, [], ◌∷◌, ◌++◌, length, get_or, refl, sym, ◌∙◌, ap, subst, arith, length-append}
+use Rattle.std.proofs.Common.{◌≡◌, inr, ⊎_elim, ℕ, ◌+◌, ◌*◌, ◌/◌, ◌^◌, ◌<◌, ◌≤◌, List, [], ◌∷◌, ◌++◌, length, get_or, refl, sym, ◌∙◌, ap, subst, arith, length-append}
 use Rattle.std.specs.List.{AllByRecursion}
 use Rattle.std.specs.Int.{w16, w32, w64, from_be_bytes, to_be_bytes}
 use Rattle.std.proofs.lemmas.Nat.{from_be_bytes-to_be_bytes_2, from_be_bytes-to_be_bytes_4, from_be_bytes-to_be_bytes_8}
@@ -9,9 +9,8 @@ use Rattle.psu_disk.specs.Disk.{DiskState, Left, Range, Holds, SameBut, Only, Fo
 use Rattle.psu_disk.specs.Moments.{started, goes_on}
 use Rattle.psu_disk.specs.Ranges.{length-range, range_index, range_kept, range_written}
 use Rattle.psu_items.specs.declared.root.Root.{Root}
-use Rattle.psu_items.specs.Map.{Item, get, cost, IsSorted}
-use Rattle.psu_items.specs.Area.{item, area, Fits, Distinct, StandsFor}
-use Rattle.psu_items.specs.Area.{CanHold}
+use Rattle.psu_items.specs.Map.{Item, cost, IsSorted}
+use Rattle.psu_items.specs.Area.{item, area, Fits, Distinct}
 use Rattle.psu_items.specs.Image.{gate_at, area_at, number_in, length_in, RootHolds}
 use Rattle.psu_items.specs.Writing.{head, IsStaged, Spares, Spells}
 use Rattle.psu_items.proofs.Maps.{get_before}

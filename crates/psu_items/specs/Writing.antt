@@ -6,7 +6,7 @@ use Rattle.psu_items.specs.Map.{Item, IsSorted}
 use Rattle.psu_items.specs.Area.{area}
 use Rattle.psu_items.specs.Area.{CanHold}
 use Rattle.psu_items.specs.declared.root.Root.{Root}
-use Rattle.psu_items.specs.Image.{gate_at, area_at, mark, number_in}
+use Rattle.psu_items.specs.Image.{gate_at, area_at, mark}
 
 -- how many bytes of a root say something, beside its gate
 abbrev pub head_size : ℕ

@@ -1,4 +1,4 @@
-// A store whose disk failed in a commit.
+//! A store whose disk failed in a commit.
 ghost use Rattle.std.specs.Prelude.{◌≡◌, ◌≢◌, ◌⊎◌, ◌↔◌, ◌*◌, ◌+◌, ◌≤◌, List, ℕ, IsTrue, OnOk, IfOk, IfErr, IsErrOf};
 ghost use Rattle.psu_disk.specs.Disk.{HasFailed, Left, LeavesOnly};
 ghost use Rattle.psu_items.specs.Image.{EachIsEither, IsEither};

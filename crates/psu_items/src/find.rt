@@ -1,4 +1,4 @@
-// Which of the two roots counts.
+//! Which of the two roots counts.
 ghost use Rattle.std.specs.Prelude.{◌≡◌, ◌≤◌, List, ℕ, OnOk, IfOk, IfErr, IsErrOf};
 ghost use Rattle.psu_disk.specs.Disk.{Left, Only, LeavesOnly, HasCause, HasFailed};
 ghost use Rattle.psu_items.specs.Finding.{standing, IsPicked, IsPickedIn, IsNonePicked};

@@ -1,4 +1,4 @@
-// The two steps of a commit: to stage a root with its gate as it is, and to move a gate.
+//! The two steps of a commit: to stage a root with its gate as it is, and to move a gate.
 ghost use Rattle.std.specs.Prelude.{◌≡◌, ◌+◌, ◌*◌, ◌≤◌, ◌∷◌, [], List, ℕ, length, OnOk};
 ghost use Rattle.psu_disk.specs.Disk.{Left, Holds, SameBut, Only, LeavesOnly, HasCause};
 ghost use Rattle.psu_items.specs.Image.{gate_at};

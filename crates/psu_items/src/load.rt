@@ -1,4 +1,4 @@
-// The map that a root and its area hold.
+//! The map that a root and its area hold.
 ghost use Rattle.std.specs.Prelude.{◌≡◌, ◌⊎◌, ◌+◌, ◌*◌, ◌≤◌, List, ℕ, OnOk, IfOk, IfErr, IsErrOf};
 ghost use Rattle.psu_disk.specs.Disk.{Left, Range, LeavesOnly, HasCause, HasFailed};
 ghost use Rattle.psu_items.specs.Image.{area_at, RootHolds};

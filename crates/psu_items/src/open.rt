@@ -1,5 +1,5 @@
-// What an opening does to a disk, and what it finds.
-ghost use Rattle.std.specs.Prelude.{◌≡◌, ◌+◌, ◌*◌, ◌≤◌, List, ℕ, OnOk, IfOk, IfErr, IsErrOf};
+//! What an opening does to a disk, and what it finds.
+ghost use Rattle.std.specs.Prelude.{◌≡◌, ◌≢◌, ◌+◌, ◌*◌, ◌≤◌, List, ℕ, OnOk, IfOk, IfErr, IsErrOf};
 ghost use Rattle.psu_disk.specs.Disk.{Left, Only, LeavesOnly, HasCause, HasFailed};
 ghost use Rattle.psu_items.specs.Map.{Item};
 ghost use Rattle.psu_items.specs.Image.{RootHolds, Stands, IsRefusal};
@@ -54,6 +54,7 @@ pub fn read_back<D: Disk, A: Allocator + Copy>(
     ensures limit { IfOk result (λ o. (4 ≤ o.limit) × (o.limit ≤ 480) × (512 * (2 + 2 * o.limit) ≤ D.extent disk.old)) }
     ensures stood { D.honest → IfOk result (λ o. Stands (D.state disk.old).bytes o.limit o.items) }
     ensures refused { D.honest → IfErr result (IsRefusal (D.state disk.old).bytes) }
+    ensures untouched { D.honest → IfErr result (λ cause. cause ≢ OpenCause.Device → (D.state disk.new).bytes ≡ (D.state disk.old).bytes) }
     ensures kept { D.honest → IfOk result (λ o. IsKept (D.state disk.new) o.root o.limit o.number o.items) }
     ensures left { D.honest → (x : List ℕ) → Left (D.state disk.new) x → IsOldOrSame (D.state disk.old) x }
     ensures time { D.honest → D.tells → LeavesOnly D.moment D.left_since disk.old disk.new (IsOldOrSame (D.state disk.old)) }

@@ -1,4 +1,4 @@
-use Rattle.std.proofs.Common.{◌+◌, length, sym, ap, subst, arith, rules}
+use Rattle.std.proofs.Common.{◌+◌, length, sym, ap, subst, arith}
 use Rattle.psu_items.specs.Writing.{IsStaged}
 use Rattle.psu_items.proofs.Staging.{run_two, run_three, staged_at}
 use Rattle.psu_items.proofs.gates.stage.Goals as goal
