@@ -2,7 +2,7 @@
 ghost use Rattle.std.specs.Prelude.{◌≡◌, ◌+◌, ◌*◌, ◌≤◌, ◌∷◌, [], List, ℕ, length, OnOk};
 ghost use Rattle.psu_disk.specs.Disk.{Left, Holds, SameBut, Only, LeavesOnly, HasCause};
 ghost use Rattle.psu_items.specs.Image.{gate_at};
-ghost use Rattle.psu_items.specs.Writing.{head, IsStaged, Spares};
+ghost use Rattle.psu_items.specs.Writing.{head, page, IsStaged, Spares};
 
 use crate::Root;
 use psu_disk::{Disk, DiskFault};
@@ -31,7 +31,16 @@ pub fn set_gate<D: Disk>(disk: &mut D, root: Root, byte: u8) -> Result<(), DiskF
     Ok(())
 }
 
-// The bytes of a root after its gate.
+// The bytes of a root after its gate, to the end of its page.
+fn page(limit: u16, number: u64, used: u32) -> [u8; 511]
+    ensures { result ≡ page limit number used }
+{
+    let mut bytes = [0; 511];
+    bytes[..19].copy_from_slice(&head(limit, number, used));
+    bytes
+}
+
+// Those of them that say something.
 fn head(limit: u16, number: u64, used: u32) -> [u8; 19]
     ensures { result ≡ head limit number used }
 {
@@ -65,7 +74,7 @@ pub fn stage<D: Disk>(
         → LeavesOnly D.moment D.left_since disk.old disk.new (Spares root limit (D.state disk.old).bytes) }
 {
     disk.write(root.area(limit), area)?;
-    disk.write(root.gate() + 1, &head(limit, number, area.len() as u32))?;
+    disk.write(root.gate() + 1, &page(limit, number, area.len() as u32))?;
     disk.sync()?;
     Ok(())
 }
