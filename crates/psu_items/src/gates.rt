@@ -31,27 +31,6 @@ pub fn set_gate<D: Disk>(disk: &mut D, root: Root, byte: u8) -> Result<(), DiskF
     Ok(())
 }
 
-// The bytes of a root after its gate, to the end of its page.
-fn page(limit: u16, number: u64, used: u32) -> [u8; 511]
-    ensures { result ≡ page limit number used }
-{
-    let mut bytes = [0; 511];
-    bytes[..19].copy_from_slice(&head(limit, number, used));
-    bytes
-}
-
-// Those of them that say something.
-fn head(limit: u16, number: u64, used: u32) -> [u8; 19]
-    ensures { result ≡ head limit number used }
-{
-    let mut bytes = [0; 19];
-    bytes[..3].copy_from_slice(b"PSU");
-    bytes[5..7].copy_from_slice(&limit.to_be_bytes());
-    bytes[7..15].copy_from_slice(&number.to_be_bytes());
-    bytes[15..].copy_from_slice(&used.to_be_bytes());
-    bytes
-}
-
 /// Writes a root but for its gate, and the bytes of its area, and syncs.
 pub fn stage<D: Disk>(
     disk: &mut D,
@@ -77,4 +56,25 @@ pub fn stage<D: Disk>(
     disk.write(root.gate() + 1, &page(limit, number, area.len() as u32))?;
     disk.sync()?;
     Ok(())
+}
+
+// The bytes of a root after its gate, to the end of its page.
+fn page(limit: u16, number: u64, used: u32) -> [u8; 511]
+    ensures { result ≡ page limit number used }
+{
+    let mut bytes = [0; 511];
+    bytes[..19].copy_from_slice(&head(limit, number, used));
+    bytes
+}
+
+// Those of them that say something.
+fn head(limit: u16, number: u64, used: u32) -> [u8; 19]
+    ensures { result ≡ head limit number used }
+{
+    let mut bytes = [0; 19];
+    bytes[..3].copy_from_slice(b"PSU");
+    bytes[5..7].copy_from_slice(&limit.to_be_bytes());
+    bytes[7..15].copy_from_slice(&number.to_be_bytes());
+    bytes[15..].copy_from_slice(&used.to_be_bytes());
+    bytes
 }
