@@ -142,7 +142,10 @@ mod tests {
         let alloc = rt.alloc();
         let items = decode(alloc, &ENABLES)?;
         assert_eq!(rt; items.pairs().len(), 1);
-        assert_eq!(rt; items.get(&[1]).ok_or("no enables")?, [0x20, 0x80].as_slice());
+        assert_eq!(rt;
+            items.get(&[1]).ok_or("no enables")?,
+            [0x20, 0x80].as_slice()
+        );
         let mut again = Items::new(alloc);
         again.insert([1].to_vec(alloc)?, [0x20, 0x80].to_vec(alloc)?)?;
         assert_eq!(rt; encode(alloc, &again)?.as_slice(), ENABLES.as_slice());
@@ -161,7 +164,11 @@ mod tests {
             &[1, 1, 0, 0, 0, 1, 9, 1, 1, 0, 0, 0, 1, 9],
         ];
         for area in bad {
-            assert_eq!(rt; decode(alloc, area).err(), Some(DecodeFault::Bad), "at {area:?}");
+            assert_eq!(rt;
+                decode(alloc, area).err(),
+                Some(DecodeFault::Bad),
+                "at {area:?}"
+            );
         }
         Ok(())
     }
