@@ -1,5 +1,5 @@
 //! One step of a store: from a map to the map after a batch.
-ghost use Rattle.std.specs.Prelude.{◌≡◌, ◌+◌, ◌*◌, ◌≤◌, ◌^◌, ◌↔◌, ◌∷◌, [], Some, length, IsTrue, IfOk};
+ghost use Rattle.std.specs.Prelude.{◌≡◌, ◌+◌, ◌≤◌, ◌^◌, ◌↔◌, IsTrue, IfOk};
 ghost use Rattle.psu_disk.specs.Disk.{LeavesOnly};
 ghost use Rattle.psu_items.specs.Image.{EachStands, EachIsEither, IsEither};
 ghost use Rattle.psu_items.specs.Writing.{Spells};
@@ -102,82 +102,5 @@ impl<D: Disk, A: Allocator + Copy> Store<D, A> {
         let items = self.items().changed(alloc, batch)?;
         let area = encode(alloc, &items)?;
         Ok(Target { items, area })
-    }
-}
-
-#[cfg(test)]
-mod tests {
-    use super::*;
-    use crate::FormatFault;
-    use psu_disk::MemDisk;
-    use std::alloc::Global;
-    use std::test::Fail;
-
-    type Memory = Store<MemDisk<Global>, Global>;
-
-    // A store of this limit on a fresh disk.
-    fn formatted(alloc: Global, size: u64, limit: u16) -> Result<Memory, Fail>
-        requires least { 4 ≤ limit }
-        requires most { limit ≤ 480 }
-        requires room { 512 * (2 + 2 * limit) ≤ size }
-        ensures { IfOk result (λ store. (store.items ≡ []) × (store.limit ≡ limit) × (length store.disk.bytes.items ≡ size)) }
-    {
-        match Store::format(alloc, MemDisk::new(alloc, size)?, limit) {
-            Ok(store) => Ok(store),
-            Err(FormatFault { cause: _, disk: _ }) => Err(Fail::from("not formatted")),
-        }
-    }
-
-    // The first 20 bytes of a root.
-    fn root_at(disk: &mut MemDisk<Global>, at: u64) -> [u8; 20]
-        requires { at + 20 ≤ length disk.old.bytes.items }
-        ensures { length disk.new.bytes.items ≡ length disk.old.bytes.items }
-    {
-        let mut root = [0; 20];
-        let _ = disk.read(at, &mut root);
-        root
-    }
-
-    // One edit: this byte as the value of this key.
-    fn one(alloc: Global, key: u8, value: u8) -> Result<Batch<Global>, AllocError>
-        ensures { IfOk result (λ batch. batch ≡ record { key = key ∷ []; value = Some (value ∷ []) } ∷ []) }
-    {
-        let mut batch = Batch::new(alloc);
-        batch.assign([key].to_vec(alloc)?, [value].to_vec(alloc)?)?;
-        Ok(batch)
-    }
-
-    #[test]
-    fn formats_the_first_root(rt: HostRuntime) -> Result<(), Fail> {
-        let alloc = rt.alloc();
-        let mut disk = formatted(alloc, 263168, 256)?.into_disk();
-        let open = [
-            0xa5, 0x50, 0x53, 0x55, 0, 0, 1, 0, 0, 0, 0, 0, 0, 0, 0, 1, 0, 0, 0, 0,
-        ];
-        assert_eq!(rt; root_at(&mut disk, 0), open);
-        assert_eq!(rt; root_at(&mut disk, 512)[0], 0);
-        Ok(())
-    }
-
-    #[test]
-    fn stores_in_the_other_root(rt: HostRuntime) -> Result<(), Fail> {
-        let alloc = rt.alloc();
-        let store = formatted(alloc, 5120, 4)?;
-        let Commit::Stored(store) = store.commit(alloc, one(alloc, 1, 36)?) else {
-            return Err(Fail::from("not stored"));
-        };
-        assert_eq!(rt; store.number(), 2);
-        let mut disk = store.into_disk();
-        let open = [
-            0xa5, 0x50, 0x53, 0x55, 0, 0, 0, 4, 0, 0, 0, 0, 0, 0, 0, 2, 0, 0, 0, 7,
-        ];
-        assert_eq!(rt; root_at(&mut disk, 512), open);
-        assert_eq!(rt; root_at(&mut disk, 0)[0], 0);
-        let Ok(store) = Store::open(alloc, disk) else {
-            return Err(Fail::from("not opened"));
-        };
-        assert_eq!(rt; store.limit(), 4);
-        assert_eq!(rt; store.items().get(&[1]).ok_or("no item")?, [36].as_slice());
-        Ok(())
     }
 }
