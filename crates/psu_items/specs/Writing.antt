@@ -3,8 +3,7 @@ use Rattle.std.specs.Prelude.{◌≡◌, ℕ, ◌+◌, ◌*◌, ◌<◌, ◌≤�
 use Rattle.std.specs.Int.{w16, w32, w64, to_be_bytes}
 use Rattle.psu_disk.specs.Disk.{Range}
 use Rattle.psu_items.specs.Map.{Item, IsSorted}
-use Rattle.psu_items.specs.Area.{area}
-use Rattle.psu_items.specs.Area.{CanHold}
+use Rattle.psu_items.specs.Area.{area, CanHold}
 use Rattle.psu_items.specs.declared.root.Root.{Root}
 use Rattle.psu_items.specs.Image.{gate_at, area_at, mark}
 
