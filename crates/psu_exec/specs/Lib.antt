@@ -1,0 +1,7 @@
+pub mod Errors
+pub mod Contents
+pub mod Reading
+pub mod Batch
+pub mod Device
+pub mod Calls
+pub mod Shown
