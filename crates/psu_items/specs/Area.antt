@@ -2,7 +2,7 @@
 use Rattle.std.specs.Prelude.{◌≡◌, ℕ, ◌≤◌, List, [], ◌∷◌, ◌++◌, length, None, ⊤}
 use Rattle.std.specs.List.{flat_map, AllByRecursion}
 use Rattle.std.specs.Int.{w32, to_be_bytes}
-use Rattle.psu_items.specs.Map.{Item, get}
+use Rattle.psu_items.specs.Map.{Item, get, cost}
 
 -- key length, key, value length, value
 abbrev pub item : Item → List ℕ
@@ -36,3 +36,9 @@ pub record StandsFor (bytes : List ℕ) (map : List Item) : Type 0 where
   pub are : AreItems items
   pub bytes_are : bytes ≡ area items
   pub holds : IsMapOf map items
+
+-- what an image of this limit can hold
+pub record CanHold (limit : ℕ) (map : List Item) : Type 0 where
+  pub fits : AllByRecursion Fits map
+  pub count : length map ≤ 240
+  pub within : cost map ≤ limit
