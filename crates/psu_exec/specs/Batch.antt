@@ -3,11 +3,7 @@ use Rattle.std.specs.Prelude.{ℕ, Bool, true, false, if◌then◌else◌, Optio
 use Rattle.std.specs.List.{flat_map}
 use Rattle.std.specs.Str.{bytes_eq}
 use Rattle.psu_items.specs.Map.{Item, get}
-
--- STUB until psu_items has it
-pub record Edit : Type 0 where
-  pub key : List ℕ
-  pub value : Option (List ℕ)
+use Rattle.psu_items.specs.Batch.{Edit}
 
 -- what is found is this value
 abbrev pub is_value : List ℕ → Option (List ℕ) → Bool

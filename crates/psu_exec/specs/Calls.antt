@@ -2,7 +2,8 @@
 use Rattle.std.specs.Prelude.{◌≡◌, ◌⊎◌, ◌≢◌, ℕ, ◌-◌, ◌≤◌, ◌==◌, Bool, true, false, if◌then◌else◌, Option, Some, None, List, [], ◌∷◌, length, drop, map, slice_set, option_map, decimal}
 use Rattle.psu_items.specs.Map.{Item}
 use Rattle.psu_exec.specs.Contents.{items_of}
-use Rattle.psu_exec.specs.Batch.{Edit, batch}
+use Rattle.psu_items.specs.Batch.{Edit}
+use Rattle.psu_exec.specs.Batch.{batch}
 use Rattle.psu_exec.specs.Device.{Reply, Done, Answer, Error, Parked, Later, Flush, State, Target, target, count_held, is_whole, is_open, place_of, wait_of, with_error, with_registers, Step}
 use Rattle.psu_exec.specs.declared.registers.Registers.{Registers}
 use Rattle.psu_exec.specs.declared.condition.Condition.TheVariants.{Whole, Worn}

@@ -4,4 +4,5 @@ pub mod Reading
 pub mod Batch
 pub mod Device
 pub mod Calls
+pub mod Consistent
 pub mod Shown

@@ -3,13 +3,9 @@ use Rattle.std.specs.Prelude.{ℕ, ◌+◌, ◌-◌, ◌*◌, nat_lt, ◌==◌, 
 use Rattle.std.specs.Char.{is_ascii_digit, to_ascii_lowercase}
 use Rattle.psu_exec.specs.declared.command.Command.{Command}
 use Rattle.psu_exec.specs.declared.command.Command.TheVariants.{PscOn, PscOff, PscQuery, Sre, SreQuery, Ese, EseQuery, EsrQuery, StbQuery, IdnQuery, OpcQuery}
+use Rattle.psu_exec.specs.declared.request.Number.{Number}
 use Rattle.psu_exec.specs.declared.scpi_error.ScpiError.{ScpiError}
 use Rattle.psu_exec.specs.declared.scpi_error.ScpiError.TheVariants.{UndefinedHeader, DataOutOfRange}
-
--- a whole number as written: whether it has a minus sign, and its size
-pub record Whole : Type 0 where
-  pub negative : Bool
-  pub size : ℕ
 
 -- two texts are the same without regard to case
 abbrev pub same_text : List ℕ → List ℕ → Bool
@@ -24,33 +20,37 @@ digits_from n (c ∷ cs) = if is_ascii_digit c then digits_from (10 * n + (c - 4
 abbrev pub digits_of : List ℕ → Option ℕ
 digits_of text = if (length text == 0) || nat_lt 5 (length text) then None else digits_from 0 text
 
-abbrev pub signed : Bool → ℕ → Whole
+abbrev pub signed : Bool → ℕ → Number
 signed negative size = record { negative = negative; size = size }
 
 -- one to five digits with an optional minus sign
-abbrev pub whole_of : List ℕ → Option Whole
-whole_of [] = None
-whole_of (c ∷ cs) = if c == 45 then option_map (signed true) (digits_of cs) else option_map (signed false) (digits_of (c ∷ cs))
+abbrev pub number_of : List ℕ → Option Number
+number_of [] = None
+number_of (c ∷ cs) = if c == 45 then option_map (signed true) (digits_of cs) else option_map (signed false) (digits_of (c ∷ cs))
 
 -- `*PSC` takes -32767 to 32767; 0 makes the flag false, any other number true
-abbrev pub flag_setter : Option Whole → Result Command ScpiError
+abbrev pub flag_setter : Option Number → Result Command ScpiError
 flag_setter None = Err UndefinedHeader
 flag_setter (Some n) = if nat_lt 32767 n.size then Err DataOutOfRange else Ok (if n.size == 0 then PscOff else PscOn)
 
 -- a number from 0 to 255
-abbrev pub is_octet : Whole → Bool
+abbrev pub is_octet : Number → Bool
 is_octet n = nat_lt n.size 256 && ((n.size == 0) || not n.negative)
 
-abbrev pub enable_setter : (ℕ → Command) → Option Whole → Result Command ScpiError
-enable_setter make None = Err UndefinedHeader
-enable_setter make (Some n) = if is_octet n then Ok (make n.size) else Err DataOutOfRange
+abbrev pub octet_of : Option Number → Result ℕ ScpiError
+octet_of None = Err UndefinedHeader
+octet_of (Some n) = if is_octet n then Ok n.size else Err DataOutOfRange
+
+abbrev pub enable_setter : (ℕ → Command) → Result ℕ ScpiError → Result Command ScpiError
+enable_setter make (Ok n) = Ok (make n)
+enable_setter make (Err e) = Err e
 
 -- a header with one space, and the text after it
 abbrev pub setter_of : List ℕ → List ℕ → Result Command ScpiError
 setter_of header text =
-    if same_text header (codes "*PSC ") then flag_setter (whole_of text)
-    else (if same_text header (codes "*SRE ") then enable_setter Sre (whole_of text)
-    else (if same_text header (codes "*ESE ") then enable_setter Ese (whole_of text)
+    if same_text header (codes "*PSC ") then flag_setter (number_of text)
+    else (if same_text header (codes "*SRE ") then enable_setter Sre (octet_of (number_of text))
+    else (if same_text header (codes "*ESE ") then enable_setter Ese (octet_of (number_of text))
     else Err UndefinedHeader))
 
 -- the headers that stand alone

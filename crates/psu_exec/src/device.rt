@@ -1,13 +1,15 @@
 // The one state, without its disk.
-ghost use Rattle.std.specs.Prelude.{◌≡◌, ◌≤◌, ◌<◌, OnOk, OnErr, IfOk, ◌++◌, ◌∷◌, true, false, is_some, length};
-ghost use Rattle.psu_exec.specs.Contents.{apply};
-ghost use Rattle.psu_exec.specs.Device.{State, Reply, answer, answer_with, change_in, change_of, change_read, is_late, is_open, is_refused, is_synchronizing, is_whole, power_on, waits_for, wait_of};
-ghost use Rattle.psu_exec.specs.Calls.{Allows};
-ghost use Rattle.psu_exec.specs.Calls.Entry.{Executed, Settled};
+ghost use Rattle.std.specs.Prelude.{◌≡◌, ◌≤◌, ◌<◌, OnOk, OnErr, IfOk, ◌++◌, ◌∷◌, [], true, false, Some, None, Option, is_some, length, vec_len, drop, map, option_map};
+ghost use Rattle.psu_exec.specs.Contents.{apply, IsContents};
+ghost use Rattle.psu_exec.specs.Device.{State, Reply, answer, answer_with, change_in, change_of, change_read, is_late, is_open, is_refused, is_synchronizing, is_whole, power_on, waits_for, wait_of, with_error, with_registers, effect, made, with_more, wants_memory};
+ghost use Rattle.psu_exec.specs.declared.change.Change.{Change as ChangeData};
+ghost use Rattle.psu_exec.specs.declared.request.Request.{Request as RequestData};
+ghost use Rattle.psu_exec.specs.Calls.{Allows, wait_less, wait_cut};
+ghost use Rattle.psu_exec.specs.Calls.Entry.{Executed, Settled, Opened};
 ghost use Rattle.psu_exec.specs.Shown.{outcome_of};
 
 use crate::{
-    Change, Command, Condition, Contents, Outcome, Registers, Request, SESSIONS, ScpiError,
+    Change, Command, Condition, Contents, Crowded, Outcome, Registers, Request, SESSIONS, ScpiError,
     Session, Text, Wait,
 };
 use psu_items::Items;
@@ -43,6 +45,10 @@ impl<A: Allocator + Copy> Model for Device<A> {
         volatile = record { registers = d.registers; open_now = d.open_now };
         flush = record { limit = d.limit; contents = d.contents; before = d.before; tail = d.tail.items; held = held_of d.held d.target; store = d.store; out = d.out; waits = d.waits };
     } };
+
+    ghost use Rattle.psu_exec.specs.Consistent.{IsConsistent};
+
+    ghost invariant = { λ d. IsConsistent (record { limit = d.limit; contents = d.contents; before = d.before; tail = d.tail.items; held = held_of d.held d.target; store = d.store; out = d.out; waits = d.waits }) };
 }
 
 // The change that an accepted command makes.
@@ -107,7 +113,8 @@ fn answered<A: Allocator + Copy>(
     registers: Registers,
     command: Command,
 ) -> Result<Outcome<A>, AllocError>
-    ensures { IfOk result (λ o. outcome_of o ≡ answer_with enables registers command) }
+    ensures value { IfOk result (λ o. outcome_of o ≡ answer_with enables registers command) }
+    ensures wanted { OnErr result ((change : Option ChangeData) → wants_memory (answer_with enables registers command) change ≡ true) }
 {
     let text = match command {
         Command::PscQuery => Text::number(alloc, if enables.is_some() { 0 } else { 1 })?,
@@ -122,14 +129,212 @@ fn answered<A: Allocator + Copy>(
     Ok(Outcome::Answer(text))
 }
 
+// A wait once so many changes are flushed.
+fn less(wait: Option<Wait>, k: usize) -> Option<Wait>
+    ensures { result ≡ option_map (wait_less k) wait }
+{
+    match wait {
+        Some(Wait::Until(n)) => Some(Wait::Until(n.saturating_sub(k))),
+        Some(Wait::CutOff) => wait,
+        None => None,
+    }
+}
+
+// A wait once the store has broken.
+fn cut_off(wait: Option<Wait>) -> Option<Wait>
+    ensures { result ≡ option_map wait_cut wait }
+{
+    match wait {
+        Some(Wait::Until(n)) => {
+            if n == 0 {
+                Some(Wait::Until(n))
+            } else {
+                Some(Wait::CutOff)
+            }
+        }
+        Some(Wait::CutOff) => wait,
+        None => None,
+    }
+}
+
+// The waits once so many changes are flushed.
+fn all_less(waits: &mut [Option<Wait>; SESSIONS], k: usize)
+    ensures { waits.new ≡ map (option_map (wait_less k)) waits.old }
+{
+    for i in 0..SESSIONS {
+        waits[i] = less(waits[i], k);
+    }
+}
+
+// The waits once the store has broken.
+fn all_cut_off(waits: &mut [Option<Wait>; SESSIONS])
+    ensures { waits.new ≡ map (option_map wait_cut) waits.old }
+{
+    for i in 0..SESSIONS {
+        waits[i] = cut_off(waits[i]);
+    }
+}
+
+// The first k leave the list.
+fn drop_front<A: Allocator + Copy>(tail: &mut Vec<Change, A>, k: usize)
+    requires { k ≤ vec_len tail.old }
+    ensures { tail.new.items ≡ drop k tail.old.items }
+{
+    tail.drain(..k);
+}
+
 impl<A: Allocator + Copy> Device<A> {
+    /// The state at power-on.
+    pub(crate) fn power_on(alloc: A, limit: u16, contents: Contents) -> Result<Device<A>, AllocError>
+        requires { IsContents contents }
+        ensures { IfOk result (λ d. d ≡ power_on limit contents) }
+    {
+        let before = contents.items(alloc)?;
+        Ok(Device {
+            alloc,
+            limit,
+            contents,
+            before,
+            target: Items::new(alloc),
+            tail: Vec::new(alloc),
+            held: None,
+            store: Condition::Whole,
+            out: false,
+            waits: [None; SESSIONS],
+            open_now: [false; SESSIONS],
+            registers: Registers::power_on(contents.enables),
+        })
+    }
+
+    // The change that a unit makes where it is accepted.
+    fn change_of(&self, reading: Result<Command, ScpiError>) -> Option<Change>
+        ensures { result ≡ change_read self.now.flush.contents.enables self.now.volatile.registers reading }
+    {
+        match reading {
+            Ok(command) => change_in(self.contents.enables, self.registers, command),
+            Err(_) => None,
+        }
+    }
+
     // Notes an accepted change.
     fn note(&mut self, change: Change) -> Result<(), AllocError>
+        requires { length self.old.flush.tail < 1024 }
         ensures ok { OnOk result (self.new ≡ record self.old { flush = record self.old.flush { contents = apply self.old.flush.contents change; tail = self.old.flush.tail ++ change ∷ [] } }) }
         ensures err { OnErr result (self.new ≡ self.old) }
     {
         self.tail.push(change)?;
         self.contents = self.contents.after(change);
         Ok(())
+    }
+
+    /// One unit of a session.
+    pub(crate) fn execute(&mut self, session: Session, request: &Request) -> Outcome<A>
+        ensures { Allows self.old (Executed session request.now (outcome_of result)) self.new }
+    {
+        let reading = request.reading;
+        let change = self.change_of(reading);
+        if is_late(self.waits[session.place()], self.tail.len(), change) {
+            return Outcome::Later;
+        }
+        match reading {
+            Err(error) => self.refused(error),
+            Ok(command) => self.perform(session, command, change),
+        }
+    }
+
+    // A unit that is refused: the bit of the error's class is set.
+    fn refused(&mut self, error: ScpiError) -> Outcome<A>
+        ensures value { result ≡ Outcome.Error error }
+        ensures is { self.new ≡ record self.old { volatile = with_registers self.old.volatile (with_error self.old.volatile.registers error) } }
+    {
+        self.registers = self.registers.with_error(error);
+        Outcome::Error(error)
+    }
+
+    // A command that is not late.
+    fn perform(&mut self, session: Session, command: Command, change: Option<Change>) -> Outcome<A>
+        requires change { change ≡ change_in self.old.flush.contents.enables self.old.volatile.registers command }
+        requires late { is_late (wait_of self.old.flush session) (length self.old.flush.tail) change ≡ false }
+        ensures { (request : RequestData) → request.reading ≡ Ok command → Allows self.old (Executed session request (outcome_of result)) self.new }
+    {
+        if is_refused(self.store, command, change) {
+            return self.refused(ScpiError::StorageFault);
+        }
+        if waits_for(self.tail.len(), command) {
+            self.waits[session.place()] = Some(Wait::Until(self.tail.len()));
+            return Outcome::Parked;
+        }
+        match self.accept(command, change) {
+            Ok(outcome) => outcome,
+            Err(AllocError) => self.refused(ScpiError::OutOfMemory),
+        }
+    }
+
+    // A command that is done: its answer and its place in the tail are made before any change.
+    fn accept(&mut self, command: Command, change: Option<Change>) -> Result<Outcome<A>, AllocError>
+        requires { is_some change ≡ true → length self.old.flush.tail < 1024 }
+        ensures value { IfOk result (λ o. outcome_of o ≡ answer_with self.old.flush.contents.enables self.old.volatile.registers command) }
+        ensures ok { OnOk result (self.new ≡ record {
+            volatile = with_registers self.old.volatile (effect self.old.volatile.registers command);
+            flush = record self.old.flush { contents = made change self.old.flush.contents; tail = with_more change self.old.flush.tail };
+        }) }
+        ensures err { OnErr result (self.new ≡ self.old) }
+        ensures wanted { OnErr result (wants_memory (answer_with self.old.flush.contents.enables self.old.volatile.registers command) change ≡ true) }
+    {
+        let outcome = answered(self.alloc, self.contents.enables, self.registers, command)?;
+        if let Some(change) = change {
+            self.note(change)?;
+        }
+        self.registers = self.registers.after(command);
+        Ok(outcome)
+    }
+
+    /// What the wait of a session came to.
+    pub(crate) fn settle(&mut self, session: Session) -> Outcome<A>
+        ensures step { Allows self.old (Settled session (outcome_of result)) self.new }
+        ensures parked { result ≡ Outcome.Parked → 0 < length self.old.flush.tail }
+    {
+        let place = session.place();
+        match self.waits[place] {
+            None => Outcome::Done,
+            Some(Wait::CutOff) => {
+                self.waits[place] = None;
+                self.refused(ScpiError::StorageFault)
+            }
+            Some(Wait::Until(n)) => {
+                if n != 0 {
+                    return Outcome::Parked;
+                }
+                match Text::number(self.alloc, 1) {
+                    Ok(text) => {
+                        self.waits[place] = None;
+                        Outcome::Answer(text)
+                    }
+                    Err(AllocError) => self.refused(ScpiError::OutOfMemory),
+                }
+            }
+        }
+    }
+
+    /// Whether a session is open.
+    pub(crate) fn is_open(&self, session: Session) -> bool
+        ensures { result ≡ is_open self.now session }
+    {
+        self.open_now[session.place()]
+    }
+
+    /// Opens a session; there is one.
+    pub(crate) fn open_session(&mut self) -> Result<Session, Crowded>
+        ensures opened { IfOk result (λ session. Allows self.old (Opened session) self.new) }
+        ensures crowded { OnErr result (is_open self.old 1 ≡ true) }
+        ensures same { OnErr result (self.new ≡ self.old) }
+    {
+        let session = Session::of(1);
+        if self.is_open(session) {
+            return Err(Crowded);
+        }
+        self.open_now[session.place()] = true;
+        self.waits[session.place()] = None;
+        Ok(session)
     }
 }

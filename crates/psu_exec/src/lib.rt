@@ -21,7 +21,7 @@ pub use contents::Contents;
 pub use device::Device;
 pub use outcome::Outcome;
 pub use registers::Registers;
-pub use request::Request;
+pub use request::{Request, plain};
 pub use scpi_error::ScpiError;
 pub use session::{Crowded, SESSIONS, Session};
 pub use text::Text;
