@@ -1,15 +1,14 @@
 -- The laws of the map: what `get` finds after each change, and that `get` says all of it.
-use Rattle.std.proofs.Common.{◌≡◌, ℕ, zero, suc, ◌<◌, Bool, true, false, cond, List, [], ◌∷◌, length, get_or, Option, Some, None, refl, sym, ◌∙◌, ap, subst, arith}
+use Rattle.std.proofs.Common.{◌≡◌, ℕ, zero, suc, ◌≤◌, drop, Bool, true, false, cond, List, [], ◌∷◌, length, Option, Some, None, refl, sym, ◌∙◌, ap, subst, arith}
 use Rattle.std.specs.List.{AllByRecursion}
 use Rattle.std.specs.Str.{bytes_eq}
 use Rattle.std.specs.Ordering.{nat_cmp, is_lt}
-use Rattle.std.specs.declared.cmp.Ordering.{Ordering}
-use Rattle.std.specs.declared.cmp.Ordering.TheVariants.{Less, Equal, Greater}
 use Rattle.std.specs.Cmp.Lexicographic.{slice_cmp}
-use Rattle.std.proofs.lemmas.Cmp.{nat_list_cmp_total, tied_itself}
+use Rattle.std.proofs.lemmas.Cmp.{nat_list_cmp_total}
 use Rattle.psu_items.specs.Map.{Item, item_of, get, put, without, Before, IsSorted, Sets}
+use Rattle.psu_items.specs.Area.{IsMapOf}
 use Rattle.psu_items.specs.Batch.{Edit, edited, changed, assigned, Assigns}
-use Rattle.psu_items.proofs.Keys.{same_key, other_key, same_true, before_not_same, same_by_order, turned, before-is_lt, after-tests}
+use Rattle.psu_items.proofs.Keys.{same_key, same_true, after_not_same, before-is_lt, after-tests}
 
 -- an item with another key stays
 pub skip : (i : Item) (old new : List Item) (key k : List ℕ) (value : Option (List ℕ)) → bytes_eq i.key key ≡ false → get new k ≡ cond (bytes_eq key k) value (get old k)
@@ -66,6 +65,17 @@ get-changed items (e ∷ edits) k = get-changed (edited items e.key e.value) edi
     by_value None = get-without items e.key k
     by_value (Some value) = get-put items e.key value k
 
+-- a new key makes one item more
+pub length-put : (items : List Item) (key value : List ℕ) → get items key ≡ None → length (put items key value) ≡ suc (length items)
+length-put [] key value none = refl
+length-put (i ∷ items) key value none = by_tests (bytes_eq i.key key) (is_lt (slice_cmp nat_cmp i.key key)) none (length-put items key value)
+  where
+    by_tests : (same less : Bool) → cond same (Some i.value) (get items key) ≡ None → (get items key ≡ None → length (put items key value) ≡ suc (length items))
+        → length (cond same (item_of key value ∷ items) (cond less (i ∷ put items key value) (item_of key value ∷ i ∷ items))) ≡ suc (suc (length items))
+    by_tests true less found rest = absurd cc
+    by_tests false true none rest = ap suc (rest none)
+    by_tests false false none rest = refl
+
 -- what holds of all items and of the new one holds of all after each change
 all-put : (P : Item → Type 0) (items : List Item) (key value : List ℕ) → AllByRecursion P items → P (item_of key value) → AllByRecursion P (put items key value)
 all-put P [] key value all new = (new, tt)
@@ -88,6 +98,11 @@ all-without P (i ∷ items) key all = by_test (bytes_eq i.key key) (all-without 
 pub all_after : (a b : List ℕ) (items : List Item) → Before a b → AllByRecursion (λ (j : Item). Before b j.key) items → AllByRecursion (λ (j : Item). Before a j.key) items
 all_after a b [] lt all = tt
 all_after a b (i ∷ items) lt all = (nat_list_cmp_total.trans a b i.key lt all.0, all_after a b items lt all.1)
+
+-- a key that comes before those of all items isn't found
+pub get_before : (items : List Item) (k : List ℕ) → AllByRecursion (λ (j : Item). Before k j.key) items → get items k ≡ None
+get_before [] k all = refl
+get_before (i ∷ items) k all = rw (after_not_same k i.key all.0) (get_before items k all.1)
 
 -- the order is kept by each change
 pub sorted-put : (items : List Item) (key value : List ℕ) → IsSorted items → IsSorted (put items key value)
@@ -116,3 +131,59 @@ sorted-edited items key (Some value) sorted = sorted-put items key value sorted
 pub sorted-changed : (items : List Item) (edits : List Edit) → IsSorted items → IsSorted (changed items edits)
 sorted-changed items [] sorted = sorted
 sorted-changed items (e ∷ edits) sorted = sorted-changed (edited items e.key e.value) edits (sorted-edited items e.key e.value sorted)
+
+-- where no edit is left, all are made
+pub all_made : (items now : List Item) (batch edits : List Edit) (n : ℕ) → edits ≡ batch → length edits ≤ n → changed now (drop n edits) ≡ changed items edits → Assigns items batch now
+all_made items now batch edits n same over made k =
+    let none : drop n edits ≡ [] = drop-none n edits over in
+    let all : now ≡ changed items batch = sym (ap (changed now) none) ∙ made ∙ ap (changed items) same in
+    ap (λ (l : List Item). get l k) all ∙ get-changed items batch k
+  where
+    drop-none : (n : ℕ) (l : List Edit) → length l ≤ n → drop n l ≡ []
+    drop-none zero [] le = refl
+    drop-none (suc n) [] le = refl
+    drop-none zero (e ∷ l) le = absurd (omega arith)
+    drop-none (suc n) (e ∷ l) le = drop-none n l (omega arith)
+
+abbrev had : List ℕ → Option (List ℕ)
+had v = Some v
+
+had_is : (v w : List ℕ) → had v ≡ had w → v ≡ w
+had_is v w e = cc
+
+get_own : (i : Item) (items : List Item) → get (i ∷ items) i.key ≡ Some i.value
+get_own i items = ap (λ (b : Bool). cond b (Some i.value) (get items i.key)) (same_true i.key i.key refl)
+
+below_first : (i j : Item) (a b : List Item) → IsSorted (j ∷ b) → IsMapOf (i ∷ a) (j ∷ b) → Before i.key j.key → ⊥
+below_first i j a b sorted same lt =
+    let none : get (j ∷ b) i.key ≡ None = get_before (j ∷ b) i.key (lt, all_after i.key j.key b lt sorted.0) in
+    let some : had i.value ≡ None = sym (get_own i a) ∙ same i.key ∙ none in
+    absurd cc
+
+first_key : (i j : Item) (a b : List Item) → IsSorted (i ∷ a) → IsSorted (j ∷ b) → IsMapOf (i ∷ a) (j ∷ b) → i.key ≡ j.key
+first_key i j a b sorted_a sorted_b same = by_tests (bytes_eq i.key j.key) (is_lt (slice_cmp nat_cmp i.key j.key)) refl refl
+  where
+    by_tests : (equal less : Bool) → bytes_eq i.key j.key ≡ equal → is_lt (slice_cmp nat_cmp i.key j.key) ≡ less → i.key ≡ j.key
+    by_tests true less e f = same_key i.key j.key e
+    by_tests false true e f = absurd (below_first i j a b sorted_b same (before-is_lt i.key j.key f))
+    by_tests false false e f = absurd (below_first j i b a sorted_a (λ k. sym (same k)) (after-tests i.key j.key e f))
+
+-- sorted lists in which each key has the same are the same
+pub same_map : (a b : List Item) → IsSorted a → IsSorted b → IsMapOf a b → a ≡ b
+same_map [] [] sa sb same = refl
+same_map [] (j ∷ b) sa sb same = let some : had j.value ≡ None = sym (get_own j b) ∙ sym (same j.key) in absurd cc
+same_map (i ∷ a) [] sa sb same = let some : had i.value ≡ None = sym (get_own i a) ∙ same i.key in absurd cc
+same_map (i ∷ a) (j ∷ b) sa sb same =
+    let key : i.key ≡ j.key = first_key i j a b sa sb same in
+    let value : i.value ≡ j.value = had_is i.value j.value (sym (get_own i a) ∙ same i.key ∙ ap (get (j ∷ b)) key ∙ get_own j b) in
+    let tails : IsMapOf a b = λ k. tail_at k key (bytes_eq i.key k) refl in
+    let both : i ≡ j = ap (λ (k : List ℕ). item_of k i.value) key ∙ ap (λ (v : List ℕ). item_of j.key v) value in
+    ap (λ (x : Item). x ∷ a) both ∙ ap (λ (l : List Item). j ∷ l) (same_map a b sa.1 sb.1 tails)
+  where
+    tail_at : (k : List ℕ) → i.key ≡ j.key → (t : Bool) → bytes_eq i.key k ≡ t → get a k ≡ get b k
+    tail_at k key true e =
+        let here : i.key ≡ k = same_key i.key k e in
+        get_before a k (subst (λ x. AllByRecursion (λ (m : Item). Before x m.key) a) here sa.0) ∙ sym (get_before b k (subst (λ x. AllByRecursion (λ (m : Item). Before x m.key) b) (sym key ∙ here) sb.0))
+    tail_at k key false e =
+        let other : bytes_eq j.key k ≡ false = subst (λ x. bytes_eq x k ≡ false) key e in
+        sym (ap (λ (t : Bool). cond t (Some i.value) (get a k)) e) ∙ same k ∙ ap (λ (t : Bool). cond t (Some j.value) (get b k)) other

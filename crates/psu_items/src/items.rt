@@ -3,9 +3,10 @@ ghost use Rattle.std.specs.Prelude.{◌≡◌, ◌<◌, [], length, IfOk, IfErr,
 ghost use Rattle.std.specs.Ordering.{nat_cmp};
 ghost use Rattle.std.specs.Cmp.Lexicographic.{slice_cmp};
 ghost use Rattle.psu_items.specs.Map.{get, put, without, cost, IsSorted, Sets};
+ghost use Rattle.psu_items.specs.Batch.{edited, changed, Assigns};
 ghost use Rattle.psu_items.specs.Place.{key_at, IsPlace, IsAt, IsGap};
 
-use crate::Pair;
+use crate::{Batch, Edit, Pair};
 use std::alloc::{AllocError, Allocator};
 use std::cmp::Ordering;
 use std::marker::Model;
@@ -83,6 +84,51 @@ impl<A: Allocator + Copy> Items<A> {
             pages += 1 + (pair.value().len() as u128 + 511) / 512;
         }
         pages
+    }
+
+    /// A new map: this one after the edits of a batch.
+    pub(crate) fn changed(&self, alloc: A, batch: &Batch<A>) -> Result<Self, AllocError>
+        ensures value { IfOk result (λ map. map ≡ changed self.now batch.now) }
+
+        // What follows: each key has what its last edit says.
+        ensures assigns { IfOk result (Assigns self.now batch.now) }
+    {
+        let mut map = self.copy(alloc)?;
+        for edit in batch.edits() {
+            map.make(alloc, edit)?;
+        }
+        Ok(map)
+    }
+
+    // The same map in memory of its own.
+    fn copy(&self, alloc: A) -> Result<Self, AllocError>
+        ensures { IfOk result (λ copy. copy ≡ self.now) }
+    {
+        let mut pairs = Vec::new(alloc);
+        for pair in &self.pairs {
+            pairs.push(pair.copy(alloc)?)?;
+        }
+        Ok(Items { pairs })
+    }
+
+    // Makes one edit.
+    fn make(&mut self, alloc: A, edit: &Edit<A>) -> Result<(), AllocError>
+        ensures { OnOk result (self.new ≡ edited self.old edit.now.key edit.now.value) }
+    {
+        match edit.value() {
+            Some(value) => self.insert(edit.key().to_vec(alloc)?, value.to_vec(alloc)?)?,
+            None => self.remove(edit.key()),
+        }
+        Ok(())
+    }
+
+    // Removes the item of a key, if there is one.
+    fn remove(&mut self, key: &[u8])
+        ensures { self.new ≡ without self.old key.now }
+    {
+        if let Ok(at) = self.search(key) {
+            self.pairs.remove(at);
+        }
     }
 
     // Where the key is, or where it would go.

@@ -1,7 +1,6 @@
-use Rattle.std.proofs.Common.{◌≡◌, sym, subst}
+use Rattle.std.proofs.Common.{sym, subst}
 use Rattle.psu_items.specs.Map.{IsSorted}
-use Rattle.psu_items.specs.Place.{IsAt}
-use Rattle.psu_items.proofs.Places.{get-at, get-gap}
+use Rattle.psu_items.proofs.Sorted.{get-at, get-gap}
 use Rattle.psu_items.proofs.items.Items.get.Goals as goal
 
 pub returns-in-Err : goal.returns-in-Err

@@ -1,4 +1,4 @@
-use Rattle.psu_items.proofs.Places.{set-is_put, insert-is_put, put_sorted, put_sets}
+use Rattle.psu_items.proofs.Sorted.{set-is_put, insert-is_put, put_sorted, put_sets}
 use Rattle.psu_items.proofs.items.Items.insert.Goals as goal
 
 pub invariant_of-self : goal.invariant_of-self

@@ -1,13 +1,10 @@
 -- What stands at the place of a key, and what a change there does to the map.
-use Rattle.std.proofs.Common.{◌≡◌, ℕ, zero, suc, ◌<◌, Bool, true, false, cond, List, [], ◌∷◌, length, get_or, set, Some, None, refl, sym, ◌∙◌, ap, subst, arith}
+use Rattle.std.proofs.Common.{◌≡◌, ℕ, zero, suc, List, [], ◌∷◌, get_or, set, Some, None, refl, sym, ◌∙◌, ap, subst, arith}
 use Rattle.std.specs.List.{insert, remove, AllByRecursion}
-use Rattle.std.specs.Str.{bytes_eq}
-use Rattle.std.specs.Ordering.{nat_cmp, is_lt}
-use Rattle.std.specs.Cmp.Lexicographic.{slice_cmp}
 use Rattle.psu_items.specs.Map.{Item, item_of, get, put, without, Before, IsSorted, Sets}
-use Rattle.psu_items.specs.Place.{key_at, IsPlace, IsAt, IsGap}
+use Rattle.psu_items.specs.Place.{IsPlace, IsAt, IsGap}
 use Rattle.psu_items.proofs.Keys.{other_key, same_true, before_not_same, after_not_same, turned, is_lt-before, is_lt-not_before}
-use Rattle.psu_items.proofs.Maps.{all_after, get-put, sorted-put}
+use Rattle.psu_items.proofs.Maps.{all_after, get_before, get-put, sorted-put, sorted-without}
 
 at-tail : (i : Item) (items : List Item) (key : List ℕ) (at : ℕ) → IsPlace (i ∷ items) key (suc at) → IsPlace items key at
 at-tail i items key at place = record {
@@ -22,14 +19,10 @@ is_at-tail i items key at is = record { place = at-tail i items key at is.place;
 is_gap-tail : (i : Item) (items : List Item) (key : List ℕ) (at : ℕ) → IsGap (i ∷ items) key (suc at) → IsGap items key at
 is_gap-tail i items key at gap = record { place = at-tail i items key at gap.place; misses = λ lt. gap.misses (omega arith) }
 
--- a key that comes before those of all items isn't found, and nothing is without it
-pub get-before : (items : List Item) (k : List ℕ) → AllByRecursion (λ (j : Item). Before k j.key) items → get items k ≡ None
-get-before [] k all = refl
-get-before (i ∷ items) k all = rw (after_not_same k i.key all.0) (get-before items k all.1)
-
-without-before : (items : List Item) (k : List ℕ) → AllByRecursion (λ (j : Item). Before k j.key) items → without items k ≡ items
-without-before [] k all = refl
-without-before (i ∷ items) k all = rw (after_not_same k i.key all.0) (ap (λ (l : List Item). i ∷ l) (without-before items k all.1))
+-- where a key comes before those of all items, nothing is without it
+without_before : (items : List Item) (k : List ℕ) → AllByRecursion (λ (j : Item). Before k j.key) items → without items k ≡ items
+without_before [] k all = refl
+without_before (i ∷ items) k all = rw (after_not_same k i.key all.0) (ap (λ (l : List Item). i ∷ l) (without_before items k all.1))
 
 -- the item at the place of its key
 pub get-at : (items : List Item) (key : List ℕ) (at : ℕ) (d : Item) → IsAt items key at → get items key ≡ Some (get_or items at d).value
@@ -46,7 +39,7 @@ set-put (i ∷ items) key value (suc at) is =
 
 pub remove-without : (items : List Item) (key : List ℕ) (at : ℕ) → IsSorted items → IsAt items key at → remove items at ≡ without items key
 remove-without [] key at sorted is = absurd (omega (arith, is.in_range))
-remove-without (i ∷ items) key zero sorted is = rw (same_true i.key key is.same) (sym (without-before items key (subst (λ (k : List ℕ). AllByRecursion (λ (j : Item). Before k j.key) items) is.same sorted.0)))
+remove-without (i ∷ items) key zero sorted is = rw (same_true i.key key is.same) (sym (without_before items key (subst (λ (k : List ℕ). AllByRecursion (λ (j : Item). Before k j.key) items) is.same sorted.0)))
 remove-without (i ∷ items) key (suc at) sorted is =
     rw (before_not_same i.key key (is.place.below 0 (omega arith))) (ap (λ (l : List Item). i ∷ l) (remove-without items key at sorted.1 (is_at-tail i items key at is)))
 
@@ -59,7 +52,7 @@ gap_before i items key sorted gap =
 -- the gap where a key would go
 pub get-gap : (items : List Item) (key : List ℕ) (at : ℕ) → IsSorted items → IsGap items key at → get items key ≡ None
 get-gap [] key at sorted gap = refl
-get-gap (i ∷ items) key zero sorted gap = get-before (i ∷ items) key (gap_before i items key sorted gap)
+get-gap (i ∷ items) key zero sorted gap = get_before (i ∷ items) key (gap_before i items key sorted gap)
 get-gap (i ∷ items) key (suc at) sorted gap = rw (before_not_same i.key key (gap.place.below 0 (omega arith))) (get-gap items key at sorted.1 (is_gap-tail i items key at gap))
 
 pub insert-put : (items : List Item) (key value : List ℕ) (at : ℕ) → IsGap items key at → insert items at (item_of key value) ≡ put items key value
@@ -72,7 +65,7 @@ insert-put (i ∷ items) key value (suc at) gap =
 
 pub without-gap : (items : List Item) (key : List ℕ) (at : ℕ) → IsSorted items → IsGap items key at → without items key ≡ items
 without-gap [] key at sorted gap = refl
-without-gap (i ∷ items) key zero sorted gap = without-before (i ∷ items) key (gap_before i items key sorted gap)
+without-gap (i ∷ items) key zero sorted gap = without_before (i ∷ items) key (gap_before i items key sorted gap)
 without-gap (i ∷ items) key (suc at) sorted gap = rw (before_not_same i.key key (gap.place.below 0 (omega arith))) (ap (λ (l : List Item). i ∷ l) (without-gap items key at sorted.1 (is_gap-tail i items key at gap)))
 
 -- the fields of a map after a change at the place of a key
@@ -89,3 +82,10 @@ put_sorted fields items after key value seen sorted is = subst IsSorted (sym is)
 
 pub put_sets : (items after : List Item) (key value : List ℕ) → after ≡ put items key value → Sets items after key value
 put_sets items after key value is k = ap (λ (l : List Item). get l k) is ∙ get-put items key value k
+
+-- the fields of a map without the item at the place of a key
+pub remove-is_without : (fields items : List Item) (key : List ℕ) (at : ℕ) → fields ≡ items → IsSorted fields → IsAt items key at → remove fields at ≡ without items key
+remove-is_without fields items key at seen sorted is = rw seen (remove-without items key at (subst IsSorted seen sorted) is)
+
+pub without_sorted : (fields items after : List Item) (key : List ℕ) → fields ≡ items → IsSorted fields → after ≡ without items key → IsSorted after
+without_sorted fields items after key seen sorted is = subst IsSorted (sym is) (sorted-without items key (subst IsSorted seen sorted))
