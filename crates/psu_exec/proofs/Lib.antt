@@ -4,3 +4,6 @@ pub mod Within
 pub mod Consistent
 pub mod Keeping
 pub mod Wants
+pub mod Over
+pub mod Holding
+pub mod Batches

@@ -1,8 +1,10 @@
 -- The calls on the device beside a unit, each with its reply, and what each leaves.
-use Rattle.std.specs.Prelude.{◌≡◌, ◌⊎◌, ◌≢◌, ℕ, ◌-◌, ◌≤◌, ◌==◌, Bool, true, false, if◌then◌else◌, Option, Some, None, List, [], ◌∷◌, length, drop, map, slice_set, option_map, decimal}
+use Rattle.std.specs.Prelude.{◌≡◌, ◌⊎◌, ◌≢◌, ℕ, suc, ◌-◌, ◌≤◌, ◌==◌, Bool, true, false, if◌then◌else◌, Option, Some, None, List, [], ◌∷◌, ◌++◌, length, drop, map, slice_set, option_map, decimal}
 use Rattle.psu_items.specs.Map.{Item}
 use Rattle.psu_exec.specs.Contents.{items_of}
 use Rattle.psu_items.specs.Batch.{Edit}
+use Rattle.psu_items.specs.declared.commit.UnstartedCause.{UnstartedCause}
+use Rattle.psu_items.specs.declared.commit.UnstartedCause.TheVariants as unstarted
 use Rattle.psu_exec.specs.Batch.{batch}
 use Rattle.psu_exec.specs.Device.{Reply, Done, Answer, Error, Parked, Later, Flush, State, Target, target, count_held, is_whole, is_open, place_of, wait_of, with_error, with_registers, Step}
 use Rattle.psu_exec.specs.declared.registers.Registers.{Registers}
@@ -19,15 +21,10 @@ pub data Taken : Type 0 where
   Out : Taken
   Memory : Taken
 
--- why a commit did not start
-pub data Cause : Type 0 where
-  NoMemory : Cause
-  LastNumber : Cause
-
 -- What a job came to: the limit of its store, with the map that it holds, or the map before and the batch.
 pub data JobEnd : Type 0 where
   Stored : (limit : ℕ) → (map : List Item) → JobEnd
-  Unstarted : (limit : ℕ) → (before : List Item) → (edits : List Edit) → (cause : Cause) → JobEnd
+  Unstarted : (limit : ℕ) → (before : List Item) → (edits : List Edit) → (cause : UnstartedCause) → JobEnd
   Broken : (limit : ℕ) → (before : List Item) → (edits : List Edit) → JobEnd
 
 -- a call with its reply
@@ -44,7 +41,24 @@ settle_answer None = Done
 settle_answer (Some CutOff) = Error StorageFault
 settle_answer (Some (Until n)) = if n == 0 then Answer (decimal 1) else Parked
 
--- the wait of a session is over
+-- the wait is over: its changes are flushed, or the store broke before
+abbrev pub is_over : Option Wait → Bool
+is_over None = false
+is_over (Some CutOff) = true
+is_over (Some (Until n)) = n == 0
+
+-- the numbers of the sessions whose wait is over, where the first wait is that of number n
+abbrev pub over_one : ℕ → Bool → List ℕ
+over_one n b = if b then n ∷ [] else []
+
+abbrev pub over_from : ℕ → List (Option Wait) → List ℕ
+over_from n [] = []
+over_from n (w ∷ waits) = over_one n (is_over w) ++ over_from (suc n) waits
+
+abbrev pub sessions_over : Flush → List ℕ
+sessions_over f = over_from 1 f.waits
+
+-- the wait of a session is dropped
 abbrev pub unparked : Flush → ℕ → Flush
 unparked f session = record f { waits = slice_set f.waits (place_of session) None }
 
@@ -115,8 +129,8 @@ worn f = record f { store = Worn; held = None; out = false; waits = map (option_
 
 abbrev pub given_back : JobEnd → Flush → Flush
 given_back (Stored limit map) f = stored f
-given_back (Unstarted limit before edits NoMemory) f = kept f
-given_back (Unstarted limit before edits LastNumber) f = worn f
+given_back (Unstarted limit before edits unstarted.Memory) f = kept f
+given_back (Unstarted limit before edits unstarted.Worn) f = worn f
 given_back (Broken limit before edits) f = worn f
 
 -- a job is out and the end is an expected one; else nothing changes

@@ -1,6 +1,9 @@
 -- What holds of the flush part in every state.
 use Rattle.std.specs.Prelude.{◌≡◌, ℕ, ◌≤◌, Bool, true, Option, Some, None, is_some, List, length, take, ⊤}
 use Rattle.std.specs.List.{AllByRecursion}
+use Rattle.psu_items.specs.Map.{Item}
+use Rattle.psu_items.specs.Batch.{Edit}
+use Rattle.psu_exec.specs.Batch.{batch}
 use Rattle.psu_exec.specs.Contents.{applied, items_of, IsContents}
 use Rattle.psu_exec.specs.Device.{Flush, target, count_held}
 use Rattle.psu_exec.specs.declared.contents.Contents.{Contents}
@@ -24,3 +27,8 @@ pub record IsConsistent (f : Flush) : Type 0 where
   pub waits : AllByRecursion (IsWithin (length f.tail)) f.waits
   pub full : length f.tail ≤ 1024
   pub out : f.out ≡ is_some f.held
+
+-- the batch kept for the job's end is the one to its target
+abbrev pub HasEdits : Option ℕ → List Item → List Item → List Edit → Type 0
+HasEdits None before map edits = ⊤
+HasEdits (Some k) before map edits = edits ≡ batch before map

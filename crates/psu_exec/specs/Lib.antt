@@ -5,4 +5,6 @@ pub mod Batch
 pub mod Device
 pub mod Calls
 pub mod Consistent
+pub mod Jobs
+pub mod Ends
 pub mod Shown

@@ -1,20 +1,25 @@
 // The one state, without its disk.
-ghost use Rattle.std.specs.Prelude.{◌≡◌, ◌≤◌, ◌<◌, OnOk, OnErr, IfOk, ◌++◌, ◌∷◌, [], true, false, Some, None, Option, is_some, length, vec_len, drop, map, option_map};
-ghost use Rattle.psu_exec.specs.Contents.{apply, IsContents};
-ghost use Rattle.psu_exec.specs.Device.{State, Reply, answer, answer_with, change_in, change_of, change_read, is_late, is_open, is_refused, is_synchronizing, is_whole, power_on, waits_for, wait_of, with_error, with_registers, effect, made, with_more, wants_memory};
+ghost use Rattle.std.specs.Prelude.{◌≡◌, ◌+◌, ◌≤◌, ◌<◌, ◌↔◌, IsTrue, OnOk, OnErr, IfOk, ◌++◌, ◌∷◌, [], true, false, Some, None, Option, is_some, length, vec_len, drop, map, option_map};
+ghost use Rattle.psu_exec.specs.Contents.{apply, items_of, IsContents};
+ghost use Rattle.psu_exec.specs.Device.{State, Reply, answer, answer_with, change_in, change_of, change_read, is_late, is_open, is_refused, is_synchronizing, is_whole, power_on, waits_for, wait_of, with_error, with_registers, effect, made, with_more, wants_memory, target, first_request};
 ghost use Rattle.psu_exec.specs.declared.change.Change.{Change as ChangeData};
 ghost use Rattle.psu_exec.specs.declared.request.Request.{Request as RequestData};
-ghost use Rattle.psu_exec.specs.Calls.{Allows, wait_less, wait_cut};
-ghost use Rattle.psu_exec.specs.Calls.Entry.{Executed, Settled, Opened};
-ghost use Rattle.psu_exec.specs.Shown.{outcome_of};
+ghost use Rattle.psu_exec.specs.Calls.{Allows, wait_less, wait_cut, stored, kept, worn, is_over, over_one, over_from, sessions_over};
+ghost use Rattle.psu_exec.specs.Calls.Entry.{Executed, Settled, Opened, Took};
+ghost use Rattle.psu_exec.specs.Batch.{batch};
+ghost use Rattle.psu_items.specs.Batch.{changed};
+ghost use Rattle.psu_exec.specs.Shown.{outcome_of, taken_of};
 
 use crate::{
-    Change, Command, Condition, Contents, Crowded, Outcome, Registers, Request, SESSIONS, ScpiError,
-    Session, Text, Wait,
+    Change, Command, Condition, Contents, Crowded, NoJob, Outcome, Registers, Request, SESSIONS, ScpiError,
+    Session, Sessions, Text, Wait,
 };
-use psu_items::Items;
+use crate::comparison::{same_edits, same_items};
+use crate::difference::difference;
+use psu_items::{Batch, Items};
 use std::alloc::{AllocError, Allocator};
 use std::marker::Model;
+use std::mem;
 
 /// How many changes the tail holds at most.
 const TAIL: usize = 1024;
@@ -27,6 +32,7 @@ pub struct Device<A: Allocator + Copy> {
     contents: Contents,
     before: Items<A>,
     target: Items<A>,
+    edits: Batch<A>,
     tail: Vec<Change, A>,
     held: Option<usize>,
     store: Condition,
@@ -46,9 +52,9 @@ impl<A: Allocator + Copy> Model for Device<A> {
         flush = record { limit = d.limit; contents = d.contents; before = d.before; tail = d.tail.items; held = held_of d.held d.target; store = d.store; out = d.out; waits = d.waits };
     } };
 
-    ghost use Rattle.psu_exec.specs.Consistent.{IsConsistent};
+    ghost use Rattle.psu_exec.specs.Consistent.{IsConsistent, HasEdits};
 
-    ghost invariant = { λ d. IsConsistent (record { limit = d.limit; contents = d.contents; before = d.before; tail = d.tail.items; held = held_of d.held d.target; store = d.store; out = d.out; waits = d.waits }) };
+    ghost invariant = { λ d. HasEdits d.held d.before d.target d.edits × IsConsistent (record { limit = d.limit; contents = d.contents; before = d.before; tail = d.tail.items; held = held_of d.held d.target; store = d.store; out = d.out; waits = d.waits }) };
 }
 
 // The change that an accepted command makes.
@@ -157,6 +163,39 @@ fn cut_off(wait: Option<Wait>) -> Option<Wait>
     }
 }
 
+// Whether a wait is over.
+fn is_over(wait: Option<Wait>) -> bool
+    ensures { result ≡ is_over wait }
+{
+    match wait {
+        None => false,
+        Some(Wait::CutOff) => true,
+        Some(Wait::Until(n)) => n == 0,
+    }
+}
+
+// The session of a place, where its wait is over.
+fn put_over(sessions: &mut Sessions, place: usize, wait: Option<Wait>)
+    requires place { place < 16 }
+    requires room { length sessions.old ≤ place }
+    ensures { sessions.new ≡ sessions.old ++ over_one (place + 1) (is_over wait) }
+{
+    if is_over(wait) {
+        sessions.push(Session::of(place as u8 + 1));
+    }
+}
+
+// The sessions whose wait is over.
+fn all_over(waits: &[Option<Wait>; SESSIONS]) -> Sessions
+    ensures { result ≡ over_from 1 waits.now }
+{
+    let mut sessions = Sessions::new();
+    for i in 0..SESSIONS {
+        put_over(&mut sessions, i, waits[i]);
+    }
+    sessions
+}
+
 // The waits once so many changes are flushed.
 fn all_less(waits: &mut [Option<Wait>; SESSIONS], k: usize)
     ensures { waits.new ≡ map (option_map (wait_less k)) waits.old }
@@ -196,6 +235,7 @@ impl<A: Allocator + Copy> Device<A> {
             contents,
             before,
             target: Items::new(alloc),
+            edits: Batch::new(alloc),
             tail: Vec::new(alloc),
             held: None,
             store: Condition::Whole,
@@ -336,5 +376,123 @@ impl<A: Allocator + Copy> Device<A> {
         self.open_now[session.place()] = true;
         self.waits[session.place()] = None;
         Ok(session)
+    }
+
+    // The map of the contents, and the batch that leads there, twice.
+    fn planned(&self) -> Result<(Items<A>, Batch<A>, Batch<A>), AllocError>
+        ensures target { IfOk result (λ p. p.0 ≡ items_of self.now.flush.contents) }
+        ensures edits { IfOk result (λ p. p.1 ≡ batch self.now.flush.before (items_of self.now.flush.contents)) }
+        ensures copy { IfOk result (λ p. p.2 ≡ batch self.now.flush.before (items_of self.now.flush.contents)) }
+        ensures leads { IfOk result (λ p. changed self.now.flush.before p.1 ≡ items_of self.now.flush.contents) }
+    {
+        let target = self.contents.items(self.alloc)?;
+        let edits = difference(self.alloc, &self.before, &target)?;
+        let copy = difference(self.alloc, &self.before, &target)?;
+        Ok((target, edits, copy))
+    }
+
+    /// The batch of a job for what is not flushed. All memory, that of what is kept for the job's end too, is taken before any
+    /// change.
+    pub(crate) fn take(&mut self) -> Result<Batch<A>, NoJob>
+        ensures step { Allows self.old (Took (taken_of result)) self.new }
+        ensures same { OnErr result (self.new ≡ self.old) }
+        ensures edits { IfOk result (λ edits. edits ≡ batch self.old.flush.before (items_of self.old.flush.contents)) }
+        ensures leads { IfOk result (λ edits. changed self.old.flush.before edits ≡ items_of self.old.flush.contents) }
+    {
+        if self.out {
+            return Err(NoJob::Out);
+        }
+        if !is_whole(self.store) {
+            return Err(NoJob::Nothing);
+        }
+        if self.tail.is_empty() {
+            return Err(NoJob::Nothing);
+        }
+        match self.planned() {
+            Err(AllocError) => Err(NoJob::Memory),
+            Ok((target, edits, copy)) => {
+                self.target = target;
+                self.edits = copy;
+                self.held = Some(self.tail.len());
+                self.out = true;
+                Ok(edits)
+            }
+        }
+    }
+
+    /// Whether a job is out whose target is this map, on a store of this limit.
+    pub(crate) fn is_target(&self, limit: u16, map: &Items<A>) -> bool
+        ensures { IsTrue result ↔ ((self.now.flush.out ≡ true) × (limit ≡ self.now.flush.limit) × (map.now ≡ target self.now.flush)) }
+    {
+        self.out && limit == self.limit && same_items(map, &self.target)
+    }
+
+    /// Whether a job is out that began at this map with this batch, on a store of this limit.
+    pub(crate) fn is_job(&self, limit: u16, before: &Items<A>, edits: &Batch<A>) -> bool
+        ensures { IsTrue result ↔ ((self.now.flush.out ≡ true) × (limit ≡ self.now.flush.limit) × (before.now ≡ self.now.flush.before) × (edits.now ≡ batch self.now.flush.before (target self.now.flush))) }
+    {
+        self.out && limit == self.limit && same_items(before, &self.before) && same_edits(edits, &self.edits)
+    }
+
+    /// The target's changes are flushed, and no others.
+    pub(crate) fn flush_target(&mut self)
+        requires { self.old.flush.out ≡ true }
+        ensures { self.new ≡ record self.old { flush = stored self.old.flush } }
+    {
+        if let Some(k) = self.held {
+            mem::swap(&mut self.before, &mut self.target);
+            drop_front(&mut self.tail, k);
+            all_less(&mut self.waits, k);
+            self.held = None;
+            self.store = Condition::Whole;
+            self.out = false;
+        }
+    }
+
+    /// The job ends with nothing flushed, and the store is whole.
+    pub(crate) fn keep(&mut self)
+        ensures { self.new ≡ record self.old { flush = kept self.old.flush } }
+    {
+        self.held = None;
+        self.store = Condition::Whole;
+        self.out = false;
+    }
+
+    /// The job ends with nothing flushed, and the store takes no commit any more.
+    pub(crate) fn wear_out(&mut self)
+        ensures { self.new ≡ record self.old { flush = worn self.old.flush } }
+    {
+        all_cut_off(&mut self.waits);
+        self.held = None;
+        self.store = Condition::Worn;
+        self.out = false;
+    }
+
+    /// What is kept without power.
+    pub(crate) fn contents(&self) -> Contents
+        ensures { result ≡ self.now.flush.contents }
+    {
+        self.contents
+    }
+
+    /// The service request that the registers make as they are.
+    pub(crate) fn first_request(&self) -> Option<u8>
+        ensures { result ≡ first_request self.now.volatile.registers }
+    {
+        self.registers.first_request()
+    }
+
+    /// Whether a job is out.
+    pub(crate) fn is_out(&self) -> bool
+        ensures { result ≡ self.now.flush.out }
+    {
+        self.out
+    }
+
+    /// The sessions whose wait is over.
+    pub(crate) fn sessions_over(&self) -> Sessions
+        ensures { result ≡ sessions_over self.now.flush }
+    {
+        all_over(&self.waits)
     }
 }

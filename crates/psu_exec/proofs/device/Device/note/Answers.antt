@@ -6,4 +6,4 @@ use Rattle.psu_exec.proofs.device.Device.note.Goals as goal
 pub invariant_of-self-2 : goal.invariant_of-self-2
 invariant_of-self-2 g c =
     let size : length c.self.inside.tail.items ≡ length c.args.self.now.flush.tail = ap (λ (s : State). length s.flush.tail) c.self.view_is in
-    consistent_more _ c.args.change _ _ c.self.invariant (omega (arith, c.requires, size)) c.in_ok-push.ensures.items c.after-self-inside.ensures
+    (c.self.invariant.0, consistent_more _ c.args.change _ _ c.self.invariant.1 (omega (arith, c.requires, size)) c.in_ok-push.ensures.items c.after-self-inside.ensures)

@@ -1,0 +1,59 @@
+//! A commit that is to be made.
+ghost use Rattle.std.specs.Prelude.{◌≡◌};
+ghost use Rattle.psu_items.specs.Batch.{changed};
+ghost use Rattle.psu_items.specs.Area.{CanHold};
+ghost use Rattle.psu_items.proofs.Props.{CanHold-IsProp};
+
+use crate::Finished;
+use psu_disk::Disk;
+use psu_items::{Batch, Commit, Store};
+use std::alloc::Allocator;
+
+/// A commit that is to be made: the store, and the batch that leads from its map to the target.
+#[derive(Drop)]
+pub struct Job<D: Disk, A: Allocator + Copy> {
+    alloc: A,
+    store: Store<D, A>,
+    batch: Batch<A>,
+    ghost fits: { CanHold store.limit (changed store.items batch) } by { CanHold-IsProp store.limit (changed store.items batch) },
+}
+
+impl<D: Disk, A: Allocator + Copy> Job<D, A> {
+    ghost use Rattle.psu_exec.specs.Jobs.{RunsTo, EndStands};
+
+    // The job of a store and a batch.
+    pub(crate) fn new(alloc: A, store: Store<D, A>, batch: Batch<A>) -> Job<D, A>
+        requires { CanHold store.limit (changed store.items batch) }
+        ensures store { result.store ≡ store }
+        ensures batch { result.batch ≡ batch }
+    {
+        Job {
+            alloc,
+            store,
+            batch,
+        }
+    }
+
+    /// Makes the commit. It touches the disk, and nothing that is shared.
+    pub fn run(self) -> Finished<D, A>
+        ensures end { RunsTo self.store self.batch result }
+        ensures stands { D.honest → EndStands result }
+    {
+        let Job {
+            alloc,
+            store,
+            batch,
+        } = self;
+        match store.commit(alloc, batch) {
+            Commit::Stored(store) => {
+                store.items();
+                Finished::Stored(store)
+            }
+            Commit::Unstarted(store, batch, cause) => {
+                store.items();
+                Finished::Unstarted(store, batch, cause)
+            }
+            Commit::Broken(broken) => Finished::Broken(broken),
+        }
+    }
+}
