@@ -10,6 +10,7 @@ use Rattle.psu_items.specs.Area.{item, area, Fits, Distinct, AreItems, IsMapOf, 
 use Rattle.psu_items.specs.Reading.{read_item}
 use Rattle.psu_items.proofs.Keys.{same_key, same_true}
 use Rattle.psu_items.proofs.Maps.{skip, get-put, sorted-put, length-put, same_map}
+use Rattle.psu_items.proofs.Laws.{one_map}
 use Rattle.psu_items.proofs.Reading.{done, done_is, IsBytes, item_takes, item_again}
 
 area_more : (front : List Item) (i : Item) (rest : List ℕ) → area front ++ (item i ++ rest) ≡ area (front ++ i ∷ []) ++ rest
@@ -95,9 +96,10 @@ pub record ReadSo (bytes rest : List ℕ) (map : List Item) : Type 0 where
   pub parts : bytes ≡ area front ++ rest
   pub holds : IsMapOf map front
   pub as_many : length map ≡ length front
+  pub sorted : IsSorted map
 
 pub starts : (bytes : List ℕ) → ReadSo bytes bytes []
-starts bytes = record { front = []; are = (tt, tt); parts = refl; holds = λ k. refl; as_many = refl }
+starts bytes = record { front = []; are = (tt, tt); parts = refl; holds = λ k. refl; as_many = refl; sorted = tt }
 
 -- what is left are bytes too
 rest_fits : (bytes rest : List ℕ) (map : List Item) → IsBytes bytes → ReadSo bytes rest map → IsBytes rest
@@ -121,6 +123,7 @@ goes_on bytes rest map new i after fits so e none is =
       are = (all_more so.front i so.are.0 taken.fits, distinct_more so.front i so.are.1 absent);
       parts = so.parts ∙ ap (λ (l : List ℕ). area so.front ++ l) taken.parts ∙ area_more so.front i after;
       holds = λ k. ap (λ (l : List Item). get l k) is ∙ get-put map i.key i.value k ∙ ap (λ (o : Option (List ℕ)). cond (bytes_eq i.key k) (Some i.value) o) (so.holds k) ∙ sym (get_more so.front i absent k);
+      sorted = subst IsSorted (sym is) (sorted-put map i.key i.value so.sorted);
       as_many = ap length is ∙ length-put map i.key i.value none ∙ ap suc so.as_many ∙ sym (length-more so.front i);
     }
 
@@ -138,6 +141,10 @@ fits_back (j ∷ front) back all = fits_back front back all.1
 nothing_left : (rest : List ℕ) (back : List Item) → AllByRecursion Fits back → rest ≡ area back → (rest ≡ [] → ⊥) → read_item rest ≡ None → ⊥
 nothing_left rest [] all e more none = more e
 nothing_left rest (i ∷ back) all e more none = let read : read_item rest ≡ Some (i, area back) = ap read_item (e ∙ flat_map-cons item i back) ∙ item_again i (area back) all.0 in absurd cc
+
+-- what bytes stand for is one map, and this is it
+pub is_one : (bytes rest : List ℕ) (map other : List Item) → ReadSo bytes rest map → rest ≡ [] → IsSorted other → StandsFor bytes other → other ≡ map
+is_one bytes rest map other so e sorted stands = one_map bytes other map sorted so.sorted stands (ends bytes rest map so e)
 
 -- no map of at most 240 items stands in the bytes
 abbrev pub StandsForNone : List ℕ → Type 0

@@ -42,7 +42,9 @@ impl<T: Drop> From<AllocFailed<T>> for DecodeFault {
 /// The map that an area holds, its items in any order and at most 240.
 pub(crate) fn decode<A: Allocator + Copy>(alloc: A, bytes: &[u8]) -> Result<Items<A>, DecodeFault>
     ensures found { IfOk result (StandsFor bytes.now) }
+    ensures sorted { IfOk result IsSorted }
     ensures count { IfOk result (λ map. length map ≤ 240) }
+    ensures only { IfOk result (λ map. (other : List Item) → IsSorted other → StandsFor bytes.now other → other ≡ map) }
     ensures none { IfErr result (λ e. e ≡ Bad → (map : List Item) → IsSorted map → StandsFor bytes.now map → length map ≤ 240 → ⊥) }
 {
     let mut map = Items::new(alloc);
@@ -102,7 +104,9 @@ pub(crate) fn encode<A: Allocator + Copy>(
     items: &Items<A>,
 ) -> Result<Vec<u8, A>, AllocError>
     requires { AllByRecursion Fits items.now }
-    ensures { IfOk result (λ v. v.items ≡ area items.now) }
+    ensures bytes { IfOk result (λ v. v.items ≡ area items.now) }
+    ensures sorted { IsSorted items.now }
+    ensures stands { IfOk result (λ v. StandsFor v.items items.now) }
 {
     let mut out = Vec::new(alloc);
     for pair in items.pairs() {
@@ -123,4 +127,55 @@ fn put_item<A: Allocator + Copy>(out: &mut Vec<u8, A>, pair: &Pair<A>) -> Result
     out.extend_from_slice(&(value.len() as u32).to_be_bytes())?;
     out.extend_from_slice(value)?;
     Ok(())
+}
+
+#[cfg(test)]
+mod tests {
+    use super::*;
+    use std::test::Fail;
+
+    // The enables that ask for service at power-on: key 01, SRE 32, ESE 128.
+    const ENABLES: [u8; 8] = [1, 1, 0, 0, 0, 2, 0x20, 0x80];
+
+    #[test]
+    fn spells_the_enables(rt: HostRuntime) -> Result<(), Fail> {
+        let alloc = rt.alloc();
+        let items = decode(alloc, &ENABLES)?;
+        assert_eq!(rt; items.pairs().len(), 1);
+        assert_eq!(rt; items.get(&[1]).ok_or("no enables")?, [0x20, 0x80].as_slice());
+        let mut again = Items::new(alloc);
+        again.insert([1].to_vec(alloc)?, [0x20, 0x80].to_vec(alloc)?)?;
+        assert_eq!(rt; encode(alloc, &again)?.as_slice(), ENABLES.as_slice());
+        Ok(())
+    }
+
+    #[test]
+    fn refuses_bad_areas(rt: HostRuntime) -> Result<(), Fail> {
+        let alloc = rt.alloc();
+        let bad: [&[u8]; 6] = [
+            &[0, 0, 0, 0, 1, 9],
+            &[34, 0, 0, 0, 1, 9],
+            &[1, 1, 0, 0, 0, 0],
+            &[1, 1, 0, 0, 0, 2, 9],
+            &[1, 1, 0, 0, 0, 1, 9, 1],
+            &[1, 1, 0, 0, 0, 1, 9, 1, 1, 0, 0, 0, 1, 9],
+        ];
+        for area in bad {
+            assert_eq!(rt; decode(alloc, area).err(), Some(DecodeFault::Bad), "at {area:?}");
+        }
+        Ok(())
+    }
+
+    #[test]
+    fn takes_240_items(rt: HostRuntime) -> Result<(), Fail> {
+        let alloc = rt.alloc();
+        let mut area = Vec::new(alloc);
+        for key in 0..240 {
+            area.extend_from_slice(&[1, key, 0, 0, 0, 1, key])?;
+        }
+        assert_eq!(rt; decode(alloc, &area)?.pairs().len(), 240);
+        area.extend_from_slice(&[1, 240, 0, 0, 0, 1, 240])?;
+        assert_eq!(rt; decode(alloc, &area).err(), Some(DecodeFault::Bad));
+        Ok(())
+    }
 }

@@ -165,3 +165,57 @@ fn place<A: Allocator + Copy>(pairs: &[Pair<A>], key: &[u8]) -> usize
     }
     pairs.len()
 }
+
+#[cfg(test)]
+mod tests {
+    use super::*;
+    use std::test::Fail;
+
+    #[test]
+    fn is_in_the_order_of_keys(rt: HostRuntime) -> Result<(), Fail> {
+        let alloc = rt.alloc();
+        let mut items = Items::new(alloc);
+        for (key, value) in [(5, 10), (1, 20), (3, 30), (1, 40)] {
+            items.insert([key].to_vec(alloc)?, [value].to_vec(alloc)?)?;
+        }
+        assert_eq!(rt; items.pairs().len(), 3);
+        assert_eq!(rt; items.pairs()[0].key(), [1].as_slice());
+        assert_eq!(rt; items.pairs()[0].value(), [40].as_slice());
+        assert_eq!(rt; items.get(&[3]).ok_or("no 3")?, [30].as_slice());
+        assert!(rt; items.get(&[3, 0]).is_none());
+        Ok(())
+    }
+
+    // A file of 32,768 bytes has a value of one byte more, and costs 66; one of 29,183 costs 58.
+    #[test]
+    fn costs_pages(rt: HostRuntime) -> Result<(), Fail> {
+        let alloc = rt.alloc();
+        for (length, pages) in [(1, 2), (512, 2), (513, 3), (29184, 58), (32769, 66)] {
+            let mut items = Items::new(alloc);
+            items.insert([5].to_vec(alloc)?, vec![in alloc; 0; length]?)?;
+            assert_eq!(rt; items.cost(), pages, "at {length}");
+        }
+        Ok(())
+    }
+
+    #[test]
+    fn changes_by_a_batch(rt: HostRuntime) -> Result<(), Fail> {
+        let alloc = rt.alloc();
+        let mut items = Items::new(alloc);
+        items.insert([1].to_vec(alloc)?, [10].to_vec(alloc)?)?;
+        items.insert([2].to_vec(alloc)?, [20].to_vec(alloc)?)?;
+        let mut batch = Batch::new(alloc);
+        batch.assign([3].to_vec(alloc)?, [30].to_vec(alloc)?)?;
+        batch.remove([2].to_vec(alloc)?)?;
+        batch.assign([3].to_vec(alloc)?, [31].to_vec(alloc)?)?;
+        assert_eq!(rt; batch.edits().len(), 3);
+        assert_eq!(rt; batch.edits()[1].key(), [2].as_slice());
+        assert!(rt; batch.edits()[1].value().is_none());
+        let after = items.changed(alloc, &batch)?;
+        assert_eq!(rt; after.pairs().len(), 2);
+        assert_eq!(rt; after.get(&[3]).ok_or("no 3")?, [31].as_slice());
+        assert!(rt; after.get(&[2]).is_none());
+        assert!(rt; items.get(&[2]).is_some());
+        Ok(())
+    }
+}

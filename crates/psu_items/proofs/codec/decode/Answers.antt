@@ -1,8 +1,9 @@
 use Rattle.std.proofs.Common.{◌≡◌, ◌<◌, ◌≤◌, ◌∙◌, [], None, length, sym, arith, rules}
+use Rattle.std.proofs.lemmas.Grind.{common_steps}
 use Rattle.psu_items.specs.Map.{get, item_of}
 use Rattle.psu_items.specs.Reading.{read_item}
 use Rattle.psu_items.proofs.Reading.{done}
-use Rattle.psu_items.proofs.Listing.{goes_on, one_more, no_item, too_many, twice, shorter, some_there, none_there}
+use Rattle.psu_items.proofs.Listing.{goes_on, is_one, one_more, no_item, too_many, twice, shorter, some_there, none_there}
 use Rattle.psu_items.proofs.codec.decode.Goals as goal
 
 pub returns-then-pairs-ge-ITEMS_MOST-clause-none : goal.returns-then-pairs-ge-ITEMS_MOST-clause-none
@@ -39,3 +40,8 @@ loop-rest-preserved g c =
     let so = goes_on c.args.bytes.now c.loop-rest.rest.now _ _ _ c.in-Some.after.now (λ i. omega (arith, c.type_inv.bytes i)) c.loop-rest.invariant.so copied absent c.in_ok-insert.ensures.ok in
     let room : length c.loop-rest.map < 240 = search rules in
     record { so = so; count = one_more _ _ _ _ 240 room absent c.in_ok-insert.ensures.ok }
+
+pub returns-clause-only : goal.returns-clause-only
+returns-clause-only g c = λ other sorted stands.
+    let none : c.loop-rest.rest.now ≡ [] = grind (arith, common_steps) in
+    is_one c.args.bytes.now c.loop-rest.rest.now _ other c.loop-rest.invariant.so none sorted stands
