@@ -2,7 +2,7 @@
 ghost use Rattle.std.specs.Prelude.{◌≡◌};
 ghost use Rattle.psu_items.specs.Batch.{changed};
 ghost use Rattle.psu_items.specs.Area.{CanHold};
-ghost use Rattle.psu_items.proofs.Props.{CanHold-IsProp};
+ghost use Rattle.psu_items.specs.AreaLaws.{CanHold-IsProp};
 
 use crate::Finished;
 use psu_disk::Disk;
