@@ -1,4 +1,4 @@
-pub mod Waits
+pub mod Mapped
 pub mod Changes
 pub mod Within
 pub mod Consistent

@@ -18,12 +18,14 @@ mod outcome;
 mod power_fault;
 mod registers;
 mod request;
+mod rules;
 mod scpi_error;
 mod session;
 mod sessions;
 mod stranger;
 mod text;
 mod wait;
+mod waits;
 
 pub use change::Change;
 pub use command::Command;

@@ -1,7 +1,7 @@
 use Rattle.std.proofs.Common.{◌≡◌, ◌≤◌, ◌+◌, None, length, get_or, ap, sym, ◌∙◌, ◌++◌, arith, length-append}
 use Rattle.psu_exec.specs.Calls.{is_over, over_one}
 use Rattle.psu_exec.proofs.Over.{over_more, length-over_one}
-use Rattle.psu_exec.proofs.device.all_over.Goals as goal
+use Rattle.psu_exec.proofs.waits.all_over.Goals as goal
 
 pub loop-i-preserved : goal.loop-i-preserved
 loop-i-preserved c =
