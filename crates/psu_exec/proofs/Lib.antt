@@ -7,3 +7,5 @@ pub mod Wants
 pub mod Over
 pub mod Holding
 pub mod Batches
+pub mod FirstRequest
+pub mod Ending

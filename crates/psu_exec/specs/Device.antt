@@ -2,7 +2,7 @@
 use Rattle.std.specs.Prelude.{◌≡◌, ◌⊎◌, ◌≢◌, ℕ, ◌-◌, ◌^◌, nat_le, ◌==◌, ◌&&◌, ◌||◌, not, Bool, true, false, if◌then◌else◌, Option, Some, None, is_some, Result, Ok, Err, List, [], ◌∷◌, ◌++◌, length, slice_index_or, slice_set, replicate, bit_or, bit_and, codes, decimal}
 use Rattle.psu_items.specs.Map.{Item}
 use Rattle.psu_exec.specs.Contents.{without_mss, apply, items_of}
-use Rattle.psu_exec.specs.Errors.{error_bit}
+use Rattle.psu_exec.specs.Errors.{event_bit}
 use Rattle.psu_exec.specs.declared.contents.Contents.{Contents}
 use Rattle.psu_exec.specs.declared.change.Change.{Change}
 use Rattle.psu_exec.specs.declared.change.Change.TheVariants as change
@@ -185,7 +185,7 @@ effect_read r (Ok command) = effect r command
 effect_read r (Err e) = r
 
 abbrev pub with_error : Registers → ScpiError → Registers
-with_error r e = record r { esr = bit_or r.esr (error_bit e) }
+with_error r e = record r { esr = bit_or r.esr (event_bit e) }
 
 -- the registers after a unit that is answered so
 abbrev pub registers_after : Registers → Result Command ScpiError → Reply → Registers

@@ -12,5 +12,5 @@ magnitude OutOfMemory = 225
 magnitude StorageFault = 320
 
 -- The bit of its class: command errors (-1xx) set CME (5), execution errors (-2xx) EXE (4), device-specific errors (-3xx) DDE (3).
-abbrev pub error_bit : ScpiError → ℕ
-error_bit e = if nat_lt (magnitude e) 200 then 32 else (if nat_lt (magnitude e) 300 then 16 else 8)
+abbrev pub event_bit : ScpiError → ℕ
+event_bit e = if nat_lt (magnitude e) 200 then 32 else (if nat_lt (magnitude e) 300 then 16 else 8)

@@ -1,12 +1,12 @@
 -- Jobs and the stores that they hold.
-use Rattle.std.specs.Prelude.{◌≡◌, ℕ, List, Bool, true, false, Option, Some, None, option_map, ⊤}
+use Rattle.std.specs.Prelude.{◌≡◌, ℕ, List, Bool, true, false, Option, Some, None, option_map}
 use Rattle.psu_disk.specs.declared.disk.Disk.{Ghosts}
 use Rattle.psu_items.specs.Map.{Item}
-use Rattle.psu_items.specs.Batch.{Edit}
-use Rattle.psu_items.specs.Image.{EachStands}
+use Rattle.psu_items.specs.Batch.{Edit, changed}
+use Rattle.psu_items.specs.Image.{EachStands, EachIsEither}
 use Rattle.psu_items.specs.Outcome.{HasStored, IsUnchanged, HasBroken}
 use Rattle.psu_items.specs.declared.store.Store.{Store}
-use Rattle.psu_items.specs.declared.commit.UnstartedCause.{UnstartedCause}
+use Rattle.psu_items.specs.declared.commit.UnstartedCause.TheVariants as unstarted
 use Rattle.psu_exec.specs.Calls.{JobEnd}
 use Rattle.psu_exec.specs.declared.finished.Finished.{Finished}
 use Rattle.psu_exec.specs.declared.finished.Finished.TheVariants as finished
@@ -53,8 +53,14 @@ RunsTo old batch (finished.Stored store) = HasStored old batch store
 RunsTo old batch (finished.Unstarted store back cause) = IsUnchanged old batch store back cause
 RunsTo old batch (finished.Broken broken) = HasBroken old batch broken
 
--- whatever a power loss leaves of the disk stands for the map that the store holds
+-- not begun, since the root's number is the last
+abbrev pub IsLastNumber : {D A : Type 0} {G : Ghosts D} → Finished D A G → Type 0
+IsLastNumber (finished.Stored store) = ⊥
+IsLastNumber (finished.Unstarted store back cause) = cause ≡ unstarted.Worn
+IsLastNumber (finished.Broken broken) = ⊥
+
+-- whatever a power loss leaves of the disk stands for the map that the store holds; of a broken one for the map before, or for the map after the batch
 abbrev pub EndStands : {D A : Type 0} {G : Ghosts D} → Finished D A G → Type 0
 EndStands {D} {A} {G} (finished.Stored store) = EachStands (Ghosts.state G store.disk) store.limit store.items
 EndStands {D} {A} {G} (finished.Unstarted store batch cause) = EachStands (Ghosts.state G store.disk) store.limit store.items
-EndStands {D} {A} {G} (finished.Broken broken) = ⊤
+EndStands {D} {A} {G} (finished.Broken broken) = EachIsEither (Ghosts.state G broken.disk) broken.limit broken.before (changed broken.before broken.batch)

@@ -98,7 +98,8 @@ impl<A: Allocator + Copy> Device<A> {
 
     /// What is kept without power.
     pub(crate) fn contents(&self) -> Contents
-        ensures { result ≡ self.now.flush.contents }
+        ensures value { result ≡ self.now.flush.contents }
+        ensures consistent { IsConsistent self.now.flush }
     {
         self.contents
     }

@@ -7,6 +7,7 @@ ghost use Rattle.psu_exec.specs.Contents.{items_of, IsContents};
 ghost use Rattle.psu_exec.specs.Device.{power_on, first_request, is_open, State};
 ghost use Rattle.psu_exec.specs.Calls.{Allows, sessions_over};
 ghost use Rattle.psu_exec.specs.Calls.Entry.{Executed, Settled, Took, GaveBack, Opened};
+ghost use Rattle.psu_exec.specs.Consistent.{IsConsistent};
 ghost use Rattle.psu_exec.specs.Shown.{outcome_of, taken_of};
 ghost use Rattle.psu_exec.specs.Jobs.{home_map, home_limit, is_home_whole};
 ghost use Rattle.psu_exec.specs.declared.condition.Condition.TheVariants.{Whole};
@@ -109,9 +110,10 @@ impl<D: Disk, A: Allocator + Copy> Exec<D, A> {
         self.device.is_open(session)
     }
 
-    /// What is kept without power, all that is accepted included.
+    /// What is kept without power, all that is accepted included: what the store's map stands for, changed by the tail.
     pub fn contents(&self) -> Contents
-        ensures { result ≡ self.now.device.flush.contents }
+        ensures value { result ≡ self.now.device.flush.contents }
+        ensures consistent { IsConsistent self.now.device.flush }
     {
         self.device.contents()
     }

@@ -73,7 +73,7 @@ impl Registers {
         ensures { result ≡ with_error self error }
     {
         let mut new = self;
-        new.esr |= error.bit();
+        new.esr |= error.event_bit();
         new
     }
 

@@ -1,6 +1,6 @@
 // The errors that a unit may be answered by.
 ghost use Rattle.std.specs.Prelude.{◌≡◌};
-ghost use Rattle.psu_exec.specs.Errors.{magnitude, error_bit};
+ghost use Rattle.psu_exec.specs.Errors.{magnitude, event_bit};
 
 /// An error of SCPI-1999, by its name there.
 #[derive(Clone, Copy, Debug, PartialEq, Eq)]
@@ -27,8 +27,8 @@ impl ScpiError {
     }
 
     /// The bit that it sets in the event status register.
-    pub fn bit(self) -> u8
-        ensures { result ≡ error_bit self }
+    pub fn event_bit(self) -> u8
+        ensures { result ≡ event_bit self }
     {
         let number = self.magnitude();
         if number < 200 {
