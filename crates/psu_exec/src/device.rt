@@ -77,6 +77,7 @@ impl<A: Allocator + Copy> Device<A> {
     /// Opens a session; there is one.
     pub(crate) fn open_session(&mut self) -> Result<Session, Crowded>
         ensures opened { IfOk result (λ session. Allows self.old (Opened session) self.new) }
+        ensures open { IfOk result (λ session. is_open self.new session ≡ true) }
         ensures crowded { OnErr result (is_open self.old 1 ≡ true) }
         ensures same { OnErr result (self.new ≡ self.old) }
     {

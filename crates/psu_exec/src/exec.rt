@@ -77,6 +77,10 @@ impl<D: Disk, A: Allocator + Copy> Exec<D, A> {
         requires no_job { self.old.device.flush.out ≡ false }
         ensures step { Allows self.old.device (Executed session request.now (outcome_of result)) self.new.device }
         ensures home { self.new.home ≡ self.old.home }
+
+        // What follows from the step: the conditions still hold.
+        ensures still_open { is_open self.new.device session ≡ true }
+        ensures still_home { self.new.device.flush.out ≡ false }
     {
         self.device.execute(session, request)
     }
@@ -89,6 +93,10 @@ impl<D: Disk, A: Allocator + Copy> Exec<D, A> {
         ensures step { Allows self.old.device (Settled session (outcome_of result)) self.new.device }
         ensures parked { result ≡ Outcome.Parked → 0 < length self.old.device.flush.tail }
         ensures home { self.new.home ≡ self.old.home }
+
+        // What follows from the step: the conditions still hold.
+        ensures still_open { is_open self.new.device session ≡ true }
+        ensures still_home { self.new.device.flush.out ≡ false }
     {
         self.device.settle(session)
     }
@@ -96,6 +104,7 @@ impl<D: Disk, A: Allocator + Copy> Exec<D, A> {
     /// Opens the session of the least free number. There is one session.
     pub fn open_session(&mut self) -> Result<Session, Crowded>
         ensures opened { IfOk result (λ session. Allows self.old.device (Opened session) self.new.device) }
+        ensures open { IfOk result (λ session. is_open self.new.device session ≡ true) }
         ensures crowded { OnErr result (is_open self.old.device 1 ≡ true) }
         ensures same { OnErr result (self.new.device ≡ self.old.device) }
         ensures home { self.new.home ≡ self.old.home }
@@ -149,6 +158,8 @@ impl<D: Disk, A: Allocator + Copy> Exec<D, A> {
         ensures step { Allows self.old.device (GaveBack (finished_of finished) (is_ok result)) self.new.device }
         ensures over { IfOk result (λ sessions. sessions ≡ sessions_over self.new.device.flush) }
         ensures home { OnOk result (self.new.home ≡ Some (home_of finished)) }
+        ensures free { OnOk result (self.new.device.flush.out ≡ false) }
+        ensures sessions { self.new.device.volatile ≡ self.old.device.volatile }
         ensures stranger { IfErr result (λ s. s.finished ≡ finished) }
         ensures same { OnErr result (self.new.home ≡ self.old.home) }
     {

@@ -24,6 +24,8 @@ mod scpi_error;
 mod session;
 mod sessions;
 mod stranger;
+#[cfg(test)]
+mod tests;
 mod text;
 mod wait;
 mod waits;
