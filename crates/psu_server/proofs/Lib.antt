@@ -1,6 +1,7 @@
-pub mod Settle
 pub mod Within
 pub mod Cuts
+pub mod Fronts
 pub mod Feeds
-pub mod Alone
 pub mod Readings
+pub mod Owning
+pub mod Alone

@@ -1,28 +1,19 @@
 -- The pieces that a run reads, one after another.
-use Rattle.std.proofs.Common.{◌≡◌, ◌⊎◌, ℕ, ◌<◌, Bool, true, false, List, [], ◌∷◌, ◌++◌, map, refl, sym, ap, ◌∙◌, subst, arith, append_assoc, Some, None, Option, IfSome, inr, nat_lt, is_none}
-use Rattle.std.proofs.lemmas.List.{append-nil}
-use Rattle.std.proofs.lemmas.Bool.Decides.{nat_tests}
-use Rattle.std.proofs.Math.Seq.{take-append_seam}
+use Rattle.std.proofs.Common.{◌≡◌, ◌⊎◌, ℕ, ◌+◌, ◌-◌, ◌<◌, ◌≤◌, Bool, true, false, List, [], ◌∷◌, ◌++◌, length, take, drop, refl, sym, ap, ◌∙◌, subst, arith, append_assoc, Some, None, Option, IfSome, inl, inr}
+use Rattle.std.proofs.lemmas.List.{append-nil, take-append-drop}
 use Rattle.std.proofs.KnownBytes.{Appends-trans, Appends-nil, Consumes-trans}
 use Rattle.std.specs.Io.KnownBytes.{Appends, Consumes, IsAtEnd}
 use Rattle.std.specs.Io.{StartsWith}
-use Rattle.psu_exec.specs.Device.{State, power_on}
-use Rattle.psu_exec.specs.declared.Contents.{Contents}
-use Rattle.psu_exec.specs.Contents.{items}
-use Rattle.psu_server.specs.Lines.{Message, message_of, message_now, coming, messages, has, is_none_begun}
+use Rattle.psu_exec.specs.Device.{State}
+use Rattle.psu_server.specs.Lines.{Message, message_now, coming, messages, has, is_none_begun}
 use Rattle.psu_server.specs.Output.{WritesFront}
-use Rattle.psu_server.specs.Runs.{Mishaps, Within, Message_runs, Runs, Fed, Stopped, Answered, Answers, Begins, WritesRun, WritesSome, any, count_of}
-use Rattle.psu_server.proofs.Within.{within_as, within_here, within_then, runs_all, runs_join, runs_one}
-use Rattle.psu_server.proofs.Settle.{starts_after}
-use Rattle.psu_server.proofs.Cuts.{parts_last}
-use Rattle.psu_server.proofs.Feeds.{Told_line}
-
-anything : {a b : ℕ} {P : Mishaps → Type 0} → Within a b P → P any
-anything w = w.2 any (λ e. refl, λ e. refl)
-
--- the text of all of it is a front
-pub starts_whole : (text : List ℕ) → StartsWith text text
-starts_whole text = subst (λ (z : List ℕ). StartsWith z text) (append-nil text) (take-append_seam text [])
+use Rattle.psu_server.specs.Runs.{Mishaps, MessageRuns, Runs, any}
+use Rattle.psu_server.specs.Within.{Within}
+use Rattle.psu_server.specs.Progress.{Fed, Stopped, Answered, Answers, Begins}
+use Rattle.psu_server.proofs.Within.{within_as, within_here, within_then, within_any, runs_all, runs_join, runs_one}
+use Rattle.psu_server.proofs.Fronts.{starts_after, starts_whole}
+use Rattle.psu_server.proofs.Cuts.{coming_last}
+use Rattle.psu_server.proofs.Feeds.{ToldLine}
 
 -- nothing is written
 pub begins_here : (due : List Message) (s : State) (w : Option (List ℕ)) → Begins due s w w
@@ -73,7 +64,7 @@ ran_on f mid after piece s s1 s2 a b c from to next u v w r p q =
 begins_seen : (f mid : List ℕ → List Message) (seen input : List ℕ) (s s1 : State) (a b : ℕ) (u v w : Option (List ℕ)) → Answered f seen mid s s1 a b u v
     → Begins (mid input) s1 v w → Begins (f (seen ++ input)) s u w
 begins_seen f mid seen input s s1 a b u v w p q =
-    begins_after (f (seen ++ input)) p.0 (mid input) p.1 s s1 u v w (p.3 input) (anything p.4) p.2 q
+    begins_after (f (seen ++ input)) p.0 (mid input) p.1 s s1 u v w (p.3 input) (within_any _ _ _ p.4) p.2 q
 
 -- a fault while nothing of the next piece is answered
 pub ran_front : (f mid : List ℕ → List Message) (s s1 : State) (a b : ℕ) (from to u v : Option (List ℕ)) → Ran f mid s s1 a b from to u v
@@ -94,17 +85,17 @@ ran_stop f mid piece s s1 a b (Some x) (Some y) (Some z) u v w r p q =
     (begins_seen f mid r.0 (piece ++ z) s s1 a b u v w r.2 (q z))
 
 -- the end of what was read
-pub ran_end : (f mid : List ℕ → List Message) (s s1 : State) (a b c : ℕ) (from to next u v w : Option (List ℕ)) → Ran f mid s s1 a b from to u v
-    → Consumes to next [] → IsAtEnd next → Answers (mid []) s1 b c v w → IfSome from (λ input. Answers (f input) s a c u w)
-ran_end f mid s s1 a b c None to next u v w r p e q = tt
-ran_end f mid s s1 a b c (Some x) None next u v w r p e q = absurd r.1
-ran_end f mid s s1 a b c (Some x) (Some y) None u v w r p e q = absurd p
-ran_end f mid s s1 a b c (Some x) (Some y) (Some z) u v w r p e q =
+pub ran_end : (f mid : List ℕ → List Message) (s s1 last : State) (a b c : ℕ) (from to next u v w : Option (List ℕ)) → Ran f mid s s1 a b from to u v
+    → Consumes to next [] → IsAtEnd next → Answers (mid []) s1 last b c v w → IfSome from (λ input. Answers (f input) s last a c u w)
+ran_end f mid s s1 last a b c None to next u v w r p e q = tt
+ran_end f mid s s1 last a b c (Some x) None next u v w r p e q = absurd r.1
+ran_end f mid s s1 last a b c (Some x) (Some y) None u v w r p e q = absurd p
+ran_end f mid s s1 last a b c (Some x) (Some y) (Some z) u v w r p e q =
     let t = r.2 in
-    subst (λ (l : List ℕ). Answers (f l) s a c u w) (sym (r.1 ∙ ap (λ (l : List ℕ). r.0 ++ l) (p ∙ e)))
-    (t.1 ++ q.0, q.1, Appends-trans u v w t.1 q.0 t.2 q.2,
-        subst (λ (m : List Message). Within a c (λ can. Runs can s m (t.1 ++ q.0) q.1)) (sym (t.3 []))
-        (runs_all s s1 q.1 t.1 q.0 t.0 (mid []) a b c t.4 q.3))
+    subst (λ (l : List ℕ). Answers (f l) s last a c u w) (sym (r.1 ∙ ap (λ (l : List ℕ). r.0 ++ l) (p ∙ e)))
+    (t.1 ++ q.0, Appends-trans u v w t.1 q.0 t.2 q.1,
+        subst (λ (m : List Message). Within a c (λ can. Runs can s m (t.1 ++ q.0) last)) (sym (t.3 []))
+        (runs_all s s1 last t.1 q.0 t.0 (mid []) a b c t.4 q.2))
 
 -- a fault at the end of what was read
 pub ran_end_front : (f mid : List ℕ → List Message) (s s1 : State) (a b : ℕ) (from to next u v w : Option (List ℕ)) → Ran f mid s s1 a b from to u v
@@ -136,7 +127,7 @@ fed_front f mid piece s s1 a b start out shown u v p none d w input = record {
   is = p.3 input;
   text = p.1;
   last = s1;
-  runs = anything p.4;
+  runs = within_any _ _ _ p.4;
   front = w.0;
   appends = w.1;
   starts = subst (λ (z : List ℕ). StartsWith z w.0) (d ∙ p.2 ∙ ap (λ (z : List ℕ). z ++ p.1) none) w.2;
@@ -156,30 +147,20 @@ stopped_front f piece s start out shown u v p none d w input = record {
   starts = subst (λ (z : List ℕ). StartsWith z w.0) (d ∙ p.3 ∙ ap (λ (z : List ℕ). z ++ p.1) none) w.2;
 }
 
-pub whole_front : (u v : Option (List ℕ)) (text : List ℕ) → Appends u v text → WritesFront u v text
-whole_front u v text w = (text, w, starts_whole text)
-
--- the line that the input ends in
-coming_last : (over : Bool) (line : List ℕ) → is_none_begun over line ≡ false → has 10 line ≡ false → coming over line [] ≡ message_now over line ∷ []
-coming_last true line begun free = refl
-coming_last false [] begun free = cc
-coming_last false (x ∷ p) begun free =
-    ap messages (append-nil (x ∷ p)) ∙ ap (λ (z : List (List ℕ)). map message_of z) (parts_last 10 x p free)
-
+-- the line that the input ends in is answered
 pub last_written : (over : Bool) (line : List ℕ) (s new : State) (a b : ℕ) (start out shown : List ℕ) (u v : Option (List ℕ)) → is_none_begun over line ≡ false
-    → has 10 line ≡ false → Told_line (message_now over line) s new a b start out → start ≡ [] → shown ≡ out → Appends u v shown
-    → Answers (coming over line []) s a b u v
+    → has 10 line ≡ false → ToldLine (message_now over line) s new a b start out → start ≡ [] → shown ≡ out → Appends u v shown
+    → Answers (coming over line []) s new a b u v
 last_written over line s new a b start out shown u v begun free p none d w = (
   p.0,
-  new,
   subst (Appends u v) (d ∙ p.1 ∙ ap (λ (z : List ℕ). z ++ p.0) none) w,
   subst (λ (m : List Message). Within a b (λ can. Runs can s m p.0 new)) (sym (coming_last over line begun free))
-      (within_as a b (λ can. Message_runs can s (message_now over line) p.0 new) (λ can. Runs can s (message_now over line ∷ []) p.0 new) p.2
+      (within_as a b (λ can. MessageRuns can s (message_now over line) p.0 new) (λ can. Runs can s (message_now over line ∷ []) p.0 new) p.2
       (λ can. runs_one can s new (message_now over line) p.0)),
 )
 
 pub last_front : (over : Bool) (line : List ℕ) (s new : State) (a b : ℕ) (start out shown : List ℕ) (u v : Option (List ℕ)) → is_none_begun over line ≡ false
-    → has 10 line ≡ false → Told_line (message_now over line) s new a b start out → start ≡ [] → shown ≡ out → WritesFront u v shown
+    → has 10 line ≡ false → ToldLine (message_now over line) s new a b start out → start ≡ [] → shown ≡ out → WritesFront u v shown
     → Begins (coming over line []) s u v
 last_front over line s new a b start out shown u v begun free p none d w = record {
   done = message_now over line ∷ [];
@@ -187,31 +168,25 @@ last_front over line s new a b start out shown u v begun free p none d w = recor
   is = coming_last over line begun free;
   text = p.0;
   last = new;
-  runs = runs_one any s new (message_now over line) p.0 (anything p.2);
+  runs = runs_one any s new (message_now over line) p.0 (within_any a b (λ can. MessageRuns can s (message_now over line) p.0 new) p.2);
   front = w.0;
   appends = w.1;
   starts = subst (λ (z : List ℕ). StartsWith z w.0) (d ∙ p.1 ∙ ap (λ (z : List ℕ). z ++ p.0) none) w.2;
 }
 
 -- what is answered whole is begun
-pub answers_begin : (due : List Message) (s : State) (a b : ℕ) (u v : Option (List ℕ)) → Answers due s a b u v → Begins due s u v
-answers_begin due s a b u v p = record {
+pub answers_begin : (due : List Message) (s last : State) (a b : ℕ) (u v : Option (List ℕ)) → Answers due s last a b u v → Begins due s u v
+answers_begin due s last a b u v p = record {
   done = due;
   rest = [];
   is = sym (append-nil due);
   text = p.0;
-  last = p.1;
-  runs = anything p.3;
+  last = last;
+  runs = within_any a b (λ can. Runs can s due p.0 last) p.2;
   front = p.0;
-  appends = p.2;
+  appends = p.1;
   starts = starts_whole p.0;
 }
-
--- a flush after the last line may fail too
-pub answers_later : (due : List Message) (s : State) (a b c : ℕ) (P : Mishaps → Type 0) (u v : Option (List ℕ)) → Answers due s a b u v → Within b c P
-    → Answers due s a c u v
-answers_later due s a b c P u v p w =
-    (p.0, p.1, p.2, within_then a b c (λ can. Runs can s due p.0 p.1) P (λ can. Runs can s due p.0 p.1) p.3 w (λ can x y. x))
 
 -- nothing is read, and nothing is written
 pub begins_none : (from old : Option (List ℕ)) (s : State) → IfSome from (λ input. Begins (messages input) s old old)
@@ -225,35 +200,14 @@ ran_start over line s a from old shut none =
     subst (λ (o : Bool). Ran (coming false []) (coming o line) s s a a from from old old) (sym shut)
     (subst (λ (l : List ℕ). Ran (coming false []) (coming false l) s s a a from from old old) (sym none) (ran_none (coming false []) s a from old))
 
-rose : (a b : ℕ) → a < b → nat_lt a b ≡ true
-rose a b less = grind (arith, nat_tests, less)
-
--- what was written whole, said of what the disk held
-pub run_whole : (from u v : Option (List ℕ)) (contents : Contents) (limit : ℕ) (kept : List ℕ) (s : State) (start a b : ℕ)
-    → IfSome from (λ input. Answers (messages input) s start b u v) → s ≡ power_on limit contents → items contents ≡ kept → start ≡ a
-    → IfSome from (λ input. (found : Contents) × (items found ≡ kept) × WritesRun found limit input a b u v)
-run_whole None u v contents limit kept s start a b p is holds same = tt
-run_whole (Some input) u v contents limit kept s start a b p is holds same =
-    let went = subst (λ (n : ℕ). Within n b (λ can. Runs can s (messages input) p.0 p.1)) same p.3 in
-    (contents, holds, (went.0, p.0, p.2, (p.1,
-        subst (λ (z : State). Runs (record { refused = went.0; failed = nat_lt a b }) z (messages input) p.0 p.1) is
-        (went.2 (record { refused = went.0; failed = nat_lt a b }) (λ e. e, rose a b)))))
-
--- a front of it
-pub run_front : (from u v : Option (List ℕ)) (contents : Contents) (limit : ℕ) (kept : List ℕ) (s : State)
-    → IfSome from (λ input. Begins (messages input) s u v) → s ≡ power_on limit contents → items contents ≡ kept
-    → IfSome from (λ input. Appends u v [] ⊎ ((found : Contents) × (items found ≡ kept) × WritesSome found limit input u v))
-run_front None u v contents limit kept s p is holds = tt
-run_front (Some input) u v contents limit kept s p is holds = inr (contents, holds, (p.front, p.appends, record {
-  done = p.done;
-  rest = p.rest;
-  is = p.is;
-  last = p.last;
-  whole = p.text;
-  runs = subst (λ (z : State). Runs any z p.done p.text p.last) is p.runs;
-  front = p.starts;
-}))
-
-pub same_count : {D : Type 0} (f : D → ℕ) (o : Option D) (n : ℕ) → is_none o ≡ false → IfSome o (λ d. f d ≡ n) → count_of f o ≡ n
-same_count f None n e p = cc
-same_count f (Some d) n e p = p
+-- a piece of which only a part is taken
+pub ran_cut : (f mid after : List ℕ → List Message) (piece : List ℕ) (n : ℕ) (s s1 s2 : State) (a b c : ℕ) (from to next u v w : Option (List ℕ))
+    → Ran f mid s s1 a b from to u v → Consumes to next piece → Answered mid (take n piece) after s1 s2 b c v w → IfSome from (λ input. Begins (f input) s u w)
+ran_cut f mid after piece n s s1 s2 a b c None to next u v w r p q = tt
+ran_cut f mid after piece n s s1 s2 a b c (Some x) None next u v w r p q = absurd r.1
+ran_cut f mid after piece n s s1 s2 a b c (Some x) (Some y) None u v w r p q = absurd p
+ran_cut f mid after piece n s s1 s2 a b c (Some x) (Some y) (Some z) u v w r p q =
+    let rest = drop n piece ++ z in
+    let cut : y ≡ take n piece ++ rest = p ∙ ap (λ (l : List ℕ). l ++ z) (sym (take-append-drop n piece)) ∙ append_assoc (take n piece) (drop n piece) z in
+    subst (λ (l : List ℕ). Begins (f l) s u w) (sym (r.1 ∙ ap (λ (l : List ℕ). r.0 ++ l) cut))
+    (begins_seen f mid r.0 (take n piece ++ rest) s s1 a b u v w r.2 (begins_seen mid after (take n piece) rest s1 s2 b c v w w q (begins_here (after rest) s2 w)))
