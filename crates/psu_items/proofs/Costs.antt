@@ -1,20 +1,17 @@
--- The cost of the pairs that are left.
-use Rattle.std.proofs.Common.{◌≡◌, ℕ, zero, suc, ◌+◌, ◌/◌, ◌<◌, ◌≤◌, List, [], ◌∷◌, length, get_or, drop, refl, sym, ◌∙◌, ap, subst, arith}
-use Rattle.psu_items.specs.declared.items.Pair.{Pair}
-use Rattle.psu_items.specs.Map.{views, cost}
+-- The cost of the items that are left.
+use Rattle.std.proofs.Common.{◌≡◌, ℕ, zero, suc, ◌+◌, ◌/◌, ◌<◌, ◌≤◌, List, [], ◌∷◌, length, get_or, drop, refl, arith}
+use Rattle.psu_items.specs.Map.{Item, cost}
 
-cost_first : {A : Type 0} (ps : List (Pair A)) (n : ℕ) (d : Pair A) → n < length ps → cost (views (drop n ps)) ≡ (1 + (length (get_or ps n d).value.items + 511) / 512) + cost (views (drop (suc n) ps))
+cost_first : (items : List Item) (n : ℕ) (d : Item) → n < length items → cost (drop n items) ≡ (1 + (length (get_or items n d).value + 511) / 512) + cost (drop (suc n) items)
 cost_first [] n d lt = absurd (omega arith)
-cost_first (p ∷ ps) zero d lt = refl
-cost_first (p ∷ ps) (suc n) d lt = cost_first ps n d (omega arith)
+cost_first (i ∷ items) zero d lt = refl
+cost_first (i ∷ items) (suc n) d lt = cost_first items n d (omega arith)
 
-pub cost_left : {A : Type 0} (ps : List (Pair A)) (n next size : ℕ) (p d : Pair A) → n < length ps → next ≡ suc n → p ≡ get_or ps n d → size ≡ length p.value.items → cost (views (drop n ps)) ≡ (1 + (size + 511) / 512) + cost (views (drop next ps))
-cost_left {A = A} ps n next size p d lt e is len =
-    subst (λ (m : ℕ). cost (views (drop n ps)) ≡ (1 + (size + 511) / 512) + cost (views (drop m ps))) (sym e)
-    (subst (λ (k : ℕ). cost (views (drop n ps)) ≡ (1 + (k + 511) / 512) + cost (views (drop (suc n) ps))) (sym (len ∙ ap (λ (q : Pair A). length q.value.items) is)) (cost_first ps n d lt))
+pub cost_left : (items : List Item) (n next size : ℕ) (i d : Item) → n < length items → next ≡ suc n → i ≡ get_or items n d → size ≡ length i.value → cost (drop n items) ≡ (1 + (size + 511) / 512) + cost (drop next items)
+cost_left items n next size i d lt e is len = rw (e, len, is) (cost_first items n d lt)
 
-pub cost_none : {A : Type 0} (ps : List (Pair A)) (n : ℕ) → length ps ≤ n → cost (views (drop n ps)) ≡ 0
+pub cost_none : (items : List Item) (n : ℕ) → length items ≤ n → cost (drop n items) ≡ 0
 cost_none [] zero le = refl
 cost_none [] (suc n) le = refl
-cost_none (p ∷ ps) zero le = absurd (omega arith)
-cost_none (p ∷ ps) (suc n) le = cost_none ps n (omega arith)
+cost_none (i ∷ items) zero le = absurd (omega arith)
+cost_none (i ∷ items) (suc n) le = cost_none items n (omega arith)

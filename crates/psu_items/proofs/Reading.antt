@@ -1,5 +1,5 @@
 -- An item that is read is the one that was written, and what was written is read.
-use Rattle.std.proofs.Common.{◌≡◌, ℕ, zero, suc, ◌+◌, ◌<◌, ◌≤◌, Bool, true, false, cond, eqb, ltb, List, [], ◌∷◌, ◌++◌, length, get_or, take, drop, Option, Some, None, refl, sym, ap, subst, ◌∙◌, append_assoc, arith, inl, inr}
+use Rattle.std.proofs.Common.{◌≡◌, ℕ, zero, suc, ◌+◌, ◌<◌, ◌≤◌, Bool, true, false, cond, eqb, ltb, List, [], ◌∷◌, ◌++◌, length, get_or, take, drop, Option, Some, None, refl, sym, ap, subst, ◌∙◌, arith, inl, inr}
 use Rattle.std.specs.Prelude.{◌||◌}
 use Rattle.std.specs.Int.{w32, from_be_bytes, to_be_bytes}
 use Rattle.std.proofs.lemmas.Bool.{cases_lt, ltb-false, le-ltb}
@@ -8,6 +8,7 @@ use Rattle.std.proofs.lemmas.List.{take_at, drop_at, take-append-drop, length-ap
 use Rattle.std.proofs.lemmas.Nat.{be_bytes_4, from_be_bytes-to_be_bytes_4}
 use Rattle.psu_items.specs.Map.{Item}
 use Rattle.psu_items.specs.Area.{item, Fits}
+use Rattle.psu_items.specs.AreaLaws.{item-parts}
 use Rattle.psu_items.specs.Reading.{read_sized, read_value, read_item}
 
 abbrev pub IsBytes : List ℕ → Type 0
@@ -99,9 +100,6 @@ pub record Takes (bytes : List ℕ) (read : Item × List ℕ) : Type 0 where
 IsBytes-tail : (n : ℕ) (bytes : List ℕ) → IsBytes (n ∷ bytes) → IsBytes bytes
 IsBytes-tail n bytes h i = h (suc i)
 
-regroup : (i : Item) (rest : List ℕ) → item i ++ rest ≡ length i.key ∷ (i.key ++ (to_be_bytes w32 (length i.value) ++ (i.value ++ rest)))
-regroup i rest = ap (λ (l : List ℕ). length i.key ∷ l) (append_assoc i.key (to_be_bytes w32 (length i.value) ++ i.value) rest ∙ ap (λ (l : List ℕ). i.key ++ l) (append_assoc (to_be_bytes w32 (length i.value)) i.value rest))
-
 pub item_takes : (bytes : List ℕ) (x : Item × List ℕ) → IsBytes bytes → read_item bytes ≡ Some x → Takes bytes x
 item_takes [] x fits e = absurd cc
 item_takes (n ∷ bytes) x fits e =
@@ -112,7 +110,7 @@ item_takes (n ∷ bytes) x fits e =
     let whole : x.0.key ++ (to_be_bytes w32 (length x.0.value) ++ (x.0.value ++ x.1)) ≡ bytes = ap (λ (k : List ℕ). k ++ (to_be_bytes w32 (length x.0.value) ++ (x.0.value ++ x.1))) v.key_is ∙ ap (λ (l : List ℕ). take n bytes ++ l) (sym v.parts) ∙ take-append-drop n bytes in
     record {
       fits = record { key = omega (arith, long, t.0); key_most = omega (arith, long, t.1); value = v.least; value_most = v.most };
-      parts = sym (regroup x.0 x.1 ∙ ap (λ (l : List ℕ). length x.0.key ∷ l) whole ∙ ap (λ (k : ℕ). k ∷ bytes) long);
+      parts = sym (item-parts x.0 x.1 ∙ ap (λ (l : List ℕ). length x.0.key ∷ l) whole ∙ ap (λ (k : ℕ). k ∷ bytes) long);
       rest_fits = v.rest_fits;
     }
 
@@ -137,7 +135,7 @@ item_again i rest fits =
     let n = length i.key in
     let after = to_be_bytes w32 (length i.value) ++ (i.value ++ rest) in
     let ok = pass n 33 (length (i.key ++ after)) fits.key fits.key_most (omega (arith, length-append i.key after)) in
-    ap read_item (regroup i rest)
+    ap read_item (item-parts i rest)
     ∙ ap (λ (b : Bool). cond b None (read_value (take n (i.key ++ after)) (drop n (i.key ++ after)))) ok
     ∙ ap (λ (l : List ℕ). read_value l (drop n (i.key ++ after))) (take_at i.key after n refl)
     ∙ ap (λ (l : List ℕ). read_value i.key l) (drop_at i.key after n refl)

@@ -1,19 +1,25 @@
-// The bytes of an area of version 0: key length, key, value length, value, end to end.
-ghost use Rattle.std.specs.Prelude.{◌≡◌, ◌++◌, List, ℕ, length, IfOk, IfErr, OnOk, option_map};
+//! The bytes of an area of image version 0: key length, key, value length, value, end to end.
+ghost use Rattle.std.specs.Prelude.{◌≡◌, ◌≤◌, ◌++◌, List, ℕ, length, IfOk, IfErr, OnOk, option_map};
 ghost use Rattle.std.specs.List.{AllByRecursion};
-ghost use Rattle.psu_items.specs.Map.{Item, IsSorted};
-ghost use Rattle.psu_items.specs.Area.{item, area, Fits, AreItems, StandsFor};
+ghost use Rattle.psu_items.specs.Map.{Item, item_of, IsSorted};
+ghost use Rattle.psu_items.specs.Area.{item, area, Fits, StandsFor};
 ghost use Rattle.psu_items.specs.Reading.{read_value, read_item};
 ghost use Rattle.psu_items.specs.declared.codec.DecodeFault.TheVariants.{Memory, Bad};
 
-use crate::Items;
+use crate::{Items, Pair};
 use std::alloc::{AllocError, AllocFailed, Allocator};
+
+const KEY_MOST: usize = 33;
+
+const VALUE_MOST: usize = 33280;
+
+const ITEMS_MOST: usize = 240;
 
 /// Why an area isn't read.
 #[derive(Clone, Copy, Debug, PartialEq, Eq, Drop)]
-pub enum DecodeFault {
+pub(crate) enum DecodeFault {
     Memory,
-    /// The bytes are those of no items.
+    /// The bytes stand for no map, or for one of more than 240 items.
     Bad,
 }
 
@@ -33,47 +39,20 @@ impl<T: Drop> From<AllocFailed<T>> for DecodeFault {
     }
 }
 
-// An item of which the key was read, and the bytes after it.
-fn value_at<'a>(key: &'a [u8], bytes: &'a [u8]) -> Option<(&'a [u8], &'a [u8], &'a [u8])>
-    ensures { option_map (λ r. (record { key = r.0.now; value = r.1.now }, r.2.now)) result ≡ read_value key.now bytes.now }
-{
-    if bytes.len() < 4 {
-        return None;
-    }
-    let (number, rest) = bytes.split_at(4);
-    let size = u32::from_be_bytes([number[0], number[1], number[2], number[3]]) as usize;
-    if size == 0 || size > 33280 || rest.len() < size {
-        return None;
-    }
-    let (value, rest) = rest.split_at(size);
-    Some((key, value, rest))
-}
-
-// The first item, and the bytes after it.
-fn item_at(bytes: &[u8]) -> Option<(&[u8], &[u8], &[u8])>
-    ensures { option_map (λ r. (record { key = r.0.now; value = r.1.now }, r.2.now)) result ≡ read_item bytes.now }
-{
-    match bytes {
-        [] => None,
-        [n, rest @ ..] => {
-            let len = *n as usize;
-            if len == 0 || len > 33 || rest.len() < len {
-                return None;
-            }
-            let (key, rest) = rest.split_at(len);
-            value_at(key, rest)
-        }
-    }
-}
-
-/// The map that an area holds, its items in any order.
-pub fn decode<A: Allocator + Copy>(alloc: A, bytes: &[u8]) -> Result<Items<A>, DecodeFault>
+/// The map that an area holds, its items in any order and at most 240.
+pub(crate) fn decode<A: Allocator + Copy>(alloc: A, bytes: &[u8]) -> Result<Items<A>, DecodeFault>
     ensures found { IfOk result (StandsFor bytes.now) }
-    ensures none { IfErr result (λ e. e ≡ Bad → (items : List Item) → AreItems items → bytes.now ≡ area items → ⊥) }
+    ensures sorted { IfOk result IsSorted }
+    ensures count { IfOk result (λ map. length map ≤ 240) }
+    ensures only { IfOk result (λ map. (other : List Item) → IsSorted other → StandsFor bytes.now other → other ≡ map) }
+    ensures none { IfErr result (λ e. e ≡ Bad → (map : List Item) → IsSorted map → StandsFor bytes.now map → length map ≤ 240 → ⊥) }
 {
     let mut map = Items::new(alloc);
     let mut rest = bytes;
     while !rest.is_empty() {
+        if map.pairs().len() >= ITEMS_MOST {
+            return Err(DecodeFault::Bad);
+        }
         let Some((key, value, after)) = item_at(rest) else {
             return Err(DecodeFault::Bad);
         };
@@ -86,14 +65,63 @@ pub fn decode<A: Allocator + Copy>(alloc: A, bytes: &[u8]) -> Result<Items<A>, D
     Ok(map)
 }
 
-fn put_item<A: Allocator + Copy>(
-    out: &mut Vec<u8, A>,
-    key: &[u8],
-    value: &[u8],
-) -> Result<(), AllocError>
-    requires { Fits (record { key = key.now; value = value.now }) }
-    ensures { OnOk result (out.new.items ≡ out.old.items ++ item (record { key = key.now; value = value.now })) }
+// The key and the value of the first item, and the bytes after it.
+fn item_at(bytes: &[u8]) -> Option<(&[u8], &[u8], &[u8])>
+    ensures { option_map (λ r. (item_of r.0.now r.1.now, r.2.now)) result ≡ read_item bytes.now }
 {
+    match bytes {
+        [] => None,
+        [n, rest @ ..] => {
+            let len = *n as usize;
+            if len == 0 || len > KEY_MOST || rest.len() < len {
+                return None;
+            }
+            let (key, rest) = rest.split_at(len);
+            value_at(key, rest)
+        }
+    }
+}
+
+// The same of an item of which the key was read.
+fn value_at<'a>(key: &'a [u8], bytes: &'a [u8]) -> Option<(&'a [u8], &'a [u8], &'a [u8])>
+    ensures { option_map (λ r. (item_of r.0.now r.1.now, r.2.now)) result ≡ read_value key.now bytes.now }
+{
+    if bytes.len() < 4 {
+        return None;
+    }
+    let (number, rest) = bytes.split_at(4);
+    let size = u32::from_be_bytes([number[0], number[1], number[2], number[3]]) as usize;
+    if size == 0 || size > VALUE_MOST || rest.len() < size {
+        return None;
+    }
+    let (value, rest) = rest.split_at(size);
+    Some((key, value, rest))
+}
+
+/// The bytes of a map, in the order of its keys.
+pub(crate) fn encode<A: Allocator + Copy>(
+    alloc: A,
+    items: &Items<A>,
+) -> Result<Vec<u8, A>, AllocError>
+    requires { AllByRecursion Fits items.now }
+    ensures bytes { IfOk result (λ v. v.items ≡ area items.now) }
+    ensures sorted { IsSorted items.now }
+    ensures stands { IfOk result (λ v. StandsFor v.items items.now) }
+{
+    let mut out = Vec::new(alloc);
+    for pair in items.pairs() {
+        put_item(&mut out, pair)?;
+    }
+    Ok(out)
+}
+
+// Adds the bytes of one item.
+fn put_item<A: Allocator + Copy>(out: &mut Vec<u8, A>, pair: &Pair<A>) -> Result<(), AllocError>
+    requires { Fits pair.now }
+    ensures { OnOk result (out.new.items ≡ out.old.items ++ item pair.now) }
+{
+    let key = pair.key();
+    let value = pair.value();
     out.push(key.len() as u8)?;
     out.extend_from_slice(key)?;
     out.extend_from_slice(&(value.len() as u32).to_be_bytes())?;
@@ -101,19 +129,60 @@ fn put_item<A: Allocator + Copy>(
     Ok(())
 }
 
-/// The bytes of a map, in the order of its keys.
-pub fn encode<A: Allocator + Copy>(alloc: A, items: &Items<A>) -> Result<Vec<u8, A>, AllocError>
-    requires { AllByRecursion Fits items.now }
-    ensures { IfOk result (λ v. v.items ≡ area items.now) }
-{
-    let mut out = Vec::new(alloc);
-    for pair in items.pairs() {
-        put_item(&mut out, &pair.key, &pair.value)?;
-    }
-    Ok(out)
-}
+#[cfg(test)]
+mod tests {
+    use super::*;
+    use std::test::Fail;
 
-/// Bytes stand for one map at most.
-pub fn one_map()
-    ensures { (bytes : List ℕ) (m n : List Item) → IsSorted m → IsSorted n → StandsFor bytes m → StandsFor bytes n → m ≡ n }
-{}
+    // The enables that ask for service at power-on: key 01, SRE 32, ESE 128.
+    const ENABLES: [u8; 8] = [1, 1, 0, 0, 0, 2, 0x20, 0x80];
+
+    #[test]
+    fn spells_the_enables(rt: HostRuntime) -> Result<(), Fail> {
+        let alloc = rt.alloc();
+        let items = decode(alloc, &ENABLES)?;
+        assert_eq!(rt; items.pairs().len(), 1);
+        assert_eq!(rt;
+            items.get(&[1]).ok_or("no enables")?,
+            [0x20, 0x80].as_slice()
+        );
+        let mut again = Items::new(alloc);
+        again.insert([1].to_vec(alloc)?, [0x20, 0x80].to_vec(alloc)?)?;
+        assert_eq!(rt; encode(alloc, &again)?.as_slice(), ENABLES.as_slice());
+        Ok(())
+    }
+
+    #[test]
+    fn refuses_bad_areas(rt: HostRuntime) -> Result<(), Fail> {
+        let alloc = rt.alloc();
+        let bad: [&[u8]; 6] = [
+            &[0, 0, 0, 0, 1, 9],
+            &[34, 0, 0, 0, 1, 9],
+            &[1, 1, 0, 0, 0, 0],
+            &[1, 1, 0, 0, 0, 2, 9],
+            &[1, 1, 0, 0, 0, 1, 9, 1],
+            &[1, 1, 0, 0, 0, 1, 9, 1, 1, 0, 0, 0, 1, 9],
+        ];
+        for area in bad {
+            assert_eq!(rt;
+                decode(alloc, area).err(),
+                Some(DecodeFault::Bad),
+                "at {area:?}"
+            );
+        }
+        Ok(())
+    }
+
+    #[test]
+    fn takes_240_items(rt: HostRuntime) -> Result<(), Fail> {
+        let alloc = rt.alloc();
+        let mut area = Vec::new(alloc);
+        for key in 0..240 {
+            area.extend_from_slice(&[1, key, 0, 0, 0, 1, key])?;
+        }
+        assert_eq!(rt; decode(alloc, &area)?.pairs().len(), 240);
+        area.extend_from_slice(&[1, 240, 0, 0, 0, 1, 240])?;
+        assert_eq!(rt; decode(alloc, &area).err(), Some(DecodeFault::Bad));
+        Ok(())
+    }
+}

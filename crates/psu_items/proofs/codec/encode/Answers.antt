@@ -1,7 +1,10 @@
-use Rattle.psu_items.proofs.Listing.{fits_at}
+use Rattle.std.proofs.Common.{◌≡◌, arith}
+use Rattle.std.proofs.lemmas.Grind.{common_steps}
+use Rattle.psu_items.specs.Area.{area}
+use Rattle.psu_items.proofs.Laws.{stands_again}
 use Rattle.psu_items.proofs.codec.encode.Goals as goal
 
-pub put_item-requires : goal.put_item-requires
-put_item-requires g c =
-    let fits = fits_at c.pairs-pair-items.result.now _ c.pairs-pair-items.ensures.all c.loop-pair.pair-index _ c.requires c.loop-pair-test.true in
-    rw (c.deref.ensures.value, c.deref-in-loop-pair.ensures.value, c.pair-item.is) fits
+pub returns-clause-stands : goal.returns-clause-stands
+returns-clause-stands g c =
+    let all : c.loop-pair.out.items ≡ area c.args.items.now = grind (arith, common_steps) in
+    stands_again _ _ c.pairs-pair-items.ensures.sorted c.requires all

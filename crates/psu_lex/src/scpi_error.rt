@@ -1,0 +1,178 @@
+// The errors of SCPI that the instrument reports.
+ghost use Rattle.std.specs.Prelude.{◌≡◌, ◌≤◌};
+ghost use Rattle.psu_lex.specs.Errors.{magnitude, text, class_of, event_bit};
+
+use crate::ErrorClass;
+
+/// An error of SCPI-1999 (volume 2, chapter 21), by its name there. Its number is negative.
+#[derive(Clone, Copy, Debug, PartialEq, Eq)]
+pub enum ScpiError {
+    /// A byte that no message may have where it stands.
+    InvalidCharacter,
+    /// The unit is not built as the grammar says.
+    SyntaxError,
+    /// A parameter of another class than asked.
+    DataTypeError,
+    /// More parameters than the header takes.
+    ParameterNotAllowed,
+    /// Fewer parameters than the header takes.
+    MissingParameter,
+    /// A header that the instrument does not have.
+    UndefinedHeader,
+    /// A numeric suffix of a header outside its range.
+    HeaderSuffixOutOfRange,
+    /// An exponent beyond 32000 either way.
+    ExponentTooLarge,
+    /// More than 255 digits of a number, leading zeros not counted.
+    TooManyDigits,
+    /// A suffix of a number that is not one of those asked.
+    InvalidSuffix,
+    /// A string that does not end, or is followed by something.
+    InvalidStringData,
+    /// A block whose length is wrong, or that is followed by something.
+    InvalidBlockData,
+    /// The command is protected, and protection is on.
+    CommandProtected,
+    /// A trigger that nothing waits for.
+    TriggerIgnored,
+    /// The command does not go with the present settings.
+    SettingsConflict,
+    /// A number outside its range.
+    DataOutOfRange,
+    /// More bytes than there is room for.
+    TooMuchData,
+    /// A word that is not one of those listed.
+    IllegalParameterValue,
+    /// Memory was refused; nothing else has changed.
+    OutOfMemory,
+    /// A file does not hold what is to be loaded from it.
+    MassStorageError,
+    /// The nonvolatile memory has no room for the result.
+    MediaFull,
+    /// There is no file of this name.
+    FileNameNotFound,
+    /// A name that no file can have, or that a file has already.
+    FileNameError,
+    /// A label that no macro can have.
+    IllegalMacroLabel,
+    /// Another number of parameters than the macro takes.
+    MacroParameterError,
+    /// A body that is too long.
+    MacroDefinitionTooLong,
+    /// A macro inside an expansion.
+    MacroRecursionError,
+    /// A macro of this label is there already.
+    MacroRedefinitionNotAllowed,
+    /// There is no macro of this label.
+    MacroHeaderNotFound,
+    /// The nonvolatile memory can't be relied on.
+    StorageFault,
+    /// Errors were lost, since the queue was full.
+    QueueOverflow,
+}
+
+impl ScpiError {
+    /// Its number without the sign, which is always a minus.
+    pub fn magnitude(self) -> u16
+        ensures value { result ≡ magnitude self }
+        ensures most { result ≤ 350 }
+    {
+        match self {
+            ScpiError::InvalidCharacter => 101,
+            ScpiError::SyntaxError => 102,
+            ScpiError::DataTypeError => 104,
+            ScpiError::ParameterNotAllowed => 108,
+            ScpiError::MissingParameter => 109,
+            ScpiError::UndefinedHeader => 113,
+            ScpiError::HeaderSuffixOutOfRange => 114,
+            ScpiError::ExponentTooLarge => 123,
+            ScpiError::TooManyDigits => 124,
+            ScpiError::InvalidSuffix => 131,
+            ScpiError::InvalidStringData => 151,
+            ScpiError::InvalidBlockData => 161,
+            ScpiError::CommandProtected => 203,
+            ScpiError::TriggerIgnored => 211,
+            ScpiError::SettingsConflict => 221,
+            ScpiError::DataOutOfRange => 222,
+            ScpiError::TooMuchData => 223,
+            ScpiError::IllegalParameterValue => 224,
+            ScpiError::OutOfMemory => 225,
+            ScpiError::MassStorageError => 250,
+            ScpiError::MediaFull => 254,
+            ScpiError::FileNameNotFound => 256,
+            ScpiError::FileNameError => 257,
+            ScpiError::IllegalMacroLabel => 273,
+            ScpiError::MacroParameterError => 274,
+            ScpiError::MacroDefinitionTooLong => 275,
+            ScpiError::MacroRecursionError => 276,
+            ScpiError::MacroRedefinitionNotAllowed => 277,
+            ScpiError::MacroHeaderNotFound => 278,
+            ScpiError::StorageFault => 320,
+            ScpiError::QueueOverflow => 350,
+        }
+    }
+
+    /// Its text, as `SYSTem:ERRor?` answers it between quotes.
+    pub fn text(self) -> &'static str
+        ensures { result.now ≡ text self }
+    {
+        match self {
+            ScpiError::InvalidCharacter => "Invalid character",
+            ScpiError::SyntaxError => "Syntax error",
+            ScpiError::DataTypeError => "Data type error",
+            ScpiError::ParameterNotAllowed => "Parameter not allowed",
+            ScpiError::MissingParameter => "Missing parameter",
+            ScpiError::UndefinedHeader => "Undefined header",
+            ScpiError::HeaderSuffixOutOfRange => "Header suffix out of range",
+            ScpiError::ExponentTooLarge => "Exponent too large",
+            ScpiError::TooManyDigits => "Too many digits",
+            ScpiError::InvalidSuffix => "Invalid suffix",
+            ScpiError::InvalidStringData => "Invalid string data",
+            ScpiError::InvalidBlockData => "Invalid block data",
+            ScpiError::CommandProtected => "Command protected",
+            ScpiError::TriggerIgnored => "Trigger ignored",
+            ScpiError::SettingsConflict => "Settings conflict",
+            ScpiError::DataOutOfRange => "Data out of range",
+            ScpiError::TooMuchData => "Too much data",
+            ScpiError::IllegalParameterValue => "Illegal parameter value",
+            ScpiError::OutOfMemory => "Out of memory",
+            ScpiError::MassStorageError => "Mass storage error",
+            ScpiError::MediaFull => "Media full",
+            ScpiError::FileNameNotFound => "File name not found",
+            ScpiError::FileNameError => "File name error",
+            ScpiError::IllegalMacroLabel => "Illegal macro label",
+            ScpiError::MacroParameterError => "Macro parameter error",
+            ScpiError::MacroDefinitionTooLong => "Macro definition too long",
+            ScpiError::MacroRecursionError => "Macro recursion error",
+            ScpiError::MacroRedefinitionNotAllowed => "Macro redefinition not allowed",
+            ScpiError::MacroHeaderNotFound => "Macro header not found",
+            ScpiError::StorageFault => "Storage fault",
+            ScpiError::QueueOverflow => "Queue overflow",
+        }
+    }
+
+    /// Its class, by its number.
+    pub fn class(self) -> ErrorClass
+        ensures { result ≡ class_of self }
+    {
+        match self.magnitude() {
+            0..200 => ErrorClass::Command,
+            200..300 => ErrorClass::Execution,
+            _ => ErrorClass::Device,
+        }
+    }
+
+    /// The bit of the event status register that it sets.
+    pub fn event_bit(self) -> u8
+        ensures { result ≡ event_bit self }
+    {
+        self.class().event_bit()
+    }
+}
+
+/// What fills the unused places of a list of fixed capacity.
+impl Default for ScpiError {
+    fn default() -> Self {
+        ScpiError::QueueOverflow
+    }
+}

@@ -1,0 +1,142 @@
+// Who holds the locks, and what can be granted.
+ghost use Rattle.std.specs.Prelude.{◌≡◌, ◌-◌, ◌<◌};
+ghost use Rattle.psu_locks.specs.Locks.{shares, is_shared, holds_exclusive, may_command, can_grant, with_grant, holds_kind, freed_of, without, without_session, info_of, with_exclusive, with_sharer};
+
+use crate::{Freed, Info, Kind, LockString, Session};
+
+/// Who holds the exclusive lock, and who shares the string: a flag for each session, the first session's first. The
+/// string counts only while somebody shares it.
+#[derive(Drop)]
+pub struct Holders {
+    pub exclusive: Option<Session>,
+    pub string: LockString,
+    pub sharers: [bool; 16],
+}
+
+impl Holders {
+    /// Whether a session shares the string.
+    pub fn shares(&self, session: Session) -> bool
+        ensures { result ≡ shares self.now session }
+    {
+        self.sharers[place(session)]
+    }
+
+    fn is_shared(&self) -> bool
+        ensures { result ≡ is_shared self.now }
+    {
+        self.sharers.iter().any(|&flag| flag)
+    }
+
+    fn holds_exclusive(&self, session: Session) -> bool
+        ensures { result ≡ holds_exclusive self.now session }
+    {
+        match self.exclusive {
+            None => false,
+            Some(holder) => holder.number() == session.number(),
+        }
+    }
+
+    /// Whether a session may command.
+    pub fn may_command(&self, session: Session) -> bool
+        ensures { result ≡ may_command self.now session }
+    {
+        if self.exclusive.is_some() {
+            self.holds_exclusive(session)
+        } else {
+            !self.is_shared() || self.shares(session)
+        }
+    }
+
+    /// Whether a lock can be granted to a session.
+    pub fn can_grant(&self, session: Session, kind: &Kind) -> bool
+        ensures { result ≡ can_grant self.now session kind.now }
+    {
+        match kind {
+            Kind::Exclusive => {
+                self.exclusive.is_none() && (!self.is_shared() || self.shares(session))
+            }
+            Kind::Shared(string) => {
+                (self.exclusive.is_none() || self.holds_exclusive(session))
+                    && (!self.is_shared() || self.string.is_same(string))
+            }
+        }
+    }
+
+    /// Whether a session holds a kind of lock, under whatever string.
+    pub fn holds_kind(&self, session: Session, kind: &Kind) -> bool
+        ensures { result ≡ holds_kind self.now session kind.now }
+    {
+        match kind {
+            Kind::Exclusive => self.holds_exclusive(session),
+            Kind::Shared(_) => self.shares(session),
+        }
+    }
+
+    /// Gives a session a lock.
+    pub fn put(&mut self, session: Session, kind: Kind)
+        ensures { self.new ≡ with_grant self.old session kind }
+    {
+        match kind {
+            Kind::Exclusive => self.exclusive = Some(session),
+            Kind::Shared(string) => {
+                self.string = string;
+                self.sharers[place(session)] = true;
+            }
+        }
+    }
+
+    /// What a release of a session gives up, if it holds any lock.
+    pub fn freed(&self, session: Session) -> Option<Freed>
+        ensures { result ≡ freed_of self.now session }
+    {
+        if self.holds_exclusive(session) {
+            Some(Freed::Exclusive)
+        } else if self.shares(session) {
+            Some(Freed::Shared)
+        } else {
+            None
+        }
+    }
+
+    /// Takes a lock from a session.
+    pub fn remove(&mut self, session: Session, freed: Freed)
+        ensures { self.new ≡ without self.old session freed }
+    {
+        match freed {
+            Freed::Exclusive => self.exclusive = None,
+            Freed::Shared => self.sharers[place(session)] = false,
+        }
+    }
+
+    /// Takes all that it holds from a session.
+    pub fn remove_all(&mut self, session: Session)
+        ensures { self.new ≡ without_session self.old session }
+    {
+        if self.holds_exclusive(session) {
+            self.exclusive = None;
+        }
+        self.sharers[place(session)] = false;
+    }
+
+    /// What is told of the locks.
+    pub fn info(&self) -> Info
+        ensures { result ≡ info_of self.now }
+    {
+        let mut flags = self.sharers;
+        if let Some(holder) = self.exclusive {
+            flags[place(holder)] = true;
+        }
+        Info {
+            exclusive: self.exclusive.is_some(),
+            holders: flags.iter().filter(|flag| **flag).count() as u8,
+        }
+    }
+}
+
+// The place of a session's flag.
+fn place(session: Session) -> usize
+    ensures before { result ≡ session - 1 }
+    ensures inside { result < 16 }
+{
+    session.number() as usize - 1
+}

@@ -1,0 +1,48 @@
+// The string of a shared lock.
+ghost use Rattle.std.specs.Prelude.{◌≡◌, ◌≤◌, length, SomeIff, []};
+ghost use Rattle.std.specs.Str.{bytes_eq};
+
+use arrayvec::ArrayVec;
+use std::marker::Model;
+
+/// The string of a shared lock: up to 256 bytes, which a contract sees as their list.
+#[derive(Drop)]
+pub struct LockString {
+    bytes: ArrayVec<u8, 256>,
+}
+
+impl Model for LockString {
+    ghost use Rattle.std.specs.Prelude.{ℕ, List};
+
+    ghost Value = { List ℕ };
+
+    ghost view = { λ s. s.bytes.items };
+}
+
+impl LockString {
+    /// The string of no bytes.
+    pub fn empty() -> LockString
+        ensures { result ≡ [] }
+    {
+        LockString {
+            bytes: ArrayVec::new(),
+        }
+    }
+
+    /// The string of these bytes, where they are at most 256.
+    pub fn new(bytes: &[u8]) -> Option<LockString>
+        ensures { SomeIff result (length bytes.now ≤ 256) bytes.now }
+    {
+        match ArrayVec::try_from(bytes) {
+            Ok(bytes) => Some(LockString { bytes }),
+            Err(_) => None,
+        }
+    }
+
+    /// Whether two strings have the same bytes.
+    pub fn is_same(&self, other: &LockString) -> bool
+        ensures { result ≡ bytes_eq self.now other.now }
+    {
+        self.bytes.as_slice() == other.bytes.as_slice()
+    }
+}

@@ -1,0 +1,190 @@
+// The table: who holds the locks, and which requests wait in order of arrival.
+ghost use Rattle.std.specs.Prelude.{◌≡◌, max, Some, None, IfOk, IfErr, []};
+ghost use Rattle.psu_locks.specs.Locks.{Locks, no_locks, may_command, info_of, request_refusal, grant_of, after_grant, at_moment, waits, holders_after, kept, granted, looked_through, freed_of, without, without_session, of_others, failed_at, still_waiting};
+ghost use Rattle.psu_locks.specs.Table.{AreWaiting};
+ghost use Rattle.psu_locks.specs.declared.lock_refusal.LockRefusal.TheVariants.{NotHeld};
+
+use crate::holders::Holders;
+use crate::request::Request;
+use crate::{Freed, Grant, Info, Kind, LockRefusal, LockString, Session};
+use arrayvec::ArrayVec;
+use std::marker::Model;
+
+/// Sessions, each once, in the order that the call says.
+pub type Sessions = ArrayVec<Session, 16>;
+
+/// The locks of an instrument with sixteen sessions. No call takes memory. A moment is a number of milliseconds from
+/// any start; one before the greatest so far counts as that one.
+#[derive(Drop)]
+pub struct LockTable {
+    holders: Holders,
+    waiting: ArrayVec<Request, 16>,
+    latest: u64,
+}
+
+impl Model for LockTable {
+    ghost use Rattle.psu_locks.specs.Locks.{Locks};
+
+    ghost Value = { Locks };
+
+    ghost use Rattle.psu_locks.specs.Table.{AreWaiting};
+
+    ghost view = { λ t. record { holders = t.holders; waiting = t.waiting.items; latest = t.latest } };
+
+    ghost invariant = { λ t. AreWaiting t.waiting.items };
+}
+
+impl LockTable {
+    /// No lock is held, and nobody waits.
+    pub fn new() -> LockTable
+        ensures { result ≡ no_locks [] }
+    {
+        LockTable {
+            holders: Holders {
+                exclusive: None,
+                string: LockString::empty(),
+                sharers: [false; 16],
+            },
+            waiting: ArrayVec::new(),
+            latest: 0,
+        }
+    }
+
+    /// Whether a session may command. With no lock all may; while an exclusive lock is held only its holder may; else
+    /// those that share the string.
+    pub fn may_command(&self, session: Session) -> bool
+        ensures { result ≡ may_command self.now.holders session }
+    {
+        self.holders.may_command(session)
+    }
+
+    /// Whether the exclusive lock is held, and how many sessions hold any.
+    pub fn info(&self) -> Info
+        ensures { result ≡ info_of self.now.holders }
+    {
+        self.holders.info()
+    }
+
+    /// Asks for a lock. What can't be granted now waits for so many milliseconds, and with a timeout of 0 fails at once.
+    ///
+    /// A session that holds this kind of lock is refused as holding it, also where its request waits.
+    pub fn request(
+        &mut self,
+        session: Session,
+        kind: Kind,
+        now: u64,
+        timeout: u32,
+    ) -> Result<Grant, LockRefusal>
+        ensures grant { IfOk result (λ grant. (request_refusal self.old session kind ≡ None)
+            × (grant ≡ grant_of self.old session kind timeout)
+            × (self.new ≡ after_grant (at_moment self.old now) session kind timeout grant)) }
+        ensures refused { IfErr result (λ refusal. (request_refusal self.old session kind ≡ Some refusal) × (self.new ≡ self.old)) }
+    {
+        if self.holders.holds_kind(session, &kind) {
+            return Err(LockRefusal::AlreadyHeld);
+        }
+        if waits(&self.waiting, session) {
+            return Err(LockRefusal::Waiting);
+        }
+        self.latest = self.latest.max(now);
+        if self.holders.can_grant(session, &kind) {
+            self.holders.put(session, kind);
+            return Ok(Grant::Granted);
+        }
+        if timeout == 0 {
+            return Ok(Grant::Failed);
+        }
+        let deadline = self.latest as u128 + timeout as u128;
+        let request = Request::new(session, kind, deadline);
+        self.waiting.push(request);
+        Ok(Grant::Queued)
+    }
+
+    /// Gives up a session's exclusive lock, or else its shared one; answers which, and the sessions whose waiting
+    /// requests were then granted, in order of arrival.
+    pub fn release(&mut self, session: Session) -> Result<(Freed, Sessions), LockRefusal>
+        ensures freed { IfOk result (λ r. (freed_of self.old.holders session ≡ Some r.0)
+            × (r.1.items ≡ granted (without self.old.holders session r.0) self.old.waiting)
+            × (self.new ≡ looked_through self.old (without self.old.holders session r.0) self.old.waiting)) }
+        ensures refused { IfErr result (λ refusal. (refusal ≡ NotHeld) × (freed_of self.old.holders session ≡ None) × (self.new ≡ self.old)) }
+    {
+        let Some(freed) = self.holders.freed(session) else {
+            return Err(LockRefusal::NotHeld);
+        };
+        self.holders.remove(session, freed);
+        let sessions = look_through(&mut self.holders, &mut self.waiting);
+        Ok((freed, sessions))
+    }
+
+    /// Ends a session: its locks and its request end with it. Answers the sessions whose requests were then granted, in
+    /// order of arrival.
+    pub fn drop_session(&mut self, session: Session) -> Sessions
+        ensures granted { result.items ≡ granted (without_session self.old.holders session) (of_others session self.old.waiting) }
+        ensures left { self.new ≡ looked_through self.old (without_session self.old.holders session) (of_others session self.old.waiting) }
+    {
+        self.holders.remove_all(session);
+        keep_others(&mut self.waiting, session);
+        look_through(&mut self.holders, &mut self.waiting)
+    }
+
+    /// Fails the requests whose deadline is reached, and answers whose they were, in order of arrival.
+    pub fn tick(&mut self, now: u64) -> Sessions
+        ensures failed { result.items ≡ failed_at (max self.old.latest now) self.old.waiting }
+        ensures left { self.new ≡ record (at_moment self.old now) { waiting = still_waiting (max self.old.latest now) self.old.waiting } }
+    {
+        self.latest = self.latest.max(now);
+        fail_at(&mut self.waiting, self.latest as u128)
+    }
+}
+
+fn waits(waiting: &[Request], session: Session) -> bool
+    ensures { result ≡ waits waiting.now session }
+{
+    waiting
+        .iter()
+        .any(|request| request.session.number() == session.number())
+}
+
+// Takes the request of a session out.
+fn keep_others(waiting: &mut ArrayVec<Request, 16>, session: Session)
+    ensures { waiting.new.items ≡ of_others session waiting.old.items }
+{
+    waiting.retain(|request| request.session.number() != session.number());
+}
+
+// Looks through the waiting requests in order of arrival, and grants each that can be.
+fn look_through(holders: &mut Holders, waiting: &mut ArrayVec<Request, 16>) -> Sessions
+    ensures holders { holders.new ≡ holders_after holders.old waiting.old.items }
+    ensures kept { waiting.new.items ≡ kept holders.old waiting.old.items }
+    ensures granted { result.items ≡ granted holders.old waiting.old.items }
+{
+    let mut sessions = ArrayVec::new();
+    let mut at = 0;
+    let count = waiting.len();
+    for turn in 0..count {
+        let request = &waiting[at];
+        if holders.can_grant(request.session, &request.kind) {
+            let request = waiting.remove(at);
+            sessions.push(request.session);
+            holders.put(request.session, request.kind);
+            continue;
+        }
+        at += 1;
+    }
+    sessions
+}
+
+// Takes the requests out whose deadline is reached.
+fn fail_at(waiting: &mut ArrayVec<Request, 16>, now: u128) -> Sessions
+    ensures failed { result.items ≡ failed_at now waiting.old.items }
+    ensures kept { waiting.new.items ≡ still_waiting now waiting.old.items }
+{
+    let mut sessions = ArrayVec::new();
+    for request in waiting.as_slice() {
+        if request.deadline <= now {
+            sessions.push(request.session);
+        }
+    }
+    waiting.retain(|request| now < request.deadline);
+    sessions
+}

@@ -1,0 +1,90 @@
+// The registers of one group.
+ghost use Rattle.std.specs.Prelude.{◌≡◌};
+ghost use Rattle.psu_status.specs.Registers.{preset, filter_of, with_filter, with_condition, without_events, summary, fifteen_bits};
+
+use crate::Filter;
+
+/// The registers of a group, each of 15 bits: bit 15 is always 0.
+#[derive(Clone, Copy, Debug, PartialEq, Eq)]
+pub struct Registers {
+    pub condition: u16,
+    pub event: u16,
+    pub enable: u16,
+    pub positive: u16,
+    pub negative: u16,
+}
+
+impl Registers {
+    /// No condition and no event, with the filters of PRESet.
+    pub fn new() -> Registers
+        ensures { result ≡ preset (record { condition = 0; event = 0; enable = 0; positive = 0; negative = 0 }) }
+    {
+        Registers {
+            condition: 0,
+            event: 0,
+            enable: 0,
+            positive: 32767,
+            negative: 0,
+        }
+    }
+
+    /// The filters of PRESet: rises are events, falls are none, and no event is enabled. Condition and events stay.
+    pub fn preset(&mut self)
+        ensures { self.new ≡ preset self.old }
+    {
+        self.enable = 0;
+        self.positive = 32767;
+        self.negative = 0;
+    }
+
+    pub fn filter(&self, filter: Filter) -> u16
+        ensures { result ≡ filter_of self.now filter }
+    {
+        match filter {
+            Filter::Enable => self.enable,
+            Filter::Positive => self.positive,
+            Filter::Negative => self.negative,
+        }
+    }
+
+    /// Sets a filter, without bit 15. It makes no event.
+    pub fn set_filter(&mut self, filter: Filter, bits: u16)
+        ensures { self.new ≡ with_filter self.old filter (fifteen_bits bits) }
+    {
+        let bits = bits & 32767;
+        match filter {
+            Filter::Enable => self.enable = bits,
+            Filter::Positive => self.positive = bits,
+            Filter::Negative => self.negative = bits,
+        }
+    }
+
+    /// Sets the condition, without bit 15, and the events of its rising and falling bits that pass the filters.
+    pub fn set_condition(&mut self, bits: u16)
+        ensures { self.new ≡ with_condition self.old (fifteen_bits bits) }
+    {
+        let bits = bits & 32767;
+        let changed = self.condition ^ bits;
+        let rising = changed & bits;
+        let falling = changed & self.condition;
+        self.event = self.event | (rising & self.positive) | (falling & self.negative);
+        self.condition = bits;
+    }
+
+    /// The events, which are then cleared.
+    pub fn take_events(&mut self) -> u16
+        ensures events { result ≡ self.old.event }
+        ensures cleared { self.new ≡ without_events self.old }
+    {
+        let events = self.event;
+        self.event = 0;
+        events
+    }
+
+    /// Whether an event is enabled.
+    pub fn summary(&self) -> bool
+        ensures { result ≡ summary self.now }
+    {
+        self.event & self.enable != 0
+    }
+}

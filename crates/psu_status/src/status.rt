@@ -1,0 +1,235 @@
+// The status of the instrument.
+ghost use Rattle.std.specs.Prelude.{◌≡◌, ◌≤◌, length, drop};
+ghost use Rattle.psu_status.specs.Registers.{filter_of, with_filter, with_condition, without_events, fifteen_bits};
+ghost use Rattle.psu_status.specs.Status.{without_mss, raised, group_of, with_group, all_preset, status_byte, with_error, oldest, cleared, power_on, first_request, prescribed, summaries};
+
+use crate::registers::Registers;
+use crate::{Filter, Group};
+use arrayvec::ArrayVec;
+use psu_lex::ScpiError;
+use std::marker::Model;
+
+/// How many errors the queue holds.
+pub const QUEUE: usize = 16;
+
+/// The status of the instrument. No call takes memory.
+#[derive(Drop)]
+pub struct Status {
+    esr: u8,
+    sre: u8,
+    ese: u8,
+    operation: Registers,
+    questionable: Registers,
+    errors: ArrayVec<ScpiError, QUEUE>,
+}
+
+impl Model for Status {
+    ghost use Rattle.psu_status.specs.Status.{Reported};
+
+    ghost Value = { Reported };
+
+    ghost view = { λ s. record { esr = s.esr; sre = s.sre; ese = s.ese; operation = s.operation; questionable = s.questionable; errors = s.errors.items } };
+}
+
+impl Status {
+    /// The status at power-on: PON alone in the event status register, SRE and ESE as kept or 0 where none are kept (the
+    /// power-on status clear flag is true), the groups as after PRESet with no event, no error.
+    pub fn power_on(enables: Option<(u8, u8)>) -> Status
+        ensures status { result ≡ power_on enables }
+
+        // The first service request is the one that IEEE 488.2 prescribes for the flag.
+        ensures request { first_request result ≡ prescribed enables }
+    {
+        let (sre, ese) = enables.unwrap_or((0, 0));
+        Status {
+            esr: 128,
+            sre: sre & 191,
+            ese,
+            operation: Registers::new(),
+            questionable: Registers::new(),
+            errors: ArrayVec::new(),
+        }
+    }
+
+    /// Sets bits of the event status register.
+    pub fn raise(&mut self, bits: u8)
+        ensures { self.new ≡ raised self.old bits }
+    {
+        self.esr |= bits;
+    }
+
+    /// The event status register, which is then cleared (`*ESR?`).
+    pub fn read_event(&mut self) -> u8
+        ensures events { result ≡ self.old.esr }
+        ensures cleared { self.new ≡ record self.old { esr = 0 } }
+    {
+        let events = self.esr;
+        self.esr = 0;
+        events
+    }
+
+    /// The service request enable register; bit 6 reads 0 (`*SRE?`).
+    pub fn sre(&self) -> u8
+        ensures { result ≡ self.now.sre }
+    {
+        self.sre
+    }
+
+    /// The event status enable register (`*ESE?`).
+    pub fn ese(&self) -> u8
+        ensures { result ≡ self.now.ese }
+    {
+        self.ese
+    }
+
+    /// Sets the service request enable register, without bit 6 (`*SRE`).
+    pub fn set_sre(&mut self, bits: u8)
+        ensures { self.new ≡ record self.old { sre = without_mss bits } }
+    {
+        self.sre = bits & 191;
+    }
+
+    /// Sets the event status enable register (`*ESE`).
+    pub fn set_ese(&mut self, bits: u8)
+        ensures { self.new ≡ record self.old { ese = bits } }
+    {
+        self.ese = bits;
+    }
+
+    /// Sets the QUEStionable condition, without bit 15: bits that rise or fall make their events.
+    pub fn condition(&mut self, bits: u16)
+        ensures { self.new ≡ record self.old { questionable = with_condition self.old.questionable (fifteen_bits bits) } }
+    {
+        self.questionable.set_condition(bits);
+    }
+
+    /// The condition register of a group.
+    pub fn group_condition(&self, group: Group) -> u16
+        ensures { result ≡ (group_of self.now group).condition }
+    {
+        match group {
+            Group::Operation => self.operation.condition,
+            Group::Questionable => self.questionable.condition,
+        }
+    }
+
+    /// The event register of a group, which is then cleared.
+    pub fn take_group_events(&mut self, group: Group) -> u16
+        ensures events { result ≡ (group_of self.old group).event }
+        ensures cleared { self.new ≡ with_group self.old group (without_events (group_of self.old group)) }
+    {
+        match group {
+            Group::Operation => self.operation.take_events(),
+            Group::Questionable => self.questionable.take_events(),
+        }
+    }
+
+    /// A filter of a group.
+    pub fn group_filter(&self, group: Group, filter: Filter) -> u16
+        ensures { result ≡ filter_of (group_of self.now group) filter }
+    {
+        match group {
+            Group::Operation => self.operation.filter(filter),
+            Group::Questionable => self.questionable.filter(filter),
+        }
+    }
+
+    /// Sets a filter of a group, without bit 15. It makes no event.
+    pub fn set_group_filter(&mut self, group: Group, filter: Filter, bits: u16)
+        ensures { self.new ≡ with_group self.old group (with_filter (group_of self.old group) filter (fifteen_bits bits)) }
+    {
+        match group {
+            Group::Operation => self.operation.set_filter(filter, bits),
+            Group::Questionable => self.questionable.set_filter(filter, bits),
+        }
+    }
+
+    /// `STATus:PRESet`: the filters of both groups, and no event enabled. Conditions and events stay.
+    pub fn preset(&mut self)
+        ensures { self.new ≡ all_preset self.old }
+    {
+        self.operation.preset();
+        self.questionable.preset();
+    }
+
+    // The bits of the status byte but for bit 6.
+    fn summaries(&self, mav: bool) -> u8
+        ensures value { result ≡ summaries self.now mav }
+        ensures most { result ≤ 188 }
+    {
+        let queued = if self.errors.is_empty() { 0 } else { 4 };
+        let questionable = if self.questionable.summary() { 8 } else { 0 };
+        let available = if mav { 16 } else { 0 };
+        let event = if self.esr & self.ese == 0 { 0 } else { 32 };
+        let operation = if self.operation.summary() { 128 } else { 0 };
+        queued + (questionable + (available + (event + operation)))
+    }
+
+    /// The status byte, with MSS in bit 6 (`*STB?`). The message available bit is the session's own mark.
+    pub fn status_byte(&self, mav: bool) -> u8
+        ensures { result ≡ status_byte self.now mav }
+    {
+        let summaries = self.summaries(mav);
+        if summaries & self.sre == 0 {
+            summaries
+        } else {
+            summaries + 64
+        }
+    }
+
+    /// Queues an error and sets its bit. Where the queue is full its newest entry becomes Queue overflow, whose bit is set
+    /// beside the error's own.
+    pub fn push_error(&mut self, error: ScpiError)
+        ensures { self.new ≡ with_error self.old error }
+    {
+        if self.errors.is_full() {
+            self.esr |= error.event_bit() | ScpiError::QueueOverflow.event_bit();
+            self.errors.truncate(QUEUE - 1);
+            self.errors.push(ScpiError::QueueOverflow);
+            return;
+        }
+        self.esr |= error.event_bit();
+        self.errors.push(error);
+    }
+
+    /// The oldest error, which leaves the queue; none where it is empty.
+    pub fn pop_error(&mut self) -> Option<ScpiError>
+        ensures oldest { result ≡ oldest self.old.errors }
+        ensures left { self.new ≡ record self.old { errors = drop 1 self.old.errors } }
+    {
+        if self.errors.is_empty() {
+            return None;
+        }
+        Some(self.errors.remove(0))
+    }
+
+    /// How many errors are queued, 16 at most.
+    pub fn count(&self) -> usize
+        ensures value { result ≡ length self.now.errors }
+        ensures most { result ≤ 16 }
+    {
+        self.errors.as_slice().len()
+    }
+
+    /// `*CLS`: clears the event registers and the queue. Conditions, filters and enables stay.
+    pub fn clear(&mut self)
+        ensures { self.new ≡ cleared self.old }
+    {
+        self.esr = 0;
+        self.operation.event = 0;
+        self.questionable.event = 0;
+        self.errors.clear();
+    }
+
+    /// The service request that the status makes as it is, with no message available: the status byte where MSS is 1.
+    pub fn first_request(&self) -> Option<u8>
+        ensures { result ≡ first_request self.now }
+    {
+        let byte = self.status_byte(false);
+        if self.summaries(false) & self.sre == 0 {
+            None
+        } else {
+            Some(byte)
+        }
+    }
+}
