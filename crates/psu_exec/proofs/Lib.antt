@@ -1,0 +1,11 @@
+pub mod Mapped
+pub mod Changes
+pub mod Within
+pub mod Consistent
+pub mod Keeping
+pub mod Wants
+pub mod Over
+pub mod Holding
+pub mod Batches
+pub mod FirstRequest
+pub mod Ending

@@ -1,0 +1,10 @@
+pub mod Errors
+pub mod Contents
+pub mod Reading
+pub mod Batch
+pub mod Device
+pub mod Calls
+pub mod Consistent
+pub mod Jobs
+pub mod Ends
+pub mod Shown
