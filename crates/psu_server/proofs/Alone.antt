@@ -1,26 +1,26 @@
 -- Where nothing goes wrong, there is one text.
-use Rattle.std.proofs.Common.{◌≡◌, ◌⊎◌, ◌≢◌, ℕ, suc, zero, ◌+◌, ◌<◌, ◌≤◌, ◌==◌, Bool, true, false, if◌then◌else◌, List, [], ◌∷◌, ◌++◌, length, drop, map, slice_index_or, slice_set, refl, sym, ap, ◌∙◌, subst, inl, inr, arith, rules, Option, Some, None, option_map, decimal}
+use Rattle.std.proofs.Common.{◌≡◌, ◌⊎◌, ℕ, suc, zero, ◌≤◌, ◌==◌, Bool, true, false, if◌then◌else◌, List, [], ◌∷◌, ◌++◌, length, drop, map, slice_index_or, slice_set, refl, sym, ap, ◌∙◌, subst, inl, inr, arith, Option, Some, None, option_map, decimal}
 use Rattle.std.proofs.lemmas.Grind.{common_steps}
 use Rattle.psu_items.specs.Map.{Item}
 use Rattle.psu_items.specs.declared.commit.UnstartedCause.TheVariants as memory
 use Rattle.psu_exec.specs.declared.contents.Contents.{Contents}
 use Rattle.psu_exec.specs.declared.change.Change.{Change}
 use Rattle.psu_exec.specs.declared.request.Request.{Request}
-use Rattle.psu_exec.specs.declared.condition.Condition.TheVariants.{Whole, Worn}
-use Rattle.psu_exec.specs.declared.scpi_error.ScpiError.TheVariants.{OutOfMemory, StorageFault}
+use Rattle.psu_exec.specs.declared.condition.Condition.TheVariants.{Whole}
+use Rattle.psu_exec.specs.declared.scpi_error.ScpiError.TheVariants.{OutOfMemory}
 use Rattle.psu_exec.specs.declared.wait.Wait.{Wait}
 use Rattle.psu_exec.specs.declared.wait.Wait.TheVariants.{Until, CutOff}
 use Rattle.psu_exec.specs.Contents.{items_of, enables_items}
-use Rattle.psu_exec.specs.Device.{Reply, Done, Answer, Error, Parked, Later, State, Flush, answer, after_unit, power_on, wait_of, wants_memory, change_of}
-use Rattle.psu_exec.specs.Calls.{JobEnd, Stored, Unstarted, Broken, Job, Nothing, Entry, Allows, Executed, Settled, Took, GaveBack, job_out, stored, settle_answer, after_settle, settled, unparked, opened, wait_less}
+use Rattle.psu_exec.specs.Device.{Reply, Done, Answer, Error, Parked, Later, State, Flush, answer, after_unit, wait_of, wants_memory, change_of}
+use Rattle.psu_exec.specs.Calls.{JobEnd, Stored, Unstarted, Broken, Job, Nothing, Allows, Took, GaveBack, job_out, stored, settle_answer, after_settle, settled, unparked, wait_less}
 use Rattle.psu_server.specs.Lines.{Message, requests_of, messages}
-use Rattle.psu_server.specs.Script.{script, started, at_start, Rest, Went, Told, flushed_by, flushed, waited, after_reply, after_first, unit, units, message, restarted, script_from, with_answer, line_text}
-use Rattle.psu_server.specs.Runs.{Mishaps, none, JobDone, Jobs, Flushes, IsMeant, IsSound, is_later, is_out_of_memory, MayWrite, ScriptAlone, Acts, UnitRuns, UnitsRun, MessageRuns, Restarts, Runs, is_final}
+use Rattle.psu_server.specs.Script.{started, at_start, Rest, Went, Told, flushed_by, flushed, waited, after_reply, after_first, unit, units, message, script_from, with_answer, line_text}
+use Rattle.psu_server.specs.Runs.{none, JobDone, Jobs, Flushes, IsMeant, IsSound, is_later, is_out_of_memory, ScriptAlone, Acts, UnitRuns, UnitsRun, MessageRuns, Restarts, Runs, is_final}
 
 no_tail : (l : List Change) → 1 ≤ length l → l ≡ [] → ⊥
 no_tail l some none = let e = ap length none in absurd (omega (arith, some, e))
 
-all_dropped : (l : List Change) → drop (length l) l ≡ []
+pub all_dropped : (l : List Change) → drop (length l) l ≡ []
 all_dropped l = grind (arith, common_steps)
 
 job_state : (finished : JobEnd) (s new taken : State) → IsSound none finished → Allows s (Took Job) taken → Allows taken (GaveBack finished true) new

@@ -1,11 +1,11 @@
 -- Lemmas on the parts of a text.
-use Rattle.std.proofs.Common.{◌≡◌, ℕ, ◌+◌, ◌-◌, ◌==◌, ◌||◌, ◌<◌, ◌≤◌, nat_lt, Bool, true, false, List, [], ◌∷◌, ◌++◌, length, take, drop, map, refl, sym, ap, ◌∙◌, subst, if◌then◌else◌, arith, rules, slice_index, append_assoc, inl, inr, Result, Option, Some, None, suc, add-one, drop-cons}
+use Rattle.std.proofs.Common.{◌≡◌, ℕ, ◌+◌, ◌-◌, ◌==◌, ◌<◌, ◌≤◌, Bool, true, false, List, [], ◌∷◌, ◌++◌, length, take, drop, map, refl, sym, ap, ◌∙◌, if◌then◌else◌, arith, slice_index, append_assoc, inl, inr, Result, Some, None, suc, add-one, drop-cons}
 use Rattle.std.proofs.lemmas.Bool.{cases_Bool}
 use Rattle.std.proofs.lemmas.List.{append-nil, get_or-take, take-append-drop}
 use Rattle.std.proofs.lemmas.Grind.{common_steps}
 use Rattle.std.proofs.lemmas.Bool.Decides.{nat_tests}
 use Rattle.std.specs.Str.{bytes_eq}
-use Rattle.memchr.specs.Find.{IsFirstByte, is_byte, NoneBefore}
+use Rattle.memchr.specs.Find.{IsFirstByte, is_byte}
 use Rattle.psu_exec.specs.Reading.{reading_of}
 use Rattle.psu_exec.specs.declared.command.Command.{Command}
 use Rattle.psu_exec.specs.declared.request.Request.{Request}
@@ -145,3 +145,9 @@ coming_last true line begun free = refl
 coming_last false [] begun free = cc
 coming_last false (x ∷ p) begun free =
     ap messages (append-nil (x ∷ p)) ∙ ap (λ (z : List (List ℕ)). map message_of z) (parts_last 10 x p free)
+
+-- no line has begun
+pub coming_none : (over : Bool) (line : List ℕ) → is_none_begun over line ≡ true → coming over line [] ≡ []
+coming_none true line h = cc
+coming_none false [] h = refl
+coming_none false (x ∷ p) h = absurd (grind (arith, nat_tests, h))

@@ -1,12 +1,12 @@
 -- The lines of a piece, one after another.
-use Rattle.std.proofs.Common.{◌≡◌, ℕ, ◌+◌, ◌-◌, ◌≤◌, Bool, true, false, List, [], ◌∷◌, ◌++◌, length, take, drop, refl, sym, ap, ◌∙◌, subst, arith, append_assoc, Some}
+use Rattle.std.proofs.Common.{◌≡◌, ℕ, ◌+◌, ◌-◌, ◌≤◌, Bool, true, false, List, [], ◌∷◌, ◌++◌, length, take, drop, refl, sym, ap, ◌∙◌, subst, append_assoc, Some}
 use Rattle.std.proofs.lemmas.List.{append-nil}
 use Rattle.std.specs.Str.{bytes_eq}
 use Rattle.memchr.specs.Find.{IsFirstByte, is_byte}
 use Rattle.psu_exec.specs.Device.{State}
-use Rattle.psu_server.specs.Lines.{Message, message_of, message_now, coming, too_much, requests, parts_of, has, power_line}
+use Rattle.psu_server.specs.Lines.{Message, message_now, coming, too_much, requests, parts_of, has, power_line}
 use Rattle.psu_server.specs.Script.{line_text}
-use Rattle.psu_server.specs.Runs.{Mishaps, UnitsRun, MessageRuns, Restarts, Runs, any}
+use Rattle.psu_server.specs.Runs.{UnitsRun, MessageRuns, Restarts, Runs}
 use Rattle.psu_server.specs.Within.{Within}
 use Rattle.psu_server.specs.Progress.{Fed, Stopped}
 use Rattle.psu_server.proofs.Within.{within_as, within_here, within_any, runs_then}
@@ -19,9 +19,12 @@ ToldLine m s new a b old_text new_text = (text : List ℕ) × (new_text ≡ old_
 pub told_over : (over : Bool) (line : List ℕ) (s new : State) (a b : ℕ) (start all shown old_text new_text : List ℕ) → over ≡ true → start ≡ []
     → shown ≡ all → new_text ≡ old_text ++ line_text shown
     → Within a b (λ can. UnitsRun can s start (too_much ∷ []) all new) → ToldLine (message_now over line) s new a b old_text new_text
-told_over true line s new a b start all shown old_text new_text o n d e w =
-    (line_text all, e ∙ ap (λ (z : List ℕ). old_text ++ line_text z) d, within_as a b (λ can. UnitsRun can s start (too_much ∷ []) all new) (λ can. MessageRuns can s Message.Overlong (line_text all) new) w
-        (λ can u. (all, subst (λ (z : List ℕ). UnitsRun can s z (too_much ∷ []) all new) n u, refl)))
+told_over true line s new a b start all shown old_text new_text o n d e w = (
+  line_text all,
+  e ∙ ap (λ (z : List ℕ). old_text ++ line_text z) d,
+  within_as a b (λ can. UnitsRun can s start (too_much ∷ []) all new) (λ can. MessageRuns can s Message.Overlong (line_text all) new) w
+      (λ can u. (all, subst (λ (z : List ℕ). UnitsRun can s z (too_much ∷ []) all new) n u, refl)),
+)
 told_over false line s new a b start all shown old_text new_text o n d e w = cc
 
 pub told_units : (over : Bool) (line bytes : List ℕ) (s new : State) (a b : ℕ) (start all shown old_text new_text : List ℕ) → over ≡ false → length line ≤ 65536
@@ -29,20 +32,28 @@ pub told_units : (over : Bool) (line bytes : List ℕ) (s new : State) (a b : �
     → Within a b (λ can. UnitsRun can s start (requests (parts_of 59 bytes)) all new) → ToldLine (message_now over line) s new a b old_text new_text
 told_units true line bytes s new a b start all shown old_text new_text o short same p n d e w = cc
 told_units false line bytes s new a b start all shown old_text new_text o short same p n d e w =
-    subst (λ (m : Message). ToldLine m s new a b old_text new_text) (sym (plain_message line short p))
-    (line_text all, e ∙ ap (λ (z : List ℕ). old_text ++ line_text z) d,
-        within_as a b (λ can. UnitsRun can s start (requests (parts_of 59 bytes)) all new) (λ can. MessageRuns can s (Message.Units line) (line_text all) new) w
-        (λ can u. (all, subst (λ (z : List ℕ). UnitsRun can s z (requests (parts_of 59 line)) all new) n
-        (subst (λ (z : List ℕ). UnitsRun can s start (requests (parts_of 59 z)) all new) same u), refl)))
+    subst (λ (m : Message). ToldLine m s new a b old_text new_text) (sym (plain_message line short p)) (
+      line_text all,
+      e ∙ ap (λ (z : List ℕ). old_text ++ line_text z) d,
+      within_as a b (λ can. UnitsRun can s start (requests (parts_of 59 bytes)) all new) (λ can. MessageRuns can s (Message.Units line) (line_text all) new) w
+          (λ can u. (
+            all,
+            subst (λ (z : List ℕ). UnitsRun can s z (requests (parts_of 59 line)) all new) n
+                (subst (λ (z : List ℕ). UnitsRun can s start (requests (parts_of 59 z)) all new) same u),
+            refl,
+          )),
+    )
 
 pub told_power : (over : Bool) (line : List ℕ) (s new : State) (a b : ℕ) (old_text : List ℕ) → over ≡ false → length line ≤ 65536
     → bytes_eq line power_line ≡ true → b ≡ a → Restarts s new → ToldLine (message_now over line) s new a b old_text old_text
 told_power true line s new a b old_text o short p same r = cc
 told_power false line s new a b old_text o short p same r =
-    subst (λ (m : Message). ToldLine m s new a b old_text old_text) (sym (power_message line short p))
-    ([], sym (append-nil old_text),
-        subst (λ (n : ℕ). Within a n (λ can. MessageRuns can s Message.Power [] new)) (sym same)
-        (within_here a (λ can. MessageRuns can s Message.Power [] new) (λ can. (r, refl))))
+    subst (λ (m : Message). ToldLine m s new a b old_text old_text) (sym (power_message line short p)) (
+      [],
+      sym (append-nil old_text),
+      subst (λ (n : ℕ). Within a n (λ can. MessageRuns can s Message.Power [] new)) (sym same)
+          (within_here a (λ can. MessageRuns can s Message.Power [] new) (λ can. (r, refl))),
+    )
 
 -- nothing is read yet
 pub fed_none : (before : List ℕ → List Message) (s : State) (a : ℕ) (text : List ℕ) → Fed before [] before s s a a text text
@@ -91,7 +102,11 @@ feed_end before mid after piece rest s s1 a b t0 t1 f moved =
 pub feed_stops : (before mid : List ℕ → List Message) (piece rest : List ℕ) (s s1 : State) (a b : ℕ) (t0 t1 t2 : List ℕ)
     → ((front : List ℕ) × (piece ≡ front ++ rest) × Fed before front mid s s1 a b t0 t1) → t2 ≡ t1 → Stopped before piece s t0 t2
 feed_stops before mid piece rest s s1 a b t0 t1 t2 f same =
-    let g = f.2 in
-    (g.0, g.1, s1, same ∙ g.2,
-        (λ input. (mid (rest ++ input), ap before (ap (λ (z : List ℕ). z ++ input) f.1 ∙ append_assoc f.0 rest input) ∙ g.3 (rest ++ input))),
-        within_any a b (λ can. Runs can s g.0 g.1 s1) g.4)
+    let g = f.2 in (
+      g.0,
+      g.1,
+      s1,
+      same ∙ g.2,
+      (λ input. (mid (rest ++ input), ap before (ap (λ (z : List ℕ). z ++ input) f.1 ∙ append_assoc f.0 rest input) ∙ g.3 (rest ++ input))),
+      within_any a b (λ can. Runs can s g.0 g.1 s1) g.4,
+    )

@@ -5,3 +5,4 @@ pub mod Feeds
 pub mod Readings
 pub mod Owning
 pub mod Alone
+pub mod Flushed

@@ -1,14 +1,13 @@
 -- A job that ran is the one that was out.
-use Rattle.std.proofs.Common.{◌≡◌, ℕ, true, false, List, Option, Some, None, refl, sym, ap, ◌∙◌, subst}
+use Rattle.std.proofs.Common.{◌≡◌, ℕ, List, sym, ap, ◌∙◌, subst}
 use Rattle.psu_disk.specs.declared.disk.Disk.{Ghosts}
 use Rattle.psu_items.specs.Map.{Item}
 use Rattle.psu_items.specs.Batch.{Edit, changed}
-use Rattle.psu_items.specs.Outcome.{HasStored, IsUnchanged, HasBroken}
 use Rattle.psu_items.specs.declared.store.Store.{Store}
 use Rattle.psu_exec.specs.Batch.{batch}
 use Rattle.psu_exec.specs.Contents.{items_of}
-use Rattle.psu_exec.specs.Device.{State, Flush, target}
-use Rattle.psu_exec.specs.Calls.{JobEnd, IsExpected, job_out, Job, Entry, Took, Allows}
+use Rattle.psu_exec.specs.Device.{State, Flush}
+use Rattle.psu_exec.specs.Calls.{IsExpected, Job, Took, Allows}
 use Rattle.psu_exec.specs.Jobs.{finished_of, home_of, home_disk, RunsTo}
 use Rattle.psu_exec.specs.declared.finished.Finished.{Finished}
 use Rattle.psu_exec.specs.declared.finished.Finished.TheVariants as finished

@@ -1,18 +1,24 @@
 -- The pieces that a run reads, one after another.
-use Rattle.std.proofs.Common.{◌≡◌, ◌⊎◌, ℕ, ◌+◌, ◌-◌, ◌<◌, ◌≤◌, Bool, true, false, List, [], ◌∷◌, ◌++◌, length, take, drop, refl, sym, ap, ◌∙◌, subst, arith, append_assoc, Some, None, Option, IfSome, inl, inr}
-use Rattle.std.proofs.lemmas.List.{append-nil, take-append-drop}
+use Rattle.std.proofs.Common.{◌≡◌, ◌⊎◌, ℕ, ◌+◌, ◌-◌, ◌≤◌, Bool, true, false, List, [], ◌∷◌, ◌++◌, take, drop, refl, sym, ap, ◌∙◌, subst, arith, append_assoc, Some, None, Option, IfSome, inl, inr}
+use Rattle.std.proofs.lemmas.List.{append-nil}
+use Rattle.std.proofs.Math.Seq.{take-add}
 use Rattle.std.proofs.KnownBytes.{Appends-trans, Appends-nil, Consumes-trans}
 use Rattle.std.specs.Io.KnownBytes.{Appends, Consumes, IsAtEnd}
 use Rattle.std.specs.Io.{StartsWith}
+use Rattle.psu_disk.specs.Disk.{DiskState}
+use Rattle.psu_items.specs.Image.{Stands, EachStands}
+use Rattle.psu_exec.specs.declared.contents.Contents.{Contents}
+use Rattle.psu_exec.specs.Contents.{items_of}
 use Rattle.psu_exec.specs.Device.{State}
 use Rattle.psu_server.specs.Lines.{Message, message_now, coming, messages, has, is_none_begun}
+use Rattle.psu_server.specs.Script.{started}
 use Rattle.psu_server.specs.Output.{WritesFront}
 use Rattle.psu_server.specs.Runs.{Mishaps, MessageRuns, Runs, any}
 use Rattle.psu_server.specs.Within.{Within}
-use Rattle.psu_server.specs.Progress.{Fed, Stopped, Answered, Answers, Begins}
-use Rattle.psu_server.proofs.Within.{within_as, within_here, within_then, within_any, runs_all, runs_join, runs_one}
+use Rattle.psu_server.specs.Progress.{Fed, Stopped, Answered, Answers, Begins, WritesRun, WritesFirst}
+use Rattle.psu_server.proofs.Within.{within_as, within_here, within_then, within_any, covers_itself, runs_all, runs_join, runs_one}
 use Rattle.psu_server.proofs.Fronts.{starts_after, starts_whole}
-use Rattle.psu_server.proofs.Cuts.{coming_last}
+use Rattle.psu_server.proofs.Cuts.{coming_last, coming_none}
 use Rattle.psu_server.proofs.Feeds.{ToldLine}
 
 -- nothing is written
@@ -92,10 +98,12 @@ ran_end f mid s s1 last a b c (Some x) None next u v w r p e q = absurd r.1
 ran_end f mid s s1 last a b c (Some x) (Some y) None u v w r p e q = absurd p
 ran_end f mid s s1 last a b c (Some x) (Some y) (Some z) u v w r p e q =
     let t = r.2 in
-    subst (λ (l : List ℕ). Answers (f l) s last a c u w) (sym (r.1 ∙ ap (λ (l : List ℕ). r.0 ++ l) (p ∙ e)))
-    (t.1 ++ q.0, Appends-trans u v w t.1 q.0 t.2 q.1,
-        subst (λ (m : List Message). Within a c (λ can. Runs can s m (t.1 ++ q.0) last)) (sym (t.3 []))
-        (runs_all s s1 last t.1 q.0 t.0 (mid []) a b c t.4 q.2))
+    subst (λ (l : List ℕ). Answers (f l) s last a c u w) (sym (r.1 ∙ ap (λ (l : List ℕ). r.0 ++ l) (p ∙ e))) (
+      t.1 ++ q.0,
+      Appends-trans u v w t.1 q.0 t.2 q.1,
+      subst (λ (m : List Message). Within a c (λ can. Runs can s m (t.1 ++ q.0) last)) (sym (t.3 []))
+          (runs_all s s1 last t.1 q.0 t.0 (mid []) a b c t.4 q.2),
+    )
 
 -- a fault at the end of what was read
 pub ran_end_front : (f mid : List ℕ → List Message) (s s1 : State) (a b : ℕ) (from to next u v w : Option (List ℕ)) → Ran f mid s s1 a b from to u v
@@ -200,14 +208,99 @@ ran_start over line s a from old shut none =
     subst (λ (o : Bool). Ran (coming false []) (coming o line) s s a a from from old old) (sym shut)
     (subst (λ (l : List ℕ). Ran (coming false []) (coming false l) s s a a from from old old) (sym none) (ran_none (coming false []) s a from old))
 
--- a piece of which only a part is taken
-pub ran_cut : (f mid after : List ℕ → List Message) (piece : List ℕ) (n : ℕ) (s s1 s2 : State) (a b c : ℕ) (from to next u v w : Option (List ℕ))
-    → Ran f mid s s1 a b from to u v → Consumes to next piece → Answered mid (take n piece) after s1 s2 b c v w → IfSome from (λ input. Begins (f input) s u w)
-ran_cut f mid after piece n s s1 s2 a b c None to next u v w r p q = tt
-ran_cut f mid after piece n s s1 s2 a b c (Some x) None next u v w r p q = absurd r.1
-ran_cut f mid after piece n s s1 s2 a b c (Some x) (Some y) None u v w r p q = absurd p
-ran_cut f mid after piece n s s1 s2 a b c (Some x) (Some y) (Some z) u v w r p q =
-    let rest = drop n piece ++ z in
-    let cut : y ≡ take n piece ++ rest = p ∙ ap (λ (l : List ℕ). l ++ z) (sym (take-append-drop n piece)) ∙ append_assoc (take n piece) (drop n piece) z in
-    subst (λ (l : List ℕ). Begins (f l) s u w) (sym (r.1 ∙ ap (λ (l : List ℕ). r.0 ++ l) cut))
-    (begins_seen f mid r.0 (take n piece ++ rest) s s1 a b u v w r.2 (begins_seen mid after (take n piece) rest s1 s2 b c v w w q (begins_here (after rest) s2 w)))
+-- what was read is a part and the rest
+cut_read : (n count : ℕ) (buf : List ℕ) → n ≤ count → take count buf ≡ take n buf ++ take (count - n) (drop n buf)
+cut_read n count buf le =
+    let sum : count ≡ n + (count - n) = omega (arith, le) in
+    ap (λ (k : ℕ). take k buf) sum ∙ take-add n (count - n) buf
+
+-- a read of which only a part is taken
+pub ran_cut : (f mid after : List ℕ → List Message) (n count : ℕ) (buf : List ℕ) (s s1 s2 : State) (a b c : ℕ) (from to next u v w : Option (List ℕ)) → n ≤ count
+    → Ran f mid s s1 a b from to u v → Consumes to next (take count buf) → Answered mid (take n buf) after s1 s2 b c v w → IfSome from (λ input. Begins (f input) s u w)
+ran_cut f mid after n count buf s s1 s2 a b c from to next u v w le r p q =
+    let more = take (count - n) (drop n buf) in
+    ran_stop f mid (take count buf) s s1 a b from to next u v w r p
+    (λ input. subst (λ (l : List ℕ). Begins (mid l) s1 v w)
+    (sym (append_assoc (take n buf) more input) ∙ ap (λ (l : List ℕ). l ++ input) (sym (cut_read n count buf le)))
+    (begins_seen mid after (take n buf) (more ++ input) s1 s2 b c v w w q (begins_here (after (more ++ input)) s2 w)))
+
+-- a read of which only a part is taken, and a fault in that
+pub ran_cut_front : (f mid : List ℕ → List Message) (n count : ℕ) (buf : List ℕ) (s s1 : State) (a b : ℕ) (from to next u v w : Option (List ℕ)) → n ≤ count
+    → Ran f mid s s1 a b from to u v → Consumes to next (take count buf) → ((input : List ℕ) → Begins (mid (take n buf ++ input)) s1 v w)
+    → IfSome from (λ input. Begins (f input) s u w)
+ran_cut_front f mid n count buf s s1 a b from to next u v w le r p q =
+    let more = take (count - n) (drop n buf) in
+    ran_stop f mid (take count buf) s s1 a b from to next u v w r p
+    (λ input. subst (λ (l : List ℕ). Begins (mid l) s1 v w)
+    (sym (append_assoc (take n buf) more input) ∙ ap (λ (l : List ℕ). l ++ input) (sym (cut_read n count buf le))) (q (more ++ input)))
+
+-- no line has begun, and nothing is answered
+pub answers_none : (over : Bool) (line : List ℕ) (s : State) (a : ℕ) (w : Option (List ℕ)) → is_none_begun over line ≡ true
+    → Answers (coming over line []) s s a a w w
+answers_none over line s a w none =
+    subst (λ (m : List Message). Answers m s s a a w w) (sym (coming_none over line none))
+    ([], Appends-nil w, within_here a (λ can. Runs can s [] [] s) (λ can. (refl, refl)))
+
+-- a flush after the last line may fail too
+pub answers_later : (due : List Message) (s last : State) (a b c : ℕ) (P : Mishaps → Type 0) (u v : Option (List ℕ)) → Answers due s last a b u v → Within b c P
+    → Answers due s last a c u v
+answers_later due s last a b c P u v p w =
+    (p.0, p.1, within_then a b c (λ can. Runs can s due p.0 last) P (λ can. Runs can s due p.0 last) p.2 w (λ can x y. x))
+
+-- the end of what was read, with what the end leaves
+pub ran_finish : (f mid : List ℕ → List Message) (s s1 : State) (a b c : ℕ) (from to next u v w : Option (List ℕ)) (P : State → Type 0) → Ran f mid s s1 a b from to u v
+    → Consumes to next [] → IsAtEnd next → (last : State) × Answers (mid []) s1 last b c v w × P last
+    → IfSome from (λ input. (last : State) × Answers (f input) s last a c u w × P last)
+ran_finish f mid s s1 a b c None to next u v w P r p e (last, q, more) = tt
+ran_finish f mid s s1 a b c (Some x) to next u v w P r p e (last, q, more) = (last, ran_end f mid s s1 last a b c (Some x) to next u v w r p e q, more)
+
+-- what was written whole, said of what the disk held
+pub run_whole : (from u v : Option (List ℕ)) (image : List ℕ) (left : DiskState) (contents : Contents) (limit : ℕ) (s : State) (start a b : ℕ)
+    → IfSome from (λ input. (last : State) × Answers (messages input) s last start b u v × EachStands left last.flush.limit (items_of last.flush.contents))
+    → s ≡ started limit contents → Stands image limit (items_of contents) → start ≡ a
+    → IfSome from (λ input. (size : ℕ) × (found : Contents) × Stands image size (items_of found) × WritesRun found size input a b u v left)
+run_whole None u v image left contents limit s start a b p is holds same = tt
+run_whole (Some input) u v image left contents limit s start a b (last, p, kept) is holds same =
+    let went = subst (λ (n : ℕ). Within n b (λ can. Runs can s (messages input) p.0 last)) same p.2 in (
+      limit,
+      contents,
+      holds,
+      (
+        went.0,
+        p.0,
+        last,
+        went.2,
+        p.1,
+        subst (λ (z : State). Runs went.0 z (messages input) p.0 last) is (went.3 went.0 (covers_itself went.0)),
+        kept,
+      ),
+    )
+
+-- a front of it
+pub run_front : (from u v : Option (List ℕ)) (image : List ℕ) (contents : Contents) (limit : ℕ) (s : State)
+    → IfSome from (λ input. Begins (messages input) s u v) → s ≡ started limit contents → Stands image limit (items_of contents)
+    → IfSome from (λ input. Appends u v [] ⊎ ((size : ℕ) × (found : Contents) × Stands image size (items_of found) × WritesFirst found size input u v))
+run_front None u v image contents limit s p is holds = tt
+run_front (Some input) u v image contents limit s p is holds = inr (
+  limit,
+  contents,
+  holds,
+  (
+    p.front,
+    p.appends,
+    record {
+      done = p.done;
+      rest = p.rest;
+      is = p.is;
+      last = p.last;
+      whole = p.text;
+      runs = subst (λ (z : State). Runs any z p.done p.text p.last) is p.runs;
+      front = p.starts;
+    },
+  ),
+)
+
+-- nothing is written
+pub run_silent : (from w : Option (List ℕ)) (P : List ℕ → Type 0) → IfSome from (λ input. Appends w w [] ⊎ P input)
+run_silent None w P = tt
+run_silent (Some input) w P = inl (Appends-nil w)

@@ -1,13 +1,14 @@
 -- What may happen with what went wrong, step by step.
-use Rattle.std.proofs.Common.{◌≡◌, ◌⊎◌, ℕ, suc, zero, ◌+◌, ◌<◌, ◌≤◌, ◌||◌, Bool, true, false, List, [], ◌∷◌, ◌++◌, refl, sym, ap, ◌∙◌, subst, inl, inr, arith, rules, append_assoc, add-one, ⊎_elim}
-use Rattle.std.specs.Bool.{⊤}
+use Rattle.std.proofs.Common.{◌≡◌, ◌⊎◌, ℕ, suc, ◌+◌, ◌≤◌, ◌||◌, Bool, true, false, List, [], ◌∷◌, ◌++◌, refl, sym, ap, ◌∙◌, subst, inl, inr, arith, append_assoc, add-one, ⊎_elim}
 use Rattle.std.proofs.lemmas.List.{append-nil}
-use Rattle.psu_disk.specs.Disk.{HasFailed, IsLast}
+use Rattle.psu_disk.specs.Disk.{HasFailed}
 use Rattle.psu_items.specs.declared.commit.UnstartedCause.TheVariants.{Memory, Worn}
+use Rattle.psu_exec.specs.declared.condition.Condition.{Condition}
+use Rattle.psu_exec.specs.declared.condition.Condition.TheVariants as condition
+use Rattle.psu_exec.specs.declared.condition.Condition.TheVariants.{Whole}
 use Rattle.psu_exec.specs.declared.request.Request.{Request}
-use Rattle.psu_exec.specs.declared.scpi_error.ScpiError.TheVariants.{OutOfMemory}
 use Rattle.psu_exec.specs.Device.{Reply, Done, Answer, Error, Parked, Later, State, is_open, is_whole}
-use Rattle.psu_exec.specs.Calls.{JobEnd, Stored, Unstarted, Broken, Job, Nothing, Entry, Allows, Executed, Settled, Took, GaveBack}
+use Rattle.psu_exec.specs.Calls.{JobEnd, Stored, Unstarted, Broken, Job, Nothing, Allows, Executed, Settled, Took, GaveBack}
 use Rattle.psu_server.specs.Lines.{Message}
 use Rattle.psu_server.specs.Script.{with_answer}
 use Rattle.psu_server.specs.Runs.{Mishaps, none, any, IsMeant, IsSound, JobDone, Jobs, Flushes, is_final, is_parked, is_later, is_out_of_memory, Acts, UnitRuns, UnitsRun, Runs, MessageRuns}
@@ -267,3 +268,7 @@ pub runs_all : (s mid new : State) (text more : List ℕ) (xs ys : List Message)
 runs_all s mid new text more xs ys a b c w v =
     within_then a b c (λ can. Runs can s xs text mid) (λ can. Runs can mid ys more new) (λ can. Runs can s (xs ++ ys) (text ++ more) new) w v
     (λ can x y. runs_join can s mid new text more xs ys x y)
+
+pub is_whole_true : (c : Condition) → is_whole c ≡ true → c ≡ Whole
+is_whole_true Whole e = refl
+is_whole_true condition.Worn e = cc

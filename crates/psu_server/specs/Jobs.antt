@@ -1,12 +1,12 @@
 -- What a job came to, for the run.
 use Rattle.std.specs.Prelude.{◌≡◌, ℕ, Bool, true, false, List}
 use Rattle.psu_disk.specs.Disk.{HasFailed}
-use Rattle.psu_items.specs.declared.commit.UnstartedCause.TheVariants.{Memory, Worn}
+use Rattle.psu_items.specs.declared.commit.UnstartedCause.TheVariants.{Memory}
 use Rattle.psu_items.specs.Map.{Item}
 use Rattle.psu_items.specs.Batch.{Edit, changed}
 use Rattle.psu_exec.specs.Batch.{batch}
 use Rattle.psu_exec.specs.Device.{State, Flush, target}
-use Rattle.psu_exec.specs.Calls.{JobEnd, Stored, Unstarted, Broken, Entry, GaveBack, Allows}
+use Rattle.psu_exec.specs.Calls.{JobEnd, Stored, Unstarted, Broken, GaveBack, Allows}
 
 -- the job ended for want of memory
 abbrev pub is_short : JobEnd → Bool

@@ -2,13 +2,16 @@
 use Rattle.std.specs.Prelude.{◌≡◌, ◌⊎◌, ℕ, List, ◌++◌, Option, true}
 use Rattle.std.specs.Io.KnownBytes.{Appends}
 use Rattle.std.specs.Io.{StartsWith}
-use Rattle.psu_disk.specs.Disk.{HasFailed}
+use Rattle.psu_disk.specs.Disk.{DiskState, HasFailed}
+use Rattle.psu_items.specs.Image.{EachStands}
 use Rattle.psu_exec.specs.declared.contents.Contents.{Contents}
 use Rattle.psu_exec.specs.declared.request.Request.{Request}
 use Rattle.psu_exec.specs.Device.{Reply, Later, State}
-use Rattle.psu_exec.specs.Calls.{Entry, Executed, Allows}
-use Rattle.psu_server.specs.Lines.{Message}
-use Rattle.psu_server.specs.Runs.{Mishaps, Acts, Runs, MayWrite, MayFront, any}
+use Rattle.psu_exec.specs.Calls.{Executed, Allows}
+use Rattle.psu_exec.specs.Contents.{items_of}
+use Rattle.psu_server.specs.Lines.{Message, messages}
+use Rattle.psu_server.specs.Script.{started}
+use Rattle.psu_server.specs.Runs.{Mishaps, Acts, Runs, MayFront, any}
 use Rattle.psu_server.specs.Within.{Within}
 
 -- a unit that was executed, or that comes later
@@ -53,11 +56,13 @@ pub record Begins (due : List Message) (s : State) (old_written new_written : Op
   pub appends : Appends old_written new_written front
   pub starts : StartsWith text front
 
--- the writer gained what may be written for the input, with what went wrong
-abbrev pub WritesRun : Contents → ℕ → List ℕ → ℕ → ℕ → Option (List ℕ) → Option (List ℕ) → Type 0
-WritesRun contents limit input old_count new_count old_written new_written =
-    (gone : Mishaps) × (text : List ℕ) × (gone.failed ≡ true → HasFailed old_count new_count)
-    × Appends old_written new_written text × MayWrite gone contents limit input text
+-- The writer gained what may be written for the input, with what went wrong, and whatever a power loss leaves of the disk stands
+-- for the contents that the run came to.
+abbrev pub WritesRun : Contents → ℕ → List ℕ → ℕ → ℕ → Option (List ℕ) → Option (List ℕ) → DiskState → Type 0
+WritesRun contents limit input old_count new_count old_written new_written disk =
+    (gone : Mishaps) × (text : List ℕ) × (last : State) × (gone.failed ≡ true → HasFailed old_count new_count)
+    × Appends old_written new_written text × Runs gone (started limit contents) (messages input) text last
+    × EachStands disk last.flush.limit (items_of last.flush.contents)
 
 -- the writer gained a front of what may be written
 abbrev pub WritesFirst : Contents → ℕ → List ℕ → Option (List ℕ) → Option (List ℕ) → Type 0

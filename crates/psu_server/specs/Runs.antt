@@ -7,8 +7,8 @@ use Rattle.psu_exec.specs.declared.request.Request.{Request}
 use Rattle.psu_exec.specs.declared.condition.Condition.TheVariants.{Whole}
 use Rattle.psu_exec.specs.declared.scpi_error.ScpiError.TheVariants.{OutOfMemory}
 use Rattle.psu_exec.specs.Contents.{items_of}
-use Rattle.psu_exec.specs.Device.{Reply, Done, Answer, Error, Parked, Later, State}
-use Rattle.psu_exec.specs.Calls.{JobEnd, Stored, Unstarted, Broken, Job, Nothing, Entry, Executed, Settled, Took, GaveBack, Allows}
+use Rattle.psu_exec.specs.Device.{Reply, Error, Parked, Later, State}
+use Rattle.psu_exec.specs.Calls.{JobEnd, Stored, Unstarted, Broken, Job, Nothing, Executed, Settled, Took, GaveBack, Allows}
 use Rattle.psu_server.specs.Lines.{Message, requests_of, messages}
 use Rattle.psu_server.specs.Script.{started, with_answer, line_text, script}
 

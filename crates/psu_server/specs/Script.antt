@@ -3,7 +3,7 @@ use Rattle.std.specs.Prelude.{ℕ, List, [], ◌∷◌, ◌++◌}
 use Rattle.psu_exec.specs.declared.contents.Contents.{Contents}
 use Rattle.psu_exec.specs.declared.change.Change.{Change}
 use Rattle.psu_exec.specs.declared.request.Request.{Request}
-use Rattle.psu_exec.specs.Device.{Reply, Done, Answer, Error, Parked, Later, State, Flush, answer, after_unit, power_on, wait_of}
+use Rattle.psu_exec.specs.Device.{Reply, Answer, Parked, Later, State, answer, after_unit, power_on, wait_of}
 use Rattle.psu_exec.specs.Calls.{job_out, stored, settle_answer, after_settle, opened}
 use Rattle.psu_server.specs.Lines.{Message, requests_of, messages}
 

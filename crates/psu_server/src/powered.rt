@@ -89,8 +89,7 @@ impl<D: Disk, A: Allocator + Copy> Powered<D, A> {
     }
 
     /// The early end of a run.
-    pub fn fault(self, cause: RunCause) -> RunFault<D>
-    {
+    pub fn fault(self, cause: RunCause) -> RunFault<D> {
         RunFault {
             cause,
             disk: self.into_disk(),

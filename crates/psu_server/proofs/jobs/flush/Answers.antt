@@ -1,9 +1,8 @@
-use Rattle.std.proofs.Common.{◌≡◌, ℕ, Option, arith, refl, sym, ap, subst, ◌∙◌}
+use Rattle.std.proofs.Common.{◌≡◌, ℕ, arith, refl, sym, ap, subst, ◌∙◌}
 use Rattle.psu_exec.specs.Device.{State, is_open}
 use Rattle.psu_server.specs.Failures.{failures_of, failures_at}
 use Rattle.psu_server.specs.Jobs.{Ends}
-use Rattle.psu_server.specs.Runs.{Jobs, Flushes}
-use Rattle.psu_server.specs.Within.{Within}
+use Rattle.psu_server.specs.Runs.{Jobs}
 use Rattle.psu_server.proofs.Owning.{own_of}
 use Rattle.psu_server.proofs.Within.{within_here, job_step, gave_home, gave_open, gave_whole, flush_ends, flush_full}
 use Rattle.psu_server.proofs.jobs.flush.Goals as goal

@@ -1,4 +1,4 @@
-use Rattle.std.proofs.Common.{Option, sym, subst, ◌∙◌}
+use Rattle.std.proofs.Common.{sym, subst, ◌∙◌}
 use Rattle.psu_exec.specs.Jobs.{finished_of}
 use Rattle.psu_server.specs.Failures.{failures_at}
 use Rattle.psu_server.specs.Jobs.{Counts}

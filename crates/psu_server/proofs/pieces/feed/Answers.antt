@@ -36,9 +36,11 @@ returns-clause-fed g c = λ h.
     c.args.piece.now c.loop-at.rest.now _ _ _ _ _ _ (c.loop-at.invariant.1 h) c.in-Ok-extend.ensures
 
 pub loop-at-preserved : goal.loop-at-preserved
-loop-at-preserved g c =
-    (grind arith, λ h.
-    feed_step (coming c.args.lines.now.is_over c.args.lines.now.line.items) (coming c.loop-at.lines.is_over c.loop-at.lines.line.items)
-        c.args.piece.now c.loop-at.rest.now c.in-Some.at c.extend.new.self.is_over c.close_line.new.lines.is_over
-        c.extend.new.self.line.items c.close_line.new.lines.line.items _ _ _ _ _ _ _ _ _ c.in-Some.ensures (c.loop-at.invariant.1 h)
-        c.in-Ok.ensures c.extend.new.self.free (c.in_ok-powered.ensures.runs h) c.in_ok-powered.ensures.over c.in_ok-powered.ensures.empty)
+loop-at-preserved g c = (
+  grind arith,
+  λ h.
+      feed_step (coming c.args.lines.now.is_over c.args.lines.now.line.items) (coming c.loop-at.lines.is_over c.loop-at.lines.line.items)
+      c.args.piece.now c.loop-at.rest.now c.in-Some.at c.extend.new.self.is_over c.close_line.new.lines.is_over
+      c.extend.new.self.line.items c.close_line.new.lines.line.items _ _ _ _ _ _ _ _ _ c.in-Some.ensures (c.loop-at.invariant.1 h)
+      c.in-Ok.ensures c.extend.new.self.free (c.in_ok-powered.ensures.runs h) c.in_ok-powered.ensures.over c.in_ok-powered.ensures.empty,
+)

@@ -9,8 +9,8 @@ invariant-loop-at g l =
     (length l.rest ≤ length l.piece)
     × (g.D.Disk.honest → (front : List ℕ) × (l.piece ≡ front ++ l.rest)
     × Fed (coming l.initial.lines.is_over l.initial.lines.line.items) front (coming l.lines.is_over l.lines.line.items)
-        l.initial.powered.exec.device l.powered.exec.device (failures_of l.initial.powered.exec) (failures_of l.powered.exec)
-        l.initial.out.items l.out.items)
+    l.initial.powered.exec.device l.powered.exec.device (failures_of l.initial.powered.exec) (failures_of l.powered.exec)
+    l.initial.out.items l.out.items)
 
 abbrev pub decreases-loop-at : goal.decreases-loop-at
 decreases-loop-at g l = length l.rest

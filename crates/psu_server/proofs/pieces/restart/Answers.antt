@@ -1,5 +1,3 @@
-use Rattle.std.proofs.Common.{ap, sym, ◌∙◌}
-use Rattle.psu_items.specs.Map.{Item}
 use Rattle.psu_disk.specs.Ranges.{reads_left}
 use Rattle.psu_items.proofs.Single.{one_stands}
 use Rattle.psu_server.proofs.pieces.restart.Goals as goal

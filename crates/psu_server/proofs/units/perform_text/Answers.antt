@@ -1,4 +1,4 @@
-use Rattle.std.proofs.Common.{[], ◌∷◌, sym, ◌∙◌, refl, List}
+use Rattle.std.proofs.Common.{[], ◌∷◌, sym, ◌∙◌, refl}
 use Rattle.psu_server.specs.Lines.{requests}
 use Rattle.psu_server.specs.Runs.{UnitsRun}
 use Rattle.psu_server.proofs.Cuts.{text_blank, text_plain}
