@@ -1,0 +1,5 @@
+use Rattle.psu_server.proofs.Alone.{script_is_alone}
+use Rattle.psu_server.proofs.law.script_alone.Goals as goal
+
+pub returns : goal.returns
+returns c = script_is_alone

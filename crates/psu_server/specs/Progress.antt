@@ -1,0 +1,70 @@
+-- How far a run has come: what each of its parts has executed and told.
+use Rattle.std.specs.Prelude.{◌≡◌, ◌⊎◌, ℕ, List, ◌++◌, Option, true}
+use Rattle.std.specs.Io.KnownBytes.{Appends}
+use Rattle.std.specs.Io.{StartsWith}
+use Rattle.psu_disk.specs.Disk.{DiskState, HasFailed}
+use Rattle.psu_items.specs.Image.{EachStands}
+use Rattle.psu_exec.specs.declared.contents.Contents.{Contents}
+use Rattle.psu_exec.specs.declared.request.Request.{Request}
+use Rattle.psu_exec.specs.Device.{Reply, Later, State}
+use Rattle.psu_exec.specs.Calls.{Executed, Allows}
+use Rattle.psu_exec.specs.Contents.{items_of}
+use Rattle.psu_server.specs.Lines.{Message, messages}
+use Rattle.psu_server.specs.Script.{started}
+use Rattle.psu_server.specs.Runs.{Mishaps, Acts, Runs, MayFront, any}
+use Rattle.psu_server.specs.Within.{Within}
+
+-- a unit that was executed, or that comes later
+abbrev pub Acted : Mishaps → State → Request → Reply → State → Type 0
+Acted can s request reply new = ((reply ≡ Later) × (new ≡ s) × Allows s (Executed 1 request Later) s) ⊎ Acts can s request reply new
+
+-- The messages before the piece are those that end in it, and those after it. They were executed, and their text gathered.
+abbrev pub Fed : (List ℕ → List Message) → List ℕ → (List ℕ → List Message) → State → State → ℕ → ℕ → List ℕ → List ℕ → Type 0
+Fed before piece after s new old_count new_count old_text new_text =
+    (done : List Message) × (text : List ℕ) × (new_text ≡ old_text ++ text)
+    × ((input : List ℕ) → before (piece ++ input) ≡ done ++ after input)
+    × Within old_count new_count (λ can. Runs can s done text new)
+
+-- the same up to a fault
+abbrev pub Stopped : (List ℕ → List Message) → List ℕ → State → List ℕ → List ℕ → Type 0
+Stopped before piece s old_text new_text =
+    (done : List Message) × (text : List ℕ) × (last : State) × (new_text ≡ old_text ++ text)
+    × ((input : List ℕ) → (rest : List Message) × (before (piece ++ input) ≡ done ++ rest))
+    × Runs any s done text last
+
+-- the messages that end in the piece were executed, and the writer gained their text
+abbrev pub Answered : (List ℕ → List Message) → List ℕ → (List ℕ → List Message) → State → State → ℕ → ℕ → Option (List ℕ) → Option (List ℕ) → Type 0
+Answered before piece after s new old_count new_count old_written new_written =
+    (done : List Message) × (text : List ℕ) × Appends old_written new_written text
+    × ((input : List ℕ) → before (piece ++ input) ≡ done ++ after input)
+    × Within old_count new_count (λ can. Runs can s done text new)
+
+-- the messages were executed, and the writer gained their text
+abbrev pub Answers : List Message → State → State → ℕ → ℕ → Option (List ℕ) → Option (List ℕ) → Type 0
+Answers due s last old_count new_count old_written new_written =
+    (text : List ℕ) × Appends old_written new_written text × Within old_count new_count (λ can. Runs can s due text last)
+
+-- the writer gained a front of the text of some first of these messages
+pub record Begins (due : List Message) (s : State) (old_written new_written : Option (List ℕ)) : Type 0 where
+  pub done : List Message
+  pub rest : List Message
+  pub is : due ≡ done ++ rest
+  pub text : List ℕ
+  pub last : State
+  pub runs : Runs any s done text last
+  pub front : List ℕ
+  pub appends : Appends old_written new_written front
+  pub starts : StartsWith text front
+
+-- The writer gained what may be written for the input, with what went wrong, and whatever a power loss leaves of the disk stands
+-- for the contents that the run came to.
+abbrev pub WritesRun : Contents → ℕ → List ℕ → ℕ → ℕ → Option (List ℕ) → Option (List ℕ) → DiskState → Type 0
+WritesRun contents limit input old_count new_count old_written new_written disk =
+    (gone : Mishaps) × (text : List ℕ) × (last : State) × (gone.failed ≡ true → HasFailed old_count new_count)
+    × Appends old_written new_written text × Runs gone (started limit contents) (messages input) text last
+    × EachStands disk last.flush.limit (items_of last.flush.contents)
+
+-- the writer gained a front of what may be written
+abbrev pub WritesFirst : Contents → ℕ → List ℕ → Option (List ℕ) → Option (List ℕ) → Type 0
+WritesFirst contents limit input old_written new_written =
+    (text : List ℕ) × Appends old_written new_written text × MayFront any contents limit input text

@@ -1,0 +1,92 @@
+-- What a run writes where nothing goes wrong: a function over the step.
+use Rattle.std.specs.Prelude.{ℕ, List, [], ◌∷◌, ◌++◌}
+use Rattle.psu_exec.specs.declared.contents.Contents.{Contents}
+use Rattle.psu_exec.specs.declared.change.Change.{Change}
+use Rattle.psu_exec.specs.declared.request.Request.{Request}
+use Rattle.psu_exec.specs.Device.{Reply, Answer, Parked, Later, State, answer, after_unit, power_on, wait_of}
+use Rattle.psu_exec.specs.Calls.{job_out, stored, settle_answer, after_settle, opened}
+use Rattle.psu_server.specs.Lines.{Message, requests_of, messages}
+
+-- the answers of a message so far, with one more; `;` joins them
+abbrev pub joined : List ℕ → List ℕ → List ℕ
+joined [] text = text
+joined (x ∷ xs) text = (x ∷ xs) ++ 59 ∷ text
+
+abbrev pub with_answer : List ℕ → Reply → List ℕ
+with_answer text (Answer answer) = joined text answer
+with_answer text reply = text
+
+-- what is written for a message with these answers: a line feed ends them; without an answer nothing is written
+abbrev pub line_text : List ℕ → List ℕ
+line_text [] = []
+line_text (x ∷ xs) = (x ∷ xs) ++ 10 ∷ []
+
+-- the device after power-on, with its one session, 1, open
+abbrev pub started : ℕ → Contents → State
+started limit contents = opened (power_on limit contents) 1
+
+-- the device, and the contents that its store holds
+pub record Rest : Type 0 where
+  pub state : State
+  pub stored : Contents
+
+abbrev pub at_start : ℕ → Contents → Rest
+at_start limit contents = record { state = started limit contents; stored = contents }
+
+-- once a job for the tail is given back as stored; with no tail there is no job
+abbrev pub flushed_by : List Change → Rest → Rest
+flushed_by [] r = r
+flushed_by (c ∷ cs) r = record { state = record r.state { flush = stored (job_out r.state.flush) }; stored = r.state.flush.contents }
+
+abbrev pub flushed : Rest → Rest
+flushed r = flushed_by r.state.flush.tail r
+
+-- how a unit goes on
+pub record Went : Type 0 where
+  pub rest : Rest
+  pub reply : Reply
+
+-- the end of a wait
+abbrev pub waited : Rest → Went
+waited r = record {
+  rest = record r { state = after_settle r.state 1 (settle_answer (wait_of r.state.flush 1)) };
+  reply = settle_answer (wait_of r.state.flush 1);
+}
+
+-- a unit that is answered so; parked, it waits for a flush
+abbrev pub after_reply : Rest → Request → Reply → Went
+after_reply r request Parked = waited (flushed (record r { state = after_unit r.state 1 request Parked }))
+after_reply r request reply = record { rest = record r { state = after_unit r.state 1 request reply }; reply = reply }
+
+-- a unit that comes later is executed after a flush
+abbrev pub after_first : Rest → Request → Reply → Went
+after_first r request Later = after_reply (flushed r) request (answer (flushed r).state 1 request)
+after_first r request reply = after_reply r request reply
+
+abbrev pub unit : Rest → Request → Went
+unit r request = after_first r request (answer r.state 1 request)
+
+-- what was told of a message so far
+pub record Told : Type 0 where
+  pub rest : Rest
+  pub text : List ℕ
+
+abbrev pub units : Rest → List ℕ → List Request → Told
+units r text [] = record { rest = r; text = text }
+units r text (request ∷ more) = units (unit r request).rest (with_answer text (unit r request).reply) more
+
+-- a power loss at rest, and a restart
+abbrev pub restarted : Rest → Rest
+restarted r = at_start r.state.flush.limit r.stored
+
+abbrev pub message : Rest → Message → Told
+message r Message.Power = record { rest = restarted r; text = [] }
+message r m = record { rest = (units r [] (requests_of m)).rest; text = line_text (units r [] (requests_of m)).text }
+
+abbrev pub script_from : Rest → List Message → List ℕ
+script_from r [] = []
+script_from r (m ∷ ms) = (message r m).text ++ script_from (message r m).rest ms
+
+-- what is written for the bytes of an input, on an image of this limit that holds these contents
+abbrev pub script : Contents → ℕ → List ℕ → List ℕ
+script contents limit bytes = script_from (at_start limit contents) (messages bytes)

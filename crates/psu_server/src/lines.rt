@@ -1,0 +1,63 @@
+//! The line that has begun.
+ghost use Rattle.std.specs.Prelude.{◌≡◌, ◌≤◌, ◌++◌, [], List, ℕ, OnOk, true, false, length};
+ghost use Rattle.psu_server.specs.Lines.{has, coming, is_none_begun};
+
+use std::alloc::{AllocError, Allocator};
+
+const LIMIT: usize = 65_536;
+
+/// The line that has begun. Of one that is too long only that is kept.
+#[derive(Drop)]
+pub struct Lines<A: Allocator> {
+    pub line: Vec<u8, A>,
+    pub is_over: bool,
+    ghost free: { has 10 line.items ≡ false },
+    ghost short: { length line.items ≤ 65536 },
+}
+
+impl<A: Allocator> Lines<A> {
+    /// Before the first line.
+    pub fn new(alloc: A) -> Lines<A>
+        ensures over { result.is_over ≡ false }
+        ensures empty { result.line.items ≡ [] }
+    {
+        Lines {
+            line: Vec::new(alloc),
+            is_over: false,
+        }
+    }
+
+    /// Takes bytes of a line that goes on.
+    #[tactic(auto, using(crate::proofs::Cuts::has_none_append, crate::proofs::Cuts::extend_over, crate::proofs::Cuts::after_begun))]
+    pub fn extend(&mut self, part: &[u8]) -> Result<(), AllocError>
+        requires { has 10 part.now ≡ false }
+        ensures { OnOk result ((input : List ℕ) →
+            coming self.old.is_over self.old.line.items (part.now ++ input) ≡ coming self.new.is_over self.new.line.items input) }
+    {
+        if !self.is_over {
+            if part.len() > LIMIT - self.line.len() {
+                self.line.clear();
+                self.is_over = true;
+            } else {
+                self.line.extend_from_slice(part)?;
+            }
+        }
+        Ok(())
+    }
+
+    /// Whether no line has begun.
+    pub fn is_empty(&self) -> bool
+        ensures { result ≡ is_none_begun self.now.is_over self.now.line.items }
+    {
+        !self.is_over && self.line.is_empty()
+    }
+
+    /// The next line begins.
+    pub fn clear(&mut self)
+        ensures over { self.new.is_over ≡ false }
+        ensures empty { self.new.line.items ≡ [] }
+    {
+        self.line.clear();
+        self.is_over = false;
+    }
+}

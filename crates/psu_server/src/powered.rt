@@ -1,0 +1,111 @@
+//! The device that is powered on.
+ghost use Rattle.std.specs.Prelude.{◌≡◌, IfOk, true, false};
+ghost use Rattle.psu_items.specs.Image.{Stands, EachStands};
+ghost use Rattle.psu_exec.specs.Contents.{items_of};
+ghost use Rattle.psu_exec.specs.Device.{is_open, is_whole};
+ghost use Rattle.psu_exec.specs.Calls.{Allows};
+ghost use Rattle.psu_exec.specs.Calls.Entry.{Executed, Settled};
+ghost use Rattle.psu_exec.specs.Shown.{outcome_of};
+ghost use Rattle.psu_exec.specs.declared.condition.Condition.TheVariants.{Whole};
+ghost use Rattle.psu_server.specs.Failures.{failures_of};
+ghost use Rattle.psu_server.specs.Script.{started};
+
+use crate::{RunCause, RunFault};
+use psu_disk::Disk;
+use psu_exec::{Crowded, Ended, Exec, Outcome, Request, Session};
+use psu_items::Store;
+use std::alloc::Allocator;
+
+/// A device that is powered on: its one session is open, and no job is out.
+#[derive(Drop)]
+pub struct Powered<D: Disk, A: Allocator + Copy> {
+    pub exec: Exec<D, A>,
+    pub session: Session,
+    /// Whether the store can take a commit.
+    pub whole: bool,
+    pub ghost first: { session ≡ 1 },
+    pub ghost open: { is_open exec.device 1 ≡ true },
+    pub ghost idle: { exec.device.flush.out ≡ false },
+    pub ghost tells: { whole ≡ is_whole exec.device.flush.store },
+}
+
+impl<D: Disk, A: Allocator + Copy> Powered<D, A> {
+    /// Opens a disk, powers on with what it holds, and opens the session.
+    pub fn on(alloc: A, disk: D) -> Result<Powered<D, A>, RunFault<D>>
+        ensures state { IfOk result (λ p. p.exec.device ≡ started p.exec.device.flush.limit p.exec.device.flush.contents) }
+        ensures found { D.honest → IfOk result (λ p. Stands (D.state disk).bytes p.exec.device.flush.limit (items_of p.exec.device.flush.contents)) }
+        ensures works { IfOk result (λ p. failures_of p.exec ≡ D.failures disk) }
+    {
+        let store = match Store::open(alloc, disk) {
+            Ok(store) => store,
+            Err(refused) => {
+                return Err(RunFault {
+                    cause: RunCause::from(refused.cause),
+                    disk: refused.disk,
+                });
+            }
+        };
+        let mut exec = match Exec::power_on(alloc, store) {
+            Ok(exec) => exec,
+            Err(fault) => {
+                return Err(RunFault {
+                    cause: RunCause::from(fault.cause),
+                    disk: fault.store.into_disk(),
+                });
+            }
+        };
+        match exec.open_session() {
+            Ok(session) => Ok(Powered {
+                exec,
+                session,
+                whole: true,
+            }),
+            Err(Crowded) => unreachable!(),
+        }
+    }
+
+    /// One unit.
+    pub fn execute(&mut self, request: &Request) -> Outcome<A>
+        ensures step { Allows self.old.exec.device (Executed 1 request.now (outcome_of result)) self.new.exec.device }
+        ensures home { self.new.exec.home ≡ self.old.exec.home }
+    {
+        self.exec.execute(self.session, request)
+    }
+
+    /// What the session's wait came to.
+    pub fn settle(&mut self) -> Outcome<A>
+        ensures step { Allows self.old.exec.device (Settled 1 (outcome_of result)) self.new.exec.device }
+        ensures home { self.new.exec.home ≡ self.old.exec.home }
+    {
+        self.exec.settle(self.session)
+    }
+
+    /// The end: the disk.
+    pub fn into_disk(self) -> D
+        ensures failures { D.failures result ≡ failures_of self.exec }
+        ensures stands { D.honest → self.exec.device.flush.store ≡ Whole → EachStands (D.state result) self.exec.device.flush.limit self.exec.device.flush.before }
+    {
+        disk_of(self.exec)
+    }
+
+    /// The early end of a run.
+    pub fn fault(self, cause: RunCause) -> RunFault<D> {
+        RunFault {
+            cause,
+            disk: self.into_disk(),
+        }
+    }
+}
+
+/// The disk of a device that has no job out.
+pub fn disk_of<D: Disk, A: Allocator + Copy>(exec: Exec<D, A>) -> D
+    requires { exec.device.flush.out ≡ false }
+    ensures failures { D.failures result ≡ failures_of exec }
+    ensures stands { D.honest → exec.device.flush.store ≡ Whole → EachStands (D.state result) exec.device.flush.limit exec.device.flush.before }
+{
+    match exec.end() {
+        Ended::Whole(store) => store.into_disk(),
+        Ended::Failed(broken) => broken.into_disk(),
+        Ended::Out(_) => unreachable!(),
+    }
+}

@@ -1,0 +1,56 @@
+//! Why a run ends early.
+ghost use Rattle.std.specs.Prelude.{◌≡◌};
+ghost use Rattle.psu_server.specs.Causes.{cause_of_open, cause_of_power};
+
+use crate::StartCause;
+use psu_exec::PowerCause;
+use psu_items::OpenCause;
+use thiserror::Error;
+
+/// Why a run ends early.
+#[derive(Clone, Copy, Debug, PartialEq, Eq, Error)]
+pub enum RunCause {
+    /// The reader failed.
+    #[error("read fault")]
+    Read,
+    /// The writer failed, or takes no more.
+    #[error("write fault")]
+    Write,
+    /// The disk does not power on, at the start or at a restart.
+    #[error("{0}")]
+    Open(StartCause),
+    /// A flush at the end of the input leaves changes that are not flushed, or a unit that waited for a flush can't go on.
+    #[error("device fault")]
+    Device,
+    /// The input has too many reads or bytes.
+    #[error("input too long")]
+    TooLong,
+    /// Memory is refused outside of a unit.
+    #[error("out of memory")]
+    Memory,
+}
+
+impl From<OpenCause> for RunCause {
+    ghost from_gives = { λ cause e. e ≡ cause_of_open cause };
+
+    fn from(cause: OpenCause) -> Self {
+        match cause {
+            OpenCause::Device => RunCause::Open(StartCause::Device),
+            OpenCause::NoRoot => RunCause::Open(StartCause::NoRoot),
+            OpenCause::BadRoot => RunCause::Open(StartCause::BadRoot),
+            OpenCause::BadVersion => RunCause::Open(StartCause::BadVersion),
+            OpenCause::Memory => RunCause::Memory,
+        }
+    }
+}
+
+impl From<PowerCause> for RunCause {
+    ghost from_gives = { λ cause e. e ≡ cause_of_power cause };
+
+    fn from(cause: PowerCause) -> Self {
+        match cause {
+            PowerCause::BadItems => RunCause::Open(StartCause::BadItems),
+            PowerCause::Memory => RunCause::Memory,
+        }
+    }
+}
