@@ -1,0 +1,30 @@
+// Images in memory, and what a run on one writes.
+use psu_disk::MemDisk;
+use psu_items::Store;
+use psu_server::run;
+use std::alloc::Global;
+
+/// The size of an image of 256 pages.
+pub const SIZE: u64 = 263_168;
+
+/// A formatted image of 256 pages, where memory suffices.
+pub fn formatted(alloc: Global) -> Option<MemDisk<Global>> {
+    let Ok(disk) = MemDisk::new(alloc, SIZE) else {
+        return None;
+    };
+    match Store::format(alloc, disk, 256) {
+        Ok(store) => Some(store.into_disk()),
+        Err(_) => None,
+    }
+}
+
+/// What a run on a formatted image writes, where it ends without a fault.
+pub fn written(alloc: Global, input: &[u8]) -> Option<Vec<u8>> {
+    let disk = formatted(alloc)?;
+    let mut reader = input;
+    let mut text = Vec::new(alloc);
+    match run(alloc, &mut reader, &mut text, disk) {
+        Ok(_) => Some(text),
+        Err(_) => None,
+    }
+}

@@ -1,0 +1,15 @@
+//! The worked rows, and the tests that cross crates. Expected values are worked by hand from the rules of the instrument.
+#![tactic(auto)]
+
+#[cfg(test)]
+mod faults;
+#[cfg(test)]
+mod images;
+#[cfg(test)]
+mod locks;
+#[cfg(test)]
+mod outputs;
+#[cfg(test)]
+mod rows;
+#[cfg(test)]
+mod status;

@@ -1,0 +1,54 @@
+//! Why an image isn't reported.
+ghost use Rattle.std.specs.Prelude.{◌≡◌};
+ghost use Rattle.psu_server.specs.Recover.{recover_open, recover_power};
+
+use psu_exec::PowerCause;
+use psu_items::OpenCause;
+use thiserror::Error;
+
+/// Why an image isn't reported.
+#[derive(Clone, Copy, Debug, PartialEq, Eq, Error)]
+pub enum RecoverFault {
+    /// A call of the disk failed.
+    #[error("device fault")]
+    Device,
+    /// There are no two roots, or no gate of them is open.
+    #[error("no root")]
+    NoRoot,
+    /// What the root that counts says is wrong.
+    #[error("bad root")]
+    BadRoot,
+    /// The root that counts is of another version.
+    #[error("bad version")]
+    BadVersion,
+    #[error("out of memory")]
+    Memory,
+    /// The items are those of no contents.
+    #[error("bad items")]
+    BadItems,
+}
+
+impl From<OpenCause> for RecoverFault {
+    ghost from_gives = { λ cause e. e ≡ recover_open cause };
+
+    fn from(cause: OpenCause) -> Self {
+        match cause {
+            OpenCause::Device => RecoverFault::Device,
+            OpenCause::NoRoot => RecoverFault::NoRoot,
+            OpenCause::BadRoot => RecoverFault::BadRoot,
+            OpenCause::BadVersion => RecoverFault::BadVersion,
+            OpenCause::Memory => RecoverFault::Memory,
+        }
+    }
+}
+
+impl From<PowerCause> for RecoverFault {
+    ghost from_gives = { λ cause e. e ≡ recover_power cause };
+
+    fn from(cause: PowerCause) -> Self {
+        match cause {
+            PowerCause::BadItems => RecoverFault::BadItems,
+            PowerCause::Memory => RecoverFault::Memory,
+        }
+    }
+}

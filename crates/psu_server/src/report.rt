@@ -1,0 +1,115 @@
+//! What a restart would find in an image.
+ghost use Rattle.std.specs.Prelude.{◌≡◌, IfOk, OnOk, ◌++◌};
+ghost use Rattle.psu_server.specs.Report.{image_line, pages_line, enables_line, request_line, count_line, report_text_of};
+
+use itoa::Buffer;
+use std::alloc::{AllocError, Allocator};
+
+/// What a restart would find in an image.
+#[derive(Clone, Copy, Debug, PartialEq, Eq)]
+pub struct Report {
+    /// The version of the image's format.
+    pub version: u16,
+    /// The number of the root that counts.
+    pub root: u64,
+    /// What the contents cost, in pages.
+    pub pages: u128,
+    /// How many pages they may cost.
+    pub limit: u16,
+    /// SRE and ESE, where they are kept.
+    pub enables: Option<(u8, u8)>,
+    /// The status byte of the first service request, if power-on makes one.
+    pub request: Option<u8>,
+    /// How many bytes of user data are kept.
+    pub user: u8,
+    /// How many macros are defined.
+    pub macros: u8,
+}
+
+/// The report as text, a line for each fact.
+pub fn report_text<A: Allocator + Copy>(alloc: A, report: &Report) -> Result<Vec<u8, A>, AllocError>
+    ensures { IfOk result (λ text. text.items ≡ report_text_of report.now) }
+{
+    let mut text = Vec::new(alloc);
+    put_image(&mut text, report)?;
+    put_pages(&mut text, report)?;
+    put_enables(&mut text, report.enables)?;
+    put_request(&mut text, report.request)?;
+    put_count(&mut text, b"user ", report.user)?;
+    put_count(&mut text, b"macros ", report.macros)?;
+    Ok(text)
+}
+
+fn put_image<A: Allocator + Copy>(text: &mut Vec<u8, A>, report: &Report) -> Result<(), AllocError>
+    ensures { OnOk result (text.new.items ≡ text.old.items ++ image_line report.now.version report.now.root) }
+{
+    let mut version = Buffer::new();
+    let mut root = Buffer::new();
+    text.extend_from_slice(b"image version ")?;
+    text.extend_from_slice(version.format(report.version).as_bytes())?;
+    text.extend_from_slice(b" root ")?;
+    text.extend_from_slice(root.format(report.root).as_bytes())?;
+    text.push(b'\n')?;
+    Ok(())
+}
+
+fn put_pages<A: Allocator + Copy>(text: &mut Vec<u8, A>, report: &Report) -> Result<(), AllocError>
+    ensures { OnOk result (text.new.items ≡ text.old.items ++ pages_line report.now.pages report.now.limit) }
+{
+    let mut pages = Buffer::new();
+    let mut limit = Buffer::new();
+    text.extend_from_slice(b"pages ")?;
+    text.extend_from_slice(pages.format(report.pages).as_bytes())?;
+    text.extend_from_slice(b" of ")?;
+    text.extend_from_slice(limit.format(report.limit).as_bytes())?;
+    text.push(b'\n')?;
+    Ok(())
+}
+
+fn put_enables<A: Allocator + Copy>(
+    text: &mut Vec<u8, A>,
+    enables: Option<(u8, u8)>,
+) -> Result<(), AllocError>
+    ensures { OnOk result (text.new.items ≡ text.old.items ++ enables_line enables) }
+{
+    let Some((sre, ese)) = enables else {
+        text.extend_from_slice(b"enables none\n")?;
+        return Ok(());
+    };
+    let mut first = Buffer::new();
+    let mut second = Buffer::new();
+    text.extend_from_slice(b"enables ")?;
+    text.extend_from_slice(first.format(sre).as_bytes())?;
+    text.push(b' ')?;
+    text.extend_from_slice(second.format(ese).as_bytes())?;
+    text.push(b'\n')?;
+    Ok(())
+}
+
+fn put_request<A: Allocator + Copy>(
+    text: &mut Vec<u8, A>,
+    request: Option<u8>,
+) -> Result<(), AllocError>
+    ensures { OnOk result (text.new.items ≡ text.old.items ++ request_line request) }
+{
+    let Some(byte) = request else {
+        text.extend_from_slice(b"request none\n")?;
+        return Ok(());
+    };
+    put_count(text, b"request ", byte)?;
+    Ok(())
+}
+
+fn put_count<A: Allocator + Copy>(
+    text: &mut Vec<u8, A>,
+    words: &[u8],
+    count: u8,
+) -> Result<(), AllocError>
+    ensures { OnOk result (text.new.items ≡ text.old.items ++ count_line words.now count) }
+{
+    let mut number = Buffer::new();
+    text.extend_from_slice(words)?;
+    text.extend_from_slice(number.format(count).as_bytes())?;
+    text.push(b'\n')?;
+    Ok(())
+}
