@@ -1,25 +1,49 @@
-//! The program `psu`.
+//! The program `psu`: a simulated power supply that takes SCPI messages and keeps what they confirmed through power loss.
 #![tactic(auto)]
 
+mod commands;
+mod fault;
 mod words;
 
+use commands::{make_image, recover_image, run_image, run_in_memory};
+use fault::Fault;
+use std::io::Eprint;
 use std::process::ExitCode;
 use words::{Choice, WordsFault, choice_of};
 
-/// The exit status of a command line that isn't read.
-const NOT_READ: u8 = 2;
+/// The exit status of a command line that asks for no command.
+const REFUSED: u8 = 2;
 
 fn main(rt: HostRuntime) -> ExitCode {
     let alloc = rt.alloc();
     let Ok(arguments) = std::env::args(&rt) else {
-        return ExitCode::from(NOT_READ);
+        return ExitCode::from(REFUSED);
     };
-    let Ok(given) = arguments.collect::<Vec<String>>(alloc) else {
-        return ExitCode::from(NOT_READ);
+    let Ok(words) = arguments.collect::<Vec<String>>(alloc) else {
+        return ended(&rt, Err(Fault::Memory));
     };
-    match choice_of(alloc, given.as_slice()) {
-        Ok(Choice::Run(None)) => ExitCode::SUCCESS,
-        Ok(_) | Err(WordsFault::Refused) => ExitCode::from(NOT_READ),
-        Err(WordsFault::Memory) => ExitCode::FAILURE,
+    let choice = match choice_of(alloc, words.as_slice()) {
+        Ok(choice) => choice,
+        Err(WordsFault::Refused) => return ExitCode::from(REFUSED),
+        Err(WordsFault::Memory) => return ended(&rt, Err(Fault::Memory)),
+    };
+    match choice {
+        Choice::Make(image) => ended(&rt, make_image(&rt, alloc, image)),
+        Choice::Run(None) => ended(&rt, run_in_memory(&rt, alloc)),
+        Choice::Run(Some(image)) => ended(&rt, run_image(&rt, alloc, image)),
+        Choice::Recover(image) => ended(&rt, recover_image(&rt, alloc, image)),
+        // The server over sockets does not stand yet.
+        Choice::Serve(_, _) => ExitCode::from(REFUSED),
+    }
+}
+
+// The exit status of a command; a fault is one line on standard error.
+fn ended(rt: &impl Eprint, outcome: Result<(), Fault>) -> ExitCode {
+    match outcome {
+        Ok(()) => ExitCode::SUCCESS,
+        Err(fault) => {
+            let _ = eprintln!(rt; "psu: {fault}");
+            ExitCode::FAILURE
+        }
     }
 }

@@ -1,0 +1,81 @@
+//! The commands of the program, thin over the server.
+use crate::fault::Fault;
+use psu_disk::{Disk, FileDisk, MemDisk};
+use psu_items::Store;
+use psu_server::{recover, report_text, run};
+use std::alloc::Global;
+use std::fs::File;
+use std::io::{self, Input, Print, Write};
+use std::rt::Files;
+
+/// How many pages the contents of an image that the program makes may cost.
+const LIMIT: u16 = 256;
+
+/// The bytes of such an image: two roots and twice the limit, in pages of 512 bytes.
+const SIZE: u64 = 263_168;
+
+/// Makes a formatted image at a path where no file is.
+pub fn make_image<R: Files<File = File>>(rt: &R, alloc: Global, path: &str) -> Result<(), Fault> {
+    let disk = match FileDisk::make(rt, path, SIZE) {
+        Ok(disk) => disk,
+        Err(fault) => return Err(Fault::File(fault)),
+    };
+    match Store::format(alloc, disk, LIMIT) {
+        Ok(_) => Ok(()),
+        Err(fault) => Err(Fault::from(fault.cause)),
+    }
+}
+
+/// Reads messages from standard input, on a fresh image in memory.
+pub fn run_in_memory<R: Input + Print>(rt: &R, alloc: Global) -> Result<(), Fault> {
+    let Ok(disk) = MemDisk::new(alloc, SIZE) else {
+        return Err(Fault::Memory);
+    };
+    match Store::format(alloc, disk, LIMIT) {
+        Ok(store) => run_on(rt, alloc, store.into_disk()),
+        Err(fault) => Err(Fault::from(fault.cause)),
+    }
+}
+
+/// Reads messages from standard input, on the image at a path.
+pub fn run_image<R: Files<File = File> + Input + Print>(
+    rt: &R,
+    alloc: Global,
+    path: &str,
+) -> Result<(), Fault> {
+    match FileDisk::of(rt, path) {
+        Ok(disk) => run_on(rt, alloc, disk),
+        Err(fault) => Err(Fault::File(fault)),
+    }
+}
+
+fn run_on<R: Input + Print, D: Disk + Drop>(rt: &R, alloc: Global, disk: D) -> Result<(), Fault> {
+    let mut writer = io::writer(rt);
+    match run(alloc, &mut rt.reader(), &mut writer, disk) {
+        Ok(_) => Ok(()),
+        Err(fault) => Err(Fault::Run(fault.cause)),
+    }
+}
+
+/// Prints what a restart would find in the image at a path.
+pub fn recover_image<R: Files<File = File> + Print>(
+    rt: &R,
+    alloc: Global,
+    path: &str,
+) -> Result<(), Fault> {
+    let disk = match FileDisk::of(rt, path) {
+        Ok(disk) => disk,
+        Err(fault) => return Err(Fault::File(fault)),
+    };
+    let report = match recover(alloc, disk) {
+        Ok(report) => report,
+        Err(fault) => return Err(Fault::Recover(fault)),
+    };
+    let Ok(text) = report_text(alloc, &report) else {
+        return Err(Fault::Memory);
+    };
+    match io::writer(rt).write_all(&text) {
+        Ok(()) => Ok(()),
+        Err(_) => Err(Fault::Write),
+    }
+}

@@ -1,0 +1,31 @@
+//! Why a command of the program fails.
+use psu_disk::OpenFault;
+use psu_items::FormatCause;
+use psu_server::{RecoverFault, RunCause};
+use thiserror::Error;
+
+/// Why a command of the program fails, by the text that standard error shows after `psu: `.
+#[derive(Clone, Copy, Debug, PartialEq, Eq, Error)]
+pub enum Fault {
+    #[error("{0}")]
+    File(OpenFault),
+    #[error("{0}")]
+    Run(RunCause),
+    #[error("{0}")]
+    Recover(RecoverFault),
+    #[error("device fault")]
+    Device,
+    #[error("write fault")]
+    Write,
+    #[error("out of memory")]
+    Memory,
+}
+
+impl From<FormatCause> for Fault {
+    fn from(cause: FormatCause) -> Self {
+        match cause {
+            FormatCause::Device => Fault::Device,
+            FormatCause::Memory => Fault::Memory,
+        }
+    }
+}
