@@ -1,5 +1,5 @@
 -- The state of the device, and one unit of a message.
-use Rattle.std.specs.Prelude.{◌≡◌, ◌⊎◌, ◌≢◌, ℕ, ◌-◌, ◌^◌, nat_le, ◌==◌, ◌&&◌, ◌||◌, not, Bool, true, false, if◌then◌else◌, Option, Some, None, is_some, Result, Ok, Err, List, [], ◌∷◌, ◌++◌, length, slice_index_or, slice_set, replicate, bit_or, bit_and, codes, decimal}
+use Rattle.std.specs.Prelude.{◌≡◌, ◌⊎◌, ℕ, ◌-◌, ◌^◌, nat_le, ◌==◌, ◌&&◌, ◌||◌, not, Bool, true, false, if◌then◌else◌, Option, Some, None, is_some, Result, Ok, Err, List, [], ◌∷◌, ◌++◌, length, slice_index_or, slice_set, replicate, bit_or, bit_and, codes, decimal}
 use Rattle.psu_items.specs.Map.{Item}
 use Rattle.psu_exec.specs.Contents.{without_mss, apply, items_of}
 use Rattle.psu_exec.specs.Errors.{event_bit}
@@ -14,7 +14,7 @@ use Rattle.psu_exec.specs.declared.request.Request.{Request}
 use Rattle.psu_exec.specs.declared.condition.Condition.{Condition}
 use Rattle.psu_exec.specs.declared.condition.Condition.TheVariants.{Whole, Worn}
 use Rattle.psu_exec.specs.declared.wait.Wait.{Wait}
-use Rattle.psu_exec.specs.declared.wait.Wait.TheVariants.{Until, CutOff}
+use Rattle.psu_exec.specs.declared.wait.Wait.TheVariants.{Until}
 use Rattle.psu_exec.specs.declared.registers.Registers.{Registers}
 
 -- what a unit or a settle answers; the text of an answer is without its end

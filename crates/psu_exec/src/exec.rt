@@ -188,7 +188,10 @@ impl<D: Disk, A: Allocator + Copy> Exec<D, A> {
                 return Ok(self.device.sessions_over());
             }
             Finished::Broken(broken) => {
-                if !self.device.is_job(broken.limit(), broken.before(), broken.batch()) {
+                if !self
+                    .device
+                    .is_job(broken.limit(), broken.before(), broken.batch())
+                {
                     return Err(Stranger {
                         finished: Finished::Broken(broken),
                     });

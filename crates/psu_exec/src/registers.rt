@@ -46,11 +46,7 @@ impl Registers {
                 ese: 0,
                 esr: PON,
             },
-            Some((sre, ese)) => Registers {
-                sre,
-                ese,
-                esr: PON,
-            },
+            Some((sre, ese)) => Registers { sre, ese, esr: PON },
         }
     }
 

@@ -88,8 +88,8 @@ impl<A: Allocator + Copy> Device<A> {
         requires { is_some change ≡ true → length self.old.flush.tail < 1024 }
         ensures value { IfOk result (λ o. outcome_of o ≡ answer_with self.old.flush.contents.enables self.old.volatile.registers command) }
         ensures ok { OnOk result (self.new ≡ record {
-            volatile = with_registers self.old.volatile (effect self.old.volatile.registers command);
-            flush = record self.old.flush { contents = made change self.old.flush.contents; tail = with_more change self.old.flush.tail };
+          volatile = with_registers self.old.volatile (effect self.old.volatile.registers command);
+          flush = record self.old.flush { contents = made change self.old.flush.contents; tail = with_more change self.old.flush.tail };
         }) }
         ensures err { OnErr result (self.new ≡ self.old) }
         ensures wanted { OnErr result (wants_memory (answer_with self.old.flush.contents.enables self.old.volatile.registers command) change ≡ true) }
