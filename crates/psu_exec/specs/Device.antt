@@ -173,6 +173,10 @@ abbrev pub made : Option Change → Contents → Contents
 made None n = n
 made (Some c) n = apply n c
 
+-- the state with the change of a command that is accepted
+abbrev pub noted : State → Option Change → State
+noted s c = record s { flush = record s.flush { contents = made c s.flush.contents; tail = with_more c s.flush.tail } }
+
 -- The effect of a command that is done on the registers. `*ESR?` clears what it reads.
 abbrev pub effect : Registers → Command → Registers
 effect r (Sre n) = record r { sre = without_mss n }
@@ -211,6 +215,13 @@ flush_after f session c reply = record f { contents = made (change_if reply c) f
 
 abbrev pub with_registers : Volatile → Registers → Volatile
 with_registers v r = record v { registers = r }
+
+-- the state with other registers, and with the bit of an error
+abbrev pub with_state_registers : State → Registers → State
+with_state_registers s r = record s { volatile = with_registers s.volatile r }
+
+abbrev pub refused : State → ScpiError → State
+refused s e = with_state_registers s (with_error s.volatile.registers e)
 
 -- the state after a unit that is answered so
 abbrev pub after_unit : State → ℕ → Request → Reply → State
