@@ -1,16 +1,19 @@
-// A disk in memory: the bytes that a read gives, and a mark for each unsynced byte.
-ghost use Rattle.std.specs.Prelude.{◌≡◌, ℕ, ◌+◌, ◌≤◌, length, replicate, false, IfOk};
+// A disk in memory. It keeps what the last sync made sure of beside what a read gives, and a mark for each unsynced byte.
+ghost use Rattle.std.specs.Prelude.{◌≡◌, ℕ, ◌+◌, ◌≤◌, length, replicate, IsTrue, false, slice_index, slice_index_or, IfOk};
 ghost use Rattle.psu_disk.specs.Disk.{Holds};
+ghost use Rattle.psu_disk.specs.Loss.{lost};
 ghost use Rattle.psu_disk.specs.Memory.{marked};
 
-use crate::{Disk, DiskFault};
+use crate::{Choice, Disk, DiskFault};
 use std::alloc::{AllocError, Allocator};
 
 /// A disk in memory. No call of it fails, and none takes memory.
 #[derive(Drop)]
 pub struct MemDisk<A: Allocator + Copy> {
     bytes: Vec<u8, A>,
+    synced: Vec<u8, A>,
     unsynced: Vec<bool, A>,
+    ghost synced_whole: { length synced.items ≡ length bytes.items },
     ghost marked_whole: { length unsynced.items ≡ length bytes.items },
 }
 
@@ -22,8 +25,40 @@ impl<A: Allocator + Copy> MemDisk<A> {
     {
         Ok(MemDisk {
             bytes: vec![in alloc; 0; size as usize]?,
+            synced: vec![in alloc; 0; size as usize]?,
             unsynced: vec![in alloc; false; size as usize]?,
         })
+    }
+}
+
+impl<A: Allocator + Copy> MemDisk<A> {
+    ghost use Rattle.psu_disk.specs.Disk.{Left, IsSynced};
+    ghost use Rattle.psu_disk.specs.Memory.{memory};
+
+    /// Power is lost: the unsynced bytes become as chosen, and none is unsynced any more.
+    #[tactic(auto, unfolding(crate::specs::Disk::Left))]
+    pub fn lose(&mut self, choice: Choice)
+        ensures size { length self.new.bytes.items ≡ length self.old.bytes.items }
+        ensures left { Left (memory self.old.bytes.items self.old.unsynced.items) self.new.bytes.items }
+        ensures synced { IsSynced (memory self.new.bytes.items self.new.unsynced.items) }
+        ensures choice { (k : ℕ) → IsTrue (slice_index_or self.old.unsynced.items k false) → slice_index self.new.bytes.items k ≡ lost choice (slice_index self.old.synced.items k) (slice_index self.old.bytes.items k) }
+    {
+        lose_bytes(&mut self.bytes, &self.synced, &self.unsynced, choice);
+        self.synced.copy_from_slice(&self.bytes);
+        self.unsynced.fill(false);
+    }
+}
+
+fn lose_bytes(bytes: &mut [u8], synced: &[u8], unsynced: &[bool], choice: Choice)
+    requires synced { length synced.now ≡ length bytes.old }
+    requires unsynced { length unsynced.now ≡ length bytes.old }
+    ensures same { (k : ℕ) → slice_index_or unsynced.now k false ≡ false → slice_index bytes.new k ≡ slice_index bytes.old k }
+    ensures choice { (k : ℕ) → IsTrue (slice_index_or unsynced.now k false) → slice_index bytes.new k ≡ lost choice (slice_index synced.now k) (slice_index bytes.old k) }
+{
+    for i in 0..bytes.len() {
+        if unsynced[i] {
+            bytes[i] = choice.after_loss(synced[i], bytes[i]);
+        }
     }
 }
 
@@ -89,6 +124,7 @@ impl<A: Allocator + Copy> Disk for MemDisk<A> {
 
     #[tactic(auto, unfolding(crate::specs::Disk::Left))]
     fn sync(&mut self) -> Result<(), DiskFault> {
+        self.synced.copy_from_slice(&self.bytes);
         self.unsynced.fill(false);
         Ok(())
     }

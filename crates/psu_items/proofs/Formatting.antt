@@ -1,5 +1,5 @@
 -- What a format leaves.
-use Rattle.std.proofs.Common.{◌≡◌, inr, ℕ, ◌+◌, ◌*◌, ◌≤◌, List, [], ◌∷◌, length, refl, sym, ◌∙◌, arith}
+use Rattle.std.proofs.Common.{◌≡◌, ℕ, ◌+◌, ◌*◌, ◌≤◌, List, [], ◌∷◌, length, refl, ◌∙◌, arith}
 use Rattle.psu_disk.specs.Disk.{DiskState, Holds, SameBut, Only}
 use Rattle.psu_items.specs.declared.root.Root.TheVariants.{First, Second}
 use Rattle.psu_items.specs.Image.{gate_at, gate}

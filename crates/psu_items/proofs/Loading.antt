@@ -1,5 +1,5 @@
 -- What the words of a root and the bytes of its area say of the map that they hold.
-use Rattle.std.proofs.Common.{◌≡◌, ℕ, ◌*◌, ◌+◌, ◌<◌, ◌≤◌, List, length, sym, ◌∙◌, ap, subst, arith}
+use Rattle.std.proofs.Common.{◌≡◌, ℕ, ◌<◌, ◌≤◌, List, length, sym, ◌∙◌, ap, subst, arith}
 use Rattle.psu_disk.specs.Disk.{DiskState, Left, Range, LeavesOnly}
 use Rattle.psu_disk.specs.Moments.{and_then}
 use Rattle.psu_items.specs.declared.head.Head.{Head}
@@ -23,7 +23,7 @@ module _ (root : Root) (image : List ℕ) (head : Head) (says : Says root image 
     limit_least = sound.limit_least;
     limit_most = sound.limit_most;
     room = sound.room;
-    size = omega (arith, sound.used, says.used_is);
+    used_fits = omega (arith, sound.used, says.used_is);
     items = subst (λ (b : List ℕ). StandsFor b map) held stands;
     sorted = sorted;
     count = count;

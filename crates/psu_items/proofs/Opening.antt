@@ -1,5 +1,5 @@
 -- The steps of an opening, one after another.
-use Rattle.std.proofs.Common.{◌≡◌, inl, inr, ⊎_elim, ℕ, ◌*◌, ◌+◌, ◌≤◌, Bool, List, length, sym, ◌∙◌, subst}
+use Rattle.std.proofs.Common.{◌≡◌, inl, inr, ⊎_elim, ℕ, Bool, List, sym, ◌∙◌, subst}
 use Rattle.psu_disk.specs.Disk.{DiskState, Left, Only, LeavesOnly}
 use Rattle.psu_disk.specs.Moments.{and_then, weaken}
 use Rattle.psu_disk.specs.Ranges.{reads_left}

@@ -1,5 +1,5 @@
 -- One of two maps stands: which of them can be tested.
-use Rattle.std.proofs.Common.{◌≡◌, ◌⊎◌, inl, inr, ℕ, Bool, true, false, ◌&&◌, List, bytes_eq, Decides, ⊎_elim, refl, sym, ◌∙◌, ap, subst, length, ◌≤◌, arith}
+use Rattle.std.proofs.Common.{◌≡◌, ◌⊎◌, inl, inr, ℕ, Bool, true, false, ◌&&◌, List, bytes_eq, Decides, ⊎_elim, refl, sym, ◌∙◌, ap, subst, arith}
 use Rattle.std.proofs.lemmas.Bool.{cases_Bool}
 use Rattle.std.proofs.lemmas.Bool.Decides.{not_from_Decides}
 use Rattle.std.proofs.lemmas.Slice.Eq.{bytes_eq-Decides, slice_eq-Decides}
@@ -7,15 +7,14 @@ use Rattle.std.proofs.Math.Logic.{∥∥₁_elim}
 use Rattle.std.specs.Cmp.Lexicographic.{pointwise}
 use Rattle.psu_disk.specs.Disk.{DiskState, Left}
 use Rattle.psu_disk.specs.Ranges.{reads_left}
-use Rattle.psu_items.specs.declared.root.Root.{Root}
-use Rattle.psu_items.specs.declared.root.Root.TheVariants.{First, Second}
 use Rattle.psu_items.specs.declared.open_cause.OpenCause.{OpenCause}
 use Rattle.psu_items.specs.declared.open_cause.OpenCause.TheVariants as Unopened
 use Rattle.psu_items.specs.declared.broken.BrokenCause.TheVariants.{Strange}
 use Rattle.psu_items.specs.Map.{Item, item_of}
-use Rattle.psu_items.specs.Image.{gate, counting, Stands, IsEither, EachIsEither, HasNoRoot, IsRefusal}
+use Rattle.psu_items.specs.Image.{counting, Stands, IsEither, EachIsEither, IsRefusal}
 use Rattle.psu_items.specs.Recovering.{broken_cause}
 use Rattle.psu_items.specs.Single.{Stands-IsProp}
+use Rattle.psu_items.proofs.Settling.{some_root}
 use Rattle.psu_items.proofs.Single.{one_stands}
 
 same_item : Item → Item → Bool
@@ -55,11 +54,6 @@ either limit before target x h = elim (cases_Bool (pointwise same_item before ta
 ]
 
 -- an image that stands for a map is refused by a failed call or a want of memory alone
-some_root : (x : List ℕ) (root : Root) → 1024 ≤ length x → gate root x ≡ 165 → HasNoRoot x → ⊥
-some_root x root size is_open (inl short) = omega (arith, size, short)
-some_root x First size is_open (inr shut) = shut.0 is_open
-some_root x Second size is_open (inr shut) = shut.1 is_open
-
 unrefused : (x : List ℕ) (limit : ℕ) (map : List Item) (cause : OpenCause) → Stands x limit map → IsRefusal x cause → broken_cause cause ≡ Strange → ⊥
 unrefused x limit map Unopened.Device st refusal strange = cc
 unrefused x limit map Unopened.NoRoot st refusal strange = some_root x (counting x) (omega (arith, st.holds.room)) st.counts.open_gate refusal

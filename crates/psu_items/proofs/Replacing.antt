@@ -2,13 +2,12 @@
 use Rattle.std.proofs.Common.{◌≡◌, inl, inr, ℕ, ◌+◌, ◌*◌, ◌^◌, ◌<◌, ◌≤◌, List, [], ◌∷◌, length, sym, ◌∙◌, subst, arith}
 use Rattle.psu_disk.specs.Disk.{DiskState, Left, Holds, SameBut, Only, LeavesOnly}
 use Rattle.psu_disk.specs.Moments.{started, and_then, weaken}
-use Rattle.psu_disk.specs.Ranges.{reads_left}
 use Rattle.psu_items.specs.Map.{Item}
 use Rattle.psu_items.specs.declared.root.Root.{Root}
-use Rattle.psu_items.specs.Image.{other, gate_at, gate, number_in, RootHolds, Stands, IsEither}
+use Rattle.psu_items.specs.Image.{other, gate_at, gate, number_in, IsEither}
 use Rattle.psu_items.specs.Resting.{AtRest, IsKept}
 use Rattle.psu_items.specs.Writing.{IsStaged, Spares, Spells}
-use Rattle.psu_items.proofs.Places.{other_other, number_same, holds_same, other_spared, gate_spared}
+use Rattle.psu_items.proofs.Places.{number_same, holds_same, other_spared, gate_spared}
 use Rattle.psu_items.proofs.Resting.{at_rest_stands, kept_stands}
 use Rattle.psu_items.proofs.Staging.{staged_number, staged_holds}
 use Rattle.psu_items.proofs.Switching.{IsReady, opening, closing, closed, gate_written, number_kept, holds_kept}

@@ -7,7 +7,7 @@ use Rattle.psu_disk.specs.Disk.{DiskState, Left}
 use Rattle.psu_items.specs.Map.{Item}
 use Rattle.psu_items.specs.declared.root.Root.{Root}
 use Rattle.psu_items.specs.declared.root.Root.TheVariants.{First, Second}
-use Rattle.psu_items.specs.Image.{gate, Counts, counting, RootHolds, Stands, EachStands}
+use Rattle.psu_items.specs.Image.{gate, number_in, Counts, counting, RootHolds, Stands, EachStands}
 use Rattle.psu_items.specs.Resting.{AtRest, IsKept}
 
 pub counting_is : (root : Root) (image : List ℕ) → Counts root image → counting image ≡ root
@@ -32,3 +32,9 @@ at_rest_stands root limit number map image rest = stands root image limit map (r
 -- a store at rest
 pub kept_stands : (disk : DiskState) (root : Root) (limit number : ℕ) (map : List Item) → IsKept disk root limit number map → EachStands disk limit map
 kept_stands disk root limit number map kept image left = at_rest_stands root limit number map image (subst (AtRest root limit number map) (sym (kept.only image left)) kept.rest)
+
+pub kept_number : (disk : DiskState) (root : Root) (limit number : ℕ) (map : List Item) → IsKept disk root limit number map → (image : List ℕ) → Left disk image → number_in (counting image) image ≡ number
+kept_number disk root limit number map kept image left =
+    let rest : AtRest root limit number map image = subst (AtRest root limit number map) (sym (kept.only image left)) kept.rest in
+    let is : counting image ≡ root = counting_is root image (record { open_gate = rest.is_open; highest = λ is. absurd (rest.other_shut is) }) in
+    subst (λ (r : Root). number_in r image ≡ number) (sym is) rest.number_is

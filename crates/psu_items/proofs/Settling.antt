@@ -1,19 +1,19 @@
 -- Which root counts, what an image is refused for, and what it leaves to close the older gate.
-use Rattle.std.proofs.Common.{◌≡◌, inl, inr, ⊎_elim, ℕ, ◌+◌, ◌*◌, ◌<◌, ◌≤◌, Bool, true, false, List, [], ◌∷◌, length, Option, Some, None, refl, sym, ◌∙◌, ap, subst, arith}
+use Rattle.std.proofs.Common.{◌≡◌, inl, inr, ℕ, ◌<◌, ◌≤◌, Bool, true, false, List, [], ◌∷◌, length, Option, Some, None, refl, sym, ◌∙◌, ap, subst, arith}
 use Rattle.std.proofs.lemmas.Bool.{cases_eq}
 use Rattle.std.proofs.lemmas.Bool.Decides.{nat_tests}
 use Rattle.std.specs.Prelude.{IfSome, is_some}
 use Rattle.psu_disk.specs.Disk.{DiskState, Left, Holds, SameBut, Only, LeavesOnly}
-use Rattle.psu_disk.specs.Moments.{started, and_then, weaken}
+use Rattle.psu_disk.specs.Moments.{started, weaken}
 use Rattle.psu_items.specs.declared.root.Root.{Root}
 use Rattle.psu_items.specs.declared.root.Root.TheVariants.{First, Second}
 use Rattle.psu_items.specs.declared.open_cause.OpenCause.{OpenCause}
 use Rattle.psu_items.specs.declared.open_cause.OpenCause.TheVariants.{Device, NoRoot, BadRoot, BadVersion, Memory}
 use Rattle.psu_items.specs.Map.{Item}
-use Rattle.psu_items.specs.Image.{other, gate_at, gate, mark, mark_in, version_in, number_in, Counts, counting, RootHolds, Stands, HasNoRoot, HasOtherVersion, HasBadRoot, IsRefusal}
-use Rattle.psu_items.specs.Resting.{AtRest, IsKept}
-use Rattle.psu_items.specs.Finding.{standing, of_root, IsPickedIn, IsNonePicked, HoldsNone, SameRoots, IsOldOrSame}
-use Rattle.psu_items.proofs.Places.{other_other, gate_low}
+use Rattle.psu_items.specs.Image.{other, gate_at, gate, mark, mark_in, version_in, number_in, Counts, counting, RootHolds, Stands, HasNoRoot, IsRefusal}
+use Rattle.psu_items.specs.Resting.{IsKept}
+use Rattle.psu_items.specs.Finding.{standing, of_root, IsPickedIn, IsNonePicked, HoldsNone, SameRoots}
+use Rattle.psu_items.proofs.Places.{other_other}
 use Rattle.psu_items.proofs.Resting.{counting_is, stands}
 use Rattle.psu_items.proofs.Switching.{gate_kept, number_kept, holds_kept, gate_written}
 
@@ -153,7 +153,7 @@ none_counts x n first second root counts = by_root root counts
     by_root Second counts = omega (arith, one.1, two.1, counts.highest one.0)
 
 -- there are two roots, and a gate is open
-some_root : (x : List ℕ) (root : Root) → 1024 ≤ length x → gate root x ≡ 165 → HasNoRoot x → ⊥
+pub some_root : (x : List ℕ) (root : Root) → 1024 ≤ length x → gate root x ≡ 165 → HasNoRoot x → ⊥
 some_root x root size is_open (inl short) = omega (arith, size, short)
 some_root x First size is_open (inr shut) = shut.0 is_open
 some_root x Second size is_open (inr shut) = shut.1 is_open

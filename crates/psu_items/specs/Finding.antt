@@ -1,5 +1,5 @@
 -- What is found at an opening, step by step.
-use Rattle.std.specs.Prelude.{◌≡◌, ◌≢◌, ℕ, ◌+◌, ◌*◌, ◌<◌, ◌≤◌, ◌==◌, ◌⊎◌, List, Bool, length, if◌then◌else◌, Option, Some, None, IfSome, is_some, ⊤}
+use Rattle.std.specs.Prelude.{◌≡◌, ◌≢◌, ℕ, ◌+◌, ◌*◌, ◌<◌, ◌≤◌, ◌==◌, ◌⊎◌, List, Bool, if◌then◌else◌, Option, Some, None, IfSome, is_some, ⊤}
 use Rattle.psu_disk.specs.Disk.{DiskState, Left}
 use Rattle.psu_items.specs.Map.{Item}
 use Rattle.psu_items.specs.Image.{other, gate, mark, mark_in, version_in, limit_in, number_in, length_in, Counts, RootHolds}

@@ -1,13 +1,13 @@
 -- What the calls of a store give, case by case.
-use Rattle.std.specs.Prelude.{◌≡◌, ◌≢◌, ℕ, ◌+◌, ◌≤◌, ◌^◌, List, ⊤, Result, Ok, Err}
+use Rattle.std.specs.Prelude.{◌≡◌, ◌+◌, ◌≤◌, ◌^◌, List, ⊤, Result, Ok, Err}
 use Rattle.psu_disk.specs.Disk.{HasFailed}
 use Rattle.psu_disk.specs.declared.disk.Disk.{Ghosts}
-use Rattle.psu_items.specs.Map.{Item}
 use Rattle.psu_items.specs.Batch.{Edit, changed}
 use Rattle.psu_items.specs.declared.format_fault.FormatFault.{FormatFault}
 use Rattle.psu_items.specs.declared.refused.Refused.{Refused}
 use Rattle.psu_items.specs.declared.store.Store.{Store}
 use Rattle.psu_items.specs.declared.broken.Broken.{Broken}
+use Rattle.psu_items.specs.declared.broken.BrokenCause.TheVariants.{Device}
 use Rattle.psu_items.specs.declared.commit.Commit.{Commit}
 use Rattle.psu_items.specs.declared.commit.Commit.TheVariants as commit
 use Rattle.psu_items.specs.declared.commit.UnstartedCause.{UnstartedCause}
@@ -58,6 +58,7 @@ pub record HasBroken {D A : Type 0} {G : Ghosts D} (old : Store D A G) (batch : 
   pub before : broken.before ≡ old.items
   pub batch_is : broken.batch ≡ batch
   pub limit : broken.limit ≡ old.limit
+  pub cause : broken.cause ≡ Device
   pub failures : HasFailed (Ghosts.failures G old.disk) (Ghosts.failures G broken.disk)
 
 -- it still waits for the same

@@ -9,15 +9,19 @@ ghost use Rattle.psu_items.specs.declared.codec.DecodeFault.TheVariants.{Memory,
 use crate::{Items, Pair};
 use std::alloc::{AllocError, AllocFailed, Allocator};
 
+// The most bytes of a key.
 const KEY_MOST: usize = 33;
 
+// The most bytes of a value.
 const VALUE_MOST: usize = 33280;
 
+// The most items of an area.
 const ITEMS_MOST: usize = 240;
 
 /// Why an area isn't read.
 #[derive(Clone, Copy, Debug, PartialEq, Eq, Drop)]
 pub(crate) enum DecodeFault {
+    /// Memory is refused.
     Memory,
     /// The bytes stand for no map, or for one of more than 240 items.
     Bad,
@@ -142,7 +146,10 @@ mod tests {
         let alloc = rt.alloc();
         let items = decode(alloc, &ENABLES)?;
         assert_eq!(rt; items.pairs().len(), 1);
-        assert_eq!(rt; items.get(&[1]).ok_or("no enables")?, [0x20, 0x80].as_slice());
+        assert_eq!(rt;
+            items.get(&[1]).ok_or("no enables")?,
+            [0x20, 0x80].as_slice()
+        );
         let mut again = Items::new(alloc);
         again.insert([1].to_vec(alloc)?, [0x20, 0x80].to_vec(alloc)?)?;
         assert_eq!(rt; encode(alloc, &again)?.as_slice(), ENABLES.as_slice());
@@ -161,7 +168,11 @@ mod tests {
             &[1, 1, 0, 0, 0, 1, 9, 1, 1, 0, 0, 0, 1, 9],
         ];
         for area in bad {
-            assert_eq!(rt; decode(alloc, area).err(), Some(DecodeFault::Bad), "at {area:?}");
+            assert_eq!(rt;
+                decode(alloc, area).err(),
+                Some(DecodeFault::Bad),
+                "at {area:?}"
+            );
         }
         Ok(())
     }

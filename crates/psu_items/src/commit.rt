@@ -1,4 +1,4 @@
-// One step of a store: from a map to the map after a batch.
+//! One step of a store: from a map to the map after a batch.
 ghost use Rattle.std.specs.Prelude.{◌≡◌, ◌+◌, ◌≤◌, ◌^◌, ◌↔◌, IsTrue, IfOk};
 ghost use Rattle.psu_disk.specs.Disk.{LeavesOnly};
 ghost use Rattle.psu_items.specs.Image.{EachStands, EachIsEither, IsEither};

@@ -1,4 +1,4 @@
-// Why a disk isn't formatted.
+//! Why a disk isn't formatted.
 
 /// Why a disk isn't formatted.
 #[derive(Clone, Copy, Debug, PartialEq, Eq, Drop)]

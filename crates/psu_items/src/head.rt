@@ -1,4 +1,4 @@
-// What a root says beside its gate and its number.
+//! What a root says beside its gate and its number.
 ghost use Rattle.std.specs.Prelude.{◌≡◌, ◌+◌, ◌≤◌, List, ℕ, IfOk, IfErr, OnOk};
 ghost use Rattle.psu_disk.specs.Disk.{Left, LeavesOnly, HasCause};
 ghost use Rattle.psu_items.specs.Finding.{Says, IsSound, IsUnsound};

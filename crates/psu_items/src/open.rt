@@ -1,5 +1,5 @@
-// What an opening does to a disk, and what it finds.
-ghost use Rattle.std.specs.Prelude.{◌≡◌, ◌+◌, ◌*◌, ◌≤◌, List, ℕ, OnOk, IfOk, IfErr, IsErrOf};
+//! What an opening does to a disk, and what it finds.
+ghost use Rattle.std.specs.Prelude.{◌≡◌, ◌≢◌, ◌+◌, ◌*◌, ◌≤◌, List, ℕ, OnOk, IfOk, IfErr, IsErrOf};
 ghost use Rattle.psu_disk.specs.Disk.{Left, Only, LeavesOnly, HasCause, HasFailed};
 ghost use Rattle.psu_items.specs.Map.{Item};
 ghost use Rattle.psu_items.specs.Image.{RootHolds, Stands, IsRefusal};
@@ -22,6 +22,35 @@ pub struct Opened<A: Allocator + Copy> {
     pub items: Items<A>,
 }
 
+/// Finds the map that a disk stands for, and leaves its root as the only open one.
+pub fn read_back<D: Disk, A: Allocator + Copy>(
+    alloc: A,
+    disk: &mut D,
+) -> Result<Opened<A>, OpenCause>
+    requires { 1024 ≤ D.extent disk.old }
+    ensures extent { D.extent disk.new ≡ D.extent disk.old }
+    ensures works { OnOk result (D.failures disk.new ≡ D.failures disk.old) }
+    ensures later { D.failures disk.old ≤ D.failures disk.new }
+    ensures device { IsErrOf result OpenCause.Device → HasFailed (D.failures disk.old) (D.failures disk.new) }
+    ensures limit { IfOk result (λ o. (4 ≤ o.limit) × (o.limit ≤ 480) × (512 * (2 + 2 * o.limit) ≤ D.extent disk.old)) }
+    ensures stood { D.honest → IfOk result (λ o. Stands (D.state disk.old).bytes o.limit o.items) }
+    ensures refused { D.honest → IfErr result (IsRefusal (D.state disk.old).bytes) }
+    ensures untouched { D.honest → IfErr result (λ cause. cause ≢ OpenCause.Device → (D.state disk.new).bytes ≡ (D.state disk.old).bytes) }
+    ensures kept { D.honest → IfOk result (λ o. IsKept (D.state disk.new) o.root o.limit o.number o.items) }
+    ensures left { D.honest → (x : List ℕ) → Left (D.state disk.new) x → IsOldOrSame (D.state disk.old) x }
+    ensures time { D.honest → D.tells → LeavesOnly D.moment D.left_since disk.old disk.new (IsOldOrSame (D.state disk.old)) }
+{
+    let picked = find(disk)?;
+    let Held { limit, items } = load(alloc, disk, picked.root)?;
+    settle(disk, &picked)?;
+    Ok(Opened {
+        root: picked.root,
+        limit,
+        number: picked.number,
+        items,
+    })
+}
+
 // Closes the gate of the root that doesn't count, where it is open. A gate that is closed is left alone: while its byte is
 // written a power loss might leave it open, over a root with a higher number.
 fn settle<D: Disk>(disk: &mut D, picked: &Picked) -> Result<(), DiskFault>
@@ -39,32 +68,4 @@ fn settle<D: Disk>(disk: &mut D, picked: &Picked) -> Result<(), DiskFault>
         set_gate(disk, picked.root.other(), CLOSED)?;
     }
     Ok(())
-}
-
-/// Finds the map that a disk stands for, and leaves its root as the only open one.
-pub fn read_back<D: Disk, A: Allocator + Copy>(
-    alloc: A,
-    disk: &mut D,
-) -> Result<Opened<A>, OpenCause>
-    requires { 1024 ≤ D.extent disk.old }
-    ensures extent { D.extent disk.new ≡ D.extent disk.old }
-    ensures works { OnOk result (D.failures disk.new ≡ D.failures disk.old) }
-    ensures later { D.failures disk.old ≤ D.failures disk.new }
-    ensures device { IsErrOf result OpenCause.Device → HasFailed (D.failures disk.old) (D.failures disk.new) }
-    ensures limit { IfOk result (λ o. (4 ≤ o.limit) × (o.limit ≤ 480) × (512 * (2 + 2 * o.limit) ≤ D.extent disk.old)) }
-    ensures stood { D.honest → IfOk result (λ o. Stands (D.state disk.old).bytes o.limit o.items) }
-    ensures refused { D.honest → IfErr result (IsRefusal (D.state disk.old).bytes) }
-    ensures kept { D.honest → IfOk result (λ o. IsKept (D.state disk.new) o.root o.limit o.number o.items) }
-    ensures left { D.honest → (x : List ℕ) → Left (D.state disk.new) x → IsOldOrSame (D.state disk.old) x }
-    ensures time { D.honest → D.tells → LeavesOnly D.moment D.left_since disk.old disk.new (IsOldOrSame (D.state disk.old)) }
-{
-    let picked = find(disk)?;
-    let Held { limit, items } = load(alloc, disk, picked.root)?;
-    settle(disk, &picked)?;
-    Ok(Opened {
-        root: picked.root,
-        limit,
-        number: picked.number,
-        items,
-    })
 }

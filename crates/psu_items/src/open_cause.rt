@@ -1,4 +1,4 @@
-// Why a disk isn't opened.
+//! Why a disk isn't opened.
 ghost use Rattle.std.specs.Prelude.{◌≡◌};
 ghost use Rattle.psu_items.specs.declared.open_cause.OpenCause.TheVariants.{Device, Memory};
 

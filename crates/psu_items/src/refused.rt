@@ -1,4 +1,4 @@
-// A disk that isn't opened.
+//! A disk that isn't opened.
 
 use crate::OpenCause;
 

@@ -1,4 +1,4 @@
-// The commit rule: the root and the area that don't count are written, and then the gates move.
+//! The commit rule: the root and the area that don't count are written, and then the gates move.
 ghost use Rattle.std.specs.Prelude.{◌≡◌, ◌+◌, ◌*◌, ◌<◌, ◌≤◌, ◌^◌, List, ℕ, length, OnOk};
 ghost use Rattle.psu_disk.specs.Disk.{Left, LeavesOnly, HasCause};
 ghost use Rattle.psu_items.specs.Map.{Item};

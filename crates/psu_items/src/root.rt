@@ -1,4 +1,4 @@
-// Where the two roots lie.
+//! Where the two roots lie.
 ghost use Rattle.std.specs.Prelude.{◌≡◌, ◌<◌, ◌^◌};
 ghost use Rattle.psu_items.specs.Image.{other, gate_at, area_at};
 

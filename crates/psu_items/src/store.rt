@@ -1,7 +1,7 @@
-// The store at rest: a map on a disk.
-ghost use Rattle.std.specs.Prelude.{◌≡◌, ◌+◌, ◌*◌, ◌≤◌, [], List, ℕ, OnOk, IfOk, IfErr};
-ghost use Rattle.psu_disk.specs.Disk.{LeavesOnly, HasCause, HasFailed};
-ghost use Rattle.psu_items.specs.Image.{EachStands, Stands, IsRefusal};
+//! The store at rest: a map on a disk.
+ghost use Rattle.std.specs.Prelude.{◌≡◌, ◌≢◌, ◌+◌, ◌*◌, ◌≤◌, [], List, ℕ, OnOk, IfOk, IfErr};
+ghost use Rattle.psu_disk.specs.Disk.{Left, LeavesOnly, HasCause, HasFailed};
+ghost use Rattle.psu_items.specs.Image.{counting, number_in, EachStands, Stands, IsRefusal};
 ghost use Rattle.psu_items.specs.Map.{Item};
 ghost use Rattle.psu_items.specs.Resting.{IsKept};
 ghost use Rattle.psu_items.specs.Single.{IsKept-IsProp};
@@ -28,22 +28,6 @@ pub struct Store<D: Disk, A: Allocator + Copy> {
     ghost limit_most: { limit ≤ 480 },
     ghost room: { 512 * (2 + 2 * limit) ≤ D.extent disk },
     ghost kept: { D.honest → IsKept (D.state disk) root limit number items } by { Prim.hlevel (props, IsKept-IsProp) },
-}
-
-// Makes the first root the only one, over an empty area.
-fn lay_out<D: Disk>(disk: &mut D, limit: u16) -> Result<(), DiskFault>
-    requires limit_least { 4 ≤ limit }
-    requires limit_most { limit ≤ 480 }
-    requires room { 512 * (2 + 2 * limit) ≤ D.extent disk.old }
-    ensures extent { D.extent disk.new ≡ D.extent disk.old }
-    ensures cause { HasCause (D.failures disk.old) (D.failures disk.new) result }
-    ensures kept { D.honest → OnOk result (IsKept (D.state disk.new) First limit 1 []) }
-{
-    set_gate(disk, Root::First, CLOSED)?;
-    set_gate(disk, Root::Second, CLOSED)?;
-    stage(disk, Root::First, limit, 1, &[])?;
-    set_gate(disk, Root::First, OPEN)?;
-    Ok(())
 }
 
 impl<D: Disk, A: Allocator + Copy> Store<D, A> {
@@ -81,6 +65,7 @@ impl<D: Disk, A: Allocator + Copy> Store<D, A> {
     pub fn open(alloc: A, mut disk: D) -> Result<Store<D, A>, Refused<D>>
         ensures stood { D.honest → IfOk result (λ store. Stands (D.state disk).bytes store.limit store.items) }
         ensures refused { D.honest → IfErr result (λ e. IsRefusal (D.state disk).bytes e.cause) }
+        ensures untouched { D.honest → IfErr result (λ e. e.cause ≢ Device → (D.state e.disk).bytes ≡ (D.state disk).bytes) }
         ensures extent { D.extent (opened_disk result) ≡ D.extent disk }
         ensures works { IfOk result (λ store. D.failures store.disk ≡ D.failures disk) }
         ensures later { D.failures disk ≤ D.failures (opened_disk result) }
@@ -138,7 +123,8 @@ impl<D: Disk, A: Allocator + Copy> Store<D, A> {
 
     /// The number of the root that counts, which rises by 1 with each commit.
     pub fn number(&self) -> u64
-        ensures { result ≡ self.now.number }
+        ensures value { result ≡ self.now.number }
+        ensures stands { D.honest → (image : List ℕ) → Left (D.state self.now.disk) image → number_in (counting image) image ≡ result }
     {
         self.number
     }
@@ -150,4 +136,20 @@ impl<D: Disk, A: Allocator + Copy> Store<D, A> {
     {
         self.disk
     }
+}
+
+// Makes the first root the only one, over an empty area.
+fn lay_out<D: Disk>(disk: &mut D, limit: u16) -> Result<(), DiskFault>
+    requires limit_least { 4 ≤ limit }
+    requires limit_most { limit ≤ 480 }
+    requires room { 512 * (2 + 2 * limit) ≤ D.extent disk.old }
+    ensures extent { D.extent disk.new ≡ D.extent disk.old }
+    ensures cause { HasCause (D.failures disk.old) (D.failures disk.new) result }
+    ensures kept { D.honest → OnOk result (IsKept (D.state disk.new) First limit 1 []) }
+{
+    set_gate(disk, Root::First, CLOSED)?;
+    set_gate(disk, Root::Second, CLOSED)?;
+    stage(disk, Root::First, limit, 1, &[])?;
+    set_gate(disk, Root::First, OPEN)?;
+    Ok(())
 }

@@ -1,6 +1,5 @@
-use Rattle.std.proofs.Common.{◌≡◌, ◌≤◌, List, ℕ, length, arith, subst, rules, inl}
+use Rattle.std.proofs.Common.{◌≤◌, List, ℕ, length, arith, subst}
 use Rattle.std.proofs.lemmas.Result.{err_from_is_err_and}
-use Rattle.psu_disk.specs.Disk.{Left}
 use Rattle.psu_items.specs.Finding.{HoldsNone}
 use Rattle.psu_items.proofs.Settling.{picked_counts, unpicked, unheld}
 use Rattle.psu_items.proofs.Opening.{only_loaded, picked_loaded, holds_loaded, same_old, run_settled, stood}

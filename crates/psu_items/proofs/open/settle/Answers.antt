@@ -1,9 +1,9 @@
-use Rattle.std.proofs.Common.{◌≡◌, ◌≤◌, true, false, List, ℕ, [], ◌∷◌, length, arith, subst, rules}
+use Rattle.std.proofs.Common.{◌≤◌, List, ℕ, [], ◌∷◌, length, arith, subst}
 use Rattle.psu_disk.specs.Disk.{Left, Only, Holds, SameBut, LeavesOnly}
 use Rattle.psu_disk.specs.Ranges.{reads_left}
 use Rattle.psu_items.specs.declared.root.Root.{Root}
-use Rattle.psu_items.specs.Image.{other, gate_at}
-use Rattle.psu_items.proofs.Settling.{kept_still, left_still, run_still, left_closing, run_closing, kept_closing}
+use Rattle.psu_items.specs.Image.{gate_at}
+use Rattle.psu_items.proofs.Settling.{kept_still, run_still, left_closing, run_closing, kept_closing}
 use Rattle.psu_items.proofs.open.settle.Goals as goal
 
 pub returns-in_err-set_gate-clause-left : goal.returns-in_err-set_gate-clause-left

@@ -1,4 +1,4 @@
-use Rattle.std.proofs.Common.{◌≡◌, arith}
+use Rattle.std.proofs.Common.{arith}
 use Rattle.psu_items.specs.Batch.{changed}
 use Rattle.psu_items.proofs.Recovering.{each_either}
 use Rattle.psu_items.proofs.broken.Broken.reopen.Goals as goal

@@ -68,7 +68,7 @@ returns-in-Ok-replace-clause-left_stored g c = λ h.
     kept_stands (d.state c.replace.new.disk) (other s.root) s.limit (s.number + 1) target (c.in-Ok-replace.ensures.kept h s.items target (s.kept h) spells)
 
 pub returns-in-Err-clause-broken : goal.returns-in-Err-clause-broken
-returns-in-Err-clause-broken g c = record { before = refl; batch_is = refl; limit = refl; failures = c.in-Err.ensures.cause.cause refl }
+returns-in-Err-clause-broken g c = record { before = refl; batch_is = refl; limit = refl; cause = refl; failures = c.in-Err.ensures.cause.cause refl }
 
 pub returns-in-Err-clause-left_broken : goal.returns-in-Err-clause-left_broken
 returns-in-Err-clause-left_broken g c = λ h.

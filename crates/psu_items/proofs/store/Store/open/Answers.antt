@@ -1,4 +1,3 @@
-use Rattle.std.proofs.Common.{◌≡◌, length, sym, arith}
 use Rattle.psu_disk.specs.Moments.{weaken}
 use Rattle.psu_disk.specs.Ranges.{reads_left}
 use Rattle.psu_items.specs.Finding.{IsOldOrSame}

@@ -1,0 +1,28 @@
+use Rattle.std.proofs.Common.{◌∙◌, take, drop, sym, ap}
+use Rattle.psu_outputs.proofs.Four.{parts}
+use Rattle.psu_outputs.proofs.settings.Settings.of_bytes.Goals as goal
+
+pub returns-then-bytes-ne28-clause-none : goal.returns-then-bytes-ne28-clause-none
+returns-then-bytes-ne28-clause-none c = λ outputs are is. c.if-bytes-ne28.true (parts outputs c.args.bytes.now are is).size
+
+pub returns-in_default-clause-none : goal.returns-in_default-clause-none
+returns-in_default-clause-none c = λ outputs are is.
+    let p = parts outputs c.args.bytes.now are is in
+    c.in_default.ensures.none p.a p.allowed.0 (p.first ∙ sym c.split_at.ensures.front)
+
+pub returns-in_default-of_bytes-clause-none : goal.returns-in_default-of_bytes-clause-none
+returns-in_default-of_bytes-clause-none c = λ outputs are is.
+    let p = parts outputs c.args.bytes.now are is in
+    c.in_default-of_bytes.ensures.none p.b p.allowed.1 (p.second ∙ sym (c.split_at-2.ensures.front ∙ ap (take 7) c.split_at.ensures.back))
+
+pub returns-in_default-of_bytes-2-clause-none : goal.returns-in_default-of_bytes-2-clause-none
+returns-in_default-of_bytes-2-clause-none c = λ outputs are is.
+    let p = parts outputs c.args.bytes.now are is in
+    c.in_default-of_bytes-2.ensures.none p.c p.allowed.2
+    (p.third ∙ sym (c.split_at-3.ensures.front ∙ ap (take 7) (c.split_at-2.ensures.back ∙ ap (drop 7) c.split_at.ensures.back)))
+
+pub returns-in_default-of_bytes-3-clause-none : goal.returns-in_default-of_bytes-3-clause-none
+returns-in_default-of_bytes-3-clause-none c = λ outputs are is.
+    let p = parts outputs c.args.bytes.now are is in
+    c.in_default-of_bytes-3.ensures.none p.d p.allowed.3
+    (p.fourth ∙ sym (c.split_at-3.ensures.back ∙ ap (drop 7) (c.split_at-2.ensures.back ∙ ap (drop 7) c.split_at.ensures.back)))

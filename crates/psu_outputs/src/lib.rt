@@ -1,0 +1,21 @@
+//! The four outputs: what is set, what a resistor on each makes of it, and the protection that trips.
+//!
+//! Settings are those of SCPI-1999 (volume 2, SOURce and OUTPut); the electrical rules are this project's profile.
+#![tactic(auto)]
+
+mod measured;
+mod output;
+mod output_settings;
+mod outputs;
+mod quantities;
+mod setting;
+mod settings;
+mod supply;
+
+pub use measured::Measured;
+pub use output::Output;
+pub use output_settings::OutputSettings;
+pub use outputs::Outputs;
+pub use quantities::{Milliamperes, Milliohms, Millivolts};
+pub use setting::Setting;
+pub use settings::Settings;

@@ -1,0 +1,146 @@
+// The four outputs with what is connected to them.
+ghost use Rattle.std.specs.Prelude.{◌≡◌, OnOk, IfErr, false, true, replicate, if◌then◌else◌};
+ghost use Rattle.std.specs.List.{list_any};
+ghost use Rattle.psu_outputs.specs.declared.supply.Supply.{Supply as Each};
+ghost use Rattle.psu_outputs.specs.Settings.{measured};
+ghost use Rattle.psu_outputs.specs.Outputs.{reset_supply, supply_of, with_supply, all_settings, any_conflicts, with_all, with_load, without_trip, is_load, is_in_limit, conditions};
+ghost use Rattle.psu_lex.specs.declared.scpi_error.ScpiError.TheVariants.{DataOutOfRange, SettingsConflict};
+
+use crate::supply::Supply;
+use crate::{Measured, Milliohms, Output, Settings};
+use psu_lex::ScpiError;
+use std::marker::Model;
+
+/// The four outputs: settings, loads and trips. No call takes memory.
+///
+/// After each change an output whose protection is on and whose measured voltage is above its level trips: its state
+/// becomes off, and it stays tripped until it is cleared.
+#[derive(Drop)]
+pub struct Outputs {
+    supplies: [Supply; 4],
+}
+
+impl Model for Outputs {
+    ghost use Rattle.std.specs.Prelude.{List};
+    ghost use Rattle.psu_outputs.specs.declared.supply.Supply.{Supply};
+    ghost use Rattle.psu_outputs.specs.Outputs.{AreSupplies};
+
+    ghost Value = { List Supply };
+
+    ghost view = { λ o. o.supplies };
+
+    ghost invariant = { λ o. AreSupplies o.supplies };
+}
+
+impl Outputs {
+    /// The outputs at power-on: the settings of `*RST`, loads of 10 ohms, no trips.
+    pub fn new() -> Outputs
+        ensures { result ≡ replicate 4 reset_supply }
+    {
+        Outputs {
+            supplies: [Supply::RESET; 4],
+        }
+    }
+
+    /// What is set of the outputs.
+    pub fn get(&self) -> Settings
+        ensures { result ≡ all_settings self.now }
+    {
+        let [a, b, c, d] = self.supplies;
+        Settings::of_outputs([a.settings, b.settings, c.settings, d.settings])
+    }
+
+    /// Sets all that is set of the outputs; each may then trip. Settings that switch a tripped output on are refused, and
+    /// nothing has changed then.
+    pub fn set(&mut self, settings: Settings) -> Result<(), ScpiError>
+        ensures set { OnOk result ((any_conflicts self.old settings ≡ false) × (self.new ≡ with_all self.old settings)) }
+        ensures refused { IfErr result (λ error. (error ≡ SettingsConflict) × (any_conflicts self.old settings ≡ true) × (self.new ≡ self.old)) }
+    {
+        let [a, b, c, d] = self.supplies;
+        let [p, q, r, s] = settings.outputs();
+        if a.conflicts(p) || b.conflicts(q) || c.conflicts(r) || d.conflicts(s) {
+            return Err(ScpiError::SettingsConflict);
+        }
+        self.supplies = [
+            a.with_settings(p),
+            b.with_settings(q),
+            c.with_settings(r),
+            d.with_settings(s),
+        ];
+        Ok(())
+    }
+
+    /// What is measured at an output.
+    pub fn measure(&self, output: Output) -> Measured
+        ensures { let s = supply_of self.now output in result ≡ measured s.settings s.load.0 }
+    {
+        self.supplies[output.place()].measured()
+    }
+
+    /// Whether an output is tripped.
+    pub fn trip(&self, output: Output) -> bool
+        ensures { let s = supply_of self.now output in result ≡ s.tripped }
+    {
+        self.supplies[output.place()].tripped
+    }
+
+    /// Clears the trip of an output, which stays off.
+    pub fn clear(&mut self, output: Output)
+        ensures { self.new ≡ with_supply self.old output (without_trip (supply_of self.old output)) }
+    {
+        self.supplies[output.place()].tripped = false;
+    }
+
+    /// The load of an output.
+    pub fn load(&self, output: Output) -> Milliohms
+        ensures { let s = supply_of self.now output in result ≡ s.load }
+    {
+        self.supplies[output.place()].load
+    }
+
+    /// Connects a load of 1 to 10,000,000 milliohms; any other is refused, and nothing has changed then.
+    pub fn set_load(&mut self, output: Output, load: Milliohms) -> Result<(), ScpiError>
+        ensures set { OnOk result ((is_load load.0 ≡ true) × (self.new ≡ with_supply self.old output (with_load (supply_of self.old output) load.0))) }
+        ensures refused { IfErr result (λ error. (error ≡ DataOutOfRange) × (is_load load.0 ≡ false) × (self.new ≡ self.old)) }
+    {
+        if load.0 < 1 || load.0 > 10_000_000 {
+            return Err(ScpiError::DataOutOfRange);
+        }
+        let place = output.place();
+        self.supplies[place] = self.supplies[place].with_load(load);
+        Ok(())
+    }
+
+    /// The condition bits of QUEStionable: bit 0 where an output is tripped, bit 1 where one is in current limit.
+    pub fn conditions(&self) -> u16
+        ensures { result ≡ conditions self.now }
+    {
+        bit(self.is_tripped(), 1) + bit(self.is_in_limit(), 2)
+    }
+
+    // Whether an output is tripped.
+    fn is_tripped(&self) -> bool
+        ensures { result ≡ list_any (λ (s : Each). s.tripped) self.now }
+    {
+        self.supplies.iter().any(|supply| supply.tripped)
+    }
+
+    // Whether an output is in current limit.
+    fn is_in_limit(&self) -> bool
+        ensures { result ≡ list_any is_in_limit self.now }
+    {
+        for supply in &self.supplies {
+            if supply.measured().limited {
+                return true;
+            }
+        }
+        false
+    }
+}
+
+// A value where it is so, else 0.
+fn bit(on: bool, value: u16) -> u16
+    ensures { result ≡ (if on then value else 0) }
+{
+    if on { value } else { 0 }
+}

@@ -1,0 +1,34 @@
+// One thing that is set of an output.
+ghost use Rattle.std.specs.Prelude.{◌≡◌};
+ghost use Rattle.psu_outputs.specs.Settings.{is_in_range};
+
+use crate::{Milliamperes, Millivolts};
+
+/// One thing that is set of an output.
+#[derive(Clone, Copy, Debug, PartialEq, Eq)]
+pub enum Setting {
+    /// The voltage, 0 to 60,000 mV.
+    Voltage(Millivolts),
+    /// The current limit, 0 to 5,000 mA.
+    Current(Milliamperes),
+    /// The level of the overvoltage protection, 0 to 60,000 mV.
+    ProtectionLevel(Millivolts),
+    /// Whether the overvoltage protection is on.
+    Protection(bool),
+    /// Whether the output is on.
+    State(bool),
+}
+
+impl Setting {
+    // Whether it is within its range.
+    pub(crate) fn is_in_range(self) -> bool
+        ensures { result ≡ is_in_range self }
+    {
+        match self {
+            Setting::Voltage(voltage) => voltage.0 <= 60000,
+            Setting::Current(current) => current.0 <= 5000,
+            Setting::ProtectionLevel(level) => level.0 <= 60000,
+            Setting::Protection(_) | Setting::State(_) => true,
+        }
+    }
+}

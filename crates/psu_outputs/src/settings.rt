@@ -1,0 +1,125 @@
+// The settings of the four outputs.
+ghost use Rattle.std.specs.Prelude.{◌≡◌, OnOk, IfErr, IfSome, true, false, List, IfNone};
+ghost use Rattle.psu_outputs.specs.Settings.{reset, settings_of, is_in_range, after_set, AreSettings, bytes_of, is_allowed};
+ghost use Rattle.std.specs.List.{list_all};
+ghost use Rattle.psu_lex.specs.declared.scpi_error.ScpiError.TheVariants.{DataOutOfRange};
+ghost use Rattle.psu_outputs.specs.declared.output_settings.OutputSettings.{OutputSettings as Each};
+
+use crate::{Output, OutputSettings, Setting};
+use psu_lex::ScpiError;
+use std::marker::Model;
+
+/// The settings of the four outputs, as a register keeps them. Contracts see the list of the four.
+#[derive(Clone, Copy, Debug, PartialEq, Eq)]
+pub struct Settings {
+    outputs: [OutputSettings; 4],
+}
+
+impl Model for Settings {
+    ghost use Rattle.std.specs.Prelude.{List};
+    ghost use Rattle.psu_outputs.specs.declared.output_settings.OutputSettings.{OutputSettings};
+    ghost use Rattle.psu_outputs.specs.Settings.{AreSettings};
+
+    ghost Value = { List OutputSettings };
+
+    ghost view = { λ s. s.outputs };
+
+    ghost invariant = { λ s. AreSettings s.outputs };
+
+    ghost inverse = { λ outputs. record { outputs = outputs } };
+}
+
+impl Settings {
+    /// The settings of `*RST`: 0 V, 0 A, protection level 60 V, protection off, output off.
+    pub fn reset() -> Settings
+        ensures { result ≡ reset }
+    {
+        Settings {
+            outputs: [OutputSettings::RESET; 4],
+        }
+    }
+
+    /// What is set of an output.
+    pub fn get(&self, output: Output) -> OutputSettings
+        ensures { result ≡ settings_of self.now output }
+    {
+        self.outputs[output.place()]
+    }
+
+    /// Sets one thing of an output. It is refused where it is out of range, and then nothing changes.
+    pub fn set(&mut self, output: Output, setting: Setting) -> Result<(), ScpiError>
+        ensures set { OnOk result ((is_in_range setting ≡ true) × (self.new ≡ after_set self.old output setting)) }
+        ensures refused { IfErr result (λ error. (error ≡ DataOutOfRange) × (is_in_range setting ≡ false) × (self.new ≡ self.old)) }
+    {
+        if !setting.is_in_range() {
+            return Err(ScpiError::DataOutOfRange);
+        }
+        let place = output.place();
+        self.outputs[place] = self.outputs[place].with(setting);
+        Ok(())
+    }
+}
+
+impl Settings {
+    /// Its 28 bytes, seven for each output: voltage, current and protection level in two bytes each, the high one first,
+    /// then the flags (bit 0 protection on, bit 1 output on).
+    pub fn to_bytes(&self) -> [u8; 28]
+        ensures { result ≡ bytes_of self.now }
+    {
+        let [a, b, c, d] = self.outputs;
+        let [a0, a1, a2, a3, a4, a5, a6] = a.to_bytes();
+        let [b0, b1, b2, b3, b4, b5, b6] = b.to_bytes();
+        let [c0, c1, c2, c3, c4, c5, c6] = c.to_bytes();
+        let [d0, d1, d2, d3, d4, d5, d6] = d.to_bytes();
+        [
+            a0, a1, a2, a3, a4, a5, a6, b0, b1, b2, b3, b4, b5, b6, c0, c1, c2, c3, c4, c5, c6, d0,
+            d1, d2, d3, d4, d5, d6,
+        ]
+    }
+
+    /// The settings that 28 bytes are those of, each within its range; none for other bytes.
+    pub fn of_bytes(bytes: &[u8]) -> Option<Settings>
+        ensures found { IfSome result (λ settings. bytes_of settings ≡ bytes.now) }
+        ensures none { IfNone result ((outputs : List Each) → AreSettings outputs → bytes_of outputs ≡ bytes.now → ⊥) }
+    {
+        if bytes.len() != 28 {
+            return None;
+        }
+        let (a, rest) = bytes.split_at(7);
+        let (b, rest) = rest.split_at(7);
+        let (c, d) = rest.split_at(7);
+        let Some(a) = OutputSettings::of_bytes(a) else {
+            return None;
+        };
+        let Some(b) = OutputSettings::of_bytes(b) else {
+            return None;
+        };
+        let Some(c) = OutputSettings::of_bytes(c) else {
+            return None;
+        };
+        let Some(d) = OutputSettings::of_bytes(d) else {
+            return None;
+        };
+        Some(Settings {
+            outputs: [a, b, c, d],
+        })
+    }
+}
+
+impl Settings {
+    // The settings of four outputs.
+    pub(crate) fn of_outputs(outputs: [OutputSettings; 4]) -> Settings
+        requires { list_all is_allowed outputs ≡ true }
+        ensures { result ≡ outputs }
+    {
+        Settings { outputs }
+    }
+
+    // What is set of each output.
+    pub(crate) fn outputs(self) -> [OutputSettings; 4]
+        ensures value { result ≡ self }
+        ensures allowed { AreSettings result }
+    {
+        self.outputs
+    }
+}

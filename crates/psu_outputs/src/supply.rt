@@ -1,0 +1,71 @@
+// One output with what is connected to it.
+ghost use Rattle.std.specs.Prelude.{◌≡◌, ◌≤◌};
+ghost use Rattle.psu_outputs.specs.Settings.{measured};
+ghost use Rattle.psu_outputs.specs.Outputs.{checked, conflicts, with_load, with_settings};
+
+use crate::{Measured, Milliohms, OutputSettings, Setting};
+
+/// One output: its settings, the load connected to it, and whether it is tripped.
+#[derive(Clone, Copy, Debug, PartialEq, Eq)]
+pub struct Supply {
+    pub settings: OutputSettings,
+    pub load: Milliohms,
+    pub tripped: bool,
+}
+
+impl Supply {
+    /// As at power-on: the settings of `*RST`, 10 ohms, not tripped.
+    pub const RESET: Supply = Supply {
+        settings: OutputSettings::RESET,
+        load: Milliohms(10000),
+        tripped: false,
+    };
+
+    /// What is measured.
+    pub fn measured(&self) -> Measured
+        requires { 1 ≤ self.now.load.0 }
+        ensures { result ≡ measured self.now.settings self.now.load.0 }
+    {
+        self.settings.measured(self.load)
+    }
+
+    // Tripped and off, where the measured voltage is above the level of a protection that is on.
+    fn checked(self) -> Supply
+        requires { 1 ≤ self.load.0 }
+        ensures { result ≡ checked self }
+    {
+        let measured = self.measured();
+        if self.settings.protection && measured.voltage.0 > self.settings.level.0 {
+            Supply {
+                settings: self.settings.with(Setting::State(false)),
+                load: self.load,
+                tripped: true,
+            }
+        } else {
+            self
+        }
+    }
+
+    /// With another load, which may trip it.
+    pub fn with_load(self, load: Milliohms) -> Supply
+        requires { 1 ≤ load.0 }
+        ensures { result ≡ with_load self load.0 }
+    {
+        Supply { load, ..self }.checked()
+    }
+
+    /// Whether it is tripped and the settings switch it on.
+    pub fn conflicts(&self, settings: OutputSettings) -> bool
+        ensures { result ≡ conflicts self.now settings }
+    {
+        self.tripped && settings.on
+    }
+
+    /// With other settings, which may trip it.
+    pub fn with_settings(self, settings: OutputSettings) -> Supply
+        requires { 1 ≤ self.load.0 }
+        ensures { result ≡ with_settings self settings }
+    {
+        Supply { settings, ..self }.checked()
+    }
+}
