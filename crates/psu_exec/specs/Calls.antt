@@ -6,7 +6,8 @@ use Rattle.psu_items.specs.Batch.{Edit}
 use Rattle.psu_items.specs.declared.commit.UnstartedCause.{UnstartedCause}
 use Rattle.psu_items.specs.declared.commit.UnstartedCause.TheVariants as unstarted
 use Rattle.psu_exec.specs.Batch.{batch}
-use Rattle.psu_exec.specs.Device.{Reply, Done, Answer, Error, Parked, Flush, State, target, count_held, is_open, place_of, wait_of, with_error, with_registers, Step}
+use Rattle.psu_exec.specs.Device.{Reply, Done, Answer, Error, Parked, Flush, State, target, count_held, is_open, place_of, wait_of, with_registers, Step}
+use Rattle.psu_exec.specs.Registers.{with_error}
 use Rattle.psu_exec.specs.declared.registers.Registers.{Registers}
 use Rattle.psu_exec.specs.declared.condition.Condition.TheVariants.{Whole, Worn}
 use Rattle.psu_exec.specs.declared.wait.Wait.{Wait}

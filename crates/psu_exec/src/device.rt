@@ -1,7 +1,8 @@
 //! The one state, without its store.
 ghost use Rattle.std.specs.Prelude.{◌≡◌, true, IfOk, OnErr};
 ghost use Rattle.psu_exec.specs.Contents.{IsContents};
-ghost use Rattle.psu_exec.specs.Device.{State, first_request, is_open, power_on};
+ghost use Rattle.psu_exec.specs.Device.{State, is_open, power_on};
+ghost use Rattle.psu_exec.specs.Registers.{first_request};
 ghost use Rattle.psu_exec.specs.Calls.{Allows};
 ghost use Rattle.psu_exec.specs.Calls.Entry.{Opened};
 ghost use Rattle.psu_exec.specs.Consistent.{IsConsistent};
