@@ -2,8 +2,8 @@
 ghost use Rattle.std.specs.Prelude.{◌≡◌, ◌∷◌, [], ℕ, IfOk, IfSome, IfNone, bit_and};
 ghost use Rattle.psu_exec.specs.Contents.{apply, items_of, IsContents};
 
-use crate::registers::without_mss;
 use crate::Change;
+use crate::registers::without_mss;
 use psu_items::{Items, Pair};
 use std::alloc::{AllocError, Allocator};
 

@@ -3,13 +3,16 @@
 use psu_disk::Disk;
 use psu_items::Store;
 use std::alloc::Allocator;
+use thiserror::Error;
 
 /// Why there is no power-on.
-#[derive(Clone, Copy, Debug, PartialEq, Eq)]
+#[derive(Clone, Copy, Debug, PartialEq, Eq, Error)]
 pub enum PowerCause {
     /// The items of the store are those of no contents.
+    #[error("bad items")]
     BadItems,
     /// Memory is refused.
+    #[error("out of memory")]
     Memory,
 }
 

@@ -1,7 +1,7 @@
 // The registers of IEEE 488.2 status reporting.
 ghost use Rattle.std.specs.Prelude.{◌≡◌};
 ghost use Rattle.psu_exec.specs.Contents.{without_mss};
-ghost use Rattle.psu_exec.specs.Device.{effect, event_summary, status_byte, with_error, first_request, registers_at_power_on};
+ghost use Rattle.psu_exec.specs.Registers.{effect, event_summary, status_byte, with_error, first_request, registers_at_power_on};
 
 use crate::{Command, ScpiError};
 
@@ -46,11 +46,7 @@ impl Registers {
                 ese: 0,
                 esr: PON,
             },
-            Some((sre, ese)) => Registers {
-                sre,
-                ese,
-                esr: PON,
-            },
+            Some((sre, ese)) => Registers { sre, ese, esr: PON },
         }
     }
 
