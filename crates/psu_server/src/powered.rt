@@ -1,4 +1,4 @@
-//! The device that is powered on.
+// The device that is powered on.
 ghost use Rattle.std.specs.Prelude.{◌≡◌, IfOk, true, false};
 ghost use Rattle.psu_items.specs.Image.{Stands, EachStands};
 ghost use Rattle.psu_exec.specs.Contents.{items_of};
