@@ -6,3 +6,4 @@ pub mod Feeds
 pub mod Readings
 pub mod Owning
 pub mod Flushed
+pub mod Starting

@@ -282,11 +282,11 @@ run_whole (Some input) u v image left contents limit s start a b (last, p, kept)
     )
 
 -- a front of it
-pub run_front : (from u v : Option (List ℕ)) (image : List ℕ) (contents : Contents) (limit : ℕ) (s : State)
+pub run_front : (from u v : Option (List ℕ)) (image : List ℕ) (Q : Type 0) (contents : Contents) (limit : ℕ) (s : State)
     → IfSome from (λ input. Begins (messages input) s u v) → s ≡ started limit contents → Stands image limit (items_of contents)
-    → IfSome from (λ input. Appends u v [] ⊎ ((size : ℕ) × (found : Contents) × Stands image size (items_of found) × WritesFirst found size input u v))
-run_front None u v image contents limit s p is holds = tt
-run_front (Some input) u v image contents limit s p is holds = inr (
+    → IfSome from (λ input. Q ⊎ ((size : ℕ) × (found : Contents) × Stands image size (items_of found) × WritesFirst found size input u v))
+run_front None u v image Q contents limit s p is holds = tt
+run_front (Some input) u v image Q contents limit s p is holds = inr (
   limit,
   contents,
   holds,
@@ -305,10 +305,10 @@ run_front (Some input) u v image contents limit s p is holds = inr (
   ),
 )
 
--- nothing is written
-pub run_silent : (from w : Option (List ℕ)) (P : List ℕ → Type 0) → IfSome from (λ input. Appends w w [] ⊎ P input)
-run_silent None w P = tt
-run_silent (Some input) w P = inl (Appends-nil w)
+-- the disk didn't power on, and nothing was written
+pub run_refused : (from w : Option (List ℕ)) (Q : Type 0) (P : List ℕ → Type 0) → Q → IfSome from (λ input. (Q × Appends w w []) ⊎ P input)
+run_refused None w Q P q = tt
+run_refused (Some input) w Q P q = inl (q, Appends-nil w)
 
 -- all of the input was taken
 pub read_all : (most : ℕ) (seen : List ℕ) (from to next : Option (List ℕ)) → Consumes from to seen → Consumes to next [] → IsAtEnd next → length seen ≤ most
