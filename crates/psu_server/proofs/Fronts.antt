@@ -1,5 +1,5 @@
 -- Fronts of a text that is written.
-use Rattle.std.proofs.Common.{◌≡◌, ℕ, ◌+◌, ◌≤◌, List, [], ◌++◌, length, take, drop, sym, ap, ◌∙◌, subst, arith, Option, ◌-◌, Result, Ok, Err, OnErr}
+use Rattle.std.proofs.Common.{◌≡◌, ℕ, ◌+◌, ◌≤◌, List, [], ◌++◌, length, take, drop, sym, ap, ◌∙◌, subst, arith, Option, ◌-◌, Result, Ok, Err, OnErr, IfErr}
 use Rattle.std.proofs.lemmas.Grind.{common_steps}
 use Rattle.std.proofs.lemmas.List.{append-nil}
 use Rattle.std.proofs.Math.Seq.{take-add, take-append-add, take-append_seam}
@@ -37,3 +37,7 @@ on_err (Err e) P p = p
 
 pub consumes_none : (n : ℕ) (s : List ℕ) (b c : Option (List ℕ)) → n ≡ 0 → Consumes b c (take n s) → Consumes b c []
 consumes_none n s b c e p = subst (λ (k : ℕ). Consumes b c (take k s)) e p
+
+pub if_err : {A E : Type 0} (r : Result A E) (P : E → Type 0) → ((e : E) → P e) → IfErr r P
+if_err (Ok x) P p = tt
+if_err (Err e) P p = p e

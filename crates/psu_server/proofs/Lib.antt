@@ -1,8 +1,9 @@
+pub mod Alone
 pub mod Within
 pub mod Cuts
 pub mod Fronts
 pub mod Feeds
 pub mod Readings
 pub mod Owning
-pub mod Alone
 pub mod Flushed
+pub mod Starting

@@ -1,7 +1,8 @@
 -- The pieces that a run reads, one after another.
-use Rattle.std.proofs.Common.{◌≡◌, ◌⊎◌, ℕ, ◌+◌, ◌-◌, ◌≤◌, Bool, true, false, List, [], ◌∷◌, ◌++◌, take, drop, refl, sym, ap, ◌∙◌, subst, arith, append_assoc, Some, None, Option, IfSome, inl, inr}
+use Rattle.std.proofs.Common.{◌≡◌, ◌⊎◌, ℕ, ◌+◌, ◌-◌, ◌≤◌, Bool, true, false, List, [], ◌∷◌, ◌++◌, length, take, drop, refl, sym, ap, ◌∙◌, subst, arith, append_assoc, Some, None, Option, IfSome, inl, inr}
 use Rattle.std.proofs.lemmas.List.{append-nil}
 use Rattle.std.proofs.Math.Seq.{take-add}
+use Rattle.std.proofs.lemmas.Grind.{common_steps}
 use Rattle.std.proofs.KnownBytes.{Appends-trans, Appends-nil, Consumes-trans}
 use Rattle.std.specs.Io.KnownBytes.{Appends, Consumes, IsAtEnd}
 use Rattle.std.specs.Io.{StartsWith}
@@ -20,6 +21,7 @@ use Rattle.psu_server.proofs.Within.{within_as, within_here, within_then, within
 use Rattle.psu_server.proofs.Fronts.{starts_after, starts_whole}
 use Rattle.psu_server.proofs.Cuts.{coming_last, coming_none}
 use Rattle.psu_server.proofs.Feeds.{ToldLine}
+use Rattle.psu_server.proofs.Alone.{script_is_alone}
 
 -- nothing is written
 pub begins_here : (due : List Message) (s : State) (w : Option (List ℕ)) → Begins due s w w
@@ -44,7 +46,7 @@ begins_after due done more text s mid u v w is runs p b = record {
 abbrev pub Ran : (List ℕ → List Message) → (List ℕ → List Message) → State → State → ℕ → ℕ → Option (List ℕ) → Option (List ℕ) → Option (List ℕ) → Option (List ℕ) → Type 0
 Ran f mid s s1 a b from to old new = (seen : List ℕ) × Consumes from to seen × Answered f seen mid s s1 a b old new
 
-consumes_nothing : (w : Option (List ℕ)) → Consumes w w []
+pub consumes_nothing : (w : Option (List ℕ)) → Consumes w w []
 consumes_nothing None = tt
 consumes_nothing (Some x) = refl
 
@@ -261,27 +263,30 @@ pub run_whole : (from u v : Option (List ℕ)) (image : List ℕ) (left : DiskSt
     → IfSome from (λ input. (size : ℕ) × (found : Contents) × Stands image size (items_of found) × WritesRun found size input a b u v left)
 run_whole None u v image left contents limit s start a b p is holds same = tt
 run_whole (Some input) u v image left contents limit s start a b (last, p, kept) is holds same =
-    let went = subst (λ (n : ℕ). Within n b (λ can. Runs can s (messages input) p.0 last)) same p.2 in (
+    let went = subst (λ (n : ℕ). Within n b (λ can. Runs can s (messages input) p.0 last)) same p.2 in
+    let runs : Runs went.0 (started limit contents) (messages input) p.0 last
+    = subst (λ (z : State). Runs went.0 z (messages input) p.0 last) is (went.3 went.0 (covers_itself went.0)) in (
       limit,
       contents,
       holds,
-      (
-        went.0,
-        p.0,
-        last,
-        went.2,
-        p.1,
-        subst (λ (z : State). Runs went.0 z (messages input) p.0 last) is (went.3 went.0 (covers_itself went.0)),
-        kept,
-      ),
+      record {
+        gone = went.0;
+        failed = went.2;
+        text = p.0;
+        written = p.1;
+        last = last;
+        runs = runs;
+        calm = λ e. script_is_alone contents limit input p.0 (last, subst (λ (m : Mishaps). Runs m (started limit contents) (messages input) p.0 last) e runs);
+        kept = kept;
+      },
     )
 
 -- a front of it
-pub run_front : (from u v : Option (List ℕ)) (image : List ℕ) (contents : Contents) (limit : ℕ) (s : State)
+pub run_front : (from u v : Option (List ℕ)) (image : List ℕ) (Q : Type 0) (contents : Contents) (limit : ℕ) (s : State)
     → IfSome from (λ input. Begins (messages input) s u v) → s ≡ started limit contents → Stands image limit (items_of contents)
-    → IfSome from (λ input. Appends u v [] ⊎ ((size : ℕ) × (found : Contents) × Stands image size (items_of found) × WritesFirst found size input u v))
-run_front None u v image contents limit s p is holds = tt
-run_front (Some input) u v image contents limit s p is holds = inr (
+    → IfSome from (λ input. Q ⊎ ((size : ℕ) × (found : Contents) × Stands image size (items_of found) × WritesFirst found size input u v))
+run_front None u v image Q contents limit s p is holds = tt
+run_front (Some input) u v image Q contents limit s p is holds = inr (
   limit,
   contents,
   holds,
@@ -300,7 +305,20 @@ run_front (Some input) u v image contents limit s p is holds = inr (
   ),
 )
 
--- nothing is written
-pub run_silent : (from w : Option (List ℕ)) (P : List ℕ → Type 0) → IfSome from (λ input. Appends w w [] ⊎ P input)
-run_silent None w P = tt
-run_silent (Some input) w P = inl (Appends-nil w)
+-- the disk didn't power on, and nothing was written
+pub run_refused : (from w : Option (List ℕ)) (Q : Type 0) (P : List ℕ → Type 0) → Q → IfSome from (λ input. (Q × Appends w w []) ⊎ P input)
+run_refused None w Q P q = tt
+run_refused (Some input) w Q P q = inl (q, Appends-nil w)
+
+-- all of the input was taken
+pub read_all : (most : ℕ) (seen : List ℕ) (from to next : Option (List ℕ)) → Consumes from to seen → Consumes to next [] → IsAtEnd next → length seen ≤ most
+    → IfSome from (λ input. length input ≤ most)
+read_all most seen None to next p q e le = tt
+read_all most seen (Some x) None next p q e le = absurd p
+read_all most seen (Some x) (Some y) None p q e le = absurd q
+read_all most seen (Some x) (Some y) (Some z) p q e le =
+    let is : x ≡ seen = p ∙ ap (λ (l : List ℕ). seen ++ l) (q ∙ e) ∙ append-nil seen in
+    subst (λ (l : List ℕ). length l ≤ most) (sym is) le
+
+pub taken_more : (seen buf : List ℕ) (count a b c : ℕ) → length seen ≡ a → count ≤ length buf → b ≡ a → c ≡ b + count → length (seen ++ take count buf) ≡ c
+taken_more seen buf count a b c taken bound same more = grind (arith, common_steps, taken, bound, same, more)

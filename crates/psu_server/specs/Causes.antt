@@ -1,11 +1,17 @@
 -- The cause of a run's end where the disk does not power on.
+use Rattle.std.specs.Prelude.{◌≡◌, ℕ, List, ⊤}
+use Rattle.psu_disk.specs.Disk.{HasFailed}
+use Rattle.psu_items.specs.Map.{Item}
+use Rattle.psu_items.specs.Image.{Stands, HasNoRoot, HasBadRoot, HasOtherVersion}
+use Rattle.psu_exec.specs.Contents.{items_of, IsContents}
+use Rattle.psu_exec.specs.declared.contents.Contents.{Contents}
 use Rattle.psu_items.specs.declared.open_cause.OpenCause.{OpenCause}
 use Rattle.psu_items.specs.declared.open_cause.OpenCause.TheVariants as refused
 use Rattle.psu_exec.specs.declared.power_fault.PowerCause.{PowerCause}
 use Rattle.psu_exec.specs.declared.power_fault.PowerCause.TheVariants as power
 use Rattle.psu_server.specs.declared.start_cause.StartCause.TheVariants as start
 use Rattle.psu_server.specs.declared.run_cause.RunCause.{RunCause}
-use Rattle.psu_server.specs.declared.run_cause.RunCause.TheVariants.{Open, Memory}
+use Rattle.psu_server.specs.declared.run_cause.RunCause.TheVariants.{Read, Write, Open, Device, TooLong, Memory}
 
 abbrev pub cause_of_open : OpenCause → RunCause
 cause_of_open refused.Device = Open start.Device
@@ -17,3 +23,23 @@ cause_of_open refused.Memory = Memory
 abbrev pub cause_of_power : PowerCause → RunCause
 cause_of_power power.BadItems = Open start.BadItems
 cause_of_power power.Memory = Memory
+
+-- The image stands for the items of no contents.
+pub record HasBadItems (image : List ℕ) : Type 0 where
+  pub limit : ℕ
+  pub map : List Item
+  pub stands : Stands image limit map
+  pub none : (contents : Contents) → IsContents contents → items_of contents ≡ map → ⊥
+
+-- A disk with this image does not power on for this cause. A failed call and a want of memory say nothing of the image.
+abbrev pub NotStarted : List ℕ → ℕ → ℕ → RunCause → Type 0
+NotStarted image before now (Open start.Device) = HasFailed before now
+NotStarted image before now (Open start.NoRoot) = HasNoRoot image
+NotStarted image before now (Open start.BadRoot) = HasBadRoot image
+NotStarted image before now (Open start.BadVersion) = HasOtherVersion image
+NotStarted image before now (Open start.BadItems) = HasBadItems image
+NotStarted image before now Read = ⊥
+NotStarted image before now Write = ⊥
+NotStarted image before now Device = ⊥
+NotStarted image before now TooLong = ⊥
+NotStarted image before now Memory = ⊤

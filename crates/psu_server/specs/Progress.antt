@@ -10,8 +10,8 @@ use Rattle.psu_exec.specs.Device.{Reply, Later, State}
 use Rattle.psu_exec.specs.Calls.{Executed, Allows}
 use Rattle.psu_exec.specs.Contents.{items_of}
 use Rattle.psu_server.specs.Lines.{Message, messages}
-use Rattle.psu_server.specs.Script.{started}
-use Rattle.psu_server.specs.Runs.{Mishaps, Acts, Runs, MayFront, any}
+use Rattle.psu_server.specs.Script.{started, script}
+use Rattle.psu_server.specs.Runs.{Mishaps, Acts, Runs, MayFront, any, none}
 use Rattle.psu_server.specs.Within.{Within}
 
 -- a unit that was executed, or that comes later
@@ -56,13 +56,18 @@ pub record Begins (due : List Message) (s : State) (old_written new_written : Op
   pub appends : Appends old_written new_written front
   pub starts : StartsWith text front
 
--- The writer gained what may be written for the input, with what went wrong, and whatever a power loss leaves of the disk stands
--- for the contents that the run came to.
-abbrev pub WritesRun : Contents → ℕ → List ℕ → ℕ → ℕ → Option (List ℕ) → Option (List ℕ) → DiskState → Type 0
-WritesRun contents limit input old_count new_count old_written new_written disk =
-    (gone : Mishaps) × (text : List ℕ) × (last : State) × (gone.failed ≡ true → HasFailed old_count new_count)
-    × Appends old_written new_written text × Runs gone (started limit contents) (messages input) text last
-    × EachStands disk last.flush.limit (items_of last.flush.contents)
+-- A whole run: the writer gained a text that may be written for the input with what went wrong. A disk call went wrong only where
+-- the count of failures rose or stands at its last value; where nothing went wrong the text is the script. Whatever a power loss
+-- leaves of the disk stands for the contents that the run came to.
+pub record WritesRun (contents : Contents) (limit : ℕ) (input : List ℕ) (old_count new_count : ℕ) (old_written new_written : Option (List ℕ)) (disk : DiskState) : Type 0 where
+  pub gone : Mishaps
+  pub failed : gone.failed ≡ true → HasFailed old_count new_count
+  pub text : List ℕ
+  pub written : Appends old_written new_written text
+  pub last : State
+  pub runs : Runs gone (started limit contents) (messages input) text last
+  pub calm : gone ≡ none → text ≡ script contents limit input
+  pub kept : EachStands disk last.flush.limit (items_of last.flush.contents)
 
 -- the writer gained a front of what may be written
 abbrev pub WritesFirst : Contents → ℕ → List ℕ → Option (List ℕ) → Option (List ℕ) → Type 0

@@ -1,4 +1,4 @@
-//! The answers of a message, and its text.
+// The answers of a message, and its text.
 ghost use Rattle.std.specs.Prelude.{◌≡◌, ◌++◌, OnOk, OnErr};
 ghost use Rattle.psu_exec.specs.Shown.{outcome_of};
 ghost use Rattle.psu_server.specs.Script.{with_answer, line_text};

@@ -1,4 +1,4 @@
-//! The flush: jobs until there is none.
+// The flush: jobs until there is none.
 ghost use Rattle.std.specs.Prelude.{◌≡◌, IfOk, true};
 ghost use Rattle.psu_exec.specs.Jobs.{finished_of};
 ghost use Rattle.psu_server.specs.Failures.{failures_of};

@@ -1,4 +1,4 @@
-//! The line that has begun.
+// The line that has begun.
 ghost use Rattle.std.specs.Prelude.{◌≡◌, ◌≤◌, ◌++◌, [], List, ℕ, OnOk, true, false, length};
 ghost use Rattle.psu_server.specs.Lines.{has, coming, is_none_begun};
 

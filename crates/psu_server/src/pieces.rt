@@ -1,4 +1,4 @@
-//! The lines that end in a piece of the input.
+// The lines that end in a piece of the input.
 ghost use Rattle.std.specs.Prelude.{◌≡◌, ◌++◌, [], List, ℕ, OnOk, OnErr, IfOk, false};
 ghost use Rattle.std.specs.Str.{bytes_eq};
 ghost use Rattle.psu_server.specs.Failures.{failures_of};

@@ -1,5 +1,5 @@
-//! The device that is powered on.
-ghost use Rattle.std.specs.Prelude.{◌≡◌, IfOk, true, false};
+// The device that is powered on.
+ghost use Rattle.std.specs.Prelude.{◌≡◌, IfOk, IfErr, true, false};
 ghost use Rattle.psu_items.specs.Image.{Stands, EachStands};
 ghost use Rattle.psu_exec.specs.Contents.{items_of};
 ghost use Rattle.psu_exec.specs.Device.{is_open, is_whole};
@@ -7,6 +7,7 @@ ghost use Rattle.psu_exec.specs.Calls.{Allows};
 ghost use Rattle.psu_exec.specs.Calls.Entry.{Executed, Settled};
 ghost use Rattle.psu_exec.specs.Shown.{outcome_of};
 ghost use Rattle.psu_exec.specs.declared.condition.Condition.TheVariants.{Whole};
+ghost use Rattle.psu_server.specs.Causes.{NotStarted};
 ghost use Rattle.psu_server.specs.Failures.{failures_of};
 ghost use Rattle.psu_server.specs.Script.{started};
 
@@ -35,6 +36,7 @@ impl<D: Disk, A: Allocator + Copy> Powered<D, A> {
         ensures state { IfOk result (λ p. p.exec.device ≡ started p.exec.device.flush.limit p.exec.device.flush.contents) }
         ensures found { D.honest → IfOk result (λ p. Stands (D.state disk).bytes p.exec.device.flush.limit (items_of p.exec.device.flush.contents)) }
         ensures works { IfOk result (λ p. failures_of p.exec ≡ D.failures disk) }
+        ensures refused { D.honest → IfErr result (λ f. NotStarted (D.state disk).bytes (D.failures disk) (D.failures f.disk) f.cause) }
     {
         let store = match Store::open(alloc, disk) {
             Ok(store) => store,

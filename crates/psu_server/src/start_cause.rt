@@ -1,4 +1,4 @@
-//! Why a disk doesn't power on.
+// Why a disk doesn't power on.
 
 use thiserror::Error;
 

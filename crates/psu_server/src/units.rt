@@ -1,4 +1,4 @@
-//! The units of a message, with the flushes that they wait for.
+// The units of a message, with the flushes that they wait for.
 ghost use Rattle.std.specs.Prelude.{◌≡◌, ◌∷◌, [], IfOk};
 ghost use Rattle.psu_exec.specs.Device.{Reply};
 ghost use Rattle.psu_exec.specs.Shown.{outcome_of};

@@ -1,5 +1,5 @@
 use Rattle.psu_server.proofs.Alone.{script_is_alone}
-use Rattle.psu_server.proofs.law.script_alone.Goals as goal
+use Rattle.psu_server.proofs.law.script_is_the_only_text.Goals as goal
 
 pub returns : goal.returns
 returns c = script_is_alone
