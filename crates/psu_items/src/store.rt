@@ -1,7 +1,7 @@
 //! The store at rest: a map on a disk.
 ghost use Rattle.std.specs.Prelude.{◌≡◌, ◌≢◌, ◌+◌, ◌*◌, ◌≤◌, [], List, ℕ, OnOk, IfOk, IfErr};
 ghost use Rattle.psu_disk.specs.Disk.{Left, LeavesOnly, HasCause, HasFailed};
-ghost use Rattle.psu_items.specs.Image.{counting, number_in, EachStands, Stands, IsRefusal};
+ghost use Rattle.psu_items.specs.Image.{counting, number_in, version_in, EachStands, Stands, IsRefusal};
 ghost use Rattle.psu_items.specs.Map.{Item};
 ghost use Rattle.psu_items.specs.Resting.{IsKept};
 ghost use Rattle.psu_items.specs.Single.{IsKept-IsProp};
@@ -127,6 +127,14 @@ impl<D: Disk, A: Allocator + Copy> Store<D, A> {
         ensures stands { D.honest → (image : List ℕ) → Left (D.state self.now.disk) image → number_in (counting image) image ≡ result }
     {
         self.number
+    }
+
+    /// The version of the image's format.
+    pub fn version(&self) -> u16
+        ensures value { result ≡ 0 }
+        ensures stands { D.honest → (image : List ℕ) → Left (D.state self.now.disk) image → version_in (counting image) image ≡ result }
+    {
+        0
     }
 
     /// The disk, with the map on it.

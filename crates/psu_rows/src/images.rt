@@ -18,6 +18,17 @@ pub fn formatted(alloc: Global) -> Option<MemDisk<Global>> {
     }
 }
 
+/// A formatted image of 4 pages, the least there is.
+pub fn least(alloc: Global) -> Option<MemDisk<Global>> {
+    let Ok(disk) = MemDisk::new(alloc, 5_120) else {
+        return None;
+    };
+    match Store::format(alloc, disk, 4) {
+        Ok(store) => Some(store.into_disk()),
+        Err(_) => None,
+    }
+}
+
 /// What a run on a formatted image writes, where it ends without a fault.
 pub fn written(alloc: Global, input: &[u8]) -> Option<Vec<u8>> {
     let disk = formatted(alloc)?;

@@ -4,11 +4,17 @@
 #[cfg(test)]
 mod faults;
 #[cfg(test)]
+mod files;
+#[cfg(test)]
 mod images;
 #[cfg(test)]
 mod locks;
 #[cfg(test)]
+mod memory;
+#[cfg(test)]
 mod outputs;
+#[cfg(test)]
+mod reports;
 #[cfg(test)]
 mod rows;
 #[cfg(test)]

@@ -55,16 +55,12 @@ fn refusals_set_their_bit_alone(rt: HostRuntime) {
 fn a_line_that_is_too_long_is_one_error(rt: HostRuntime) {
     let mut input = Vec::new(rt.alloc());
     input.resize(65_537, b';').expect(&rt, "memory");
-    input
-        .extend_from_slice(b"\n*ESR?\n")
-        .expect(&rt, "memory");
+    input.extend_from_slice(b"\n*ESR?\n").expect(&rt, "memory");
     let got = written(rt.alloc(), input.as_slice()).expect(&rt, "the run ends well");
     assert_eq!(rt; got.as_slice(), b"144\n".as_slice());
     let mut input = Vec::new(rt.alloc());
     input.resize(65_536, b';').expect(&rt, "memory");
-    input
-        .extend_from_slice(b"\n*ESR?\n")
-        .expect(&rt, "memory");
+    input.extend_from_slice(b"\n*ESR?\n").expect(&rt, "memory");
     let got = written(rt.alloc(), input.as_slice()).expect(&rt, "the run ends well");
     assert_eq!(rt; got.as_slice(), b"128\n".as_slice());
 }

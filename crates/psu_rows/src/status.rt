@@ -30,7 +30,11 @@ fn the_first_service_request(rt: HostRuntime) {
         (Some((255, 255)), Some(96)),
     ];
     for (enables, want) in rows {
-        assert_eq!(rt; Status::power_on(enables).first_request(), want, "at {enables:?}");
+        assert_eq!(rt;
+            Status::power_on(enables).first_request(),
+            want,
+            "at {enables:?}"
+        );
     }
     let mut status = Status::power_on(Some((255, 128)));
     assert_eq!(rt; status.sre(), 191);
@@ -54,7 +58,10 @@ fn conditions_make_events(rt: HostRuntime) {
     status.set_group_filter(Group::Questionable, Filter::Positive, 0);
     status.set_group_filter(Group::Questionable, Filter::Negative, 65_535);
     status.set_group_filter(Group::Questionable, Filter::Enable, 1);
-    assert_eq!(rt; status.group_filter(Group::Questionable, Filter::Negative), 32_767);
+    assert_eq!(rt;
+        status.group_filter(Group::Questionable, Filter::Negative),
+        32_767
+    );
     status.condition(3);
     assert_eq!(rt; status.status_byte(false), 0);
     status.condition(2);

@@ -20,12 +20,13 @@ pub fn recover<D: Disk + Drop, A: Allocator + Copy>(alloc: A, disk: D) -> Result
         Ok(store) => store,
         Err(refused) => return Err(RecoverFault::from(refused.cause)),
     };
+    let version = store.version();
     let root = store.number();
     let limit = store.limit();
     let pages = store.items().cost();
     match Exec::power_on(alloc, store) {
         Ok(exec) => {
-            let report = report_of(&exec, root, limit, pages);
+            let report = report_of(&exec, version, root, limit, pages);
             Ok(report)
         }
         Err(fault) => Err(RecoverFault::from(fault.cause)),
@@ -35,14 +36,15 @@ pub fn recover<D: Disk + Drop, A: Allocator + Copy>(alloc: A, disk: D) -> Result
 // The report of a device at power-on.
 fn report_of<D: Disk, A: Allocator + Copy>(
     exec: &Exec<D, A>,
+    version: u16,
     root: u64,
     limit: u16,
     pages: u128,
 ) -> Report
-    ensures { result ≡ record { version = 0; root = root; pages = pages; limit = limit; enables = exec.now.device.flush.contents.enables; request = first_request exec.now.device.volatile.registers; user = 0; macros = 0 } }
+    ensures { result ≡ record { version = version; root = root; pages = pages; limit = limit; enables = exec.now.device.flush.contents.enables; request = first_request exec.now.device.volatile.registers; user = 0; macros = 0 } }
 {
     Report {
-        version: 0,
+        version,
         root,
         pages,
         limit,
