@@ -1,4 +1,4 @@
-// What is kept without power.
+//! What is kept without power.
 ghost use Rattle.std.specs.Prelude.{◌≡◌, ◌∷◌, [], ℕ, IfOk, IfSome, IfNone, bit_and};
 ghost use Rattle.psu_exec.specs.Contents.{apply, items_of, IsContents};
 

@@ -1,4 +1,4 @@
-// The registers of IEEE 488.2 status reporting.
+//! The registers of IEEE 488.2 status reporting.
 ghost use Rattle.std.specs.Prelude.{◌≡◌};
 ghost use Rattle.psu_exec.specs.Contents.{without_mss};
 ghost use Rattle.psu_exec.specs.Registers.{effect, event_summary, status_byte, with_error, first_request, registers_at_power_on};

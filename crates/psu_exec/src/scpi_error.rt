@@ -1,4 +1,4 @@
-// The errors that a unit may be answered by.
+//! The errors that a unit may be answered by.
 ghost use Rattle.std.specs.Prelude.{◌≡◌};
 ghost use Rattle.psu_exec.specs.Errors.{magnitude, event_bit};
 

@@ -1,4 +1,4 @@
-// The text of an answer.
+//! The text of an answer.
 ghost use Rattle.std.specs.Prelude.{◌≡◌, IfOk, List, ℕ, decimal};
 
 use std::alloc::{AllocError, Allocator};
