@@ -1,4 +1,4 @@
-//! What is known of the store.
+// What is known of the store.
 
 /// Whether the store can take a commit.
 #[derive(Clone, Copy, Debug, PartialEq, Eq)]

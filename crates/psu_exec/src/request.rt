@@ -1,4 +1,4 @@
-//! A unit as it reads.
+// A unit as it reads.
 ghost use Rattle.std.specs.Prelude.{◌≡◌, ◌≤◌, ℕ, option_map, codes, length, take, drop};
 ghost use Rattle.psu_exec.specs.Reading.{same_text, digits_from, digits_of, number_of, flag_setter, octet_of, query_of, setter_of, reading_of};
 
