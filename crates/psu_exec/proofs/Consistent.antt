@@ -1,11 +1,10 @@
 -- The fields stay consistent.
-use Rattle.std.proofs.Common.{◌≡◌, ℕ, ◌+◌, ◌-◌, ◌<◌, ◌≤◌, Bool, true, false, Option, Some, None, is_some, List, [], ◌∷◌, ◌++◌, length, take, drop, replicate, map, option_map, refl, ap, sym, subst, ◌∙◌, arith, length-append, length-drop}
+use Rattle.std.proofs.Common.{◌≡◌, ℕ, ◌+◌, ◌-◌, ◌<◌, true, false, Option, Some, None, List, [], ◌∷◌, ◌++◌, length, take, drop, replicate, map, refl, ap, sym, subst, ◌∙◌, arith, length-append, length-drop}
 use Rattle.std.proofs.lemmas.List.{take-append-le, take-append-drop, take_all}
 use Rattle.std.specs.List.{AllByRecursion}
 use Rattle.psu_items.specs.Map.{Item}
 use Rattle.psu_exec.specs.Contents.{apply, applied, items_of, IsContents}
-use Rattle.psu_exec.specs.Device.{Flush, Target, count_held, target}
-use Rattle.psu_exec.specs.Calls.{wait_less}
+use Rattle.psu_exec.specs.Device.{Flush, count_held, target}
 use Rattle.psu_exec.specs.Consistent.{IsConsistent, IsWithin}
 use Rattle.psu_exec.specs.declared.contents.Contents.{Contents}
 use Rattle.psu_exec.specs.declared.change.Change.{Change}
@@ -13,7 +12,7 @@ use Rattle.psu_exec.specs.declared.wait.Wait.{Wait}
 use Rattle.psu_exec.specs.declared.condition.Condition.{Condition}
 use Rattle.psu_exec.specs.declared.condition.Condition.TheVariants.{Whole}
 use Rattle.psu_exec.proofs.Changes.{applied-append, sound_applied}
-use Rattle.psu_exec.proofs.Within.{within_none, within_more, within_less}
+use Rattle.psu_exec.proofs.Within.{within_none, within_more}
 
 -- at power-on
 pub consistent_start : (limit : ℕ) (c : Contents) (before : List Item) (tail : List Change) → IsContents c → before ≡ items_of c → tail ≡ []

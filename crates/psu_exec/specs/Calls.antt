@@ -1,12 +1,13 @@
 -- The calls on the device beside a unit, each with its reply, and what each leaves.
-use Rattle.std.specs.Prelude.{◌≡◌, ◌⊎◌, ◌≢◌, ℕ, suc, ◌-◌, ◌≤◌, ◌==◌, Bool, true, false, if◌then◌else◌, Option, Some, None, List, [], ◌∷◌, ◌++◌, length, drop, map, slice_set, option_map, decimal}
+use Rattle.std.specs.Prelude.{◌≡◌, ◌⊎◌, ℕ, suc, ◌-◌, ◌≤◌, ◌==◌, Bool, true, false, if◌then◌else◌, Option, Some, None, List, [], ◌∷◌, ◌++◌, length, drop, map, slice_set, option_map, decimal}
 use Rattle.psu_items.specs.Map.{Item}
 use Rattle.psu_exec.specs.Contents.{items_of}
 use Rattle.psu_items.specs.Batch.{Edit}
 use Rattle.psu_items.specs.declared.commit.UnstartedCause.{UnstartedCause}
 use Rattle.psu_items.specs.declared.commit.UnstartedCause.TheVariants as unstarted
 use Rattle.psu_exec.specs.Batch.{batch}
-use Rattle.psu_exec.specs.Device.{Reply, Done, Answer, Error, Parked, Later, Flush, State, Target, target, count_held, is_whole, is_open, place_of, wait_of, with_error, with_registers, Step}
+use Rattle.psu_exec.specs.Device.{Reply, Done, Answer, Error, Parked, Flush, State, target, count_held, is_open, place_of, wait_of, with_registers, Step}
+use Rattle.psu_exec.specs.Registers.{with_error}
 use Rattle.psu_exec.specs.declared.registers.Registers.{Registers}
 use Rattle.psu_exec.specs.declared.condition.Condition.TheVariants.{Whole, Worn}
 use Rattle.psu_exec.specs.declared.wait.Wait.{Wait}

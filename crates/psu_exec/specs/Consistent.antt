@@ -1,5 +1,5 @@
 -- What holds of the flush part in every state.
-use Rattle.std.specs.Prelude.{◌≡◌, ℕ, ◌≤◌, Bool, true, Option, Some, None, is_some, List, length, take, ⊤}
+use Rattle.std.specs.Prelude.{◌≡◌, ℕ, ◌≤◌, Option, Some, None, is_some, List, length, take, ⊤}
 use Rattle.std.specs.List.{AllByRecursion}
 use Rattle.psu_items.specs.Map.{Item}
 use Rattle.psu_items.specs.Batch.{Edit}

@@ -1,8 +1,8 @@
 -- The state of the device, and one unit of a message.
-use Rattle.std.specs.Prelude.{◌≡◌, ◌⊎◌, ◌≢◌, ℕ, ◌-◌, ◌^◌, nat_le, ◌==◌, ◌&&◌, ◌||◌, not, Bool, true, false, if◌then◌else◌, Option, Some, None, is_some, Result, Ok, Err, List, [], ◌∷◌, ◌++◌, length, slice_index_or, slice_set, replicate, bit_or, bit_and, codes, decimal}
+use Rattle.std.specs.Prelude.{◌≡◌, ◌⊎◌, ℕ, ◌-◌, nat_le, ◌==◌, ◌&&◌, ◌||◌, not, Bool, true, false, if◌then◌else◌, Option, Some, None, is_some, Result, Ok, Err, List, [], ◌∷◌, ◌++◌, length, slice_index_or, slice_set, replicate, codes, decimal}
 use Rattle.psu_items.specs.Map.{Item}
-use Rattle.psu_exec.specs.Contents.{without_mss, apply, items_of}
-use Rattle.psu_exec.specs.Errors.{event_bit}
+use Rattle.psu_exec.specs.Contents.{apply, items_of}
+use Rattle.psu_exec.specs.Registers.{status_byte, effect, with_error, registers_at_power_on}
 use Rattle.psu_exec.specs.declared.contents.Contents.{Contents}
 use Rattle.psu_exec.specs.declared.change.Change.{Change}
 use Rattle.psu_exec.specs.declared.change.Change.TheVariants as change
@@ -14,7 +14,7 @@ use Rattle.psu_exec.specs.declared.request.Request.{Request}
 use Rattle.psu_exec.specs.declared.condition.Condition.{Condition}
 use Rattle.psu_exec.specs.declared.condition.Condition.TheVariants.{Whole, Worn}
 use Rattle.psu_exec.specs.declared.wait.Wait.{Wait}
-use Rattle.psu_exec.specs.declared.wait.Wait.TheVariants.{Until, CutOff}
+use Rattle.psu_exec.specs.declared.wait.Wait.TheVariants.{Until}
 use Rattle.psu_exec.specs.declared.registers.Registers.{Registers}
 
 -- what a unit or a settle answers; the text of an answer is without its end
@@ -102,14 +102,6 @@ abbrev pub is_synchronizing : Command → Bool
 is_synchronizing OpcQuery = true
 is_synchronizing _ = false
 
--- ESB, bit 5: ESR and ESE share a bit
-abbrev pub event_summary : Registers → ℕ
-event_summary r = if bit_and r.esr r.ese == 0 then 0 else 32
-
--- the status byte with MSS in bit 6: a bit of it other than 6 is enabled by SRE
-abbrev pub status_byte : Registers → ℕ
-status_byte r = if bit_and (event_summary r) r.sre == 0 then event_summary r else bit_or (event_summary r) 64
-
 -- the answer of `*PSC?`: 1 where the flag is true
 abbrev pub flag_number : Option (ℕ × ℕ) → ℕ
 flag_number None = 1
@@ -173,19 +165,14 @@ abbrev pub made : Option Change → Contents → Contents
 made None n = n
 made (Some c) n = apply n c
 
--- The effect of a command that is done on the registers. `*ESR?` clears what it reads.
-abbrev pub effect : Registers → Command → Registers
-effect r (Sre n) = record r { sre = without_mss n }
-effect r (Ese n) = record r { ese = n }
-effect r EsrQuery = record r { esr = 0 }
-effect r _ = r
+-- the state with the change of a command that is accepted
+abbrev pub noted : State → Option Change → State
+noted s c = record s { flush = record s.flush { contents = made c s.flush.contents; tail = with_more c s.flush.tail } }
 
+-- the effect of a unit that is done
 abbrev pub effect_read : Registers → Result Command ScpiError → Registers
 effect_read r (Ok command) = effect r command
 effect_read r (Err e) = r
-
-abbrev pub with_error : Registers → ScpiError → Registers
-with_error r e = record r { esr = bit_or r.esr (event_bit e) }
 
 -- the registers after a unit that is answered so
 abbrev pub registers_after : Registers → Result Command ScpiError → Reply → Registers
@@ -212,6 +199,13 @@ flush_after f session c reply = record f { contents = made (change_if reply c) f
 abbrev pub with_registers : Volatile → Registers → Volatile
 with_registers v r = record v { registers = r }
 
+-- the state with other registers, and with the bit of an error
+abbrev pub with_state_registers : State → Registers → State
+with_state_registers s r = record s { volatile = with_registers s.volatile r }
+
+abbrev pub refused : State → ScpiError → State
+refused s e = with_state_registers s (with_error s.volatile.registers e)
+
 -- the state after a unit that is answered so
 abbrev pub after_unit : State → ℕ → Request → Reply → State
 after_unit s session request reply = record { volatile = with_registers s.volatile (registers_after s.volatile.registers request.reading reply); flush = flush_after s.flush session (change_of s request) reply }
@@ -221,26 +215,9 @@ pub record Step (s : State) (session : ℕ) (request : Request) (reply : Reply) 
   pub may : MayAnswer s session request reply
   pub is : new ≡ after_unit s session request reply
 
--- The registers at power-on: PON, bit 7 of ESR, alone; SRE and ESE keep their values where the power-on status clear flag is false, and are 0 where it is true.
-abbrev pub registers_at_power_on : Option (ℕ × ℕ) → Registers
-registers_at_power_on None = record { sre = 0; ese = 0; esr = 2 ^ 7 }
-registers_at_power_on (Some e) = record { sre = e.0; ese = e.1; esr = 2 ^ 7 }
-
 -- the state at power-on: no session, and nothing that is not flushed
 abbrev pub power_on : ℕ → Contents → State
 power_on limit c = record {
   volatile = record { registers = registers_at_power_on c.enables; open_now = replicate 16 false };
   flush = record { limit = limit; contents = c; before = items_of c; tail = []; held = None; store = Whole; out = false; waits = replicate 16 None };
 }
-
--- the service request that the registers make as they are: the status byte where its bit 6 is set
-abbrev pub first_request : Registers → Option ℕ
-first_request r = if bit_and (event_summary r) r.sre == 0 then None else Some (status_byte r)
-
-abbrev pub has_bit : ℕ → ℕ → Bool
-has_bit n k = not (bit_and n (2 ^ k) == 0)
-
--- The first service request that the standard prescribes: 96 exactly where enables are kept with bit 5 of SRE (ESB) and bit 7 of ESE (PON).
-abbrev pub prescribed : Option (ℕ × ℕ) → Option ℕ
-prescribed None = None
-prescribed (Some e) = if has_bit e.0 5 && has_bit e.1 7 then Some 96 else None

@@ -2,6 +2,7 @@ pub mod Errors
 pub mod Contents
 pub mod Reading
 pub mod Batch
+pub mod Registers
 pub mod Device
 pub mod Calls
 pub mod Consistent

@@ -1,7 +1,8 @@
 //! The one state, without its store.
 ghost use Rattle.std.specs.Prelude.{◌≡◌, true, IfOk, OnErr};
 ghost use Rattle.psu_exec.specs.Contents.{IsContents};
-ghost use Rattle.psu_exec.specs.Device.{State, first_request, is_open, power_on};
+ghost use Rattle.psu_exec.specs.Device.{State, is_open, power_on};
+ghost use Rattle.psu_exec.specs.Registers.{first_request};
 ghost use Rattle.psu_exec.specs.Calls.{Allows};
 ghost use Rattle.psu_exec.specs.Calls.Entry.{Opened};
 ghost use Rattle.psu_exec.specs.Consistent.{IsConsistent};
@@ -40,8 +41,8 @@ impl<A: Allocator + Copy> Model for Device<A> {
     ghost Value = { State };
 
     ghost view = { λ d. record {
-        volatile = record { registers = d.registers; open_now = d.open_now };
-        flush = record { limit = d.limit; contents = d.contents; before = d.before; tail = d.tail.items; held = held_of d.held d.target; store = d.store; out = d.out; waits = d.waits };
+      volatile = record { registers = d.registers; open_now = d.open_now };
+      flush = record { limit = d.limit; contents = d.contents; before = d.before; tail = d.tail.items; held = held_of d.held d.target; store = d.store; out = d.out; waits = d.waits };
     } };
 
     ghost use Rattle.psu_exec.specs.Consistent.{IsConsistent, HasEdits};
@@ -49,10 +50,13 @@ impl<A: Allocator + Copy> Model for Device<A> {
     ghost invariant = { λ d. HasEdits d.held d.before d.target d.edits × IsConsistent (record { limit = d.limit; contents = d.contents; before = d.before; tail = d.tail.items; held = held_of d.held d.target; store = d.store; out = d.out; waits = d.waits }) };
 }
 
-
 impl<A: Allocator + Copy> Device<A> {
     /// The state at power-on.
-    pub(crate) fn power_on(alloc: A, limit: u16, contents: Contents) -> Result<Device<A>, AllocError>
+    pub(crate) fn power_on(
+        alloc: A,
+        limit: u16,
+        contents: Contents,
+    ) -> Result<Device<A>, AllocError>
         requires { IsContents contents }
         ensures { IfOk result (λ d. d ≡ power_on limit contents) }
     {

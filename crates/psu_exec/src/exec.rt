@@ -4,7 +4,8 @@ ghost use Rattle.std.specs.Option.{ForSome};
 ghost use Rattle.psu_items.specs.Batch.{changed};
 ghost use Rattle.psu_exec.specs.Batch.{batch};
 ghost use Rattle.psu_exec.specs.Contents.{items_of, IsContents};
-ghost use Rattle.psu_exec.specs.Device.{power_on, first_request, is_open, State};
+ghost use Rattle.psu_exec.specs.Device.{power_on, is_open, State};
+ghost use Rattle.psu_exec.specs.Registers.{first_request};
 ghost use Rattle.psu_exec.specs.Calls.{Allows, sessions_over};
 ghost use Rattle.psu_exec.specs.Calls.Entry.{Executed, Settled, Took, GaveBack, Opened};
 ghost use Rattle.psu_exec.specs.Consistent.{IsConsistent};
@@ -188,7 +189,10 @@ impl<D: Disk, A: Allocator + Copy> Exec<D, A> {
                 return Ok(self.device.sessions_over());
             }
             Finished::Broken(broken) => {
-                if !self.device.is_job(broken.limit(), broken.before(), broken.batch()) {
+                if !self
+                    .device
+                    .is_job(broken.limit(), broken.before(), broken.batch())
+                {
                     return Err(Stranger {
                         finished: Finished::Broken(broken),
                     });

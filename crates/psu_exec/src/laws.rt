@@ -4,7 +4,8 @@ ghost use Rattle.psu_items.specs.Map.{Item, IsSorted};
 ghost use Rattle.psu_items.specs.Batch.{changed};
 ghost use Rattle.psu_exec.specs.Batch.{batch};
 ghost use Rattle.psu_exec.specs.Contents.{items_of};
-ghost use Rattle.psu_exec.specs.Device.{Step, State, Answer, Error, Later, first_request, power_on, prescribed, with_error, with_registers};
+ghost use Rattle.psu_exec.specs.Device.{Step, State, Answer, Error, Later, power_on, refused};
+ghost use Rattle.psu_exec.specs.Registers.{first_request, prescribed};
 ghost use Rattle.psu_exec.specs.declared.contents.Contents.{Contents as Kept};
 ghost use Rattle.psu_exec.specs.declared.request.Request.{Request as RequestData};
 ghost use Rattle.psu_exec.specs.declared.scpi_error.ScpiError.{ScpiError as AnyError};
@@ -33,7 +34,7 @@ pub fn complete_where_answered()
 
 /// A unit that is refused changes nothing but the bit of its error's class in the event status register.
 pub fn refused_sets_a_bit()
-    ensures { (s : State) (session : ℕ) (request : RequestData) (e : AnyError) (new : State) → Step s session request (Error e) new → new ≡ record s { volatile = with_registers s.volatile (with_error s.volatile.registers e) } }
+    ensures { (s : State) (session : ℕ) (request : RequestData) (e : AnyError) (new : State) → Step s session request (Error e) new → new ≡ refused s e }
 {}
 
 /// A unit that is to come later changes nothing.

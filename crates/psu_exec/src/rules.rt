@@ -11,7 +11,11 @@ use std::alloc::{AllocError, Allocator};
 const TAIL: usize = 1024;
 
 /// The change that an accepted command makes.
-pub fn change_in(enables: Option<(u8, u8)>, registers: Registers, command: Command) -> Option<Change>
+pub fn change_in(
+    enables: Option<(u8, u8)>,
+    registers: Registers,
+    command: Command,
+) -> Option<Change>
     ensures { result ≡ change_in enables registers command }
 {
     match command {

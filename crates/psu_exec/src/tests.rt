@@ -1,4 +1,4 @@
-ghost use Rattle.std.specs.Prelude.{◌≡◌, true, false, List, ℕ};
+ghost use Rattle.std.specs.Prelude.{◌≡◌, [], true, false};
 ghost use Rattle.psu_exec.specs.Device.{is_open};
 
 use crate::{
@@ -12,7 +12,10 @@ use std::process::Abort;
 type Power = Exec<MemDisk<Global>, Global>;
 
 // A store of limit 4 with no items.
-fn formatted(rt: &impl Abort, alloc: Global) -> Store<MemDisk<Global>, Global> {
+fn formatted(rt: &impl Abort, alloc: Global) -> Store<MemDisk<Global>, Global>
+    ensures limit { result.limit ≡ 4 }
+    ensures items { result.items ≡ [] }
+{
     let Ok(disk) = MemDisk::new(alloc, 5120) else {
         panic!(rt; "no memory for a disk");
     };
@@ -105,4 +108,106 @@ fn enables_come_back(rt: HostRuntime) {
     says(&rt, &mut exec, session, b"*ESR?", b"128");
     says(&rt, &mut exec, session, b"*STB?", b"0");
     says(&rt, &mut exec, session, b"*psc?", b"0");
+}
+
+// With the flag true nothing is kept, and SRE has no bit 6.
+#[test]
+fn enables_do_not_come_back(rt: HostRuntime) {
+    let alloc = rt.alloc();
+    let mut exec = powered_on(&rt, alloc, formatted(&rt, alloc));
+    let session = opened(&rt, &mut exec);
+    says(&rt, &mut exec, session, b"*PSC -1", b"done");
+    says(&rt, &mut exec, session, b"*SRE 00255", b"done");
+    says(&rt, &mut exec, session, b"*SRE?", b"191");
+    says(&rt, &mut exec, session, b"*SRE 256", b"error");
+    says(&rt, &mut exec, session, b"FOO", b"error");
+    says(&rt, &mut exec, session, b"*ESR?", b"176");
+    says(&rt, &mut exec, session, b"*ESR?", b"0");
+    says(&rt, &mut exec, session, b"*IDN?", b"EXAMPLE,PSU4,0,1.0");
+    flush(&rt, &mut exec, session);
+    says(&rt, &mut exec, session, b"*OPC?", b"1");
+    assert_eq!(rt; exec.contents().enables, None);
+    assert_eq!(rt; exec.first_request(), None);
+}
+
+#[test]
+fn texts_read_as_units(rt: HostRuntime) {
+    assert_eq!(rt; plain(b"*sRe 00005").reading, Ok(Command::Sre(5)));
+    assert_eq!(rt; plain(b"*ESE -0").reading, Ok(Command::Ese(0)));
+    assert_eq!(rt; plain(b"*PSC 0").reading, Ok(Command::PscOff));
+    assert_eq!(rt; plain(b"*PSC -32767").reading, Ok(Command::PscOn));
+    assert_eq!(rt;
+        plain(b"*PSC 32768").reading,
+        Err(ScpiError::DataOutOfRange)
+    );
+    assert_eq!(rt; plain(b"*ESE -1").reading, Err(ScpiError::DataOutOfRange));
+    assert_eq!(rt;
+        plain(b"*SRE 000005").reading,
+        Err(ScpiError::UndefinedHeader)
+    );
+    assert_eq!(rt; plain(b"*SRE  5").reading, Err(ScpiError::UndefinedHeader));
+    assert_eq!(rt; plain(b"*SRE +5").reading, Err(ScpiError::UndefinedHeader));
+    assert_eq!(rt; plain(b"*SRE").reading, Err(ScpiError::UndefinedHeader));
+    assert_eq!(rt; plain(b"*OPC").reading, Err(ScpiError::UndefinedHeader));
+}
+
+// A job is out once, its own end is taken, and the end of another's is not.
+#[test]
+fn jobs_of_others_are_strangers(rt: HostRuntime) {
+    let alloc = rt.alloc();
+    let mut exec = powered_on(&rt, alloc, formatted(&rt, alloc));
+    let mut other = powered_on(&rt, alloc, formatted(&rt, alloc));
+    let session = opened(&rt, &mut exec);
+    let same = opened(&rt, &mut other);
+    assert!(rt; matches!(exec.take(), Err(NoJob::Nothing)));
+    says(&rt, &mut exec, session, b"*PSC 0", b"done");
+    says(&rt, &mut other, same, b"*PSC 0", b"done");
+    says(&rt, &mut other, same, b"*ESE 1", b"done");
+    let Ok(job) = exec.take() else {
+        panic!(&rt; "no job");
+    };
+    assert!(rt; matches!(exec.take(), Err(NoJob::Out)));
+    let Ok(stranger) = other.take() else {
+        panic!(&rt; "no job");
+    };
+    match exec.give_back(stranger.run()) {
+        Ok(_) => panic!(&rt; "a stranger is accepted"),
+        Err(stranger) => assert!(rt; other.give_back(stranger.finished).is_ok()),
+    }
+    assert!(rt; exec.give_back(job.run()).is_ok());
+    assert!(rt; matches!(exec.end(), Ended::Whole(_)));
+}
+
+// With 1,024 changes in the tail one more is later, and a query is answered.
+#[test]
+fn the_tail_is_full(rt: HostRuntime) {
+    let alloc = rt.alloc();
+    let mut exec = powered_on(&rt, alloc, formatted(&rt, alloc));
+    let session = opened(&rt, &mut exec);
+    for _ in 0..1024 {
+        says(&rt, &mut exec, session, b"*PSC 0", b"done");
+    }
+    says(&rt, &mut exec, session, b"*SRE 0", b"later");
+    says(&rt, &mut exec, session, b"*SRE 256", b"error");
+    says(&rt, &mut exec, session, b"*PSC?", b"0");
+    flush(&rt, &mut exec, session);
+    says(&rt, &mut exec, session, b"*SRE 0", b"done");
+}
+
+// An item that no contents have.
+#[test]
+fn bad_items_do_not_power_on(rt: HostRuntime) {
+    let alloc = rt.alloc();
+    let mut batch = Batch::new(alloc);
+    let (Ok(key), Ok(value)) = ([7u8].to_vec(alloc), [1u8].to_vec(alloc)) else {
+        panic!(&rt; "no memory");
+    };
+    assert!(rt; batch.assign(key, value).is_ok());
+    let Commit::Stored(store) = formatted(&rt, alloc).commit(alloc, batch) else {
+        panic!(&rt; "not stored");
+    };
+    match Exec::power_on(alloc, store) {
+        Ok(_) => panic!(&rt; "powered on"),
+        Err(fault) => assert_eq!(rt; fault.cause, PowerCause::BadItems),
+    }
 }

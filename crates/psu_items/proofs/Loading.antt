@@ -23,7 +23,7 @@ module _ (root : Root) (image : List ℕ) (head : Head) (says : Says root image 
     limit_least = sound.limit_least;
     limit_most = sound.limit_most;
     room = sound.room;
-    size = omega (arith, sound.used, says.used_is);
+    used_fits = omega (arith, sound.used, says.used_is);
     items = subst (λ (b : List ℕ). StandsFor b map) held stands;
     sorted = sorted;
     count = count;

@@ -1,11 +1,11 @@
 -- The laws of the map: what `get` finds after each change, and that `get` says all of it.
-use Rattle.std.proofs.Common.{◌≡◌, ℕ, zero, suc, ◌≤◌, drop, Bool, true, false, cond, List, [], ◌∷◌, length, Option, Some, None, refl, sym, ◌∙◌, ap, subst, arith}
+use Rattle.std.proofs.Common.{◌≡◌, ℕ, zero, suc, ◌≤◌, drop, Bool, true, false, cond, List, [], ◌∷◌, ◌++◌, length, Option, Some, None, refl, sym, ◌∙◌, ap, subst, arith}
 use Rattle.std.specs.List.{AllByRecursion}
 use Rattle.std.specs.Str.{bytes_eq}
 use Rattle.std.specs.Ordering.{nat_cmp, is_lt}
 use Rattle.std.specs.Cmp.Lexicographic.{slice_cmp}
 use Rattle.std.proofs.lemmas.Cmp.{nat_list_cmp_total}
-use Rattle.psu_items.specs.Map.{Item, item_of, get, put, without, Before, IsSorted, Sets}
+use Rattle.psu_items.specs.Map.{Item, item_of, get, put, without, Before, IsSorted, Sets, Removes}
 use Rattle.psu_items.specs.Area.{IsMapOf}
 use Rattle.psu_items.specs.Batch.{Edit, edited, changed, assigned, Assigns}
 use Rattle.psu_items.proofs.Keys.{same_key, same_true, after_not_same, before-is_lt, after-tests}
@@ -41,7 +41,7 @@ get-put (i ∷ items) key value k = by_tests (bytes_eq i.key key) (is_lt (slice_
     by_tests false false e rest = refl
 
 -- get (without items key)
-pub get-without : (items : List Item) (key k : List ℕ) → get (without items key) k ≡ cond (bytes_eq key k) None (get items k)
+pub get-without : (items : List Item) (key : List ℕ) → Removes items (without items key) key
 get-without [] key k = by_test (bytes_eq key k)
   where
     nothing : Option (List ℕ)
@@ -64,6 +64,11 @@ get-changed items (e ∷ edits) k = get-changed (edited items e.key e.value) edi
     by_value : (value : Option (List ℕ)) → get (edited items e.key value) k ≡ cond (bytes_eq e.key k) value (get items k)
     by_value None = get-without items e.key k
     by_value (Some value) = get-put items e.key value k
+
+-- edits after other edits
+pub changed-append : (items : List Item) (edits more : List Edit) → changed items (edits ++ more) ≡ changed (changed items edits) more
+changed-append items [] more = refl
+changed-append items (e ∷ edits) more = changed-append (edited items e.key e.value) edits more
 
 -- a new key makes one item more
 pub length-put : (items : List Item) (key value : List ℕ) → get items key ≡ None → length (put items key value) ≡ suc (length items)

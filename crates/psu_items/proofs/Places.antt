@@ -51,7 +51,7 @@ module _ (root : Root) (limit : ℕ) (x y : List ℕ) (room : 512 * (2 + 2 * lim
   holds_same map holds =
       let used : length_in root y ≡ length_in root x = ap (from_be_bytes w32) (says_same 16 4 (omega arith) (omega arith)) in
       let bytes : Range (area_at root limit) (length_in root x) y ≡ Range (area_at root limit) (length_in root x) x =
-      range_same (area_at root limit) (length_in root x) x y same.size (omega (arith, holds.size, area_fits root limit)) (λ k ge lt. same.held k ge (omega (arith, holds.size))) in
+      range_same (area_at root limit) (length_in root x) x y same.size (omega (arith, holds.used_fits, area_fits root limit)) (λ k ge lt. same.held k ge (omega (arith, holds.used_fits))) in
       record {
         marked = says_same 1 3 (omega arith) (omega arith) ∙ holds.marked;
         version = ap (from_be_bytes w16) (says_same 4 2 (omega arith) (omega arith)) ∙ holds.version;
@@ -59,7 +59,7 @@ module _ (root : Root) (limit : ℕ) (x y : List ℕ) (room : 512 * (2 + 2 * lim
         limit_least = holds.limit_least;
         limit_most = holds.limit_most;
         room = omega (arith, holds.room, same.size);
-        size = omega (arith, used, holds.size);
+        used_fits = omega (arith, used, holds.used_fits);
         items = subst (λ (bytes : List ℕ). StandsFor bytes map) (sym (ap (λ (n : ℕ). Range (area_at root limit) n y) used ∙ bytes)) holds.items;
         sorted = holds.sorted;
         count = holds.count;

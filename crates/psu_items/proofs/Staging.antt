@@ -12,7 +12,7 @@ use Rattle.psu_items.specs.declared.root.Root.{Root}
 use Rattle.psu_items.specs.Map.{Item, cost, IsSorted}
 use Rattle.psu_items.specs.Area.{item, area, Fits, Distinct}
 use Rattle.psu_items.specs.Image.{gate_at, area_at, number_in, length_in, RootHolds}
-use Rattle.psu_items.specs.Writing.{head, IsStaged, Spares, Spells}
+use Rattle.psu_items.specs.Writing.{page, IsStaged, Spares, Spells}
 use Rattle.psu_items.proofs.Maps.{get_before}
 use Rattle.psu_items.proofs.Places.{gate_low, area_high, area_fits}
 
@@ -35,15 +35,15 @@ module _ (root : Root) (limit : ℕ) where
   spares_area : (n : ℕ) (x y : List ℕ) → n ≤ 512 * limit → SameBut (area_at root limit) n x y → Spares root limit x y
   spares_area n x y fits but = record { size = but.size; same = λ k outside_root outside. ⊎_elim (but.below k) (λ ge. but.above k (omega arith)) outside }
 
-  spares_head : (x y : List ℕ) → SameBut (gate_at root + 1) 19 x y → Spares root limit x y
-  spares_head x y but = record { size = but.size; same = λ k outside_root outside. ⊎_elim (λ le. but.below k (omega arith)) (λ ge. but.above k (omega arith)) outside_root }
+  spares_page : (x y : List ℕ) → SameBut (gate_at root + 1) 511 x y → Spares root limit x y
+  spares_page x y but = record { size = but.size; same = λ k outside_root outside. ⊎_elim (λ le. but.below k (omega arith)) (λ ge. but.above k (omega arith)) outside_root }
 
   -- the same of a range that is told by an equation
   pub spares_area_at : (at n : ℕ) → at ≡ area_at root limit → n ≤ 512 * limit → (x y : List ℕ) → SameBut at n x y → Spares root limit x y
   spares_area_at at n a fits x y but = spares_area n x y fits (subst (λ (i : ℕ). SameBut i n x y) a but)
 
-  pub spares_head_at : (at n : ℕ) → at ≡ gate_at root + 1 → n ≡ 19 → (x y : List ℕ) → SameBut at n x y → Spares root limit x y
-  spares_head_at at n a b x y but = spares_head x y (subst (λ (i : ℕ). SameBut i 19 x y) a (subst (λ (i : ℕ). SameBut at i x y) b but))
+  pub spares_page_at : (at n : ℕ) → at ≡ gate_at root + 1 → n ≡ 511 → (x y : List ℕ) → SameBut at n x y → Spares root limit x y
+  spares_page_at at n a b x y but = spares_page x y (subst (λ (i : ℕ). SameBut i 511 x y) a (subst (λ (i : ℕ). SameBut at i x y) b but))
 
   pub spares_trans : (x y z : List ℕ) → Spares root limit x y → Spares root limit y z → Spares root limit x z
   spares_trans x y z first second = record { size = second.size ∙ first.size; same = λ k a b. second.same k a b ∙ first.same k a b }
@@ -53,28 +53,28 @@ module _ (root : Root) (limit : ℕ) where
 
   -- s is the disk before the area is written, t before the root is, u at the end
   staged : (n : ℕ) (bytes s t u : List ℕ) → 512 * (2 + 2 * limit) ≤ length s → length bytes ≤ 512 * limit
-      → SameBut (area_at root limit) (length bytes) s t → Holds (area_at root limit) bytes s t → SameBut (gate_at root + 1) 19 t u → Holds (gate_at root + 1) (head limit n (length bytes)) t u
+      → SameBut (area_at root limit) (length bytes) s t → Holds (area_at root limit) bytes s t → SameBut (gate_at root + 1) 511 t u → Holds (gate_at root + 1) (page limit n (length bytes)) t u
       → IsStaged root limit n bytes u
   staged n bytes s t u room size but holds but' holds' = record {
-    says = range_written (gate_at root + 1) (head limit n (length bytes)) t u (omega (arith, but.size, gate_low root)) holds';
-    held = range_kept (gate_at root + 1) 19 (area_at root limit) (length bytes) t u but' (omega (arith, but.size, area_fits root limit)) (inr (omega (arith, gate_low root, area_high root limit)))
+    says = range_written (gate_at root + 1) (page limit n (length bytes)) t u (omega (arith, but.size, gate_low root)) holds';
+    held = range_kept (gate_at root + 1) 511 (area_at root limit) (length bytes) t u but' (omega (arith, but.size, area_fits root limit)) (inr (omega (arith, gate_low root, area_high root limit)))
         ∙ range_written (area_at root limit) bytes s t (omega (arith, area_fits root limit)) holds;
   }
 
-  pub staged_at : (n at at' : ℕ) (bytes top s t u : List ℕ) → at ≡ area_at root limit → at' ≡ gate_at root + 1 → top ≡ head limit n (length bytes)
+  pub staged_at : (n at at' : ℕ) (bytes top s t u : List ℕ) → at ≡ area_at root limit → at' ≡ gate_at root + 1 → top ≡ page limit n (length bytes)
       → 512 * (2 + 2 * limit) ≤ length s → length bytes ≤ 512 * limit
       → SameBut at (length bytes) s t → Holds at bytes s t → SameBut at' (length top) t u → Holds at' top t u → IsStaged root limit n bytes u
   staged_at n at at' bytes top s t u a a' b room size but holds but' holds' =
       staged n bytes s t u room size
       (subst (λ (i : ℕ). SameBut i (length bytes) s t) a but)
       (subst (λ (i : ℕ). Holds i bytes s t) a holds)
-      (subst (λ (i : ℕ). SameBut i 19 t u) a' (subst (λ (l : List ℕ). SameBut at' (length l) t u) b but'))
-      (subst (λ (i : ℕ). Holds i (head limit n (length bytes)) t u) a' (subst (λ (l : List ℕ). Holds at' l t u) b holds'))
+      (subst (λ (i : ℕ). SameBut i 511 t u) a' (subst (λ (l : List ℕ). SameBut at' (length l) t u) b but'))
+      (subst (λ (i : ℕ). Holds i (page limit n (length bytes)) t u) a' (subst (λ (l : List ℕ). Holds at' l t u) b holds'))
 
   -- a root that says so much in a word of its own
   module _ (n : ℕ) (bytes x : List ℕ) (room : 512 * (2 + 2 * limit) ≤ length x) (is : IsStaged root limit n bytes x) where
-    part : (at from m : ℕ) → at ≡ gate_at root + 1 + from → from + m ≤ 19 → Range at m x ≡ Range from m (head limit n (length bytes))
-    part at from m e fits = ap (λ (i : ℕ). Range i m x) e ∙ range_inside (gate_at root + 1) 19 from m x (omega (arith, gate_low root)) fits ∙ ap (Range from m) is.says
+    part : (at from m : ℕ) → at ≡ gate_at root + 1 + from → from + m ≤ 511 → Range at m x ≡ Range from m (page limit n (length bytes))
+    part at from m e fits = ap (λ (i : ℕ). Range i m x) e ∙ range_inside (gate_at root + 1) 511 from m x (omega (arith, gate_low root)) fits ∙ ap (Range from m) is.says
 
     pub staged_number : n < 2 ^ 64 → number_in root x ≡ n
     staged_number fits = ap (from_be_bytes w64) (part (gate_at root + 8) 7 8 (omega arith) (omega arith)) ∙ from_be_bytes-to_be_bytes_8 n fits
@@ -84,13 +84,13 @@ module _ (root : Root) (limit : ℕ) where
 
 -- the run of calls that stages: start before it, one after the area is written, two after the root is
 module _ {D : Type 0} (state : D → DiskState) (moment : D → ℕ) (left_since : D → ℕ → List ℕ → Type 0) (root : Root) (limit : ℕ) (start one two : D) (at n at' n' : ℕ)
-    (a : at ≡ area_at root limit) (fits : n ≤ 512 * limit) (a' : at' ≡ gate_at root + 1) (b' : n' ≡ 19) (only : Only (state start))
-    (area_written : Follows (SameBut at n) (Left (state start)) (Left (state one))) (head_written : Follows (SameBut at' n') (Left (state one)) (Left (state two))) where
+    (a : at ≡ area_at root limit) (fits : n ≤ 512 * limit) (a' : at' ≡ gate_at root + 1) (b' : n' ≡ 511) (only : Only (state start))
+    (area_written : Follows (SameBut at n) (Left (state start)) (Left (state one))) (page_written : Follows (SameBut at' n') (Left (state one)) (Left (state two))) where
   left_one : (x : List ℕ) → Left (state one) x → Spares root limit (state start).bytes x
   left_one x l = let from = area_written x l in subst (λ (y : List ℕ). Spares root limit y x) (only from.0 from.1) (spares_area_at root limit at n a fits from.0 x from.2)
 
   pub left_two : (x : List ℕ) → Left (state two) x → Spares root limit (state start).bytes x
-  left_two x l = let from = head_written x l in spares_trans root limit (state start).bytes from.0 x (left_one from.0 from.1) (spares_head_at root limit at' n' a' b' from.0 x from.2)
+  left_two x l = let from = page_written x l in spares_trans root limit (state start).bytes from.0 x (left_one from.0 from.1) (spares_page_at root limit at' n' a' b' from.0 x from.2)
 
   module _ (only_now : (x : List ℕ) → left_since start (moment start) x → Left (state start) x) (time_one : Elapses (moment start) (moment one) (left_since start) (left_since one) (Left (state one)))
       (time_two : Elapses (moment one) (moment two) (left_since one) (left_since two) (Left (state two))) where
@@ -130,7 +130,7 @@ staged_holds root limit n bytes x map least most room is spells =
       limit_least = least;
       limit_most = most;
       room = room;
-      size = omega (arith, used, size);
+      used_fits = omega (arith, used, size);
       items = record {
         items = map;
         are = (spells.can_hold.fits, sorted_distinct map spells.sorted);

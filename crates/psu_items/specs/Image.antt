@@ -44,7 +44,7 @@ number_in root image = from_be_bytes w64 (Range (gate_at root + 8) 8 image)
 abbrev pub length_in : Root → List ℕ → ℕ
 length_in root image = from_be_bytes w32 (Range (gate_at root + 16) 4 image)
 
--- its gate is open, and so is no other of a number as high
+-- its gate is open, and so is no other of a number as high: of two open roots the one with the higher number counts
 pub record Counts (root : Root) (image : List ℕ) : Type 0 where
   pub open_gate : gate root image ≡ 165
   pub highest : gate (other root) image ≡ 165 → number_in (other root) image < number_in root image
@@ -57,7 +57,8 @@ counting image = if gate Second image == 165 && (not (gate First image == 165) |
 abbrev pub mark : List ℕ
 mark = 80 ∷ 83 ∷ 85 ∷ []
 
--- A root and its area hold a map, whatever the gate. Its size is that of the area's used bytes.
+-- A root and its area hold a map, whatever the gate: the root is one of ours, of this version and limit, on a disk that has the
+-- room, and the bytes of the area that are used are those of the map's items, in any order. Other bytes may be any.
 pub record RootHolds (root : Root) (image : List ℕ) (limit : ℕ) (map : List Item) : Type 0 where
   pub marked : mark_in root image ≡ mark
   pub version : version_in root image ≡ 0
@@ -65,7 +66,7 @@ pub record RootHolds (root : Root) (image : List ℕ) (limit : ℕ) (map : List 
   pub limit_least : 4 ≤ limit
   pub limit_most : limit ≤ 480
   pub room : 512 * (2 + 2 * limit) ≤ length image
-  pub size : length_in root image ≤ 512 * limit
+  pub used_fits : length_in root image ≤ 512 * limit
   pub items : StandsFor (Range (area_at root limit) (length_in root image) image) map
   pub sorted : IsSorted map
   pub count : length map ≤ 240

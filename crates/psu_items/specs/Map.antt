@@ -50,3 +50,7 @@ cost (i ∷ items) = (1 + (length i.value + 511) / 512) + cost items
 -- new has this value at the key, and at every other key what old has
 abbrev pub Sets : List Item → List Item → List ℕ → List ℕ → Type 0
 Sets old new key value = (k : List ℕ) → get new k ≡ (if bytes_eq key k then Some value else get old k)
+
+-- new has nothing at the key, and at every other key what old has
+abbrev pub Removes : List Item → List Item → List ℕ → Type 0
+Removes old new key = (k : List ℕ) → get new k ≡ (if bytes_eq key k then None else get old k)

@@ -1,24 +1,23 @@
 -- What a commit writes, and what it leaves alone.
-use Rattle.std.specs.Prelude.{◌≡◌, ℕ, ◌+◌, ◌*◌, ◌<◌, ◌≤◌, ◌⊎◌, List, ◌++◌, length, slice_index}
+use Rattle.std.specs.Prelude.{◌≡◌, ℕ, ◌+◌, ◌*◌, ◌<◌, ◌≤◌, ◌⊎◌, List, ◌++◌, length, replicate, slice_index}
 use Rattle.std.specs.Int.{w16, w32, w64, to_be_bytes}
 use Rattle.psu_disk.specs.Disk.{Range}
 use Rattle.psu_items.specs.Map.{Item, IsSorted}
-use Rattle.psu_items.specs.Area.{area}
-use Rattle.psu_items.specs.Area.{CanHold}
+use Rattle.psu_items.specs.Area.{area, CanHold}
 use Rattle.psu_items.specs.declared.root.Root.{Root}
 use Rattle.psu_items.specs.Image.{gate_at, area_at, mark}
 
--- how many bytes of a root say something, beside its gate
-abbrev pub head_size : ℕ
-head_size = 19
-
--- these bytes: `PSU`, version 0, the limit, the number, how many bytes of the area are used
+-- the bytes of a root after its gate that say something: `PSU`, version 0, the limit, the number, how many bytes of the area are used
 abbrev pub head : ℕ → ℕ → ℕ → List ℕ
 head limit number used = mark ++ (to_be_bytes w16 0 ++ (to_be_bytes w16 limit ++ (to_be_bytes w64 number ++ to_be_bytes w32 used)))
 
+-- and zeros after them, to the end of its page
+abbrev pub page : ℕ → ℕ → ℕ → List ℕ
+page limit number used = head limit number used ++ replicate 492 0
+
 -- a root says this, and these bytes are in its area
 pub record IsStaged (root : Root) (limit number : ℕ) (bytes image : List ℕ) : Type 0 where
-  pub says : Range (gate_at root + 1) head_size image ≡ head limit number (length bytes)
+  pub says : Range (gate_at root + 1) 511 image ≡ page limit number (length bytes)
   pub held : Range (area_at root limit) (length bytes) image ≡ bytes
 
 -- y is x outside of a root and its area, and at its gate

@@ -59,48 +59,6 @@ pub struct Broken<D: Disk, A: Allocator + Copy> {
     ghost either: { D.honest → (image : List ℕ) → Left (D.state disk) image → ∥ IsEither limit before (changed before batch) image ∥₁ },
 }
 
-// Finds which of two maps stands, the one before or the one after a batch.
-fn recover<D: Disk, A: Allocator + Copy>(
-    alloc: A,
-    disk: &mut D,
-    limit: u16,
-    before: &Items<A>,
-    batch: &Batch<A>,
-) -> Result<Opened<A>, BrokenCause>
-    requires { 1024 ≤ D.extent disk.old }
-    ensures found { IfOk result (λ o. (o.items ≡ before.now) ⊎ (o.items ≡ changed before.now batch.now)) }
-    ensures limit { IfOk result (λ o. o.limit ≡ limit) }
-    ensures extent { D.extent disk.new ≡ D.extent disk.old }
-    ensures works { OnOk result (D.failures disk.new ≡ D.failures disk.old) }
-    ensures later { D.failures disk.old ≤ D.failures disk.new }
-    ensures device { IsErrOf result Device → HasFailed (D.failures disk.old) (D.failures disk.new) }
-    ensures kept { D.honest → IfOk result (λ o. IsKept (D.state disk.new) o.root o.limit o.number o.items) }
-    ensures strange { D.honest → EachIsEither (D.state disk.old) limit before.now (changed before.now batch.now) → IsErrOf result Strange → ⊥ }
-    ensures left { D.honest → EachIsEither (D.state disk.old) limit before.now (changed before.now batch.now)
-        → EachIsEither (D.state disk.new) limit before.now (changed before.now batch.now) }
-    ensures time { D.honest → D.tells → EachIsEither (D.state disk.old) limit before.now (changed before.now batch.now)
-        → LeavesOnly D.moment D.left_since disk.old disk.new (IsEither limit before.now (changed before.now batch.now)) }
-{
-    let target = before.changed(alloc, batch)?;
-    let opened = read_back(alloc, disk)?;
-    if !is_one_of(&opened, limit, before, &target) {
-        return Err(BrokenCause::Strange);
-    }
-    Ok(opened)
-}
-
-// Whether one of two maps was found.
-fn is_one_of<A: Allocator + Copy>(
-    opened: &Opened<A>,
-    limit: u16,
-    before: &Items<A>,
-    target: &Items<A>,
-) -> bool
-    ensures { IsTrue result ↔ ((opened.now.limit ≡ limit) × ((opened.now.items ≡ before.now) ⊎ (opened.now.items ≡ target.now))) }
-{
-    opened.limit == limit && (same(&opened.items, before) || same(&opened.items, target))
-}
-
 impl<D: Disk, A: Allocator + Copy> Broken<D, A> {
     ghost use Rattle.psu_items.specs.Outcome.{reopened_disk, IsStillBroken};
 
@@ -185,4 +143,46 @@ impl<D: Disk, A: Allocator + Copy> Broken<D, A> {
     {
         self.disk
     }
+}
+
+// Finds which of two maps stands, the one before or the one after a batch.
+fn recover<D: Disk, A: Allocator + Copy>(
+    alloc: A,
+    disk: &mut D,
+    limit: u16,
+    before: &Items<A>,
+    batch: &Batch<A>,
+) -> Result<Opened<A>, BrokenCause>
+    requires { 1024 ≤ D.extent disk.old }
+    ensures found { IfOk result (λ o. (o.items ≡ before.now) ⊎ (o.items ≡ changed before.now batch.now)) }
+    ensures limit { IfOk result (λ o. o.limit ≡ limit) }
+    ensures extent { D.extent disk.new ≡ D.extent disk.old }
+    ensures works { OnOk result (D.failures disk.new ≡ D.failures disk.old) }
+    ensures later { D.failures disk.old ≤ D.failures disk.new }
+    ensures device { IsErrOf result Device → HasFailed (D.failures disk.old) (D.failures disk.new) }
+    ensures kept { D.honest → IfOk result (λ o. IsKept (D.state disk.new) o.root o.limit o.number o.items) }
+    ensures strange { D.honest → EachIsEither (D.state disk.old) limit before.now (changed before.now batch.now) → IsErrOf result Strange → ⊥ }
+    ensures left { D.honest → EachIsEither (D.state disk.old) limit before.now (changed before.now batch.now)
+        → EachIsEither (D.state disk.new) limit before.now (changed before.now batch.now) }
+    ensures time { D.honest → D.tells → EachIsEither (D.state disk.old) limit before.now (changed before.now batch.now)
+        → LeavesOnly D.moment D.left_since disk.old disk.new (IsEither limit before.now (changed before.now batch.now)) }
+{
+    let target = before.changed(alloc, batch)?;
+    let opened = read_back(alloc, disk)?;
+    if !is_one_of(&opened, limit, before, &target) {
+        return Err(BrokenCause::Strange);
+    }
+    Ok(opened)
+}
+
+// Whether one of two maps was found.
+fn is_one_of<A: Allocator + Copy>(
+    opened: &Opened<A>,
+    limit: u16,
+    before: &Items<A>,
+    target: &Items<A>,
+) -> bool
+    ensures { IsTrue result ↔ ((opened.now.limit ≡ limit) × ((opened.now.items ≡ before.now) ⊎ (opened.now.items ≡ target.now))) }
+{
+    opened.limit == limit && (same(&opened.items, before) || same(&opened.items, target))
 }

@@ -9,15 +9,19 @@ ghost use Rattle.psu_items.specs.declared.codec.DecodeFault.TheVariants.{Memory,
 use crate::{Items, Pair};
 use std::alloc::{AllocError, AllocFailed, Allocator};
 
+// The most bytes of a key.
 const KEY_MOST: usize = 33;
 
+// The most bytes of a value.
 const VALUE_MOST: usize = 33280;
 
+// The most items of an area.
 const ITEMS_MOST: usize = 240;
 
 /// Why an area isn't read.
 #[derive(Clone, Copy, Debug, PartialEq, Eq, Drop)]
 pub(crate) enum DecodeFault {
+    /// Memory is refused.
     Memory,
     /// The bytes stand for no map, or for one of more than 240 items.
     Bad,

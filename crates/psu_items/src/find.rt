@@ -16,6 +16,26 @@ pub struct Picked {
     pub both: bool,
 }
 
+/// Makes sure of what the disk reads as, and finds the root that counts.
+pub fn find<D: Disk>(disk: &mut D) -> Result<Picked, OpenCause>
+    requires { 1024 ≤ D.extent disk.old }
+    ensures extent { D.extent disk.new ≡ D.extent disk.old }
+    ensures works { OnOk result (D.failures disk.new ≡ D.failures disk.old) }
+    ensures later { D.failures disk.old ≤ D.failures disk.new }
+    ensures device { IsErrOf result OpenCause.Device → HasFailed (D.failures disk.old) (D.failures disk.new) }
+    ensures found { D.honest → IfOk result (λ p. IsPickedIn (D.state disk.old).bytes p.root p.number p.both) }
+    ensures none { D.honest → IfErr result (IsNonePicked (standing First (D.state disk.old).bytes) (standing Second (D.state disk.old).bytes)) }
+    ensures synced { D.honest → OnOk result (Only (D.state disk.new)) }
+    ensures seen { D.honest → (D.state disk.new).bytes ≡ (D.state disk.old).bytes }
+    ensures left { D.honest → (x : List ℕ) → Left (D.state disk.new) x → Left (D.state disk.old) x }
+    ensures time { D.honest → D.tells → LeavesOnly D.moment D.left_since disk.old disk.new (Left (D.state disk.old)) }
+{
+    disk.sync()?;
+    let first = look(disk, Root::First)?;
+    let second = look(disk, Root::Second)?;
+    pick(first, second)
+}
+
 // The number of a root whose gate is open.
 fn look<D: Disk>(disk: &mut D, root: Root) -> Result<Option<u64>, DiskFault>
     requires { 1024 ≤ D.extent disk.old }
@@ -73,24 +93,4 @@ fn pick(first: Option<u64>, second: Option<u64>) -> Result<Picked, OpenCause>
             }
         }
     }
-}
-
-/// Makes sure of what the disk reads as, and finds the root that counts.
-pub fn find<D: Disk>(disk: &mut D) -> Result<Picked, OpenCause>
-    requires { 1024 ≤ D.extent disk.old }
-    ensures extent { D.extent disk.new ≡ D.extent disk.old }
-    ensures works { OnOk result (D.failures disk.new ≡ D.failures disk.old) }
-    ensures later { D.failures disk.old ≤ D.failures disk.new }
-    ensures device { IsErrOf result OpenCause.Device → HasFailed (D.failures disk.old) (D.failures disk.new) }
-    ensures found { D.honest → IfOk result (λ p. IsPickedIn (D.state disk.old).bytes p.root p.number p.both) }
-    ensures none { D.honest → IfErr result (IsNonePicked (standing First (D.state disk.old).bytes) (standing Second (D.state disk.old).bytes)) }
-    ensures synced { D.honest → OnOk result (Only (D.state disk.new)) }
-    ensures seen { D.honest → (D.state disk.new).bytes ≡ (D.state disk.old).bytes }
-    ensures left { D.honest → (x : List ℕ) → Left (D.state disk.new) x → Left (D.state disk.old) x }
-    ensures time { D.honest → D.tells → LeavesOnly D.moment D.left_since disk.old disk.new (Left (D.state disk.old)) }
-{
-    disk.sync()?;
-    let first = look(disk, Root::First)?;
-    let second = look(disk, Root::Second)?;
-    pick(first, second)
 }

@@ -2,7 +2,7 @@
 ghost use Rattle.std.specs.Prelude.{◌≡◌, ◌+◌, ◌*◌, ◌≤◌, ◌∷◌, [], List, ℕ, length, OnOk};
 ghost use Rattle.psu_disk.specs.Disk.{Left, Holds, SameBut, Only, LeavesOnly, HasCause};
 ghost use Rattle.psu_items.specs.Image.{gate_at};
-ghost use Rattle.psu_items.specs.Writing.{head, IsStaged, Spares};
+ghost use Rattle.psu_items.specs.Writing.{head, page, IsStaged, Spares};
 
 use crate::Root;
 use psu_disk::{Disk, DiskFault};
@@ -31,18 +31,6 @@ pub fn set_gate<D: Disk>(disk: &mut D, root: Root, byte: u8) -> Result<(), DiskF
     Ok(())
 }
 
-// The bytes of a root after its gate.
-fn head(limit: u16, number: u64, used: u32) -> [u8; 19]
-    ensures { result ≡ head limit number used }
-{
-    let mut bytes = [0; 19];
-    bytes[..3].copy_from_slice(b"PSU");
-    bytes[5..7].copy_from_slice(&limit.to_be_bytes());
-    bytes[7..15].copy_from_slice(&number.to_be_bytes());
-    bytes[15..].copy_from_slice(&used.to_be_bytes());
-    bytes
-}
-
 /// Writes a root but for its gate, and the bytes of its area, and syncs.
 pub fn stage<D: Disk>(
     disk: &mut D,
@@ -65,7 +53,28 @@ pub fn stage<D: Disk>(
         → LeavesOnly D.moment D.left_since disk.old disk.new (Spares root limit (D.state disk.old).bytes) }
 {
     disk.write(root.area(limit), area)?;
-    disk.write(root.gate() + 1, &head(limit, number, area.len() as u32))?;
+    disk.write(root.gate() + 1, &page(limit, number, area.len() as u32))?;
     disk.sync()?;
     Ok(())
+}
+
+// The bytes of a root after its gate, to the end of its page.
+fn page(limit: u16, number: u64, used: u32) -> [u8; 511]
+    ensures { result ≡ page limit number used }
+{
+    let mut bytes = [0; 511];
+    bytes[..19].copy_from_slice(&head(limit, number, used));
+    bytes
+}
+
+// Those of them that say something.
+fn head(limit: u16, number: u64, used: u32) -> [u8; 19]
+    ensures { result ≡ head limit number used }
+{
+    let mut bytes = [0; 19];
+    bytes[..3].copy_from_slice(b"PSU");
+    bytes[5..7].copy_from_slice(&limit.to_be_bytes());
+    bytes[7..15].copy_from_slice(&number.to_be_bytes());
+    bytes[15..].copy_from_slice(&used.to_be_bytes());
+    bytes
 }

@@ -95,7 +95,7 @@ impl<A: Allocator + Copy> Items<A> {
     {
         let mut map = self.copy(alloc)?;
         for edit in batch.edits() {
-            map.make(alloc, edit)?;
+            map.apply(alloc, edit)?;
         }
         Ok(map)
     }
@@ -112,7 +112,7 @@ impl<A: Allocator + Copy> Items<A> {
     }
 
     // Makes one edit.
-    fn make(&mut self, alloc: A, edit: &Edit<A>) -> Result<(), AllocError>
+    fn apply(&mut self, alloc: A, edit: &Edit<A>) -> Result<(), AllocError>
         ensures { OnOk result (self.new ≡ edited self.old edit.now.key edit.now.value) }
     {
         match edit.value() {

@@ -28,31 +28,6 @@ impl From<DecodeFault> for OpenCause {
     }
 }
 
-// The first bytes of an area.
-fn read_area<D: Disk, A: Allocator + Copy>(
-    alloc: A,
-    disk: &mut D,
-    root: Root,
-    limit: u16,
-    used: u32,
-) -> Result<Vec<u8, A>, OpenCause>
-    requires room { 512 * (2 + 2 * limit) ≤ D.extent disk.old }
-    requires fits { used ≤ 512 * limit }
-    ensures extent { D.extent disk.new ≡ D.extent disk.old }
-    ensures works { OnOk result (D.failures disk.new ≡ D.failures disk.old) }
-    ensures later { D.failures disk.old ≤ D.failures disk.new }
-    ensures device { IsErrOf result OpenCause.Device → HasFailed (D.failures disk.old) (D.failures disk.new) }
-    ensures found { D.honest → IfOk result (λ bytes. bytes.items ≡ Range (area_at root limit) used (D.state disk.old).bytes) }
-    ensures refused { IfErr result (λ cause. (cause ≡ OpenCause.Device) ⊎ (cause ≡ OpenCause.Memory)) }
-    ensures seen { D.honest → (D.state disk.new).bytes ≡ (D.state disk.old).bytes }
-    ensures left { D.honest → (x : List ℕ) → Left (D.state disk.new) x → Left (D.state disk.old) x }
-    ensures time { D.honest → D.tells → LeavesOnly D.moment D.left_since disk.old disk.new (Left (D.state disk.old)) }
-{
-    let mut bytes = vec![in alloc; 0; used as usize]?;
-    disk.read(root.area(limit), &mut bytes)?;
-    Ok(bytes)
-}
-
 /// Reads the map that a root and its area hold.
 pub fn load<D: Disk, A: Allocator + Copy>(
     alloc: A,
@@ -82,4 +57,29 @@ pub fn load<D: Disk, A: Allocator + Copy>(
         limit: head.limit,
         items,
     })
+}
+
+// The first bytes of an area.
+fn read_area<D: Disk, A: Allocator + Copy>(
+    alloc: A,
+    disk: &mut D,
+    root: Root,
+    limit: u16,
+    used: u32,
+) -> Result<Vec<u8, A>, OpenCause>
+    requires room { 512 * (2 + 2 * limit) ≤ D.extent disk.old }
+    requires fits { used ≤ 512 * limit }
+    ensures extent { D.extent disk.new ≡ D.extent disk.old }
+    ensures works { OnOk result (D.failures disk.new ≡ D.failures disk.old) }
+    ensures later { D.failures disk.old ≤ D.failures disk.new }
+    ensures device { IsErrOf result OpenCause.Device → HasFailed (D.failures disk.old) (D.failures disk.new) }
+    ensures found { D.honest → IfOk result (λ bytes. bytes.items ≡ Range (area_at root limit) used (D.state disk.old).bytes) }
+    ensures refused { IfErr result (λ cause. (cause ≡ OpenCause.Device) ⊎ (cause ≡ OpenCause.Memory)) }
+    ensures seen { D.honest → (D.state disk.new).bytes ≡ (D.state disk.old).bytes }
+    ensures left { D.honest → (x : List ℕ) → Left (D.state disk.new) x → Left (D.state disk.old) x }
+    ensures time { D.honest → D.tells → LeavesOnly D.moment D.left_since disk.old disk.new (Left (D.state disk.old)) }
+{
+    let mut bytes = vec![in alloc; 0; used as usize]?;
+    disk.read(root.area(limit), &mut bytes)?;
+    Ok(bytes)
 }

@@ -22,25 +22,6 @@ pub struct Opened<A: Allocator + Copy> {
     pub items: Items<A>,
 }
 
-// Closes the gate of the root that doesn't count, where it is open. A gate that is closed is left alone: while its byte is
-// written a power loss might leave it open, over a root with a higher number.
-fn settle<D: Disk>(disk: &mut D, picked: &Picked) -> Result<(), DiskFault>
-    requires { 1024 ≤ D.extent disk.old }
-    ensures extent { D.extent disk.new ≡ D.extent disk.old }
-    ensures cause { HasCause (D.failures disk.old) (D.failures disk.new) result }
-    ensures kept { D.honest → Only (D.state disk.old) → IsPickedIn (D.state disk.old).bytes picked.now.root picked.now.number picked.now.both
-        → (limit : ℕ) (map : List Item) → RootHolds picked.now.root (D.state disk.old).bytes limit map → OnOk result (IsKept (D.state disk.new) picked.now.root limit picked.now.number map) }
-    ensures left { D.honest → Only (D.state disk.old) → IsPickedIn (D.state disk.old).bytes picked.now.root picked.now.number picked.now.both
-        → (x : List ℕ) → Left (D.state disk.new) x → SameRoots (D.state disk.old).bytes x }
-    ensures time { D.honest → D.tells → Only (D.state disk.old) → IsPickedIn (D.state disk.old).bytes picked.now.root picked.now.number picked.now.both
-        → LeavesOnly D.moment D.left_since disk.old disk.new (SameRoots (D.state disk.old).bytes) }
-{
-    if picked.both {
-        set_gate(disk, picked.root.other(), CLOSED)?;
-    }
-    Ok(())
-}
-
 /// Finds the map that a disk stands for, and leaves its root as the only open one.
 pub fn read_back<D: Disk, A: Allocator + Copy>(
     alloc: A,
@@ -68,4 +49,23 @@ pub fn read_back<D: Disk, A: Allocator + Copy>(
         number: picked.number,
         items,
     })
+}
+
+// Closes the gate of the root that doesn't count, where it is open. A gate that is closed is left alone: while its byte is
+// written a power loss might leave it open, over a root with a higher number.
+fn settle<D: Disk>(disk: &mut D, picked: &Picked) -> Result<(), DiskFault>
+    requires { 1024 ≤ D.extent disk.old }
+    ensures extent { D.extent disk.new ≡ D.extent disk.old }
+    ensures cause { HasCause (D.failures disk.old) (D.failures disk.new) result }
+    ensures kept { D.honest → Only (D.state disk.old) → IsPickedIn (D.state disk.old).bytes picked.now.root picked.now.number picked.now.both
+        → (limit : ℕ) (map : List Item) → RootHolds picked.now.root (D.state disk.old).bytes limit map → OnOk result (IsKept (D.state disk.new) picked.now.root limit picked.now.number map) }
+    ensures left { D.honest → Only (D.state disk.old) → IsPickedIn (D.state disk.old).bytes picked.now.root picked.now.number picked.now.both
+        → (x : List ℕ) → Left (D.state disk.new) x → SameRoots (D.state disk.old).bytes x }
+    ensures time { D.honest → D.tells → Only (D.state disk.old) → IsPickedIn (D.state disk.old).bytes picked.now.root picked.now.number picked.now.both
+        → LeavesOnly D.moment D.left_since disk.old disk.new (SameRoots (D.state disk.old).bytes) }
+{
+    if picked.both {
+        set_gate(disk, picked.root.other(), CLOSED)?;
+    }
+    Ok(())
 }

@@ -30,22 +30,6 @@ pub struct Store<D: Disk, A: Allocator + Copy> {
     ghost kept: { D.honest → IsKept (D.state disk) root limit number items } by { Prim.hlevel (props, IsKept-IsProp) },
 }
 
-// Makes the first root the only one, over an empty area.
-fn lay_out<D: Disk>(disk: &mut D, limit: u16) -> Result<(), DiskFault>
-    requires limit_least { 4 ≤ limit }
-    requires limit_most { limit ≤ 480 }
-    requires room { 512 * (2 + 2 * limit) ≤ D.extent disk.old }
-    ensures extent { D.extent disk.new ≡ D.extent disk.old }
-    ensures cause { HasCause (D.failures disk.old) (D.failures disk.new) result }
-    ensures kept { D.honest → OnOk result (IsKept (D.state disk.new) First limit 1 []) }
-{
-    set_gate(disk, Root::First, CLOSED)?;
-    set_gate(disk, Root::Second, CLOSED)?;
-    stage(disk, Root::First, limit, 1, &[])?;
-    set_gate(disk, Root::First, OPEN)?;
-    Ok(())
-}
-
 impl<D: Disk, A: Allocator + Copy> Store<D, A> {
     ghost use Rattle.psu_items.specs.Outcome.{formatted_disk, opened_disk};
 
@@ -152,4 +136,20 @@ impl<D: Disk, A: Allocator + Copy> Store<D, A> {
     {
         self.disk
     }
+}
+
+// Makes the first root the only one, over an empty area.
+fn lay_out<D: Disk>(disk: &mut D, limit: u16) -> Result<(), DiskFault>
+    requires limit_least { 4 ≤ limit }
+    requires limit_most { limit ≤ 480 }
+    requires room { 512 * (2 + 2 * limit) ≤ D.extent disk.old }
+    ensures extent { D.extent disk.new ≡ D.extent disk.old }
+    ensures cause { HasCause (D.failures disk.old) (D.failures disk.new) result }
+    ensures kept { D.honest → OnOk result (IsKept (D.state disk.new) First limit 1 []) }
+{
+    set_gate(disk, Root::First, CLOSED)?;
+    set_gate(disk, Root::Second, CLOSED)?;
+    stage(disk, Root::First, limit, 1, &[])?;
+    set_gate(disk, Root::First, OPEN)?;
+    Ok(())
 }

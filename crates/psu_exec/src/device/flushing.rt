@@ -71,7 +71,10 @@ impl<A: Allocator + Copy> Device<A> {
     pub(crate) fn is_job(&self, limit: u16, before: &Items<A>, edits: &Batch<A>) -> bool
         ensures { IsTrue result ↔ ((self.now.flush.out ≡ true) × (limit ≡ self.now.flush.limit) × (before.now ≡ self.now.flush.before) × (edits.now ≡ batch self.now.flush.before (target self.now.flush))) }
     {
-        self.out && limit == self.limit && same_items(before, &self.before) && same_edits(edits, &self.edits)
+        self.out
+            && limit == self.limit
+            && same_items(before, &self.before)
+            && same_edits(edits, &self.edits)
     }
 
     /// The target's changes are flushed, and no others.

@@ -1,7 +1,7 @@
 //! The units of a message, and the waits that they leave.
-ghost use Rattle.std.specs.Prelude.{◌≡◌, ◌<◌, ◌++◌, ◌∷◌, [], true, false, IfOk, OnOk, OnErr, is_some, length};
-ghost use Rattle.psu_exec.specs.Contents.{apply};
-ghost use Rattle.psu_exec.specs.Device.{answer_with, change_in, change_read, effect, is_late, made, wait_of, wants_memory, with_error, with_more, with_registers};
+ghost use Rattle.std.specs.Prelude.{◌≡◌, ◌<◌, true, false, Some, IfOk, OnOk, OnErr, is_some, length};
+ghost use Rattle.psu_exec.specs.Device.{answer_with, change_in, change_read, is_late, noted, refused, wait_of, wants_memory, with_state_registers};
+ghost use Rattle.psu_exec.specs.Registers.{effect};
 ghost use Rattle.psu_exec.specs.Calls.{Allows};
 ghost use Rattle.psu_exec.specs.Calls.Entry.{Executed, Settled};
 ghost use Rattle.psu_exec.specs.Shown.{outcome_of};
@@ -87,10 +87,7 @@ impl<A: Allocator + Copy> Device<A> {
     fn accept(&mut self, command: Command, change: Option<Change>) -> Result<Outcome<A>, AllocError>
         requires { is_some change ≡ true → length self.old.flush.tail < 1024 }
         ensures value { IfOk result (λ o. outcome_of o ≡ answer_with self.old.flush.contents.enables self.old.volatile.registers command) }
-        ensures ok { OnOk result (self.new ≡ record {
-            volatile = with_registers self.old.volatile (effect self.old.volatile.registers command);
-            flush = record self.old.flush { contents = made change self.old.flush.contents; tail = with_more change self.old.flush.tail };
-        }) }
+        ensures ok { OnOk result (self.new ≡ with_state_registers (noted self.old change) (effect self.old.volatile.registers command)) }
         ensures err { OnErr result (self.new ≡ self.old) }
         ensures wanted { OnErr result (wants_memory (answer_with self.old.flush.contents.enables self.old.volatile.registers command) change ≡ true) }
     {
@@ -105,7 +102,7 @@ impl<A: Allocator + Copy> Device<A> {
     // Notes an accepted change.
     fn note(&mut self, change: Change) -> Result<(), AllocError>
         requires { length self.old.flush.tail < 1024 }
-        ensures ok { OnOk result (self.new ≡ record self.old { flush = record self.old.flush { contents = apply self.old.flush.contents change; tail = self.old.flush.tail ++ change ∷ [] } }) }
+        ensures ok { OnOk result (self.new ≡ noted self.old (Some change)) }
         ensures err { OnErr result (self.new ≡ self.old) }
     {
         self.tail.push(change)?;
@@ -116,7 +113,7 @@ impl<A: Allocator + Copy> Device<A> {
     // A unit that is refused: the bit of the error's class is set.
     fn refused(&mut self, error: ScpiError) -> Outcome<A>
         ensures value { result ≡ Outcome.Error error }
-        ensures is { self.new ≡ record self.old { volatile = with_registers self.old.volatile (with_error self.old.volatile.registers error) } }
+        ensures state { self.new ≡ refused self.old error }
     {
         self.registers = self.registers.with_error(error);
         Outcome::Error(error)

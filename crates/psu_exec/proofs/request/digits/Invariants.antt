@@ -1,4 +1,4 @@
-use Rattle.std.proofs.Common.{◌≡◌, ℕ, drop, ◌^◌, ◌<◌}
+use Rattle.std.proofs.Common.{◌≡◌, drop, ◌^◌, ◌<◌}
 use Rattle.psu_exec.specs.Reading.{digits_from}
 use Rattle.psu_exec.proofs.request.digits.Given as goal
 

@@ -1,4 +1,4 @@
-use Rattle.std.proofs.Common.{ℕ, ◌≡◌, ◌<◌, length, ap, arith}
+use Rattle.std.proofs.Common.{◌≡◌, ◌<◌, length, ap, arith}
 use Rattle.psu_exec.specs.Device.{State}
 use Rattle.psu_exec.proofs.Consistent.{consistent_more}
 use Rattle.psu_exec.proofs.device.Device.note.Goals as goal
