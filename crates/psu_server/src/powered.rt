@@ -91,7 +91,10 @@ impl<D: Disk, A: Allocator + Copy> Powered<D, A> {
     }
 
     /// The early end of a run.
-    pub fn fault(self, cause: RunCause) -> RunFault<D> {
+    pub fn fault(self, cause: RunCause) -> RunFault<D>
+        ensures cause { result.cause ≡ cause }
+        ensures failures { D.failures result.disk ≡ failures_of self.exec }
+    {
         RunFault {
             cause,
             disk: self.into_disk(),
