@@ -5,7 +5,7 @@ use Rattle.psu_items.specs.Image.{Stands, IsRefusal}
 use Rattle.psu_items.specs.declared.open_cause.OpenCause.{OpenCause}
 use Rattle.psu_items.specs.declared.open_cause.OpenCause.TheVariants as opening
 use Rattle.psu_exec.specs.Contents.{items_of, IsContents}
-use Rattle.psu_exec.specs.Device.{prescribed}
+use Rattle.psu_exec.specs.Registers.{prescribed}
 use Rattle.psu_exec.specs.declared.contents.Contents.{Contents}
 use Rattle.psu_exec.specs.declared.power_fault.PowerCause.{PowerCause}
 use Rattle.psu_exec.specs.declared.power_fault.PowerCause.TheVariants as power

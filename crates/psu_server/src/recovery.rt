@@ -1,6 +1,6 @@
 //! What a restart would find in an image, without running on it.
 ghost use Rattle.std.specs.Prelude.{◌≡◌, IfOk, IfErr};
-ghost use Rattle.psu_exec.specs.Device.{first_request};
+ghost use Rattle.psu_exec.specs.Registers.{first_request};
 ghost use Rattle.psu_server.specs.Recover.{IsReported, IsRecoverRefusal};
 
 use crate::{RecoverFault, Report};

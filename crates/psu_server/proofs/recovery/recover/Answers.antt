@@ -2,7 +2,8 @@ use Rattle.std.proofs.Common.{◌≡◌, ◌∙◌, ℕ, List, refl, sym, ap, su
 use Rattle.psu_items.specs.Map.{Item, cost}
 use Rattle.psu_items.specs.Image.{Stands}
 use Rattle.psu_exec.specs.Contents.{items_of}
-use Rattle.psu_exec.specs.Device.{State, first_request}
+use Rattle.psu_exec.specs.Device.{State}
+use Rattle.psu_exec.specs.Registers.{first_request}
 use Rattle.psu_exec.specs.declared.contents.Contents.{Contents}
 use Rattle.psu_exec.specs.declared.power_fault.PowerCause.{PowerCause}
 use Rattle.psu_exec.specs.declared.power_fault.PowerCause.TheVariants as power
