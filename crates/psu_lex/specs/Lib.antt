@@ -1,1 +1,4 @@
 pub mod Errors
+pub mod Bytes
+pub mod Message
+pub mod Scan
