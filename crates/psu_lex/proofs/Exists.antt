@@ -9,7 +9,7 @@ use Rattle.psu_lex.specs.Bytes.{ends_in_newline, all_digits, is_quote, opens, se
 use Rattle.psu_lex.specs.Message.{Piece, doubled, spelling, IsWhole, Token, Reads, BeginsPiece, EndsString, HasNoPiece}
 use Rattle.psu_lex.specs.Message.Piece.{Quoted, Counted, Open}
 use Rattle.psu_lex.specs.Message.Token.{Byte, Separator, Whole, Faulty}
-use Rattle.psu_lex.proofs.Strings.{same_head, same_tail, both, decide_string}
+use Rattle.psu_lex.proofs.Quotes.{same_head, same_tail, both, decide_string}
 use Rattle.psu_lex.proofs.Unique.{same_piece, no_hash}
 
 -- ---- strings as pieces

@@ -1,4 +1,4 @@
-pub mod Strings
+pub mod Quotes
 pub mod Unique
 pub mod Exists
 pub mod Searches
@@ -6,3 +6,6 @@ pub mod StringScans
 pub mod PieceScans
 pub mod UnitScans
 pub mod SplitScans
+pub mod BlockData
+pub mod StringData
+pub mod Digits

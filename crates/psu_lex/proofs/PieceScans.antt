@@ -6,7 +6,7 @@ use Rattle.std.proofs.lemmas.List.{drop_all}
 use Rattle.psu_lex.specs.Bytes.{ends_in_newline, all_digits, value_after, is_quote, opens}
 use Rattle.psu_lex.specs.Message.{opens_first, BeginsPiece, EndsString, fault_of}
 use Rattle.psu_lex.specs.declared.scpi_error.ScpiError.TheVariants.{InvalidStringData, InvalidBlockData}
-use Rattle.psu_lex.proofs.Strings.{same_byte}
+use Rattle.psu_lex.proofs.Quotes.{same_byte}
 use Rattle.psu_lex.proofs.Searches.{drop-add}
 use Rattle.psu_lex.proofs.Exists.{hash_left, piece_string, string_piece, last_newline, open_line, open_end, Measured, measured_in}
 

@@ -4,7 +4,7 @@ use Rattle.psu_lex.specs.Bytes.{separates, all_white}
 use Rattle.psu_lex.specs.Message.{ends_unit, Makes, Part, ended, next_first}
 use Rattle.psu_lex.specs.Message.{part, parts}
 use Rattle.psu_lex.specs.declared.unit.Unit as rust
-use Rattle.psu_lex.proofs.Strings.{same_byte}
+use Rattle.psu_lex.proofs.Quotes.{same_byte}
 use Rattle.psu_lex.proofs.PieceScans.{not_zero}
 use Rattle.psu_lex.proofs.UnitScans.{makes_end, makes_separator}
 

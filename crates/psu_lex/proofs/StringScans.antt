@@ -7,7 +7,7 @@ use Rattle.std.proofs.lemmas.Grind.{common_steps}
 use Rattle.memchr.specs.Find.{IsFirstByte, is_byte2}
 use Rattle.psu_lex.specs.Bytes.{starts, is_quote}
 use Rattle.psu_lex.specs.Message.{EndsString}
-use Rattle.psu_lex.proofs.Strings.{broken, closing, plain_in, plain_out, twice_in, twice_out, unended, same_byte}
+use Rattle.psu_lex.proofs.Quotes.{broken, closing, plain_in, plain_out, twice_in, twice_out, unended, same_byte}
 use Rattle.psu_lex.specs.Scan.{has}
 use Rattle.psu_lex.proofs.Searches.{has_head, has_tail, free_before, free_all, parts_at}
 use Rattle.psu_lex.proofs.Exists.{quote_line}

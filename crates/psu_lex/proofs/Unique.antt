@@ -6,7 +6,7 @@ use Rattle.psu_lex.specs.Bytes.{ends_in_newline, starts, is_quote, opens, separa
 use Rattle.psu_lex.specs.Message.{Piece, doubled, spelling, opens_first, IsWhole, Token, text_of, Stands, Reads}
 use Rattle.psu_lex.specs.Message.Piece.{Quoted, Counted, Open}
 use Rattle.psu_lex.specs.Message.Token.{Byte, Separator, Whole, Faulty}
-use Rattle.psu_lex.proofs.Strings.{same_head, same_tail, same_string, both}
+use Rattle.psu_lex.proofs.Quotes.{same_head, same_tail, same_string, both}
 
 pub same_front : (a b x y : List ℕ) → length a ≡ length b → a ++ x ≡ b ++ y → (a ≡ b) × (x ≡ y)
 same_front [] [] x y n e = (refl, e)

@@ -37,6 +37,10 @@ abbrev pub starts : ℕ → List ℕ → Bool
 starts b [] = false
 starts b (x ∷ xs) = x == b
 
+-- the first byte is a quote
+abbrev pub starts_quoted : List ℕ → Bool
+starts_quoted bytes = starts 34 bytes || starts 39 bytes
+
 abbrev pub ends_in_newline : List ℕ → Bool
 ends_in_newline [] = false
 ends_in_newline (x ∷ []) = x == 10

@@ -1,4 +1,5 @@
 pub mod Errors
 pub mod Bytes
 pub mod Message
+pub mod Data
 pub mod Scan

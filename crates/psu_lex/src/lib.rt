@@ -1,17 +1,25 @@
 //! Messages of SCPI: their units, numbers, strings and blocks, and the errors that the instrument reports.
 #![tactic(auto)]
 
+mod blocks;
+mod bytes;
 mod error_class;
 mod laws;
 mod message;
 mod pieces;
 mod scpi_error;
+mod strings;
 mod unit;
 mod units;
 
+pub use blocks::{block, definite};
+pub use bytes::Bytes;
 pub use error_class::ErrorClass;
-pub use laws::{every_list_has_units, one_list_of_units};
+pub use laws::{
+    every_list_has_units, one_content_of_a_block, one_content_of_a_string, one_list_of_units,
+};
 pub use message::split;
 pub use scpi_error::ScpiError;
+pub use strings::string;
 pub use unit::Unit;
 pub use units::Units;

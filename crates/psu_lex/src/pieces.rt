@@ -1,6 +1,6 @@
 // Where a string or a block ends.
 ghost use Rattle.std.specs.Prelude.{ℕ, List, ◌≡◌, ◌+◌, ◌-◌, ◌≤◌, ◌<◌, ◌∷◌, ◌++◌, true, false, length, take, drop, IfSome, IfNone, OnSome};
-ghost use Rattle.psu_lex.specs.Bytes.{all_digits, ends_in_newline, is_closed, is_quote, starts, value_after};
+ghost use Rattle.psu_lex.specs.Bytes.{all_digits, ends_in_newline, is_closed, is_quote, starts, starts_quoted, value_after};
 ghost use Rattle.psu_lex.specs.Message.{opens_first, BeginsPiece, EndsString, HasNoPiece};
 
 use memchr::memchr2;
@@ -22,14 +22,30 @@ pub fn between(bytes: &[u8], from: usize, to: usize) -> &[u8]
     &bytes[from..to]
 }
 
-fn begins(bytes: &[u8], byte: u8) -> bool
+/// The first n bytes.
+pub fn front(bytes: &[u8], n: usize) -> &[u8]
+    requires { n ≤ length bytes.now }
+    ensures { result.now ≡ take n bytes.now }
+{
+    &bytes[..n]
+}
+
+/// Whether this byte is the first.
+pub fn begins(bytes: &[u8], byte: u8) -> bool
     ensures { result ≡ starts byte bytes.now }
 {
     !bytes.is_empty() && bytes[0] == byte
 }
 
+/// Whether a quote is the first byte.
+pub fn is_quote_byte(bytes: &[u8]) -> bool
+    ensures { result ≡ starts_quoted bytes.now }
+{
+    begins(bytes, b'"') || begins(bytes, b'\'')
+}
+
 /// How many bytes of the text, which begins after a quote, belong to its string.
-fn string_end(text: &[u8], quote: u8) -> Option<usize>
+pub fn string_end(text: &[u8], quote: u8) -> Option<usize>
     requires { is_quote quote ≡ true }
     ensures within { IfSome result (λ n. n ≤ length text.now) }
     ensures some { IfSome result (λ n. EndsString quote text.now (drop n text.now)) }
@@ -92,7 +108,7 @@ fn ends_line(text: &[u8]) -> bool
 }
 
 /// How many bytes of the text, which begins after a `#`, belong to its block.
-fn block_end(text: &[u8]) -> Option<usize>
+pub fn block_end(text: &[u8]) -> Option<usize>
     ensures within { IfSome result (λ n. n ≤ length text.now) }
     ensures some { IfSome result (λ n. BeginsPiece (35 ∷ text.now) (drop n text.now)) }
     ensures none { IfNone result ((more : List ℕ) → BeginsPiece (35 ∷ text.now) more → ⊥) }
