@@ -9,3 +9,8 @@ pub mod SplitScans
 pub mod BlockData
 pub mod StringData
 pub mod Digits
+pub mod Runs
+pub mod NumberSound
+pub mod NumberFound
+pub mod Rounding
+pub mod NumberValue

@@ -20,6 +20,9 @@ opens b = b == 34 || b == 39 || b == 35
 abbrev pub is_digit : ℕ → Bool
 is_digit b = nat_lt 47 b && nat_lt b 58
 
+abbrev pub is_letter : ℕ → Bool
+is_letter b = (nat_lt 64 b && nat_lt b 91) || (nat_lt 96 b && nat_lt b 123)
+
 abbrev pub all_white : List ℕ → Bool
 all_white [] = true
 all_white (x ∷ xs) = is_white x && all_white xs
@@ -27,6 +30,10 @@ all_white (x ∷ xs) = is_white x && all_white xs
 abbrev pub all_digits : List ℕ → Bool
 all_digits [] = true
 all_digits (x ∷ xs) = is_digit x && all_digits xs
+
+abbrev pub all_letters : List ℕ → Bool
+all_letters [] = true
+all_letters (x ∷ xs) = is_letter x && all_letters xs
 
 abbrev pub has_newline : List ℕ → Bool
 has_newline [] = false
