@@ -14,3 +14,4 @@ pub mod NumberSound
 pub mod NumberFound
 pub mod Rounding
 pub mod NumberValue
+pub mod Expansions

@@ -5,3 +5,6 @@ pub mod Data
 pub mod Scan
 pub mod Number
 pub mod NumberScan
+pub mod Macros
+pub mod MacroScan
+pub mod Decimals

@@ -4,8 +4,10 @@
 mod blocks;
 mod bytes;
 mod class;
+mod decimals;
 mod error_class;
 mod laws;
+mod macros;
 mod message;
 mod number_scan;
 mod numbers;
@@ -18,11 +20,13 @@ mod written;
 
 pub use blocks::{block, definite};
 pub use bytes::Bytes;
+pub use decimals::fixed3;
 pub use error_class::ErrorClass;
 pub use laws::{
     every_list_has_units, one_content_of_a_block, one_content_of_a_string, one_list_of_units,
     one_number_of_a_text,
 };
+pub use macros::expand;
 pub use message::split;
 pub use numbers::number;
 pub use scpi_error::ScpiError;
