@@ -33,3 +33,6 @@ pub use scpi_error::ScpiError;
 pub use strings::string;
 pub use unit::Unit;
 pub use units::Units;
+
+#[cfg(test)]
+mod tests;
