@@ -1,1 +1,10 @@
 pub mod Errors
+pub mod Bytes
+pub mod Message
+pub mod Data
+pub mod Scan
+pub mod Number
+pub mod NumberScan
+pub mod Macros
+pub mod MacroScan
+pub mod Decimals

@@ -1,8 +1,38 @@
 //! Messages of SCPI: their units, numbers, strings and blocks, and the errors that the instrument reports.
 #![tactic(auto)]
 
+mod blocks;
+mod bytes;
+mod class;
+mod decimals;
 mod error_class;
+mod laws;
+mod macros;
+mod message;
+mod number_scan;
+mod numbers;
+mod pieces;
 mod scpi_error;
+mod strings;
+mod unit;
+mod units;
+mod written;
 
+pub use blocks::{block, definite};
+pub use bytes::Bytes;
+pub use decimals::fixed3;
 pub use error_class::ErrorClass;
+pub use laws::{
+    every_list_has_units, one_content_of_a_block, one_content_of_a_string, one_list_of_units,
+    one_number_of_a_text,
+};
+pub use macros::expand;
+pub use message::split;
+pub use numbers::number;
 pub use scpi_error::ScpiError;
+pub use strings::string;
+pub use unit::Unit;
+pub use units::Units;
+
+#[cfg(test)]
+mod tests;

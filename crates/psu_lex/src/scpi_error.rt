@@ -1,8 +1,10 @@
 // The errors of SCPI that the instrument reports.
 ghost use Rattle.std.specs.Prelude.{◌≡◌, ◌≤◌};
+ghost use Rattle.psu_lex.specs.declared.scpi_error.ScpiError.TheVariants.{OutOfMemory};
 ghost use Rattle.psu_lex.specs.Errors.{magnitude, text, class_of, event_bit};
 
 use crate::ErrorClass;
+use std::alloc::AllocError;
 
 /// An error of SCPI-1999 (volume 2, chapter 21), by its name there. Its number is negative.
 #[derive(Clone, Copy, Debug, PartialEq, Eq)]
@@ -167,6 +169,15 @@ impl ScpiError {
         ensures { result ≡ event_bit self }
     {
         self.class().event_bit()
+    }
+}
+
+/// Memory that is refused is an error of its own.
+impl From<AllocError> for ScpiError {
+    ghost from_gives = { λ _ error. error ≡ OutOfMemory };
+
+    fn from(_refused: AllocError) -> ScpiError {
+        ScpiError::OutOfMemory
     }
 }
 

@@ -1,0 +1,17 @@
+pub mod Quotes
+pub mod Unique
+pub mod Exists
+pub mod Searches
+pub mod StringScans
+pub mod PieceScans
+pub mod UnitScans
+pub mod SplitScans
+pub mod BlockData
+pub mod StringData
+pub mod Digits
+pub mod Runs
+pub mod NumberSound
+pub mod NumberFound
+pub mod Rounding
+pub mod NumberValue
+pub mod Expansions

@@ -1,0 +1,238 @@
+-- Rounding and holding.
+use Rattle.std.proofs.Common.{◌≡◌, ℕ, zero, suc, ◌+◌, ◌-◌, ◌*◌, ◌^◌, ◌<◌, ◌≤◌, min, true, List, [], ◌∷◌, ◌++◌, length, take, drop, refl, sym, ap, ◌∙◌, arith, inl, inr, add-one, slice_index}
+use Rattle.std.proofs.lemmas.Bool.{cases_lt}
+use Rattle.std.proofs.lemmas.Nat.{pow-add}
+use Rattle.std.proofs.lemmas.List.{take-append-drop}
+use Rattle.std.proofs.lemmas.Grind.{common_steps}
+use Rattle.std.proofs.lemmas.Bool.Decides.{nat_tests}
+use Rattle.std.proofs.Math.Nat.{mul_comm, mul_assoc, suc-mul, mul-suc, add-mul, mul-le-mul_right, div-eq_of_lt-le}
+use Rattle.psu_lex.specs.Bytes.{value_after, all_digits}
+use Rattle.psu_lex.specs.Number.{magnitude, rounded}
+
+after_ge : (n : ℕ) (ds : List ℕ) → n ≤ value_after n ds
+after_ge n [] = omega arith
+after_ge n (d ∷ ds) = omega (arith, after_ge (10 * n + (d - 48)) ds)
+
+-- holding on the way changes nothing at the end
+pub held_same : (top n : ℕ) (ds : List ℕ) → min top (value_after (min n top) ds) ≡ min top (value_after n ds)
+held_same top n ds = elim (cases_lt top n) [
+  | inr le ↦
+      let e : min n top ≡ n = omega (arith, le) in
+      ap (λ (z : ℕ). min top (value_after z ds)) e
+  | inl lt ↦
+      let e : min n top ≡ top = omega (arith, lt) in
+      let a : top ≤ value_after (min n top) ds = omega (arith, e, after_ge (min n top) ds) in
+      omega (arith, lt, a, after_ge n ds)
+]
+
+pub shift_step : (top w : ℕ) → min (10 * min top w) top ≡ min top (10 * w)
+shift_step top w = omega arith
+
+pub held_step : (top n : ℕ) (ds : List ℕ) (x : ℕ) → x ≡ min n top → min top (value_after x ds) ≡ min top (value_after n ds)
+held_step top n ds x e = ap (λ (z : ℕ). min top (value_after z ds)) e ∙ held_same top n ds
+
+pub power_step : (v i : ℕ) → v * 10 ^ (i + 1) ≡ 10 * (v * 10 ^ i)
+power_step v i = rw (pow-add 10 i 1) (omega (arith, mul_comm (v * 10 ^ i) 10, mul_assoc v (10 ^ i) 10))
+
+pub digits_tail : (x : ℕ) (xs : List ℕ) → all_digits (x ∷ xs) ≡ true → all_digits xs ≡ true
+digits_tail x xs h = grind (arith, common_steps, h)
+
+ten_pos : (n : ℕ) → 0 < 10 ^ n
+ten_pos zero = omega arith
+ten_pos (suc n) =
+    let e : 10 ^ suc n ≡ 10 ^ n * 10 ^ 1 = ap (λ (z : ℕ). 10 ^ z) (sym (add-one n)) ∙ pow-add 10 n 1 in
+    omega (arith, e, ten_pos n)
+
+over : (v k : ℕ) → k ≤ suc v * k
+over v k = omega (arith, suc-mul v k)
+
+-- a value above 0 is over the top after 16 places
+pub shift_end : (v p : ℕ) → 16 ≤ p → min (10 ^ 15) (v * 10 ^ 16) ≡ min (10 ^ 15) (v * 10 ^ p)
+shift_end zero p le = grind arith
+shift_end (suc v) p le =
+    let a : 10 ^ (16 + (p - 16)) ≡ 10 ^ 16 * 10 ^ (p - 16) = pow-add 10 16 (p - 16) in
+    let b : 16 + (p - 16) ≡ p = omega (arith, le) in
+    let k : 10 ^ p ≡ 10 ^ 16 * 10 ^ (p - 16) = ap (λ (z : ℕ). 10 ^ z) (sym b) ∙ a in
+    omega (arith, k, ten_pos (p - 16), over v (10 ^ 16), over v (10 ^ p))
+
+-- ---- rounding
+
+pub shift_all : (v p i x : ℕ) → i ≡ min p 16 → x ≡ min (10 ^ 15) (v * 10 ^ i) → x ≡ min (10 ^ 15) (v * 10 ^ p)
+shift_all v p i x e h = elim (cases_lt p 16) [
+  | inl lt ↦
+      let f : i ≡ p = omega (arith, e, lt) in
+      h ∙ ap (λ (z : ℕ). min (10 ^ 15) (v * 10 ^ z)) f
+  | inr le ↦
+      let f : i ≡ 16 = omega (arith, e, le) in
+      h ∙ ap (λ (z : ℕ). min (10 ^ 15) (v * 10 ^ z)) f ∙ shift_end v p le
+]
+
+-- the number of halves
+twice_out : (q d : ℕ) → q * (2 * d) ≡ 2 * (q * d)
+twice_out q d = sym (mul_assoc q 2 d) ∙ ap (λ (z : ℕ). z * d) (mul_comm q 2) ∙ mul_assoc 2 q d
+
+one_more : (q m : ℕ) → (q + 1) * m ≡ q * m + m
+one_more q m = ap (λ (z : ℕ). z * m) (add-one q) ∙ suc-mul q m
+
+-- whole parts and a remainder
+pub rounded_down : (q r d : ℕ) → 2 * r < d → rounded (q * d + r) d ≡ q
+rounded_down q r d h = div-eq_of_lt-le {k = q} (2 * d) (omega (arith, twice_out q d)) (omega (arith, twice_out q d, one_more q (2 * d), h))
+
+pub rounded_up : (q r d : ℕ) → r < d → d ≤ 2 * r → rounded (q * d + r) d ≡ q + 1
+rounded_up q r d h g = div-eq_of_lt-le {k = q + 1} (2 * d) (omega (arith, twice_out q d, one_more q (2 * d), g)) (omega (arith, twice_out q d, one_more q (2 * d), one_more (q + 1) (2 * d), h))
+
+pub rounded_whole : (q d : ℕ) → 0 < d → rounded (q * d) d ≡ q
+rounded_whole q d h = ap (λ (z : ℕ). rounded z d) (omega arith) ∙ rounded_down q 0 d (omega (arith, h))
+
+-- powers that multiply and divide
+pub rounded_shift : (v up down : ℕ) → down ≤ up → rounded (v * 10 ^ up) (10 ^ down) ≡ v * 10 ^ (up - down)
+rounded_shift v up down le =
+    let a : 10 ^ up ≡ 10 ^ (up - down) * 10 ^ down = ap (λ (z : ℕ). 10 ^ z) (omega (arith, le)) ∙ pow-add 10 (up - down) down in
+    let b : v * 10 ^ up ≡ v * 10 ^ (up - down) * 10 ^ down = ap (λ (z : ℕ). v * z) a ∙ sym (mul_assoc v (10 ^ (up - down)) (10 ^ down)) in
+    ap (λ (z : ℕ). rounded z (10 ^ down)) b ∙ rounded_whole (v * 10 ^ (up - down)) (10 ^ down) (ten_pos down)
+
+over_mul : (top v k : ℕ) → 0 < k → min top (min top v * k) ≡ min top (v * k)
+over_mul top v zero h = absurd (omega (arith, h))
+over_mul top v (suc k) h = elim (cases_lt v top) [
+  | inl lt ↦ ap (λ (z : ℕ). min top (z * suc k)) (omega (arith, lt))
+  | inr le ↦
+      let e : min top v ≡ top = omega (arith, le) in
+      let a : min top v * suc k ≡ top * suc k = ap (λ (z : ℕ). z * suc k) e in
+      omega (arith, a, mul-suc top k, mul-suc v k, le)
+]
+
+pub scaled_up : (digits : List ℕ) (up down h x : ℕ) → down ≤ up → h ≡ min (10 ^ 15) (value_after 0 digits) → x ≡ min (10 ^ 15) (h * 10 ^ (up - down)) → x ≡ magnitude digits up down
+scaled_up digits up down h x le e f =
+    f ∙ ap (λ (z : ℕ). min (10 ^ 15) (z * 10 ^ (up - down))) e ∙ over_mul (10 ^ 15) (value_after 0 digits) (10 ^ (up - down)) (ten_pos (up - down))
+    ∙ ap (λ (z : ℕ). min (10 ^ 15) z) (sym (rounded_shift (value_after 0 digits) up down le))
+
+-- ---- digits before and after a place
+
+ten_more : (n : ℕ) → 10 ^ suc n ≡ 10 * 10 ^ n
+ten_more n =
+    let e : 10 ^ suc n ≡ 10 ^ n * 10 ^ 1 = ap (λ (z : ℕ). 10 ^ z) (sym (add-one n)) ∙ pow-add 10 n 1 in
+    omega (arith, e)
+
+spread : (n d p : ℕ) → (10 * n + d) * p ≡ 10 * (n * p) + d * p
+spread n d p = add-mul (10 * n) d p ∙ ap (λ (z : ℕ). z + d * p) (mul_assoc 10 n p)
+
+after_split : (n : ℕ) (ds : List ℕ) → value_after n ds ≡ n * 10 ^ length ds + value_after 0 ds
+after_split n [] = omega arith
+after_split n (x ∷ ds) =
+    let d = x - 48 in
+    let p = 10 ^ length ds in
+    let a : value_after (10 * n + d) ds ≡ (10 * n + d) * p + value_after 0 ds = after_split (10 * n + d) ds in
+    let b : value_after (10 * 0 + d) ds ≡ (10 * 0 + d) * p + value_after 0 ds = after_split (10 * 0 + d) ds in
+    let t : n * 10 ^ suc (length ds) ≡ 10 * (n * p) = ap (λ (z : ℕ). n * z) (ten_more (length ds)) ∙ sym (mul_assoc n 10 p) ∙ ap (λ (z : ℕ). z * p) (mul_comm n 10) ∙ mul_assoc 10 n p in
+    omega (arith, a, b, t, spread n d p, spread 0 d p)
+
+pub after_append : (n : ℕ) (a b : List ℕ) → value_after n (a ++ b) ≡ value_after (value_after n a) b
+after_append n [] b = refl
+after_append n (x ∷ a) b = after_append (10 * n + (x - 48)) a b
+
+digit_small : (x : ℕ) (xs : List ℕ) → all_digits (x ∷ xs) ≡ true → (48 ≤ x) × (x < 58)
+digit_small x xs h = grind (arith, nat_tests, h)
+
+pub below_power : (ds : List ℕ) → all_digits ds ≡ true → value_after 0 ds < 10 ^ length ds
+below_power [] h = omega arith
+below_power (x ∷ ds) h =
+    let d = x - 48 in
+    let small = digit_small x ds h in
+    let r = below_power ds (digits_tail x ds h) in
+    let a : value_after (10 * 0 + d) ds ≡ (10 * 0 + d) * 10 ^ length ds + value_after 0 ds = after_split (10 * 0 + d) ds in
+    let m : d * 10 ^ length ds ≤ 9 * 10 ^ length ds = mul-le-mul_right (10 ^ length ds) (omega (arith, small.0, small.1)) in
+    omega (arith, a, r, m, ten_more (length ds), spread 0 d (10 ^ length ds))
+
+pub digits_split : (n : ℕ) (ds : List ℕ) → all_digits ds ≡ true → (all_digits (take n ds) ≡ true) × (all_digits (drop n ds) ≡ true)
+digits_split zero ds h = (refl, h)
+digits_split (suc n) [] h = (refl, refl)
+digits_split (suc n) (x ∷ ds) h =
+    let r = digits_split n ds (digits_tail x ds h) in
+    (grind (arith, common_steps, h, r.0), r.1)
+
+-- the first digit after the place says whether what is dropped is a half or more
+half : (x : ℕ) (xs : List ℕ) → all_digits (x ∷ xs) ≡ true → (53 ≤ x → 10 ^ suc (length xs) ≤ 2 * value_after 0 (x ∷ xs)) × (x < 53 → 2 * value_after 0 (x ∷ xs) < 10 ^ suc (length xs))
+half x xs h =
+    let d = x - 48 in
+    let p = 10 ^ length xs in
+    let r = below_power xs (digits_tail x xs h) in
+    let a : value_after (10 * 0 + d) xs ≡ (10 * 0 + d) * p + value_after 0 xs = after_split (10 * 0 + d) xs in
+    let s = spread 0 d p in
+    let t = ten_more (length xs) in (
+      λ up. (let m : 5 * p ≤ d * p = mul-le-mul_right p (omega (arith, up)) in omega (arith, a, s, t, m)),
+      λ low. (let m : d * p ≤ 4 * p = mul-le-mul_right p (omega (arith, low)) in omega (arith, a, s, t, m, r)),
+    )
+
+-- ---- digits cut away
+
+less_mul : (v k u : ℕ) → 0 < u → 2 * v < k → 2 * (v * u) < k * u
+less_mul v k u h lt =
+    let m : (2 * v + 1) * u ≤ k * u = mul-le-mul_right u (omega (arith, lt)) in
+    omega (arith, m, h, add-mul (2 * v) 1 u, mul_assoc 2 v u)
+
+more_mul : (v k u : ℕ) → k ≤ 2 * v → k * u ≤ 2 * (v * u)
+more_mul v k u le =
+    let m : k * u ≤ 2 * v * u = mul-le-mul_right u le in
+    omega (arith, m, mul_assoc 2 v u)
+
+ten_le : (m n : ℕ) → m ≤ n → 10 ^ m ≤ 10 ^ n
+ten_le m n le =
+    let e : 10 ^ n ≡ 10 ^ (n - m) * 10 ^ m = ap (λ (z : ℕ). 10 ^ z) (omega (arith, le)) ∙ pow-add 10 (n - m) m in
+    let f : 1 * 10 ^ m ≤ 10 ^ (n - m) * 10 ^ m = mul-le-mul_right (10 ^ m) (omega (arith, ten_pos (n - m))) in
+    omega (arith, e, f)
+
+over_up : (up down : ℕ) → up ≤ down → 10 ^ down ≡ 10 ^ (down - up) * 10 ^ up
+over_up up down le = ap (λ (z : ℕ). 10 ^ z) (omega (arith, le)) ∙ pow-add 10 (down - up) up
+
+pub cut_away : (digits : List ℕ) (up down : ℕ) → all_digits digits ≡ true → up < down → length digits < down - up → 0 ≡ magnitude digits up down
+cut_away digits up down h lt short =
+    let v = value_after 0 digits in
+    let k = 10 ^ (down - up) in
+    let b : 10 ^ suc (length digits) ≤ k = ten_le (suc (length digits)) (down - up) (omega (arith, short)) in
+    let s : 2 * v < k = omega (arith, b, ten_more (length digits), below_power digits h) in
+    let m : 2 * (v * 10 ^ up) < 10 ^ down = omega (arith, less_mul v k (10 ^ up) (ten_pos up) s, over_up up down (omega (arith, lt))) in
+    let r : rounded (0 * 10 ^ down + v * 10 ^ up) (10 ^ down) ≡ 0 = rounded_down 0 (v * 10 ^ up) (10 ^ down) m in
+    let z : 0 * 10 ^ down + v * 10 ^ up ≡ v * 10 ^ up = omega arith in
+    let r2 : rounded (v * 10 ^ up) (10 ^ down) ≡ 0 = ap (λ (n : ℕ). rounded n (10 ^ down)) (sym z) ∙ r in
+    omega (arith, r2)
+
+-- the digits before the place, and those after it
+parts_of : (digits front back : List ℕ) (up down : ℕ) → digits ≡ front ++ back → up < down → length back ≡ down - up
+    → value_after 0 digits * 10 ^ up ≡ value_after 0 front * 10 ^ down + value_after 0 back * 10 ^ up
+parts_of digits front back up down e lt n =
+    let f = value_after 0 front in
+    let b = value_after 0 back in
+    let k = 10 ^ (down - up) in
+    let a : value_after 0 digits ≡ f * 10 ^ length back + b = ap (value_after 0) e ∙ after_append 0 front back ∙ after_split f back in
+    let a2 : value_after 0 digits ≡ f * k + b = a ∙ ap (λ (z : ℕ). f * 10 ^ z + b) n in
+    let w : f * 10 ^ down ≡ f * k * 10 ^ up = ap (λ (z : ℕ). f * z) (over_up up down (omega (arith, lt))) ∙ sym (mul_assoc f k (10 ^ up)) in
+    ap (λ (z : ℕ). z * 10 ^ up) a2 ∙ add-mul (f * k) b (10 ^ up) ∙ ap (λ (z : ℕ). z + b * 10 ^ up) (sym w)
+
+pub cut_up : (digits front back : List ℕ) (up down held x : ℕ) → all_digits back ≡ true → digits ≡ front ++ back → up < down → length back ≡ down - up
+    → held ≡ min (10 ^ 15) (value_after 0 front) → 53 ≤ slice_index back 0 → x ≡ min (held + 1) (10 ^ 15) → x ≡ magnitude digits up down
+cut_up digits front [] up down held x h e lt n hd big w = absurd (omega (arith, n, lt))
+cut_up digits front (y ∷ back) up down held x h e lt n hd big w =
+    let b = value_after 0 (y ∷ back) in
+    let k : 10 ^ length (y ∷ back) ≡ 10 ^ (down - up) = ap (λ (z : ℕ). 10 ^ z) n in
+    let g : 10 ^ (down - up) ≤ 2 * b = omega (arith, k, (half y back h).0 big) in
+    let t : b < 10 ^ (down - up) = omega (arith, k, below_power (y ∷ back) h) in
+    let m : b * 10 ^ up < 10 ^ down = omega (arith, mul-le-mul_right {m = b + 1} {n = 10 ^ (down - up)} (10 ^ up) (omega (arith, t)), add-mul b 1 (10 ^ up), ten_pos up, over_up up down (omega (arith, lt))) in
+    let o : 10 ^ down ≤ 2 * (b * 10 ^ up) = omega (arith, more_mul b (10 ^ (down - up)) (10 ^ up) g, over_up up down (omega (arith, lt))) in
+    let r : rounded (value_after 0 digits * 10 ^ up) (10 ^ down) ≡ value_after 0 front + 1 =
+    ap (λ (z : ℕ). rounded z (10 ^ down)) (parts_of digits front (y ∷ back) up down e lt n) ∙ rounded_up (value_after 0 front) (b * 10 ^ up) (10 ^ down) m o in
+    omega (arith, r, hd, w)
+
+pub cut_down : (digits front back : List ℕ) (up down held : ℕ) → all_digits back ≡ true → digits ≡ front ++ back → up < down → length back ≡ down - up
+    → held ≡ min (10 ^ 15) (value_after 0 front) → slice_index back 0 < 53 → held ≡ magnitude digits up down
+cut_down digits front [] up down held h e lt n hd small = absurd (omega (arith, n, lt))
+cut_down digits front (y ∷ back) up down held h e lt n hd small =
+    let b = value_after 0 (y ∷ back) in
+    let k : 10 ^ length (y ∷ back) ≡ 10 ^ (down - up) = ap (λ (z : ℕ). 10 ^ z) n in
+    let g : 2 * b < 10 ^ (down - up) = omega (arith, k, (half y back h).1 small) in
+    let m : 2 * (b * 10 ^ up) < 10 ^ down = omega (arith, less_mul b (10 ^ (down - up)) (10 ^ up) (ten_pos up) g, over_up up down (omega (arith, lt))) in
+    let r : rounded (value_after 0 digits * 10 ^ up) (10 ^ down) ≡ value_after 0 front =
+    ap (λ (z : ℕ). rounded z (10 ^ down)) (parts_of digits front (y ∷ back) up down e lt n) ∙ rounded_down (value_after 0 front) (b * 10 ^ up) (10 ^ down) m in
+    omega (arith, r, hd)
+
+pub joined : (digits front back : List ℕ) (keep : ℕ) → front ≡ take keep digits → back ≡ drop keep digits → digits ≡ front ++ back
+joined digits front back keep e f = sym (take-append-drop keep digits) ∙ ap (λ (z : List ℕ). z ++ drop keep digits) (sym e) ∙ ap (λ (z : List ℕ). front ++ z) (sym f)

@@ -1,0 +1,104 @@
+-- The bytes in front that pass a test.
+use Rattle.std.proofs.Common.{◌≡◌, ℕ, ◌+◌, ◌&&◌, ◌<◌, ◌≤◌, Bool, true, false, List, [], ◌∷◌, ◌++◌, length, take, drop, refl, sym, ap, ◌∙◌, arith, append_assoc, inl, inr, slice_index, add-one, drop-cons}
+use Rattle.std.proofs.lemmas.Bool.{cases_Bool}
+use Rattle.std.proofs.lemmas.List.{append-nil, drop_all}
+use Rattle.std.proofs.lemmas.Grind.{common_steps}
+use Rattle.std.proofs.Common.{take_all}
+use Rattle.psu_lex.specs.Bytes.{is_digit, is_letter, is_white, all_digits, all_letters, all_white}
+use Rattle.psu_lex.specs.NumberScan.{run, left}
+
+-- each byte passes the test
+abbrev pub every : (ℕ → Bool) → List ℕ → Bool
+every test [] = true
+every test (x ∷ xs) = test x && every test xs
+
+-- the first byte passes the test
+abbrev pub leads : (ℕ → Bool) → List ℕ → Bool
+leads test [] = false
+leads test (x ∷ xs) = test x
+
+pub digits_every : (xs : List ℕ) → all_digits xs ≡ every is_digit xs
+digits_every [] = refl
+digits_every (x ∷ xs) = ap (λ (z : Bool). is_digit x && z) (digits_every xs)
+
+pub white_every : (xs : List ℕ) → all_white xs ≡ every is_white xs
+white_every [] = refl
+white_every (x ∷ xs) = ap (λ (z : Bool). is_white x && z) (white_every xs)
+
+pub letters_every : (xs : List ℕ) → all_letters xs ≡ every is_letter xs
+letters_every [] = refl
+letters_every (x ∷ xs) = ap (λ (z : Bool). is_letter x && z) (letters_every xs)
+
+pub every_head : (test : ℕ → Bool) (x : ℕ) (xs : List ℕ) → every test (x ∷ xs) ≡ true → test x ≡ true
+every_head test x xs h = grind (arith, common_steps, h)
+
+pub every_tail : (test : ℕ → Bool) (x : ℕ) (xs : List ℕ) → every test (x ∷ xs) ≡ true → every test xs ≡ true
+every_tail test x xs h = grind (arith, common_steps, h)
+
+-- ---- a run and what is left are the text
+
+pub run_left : (test : ℕ → Bool) (xs : List ℕ) → run test xs ++ left test xs ≡ xs
+run_left test [] = refl
+run_left test (x ∷ xs) = elim (cases_Bool (test x)) [
+  | inl t ↦ rw t (ap (λ (z : List ℕ). x ∷ z) (run_left test xs))
+  | inr f ↦ rw f refl
+]
+
+pub run_every : (test : ℕ → Bool) (xs : List ℕ) → every test (run test xs) ≡ true
+run_every test [] = refl
+run_every test (x ∷ xs) = elim (cases_Bool (test x)) [
+  | inl t ↦ rw t (rw t (run_every test xs))
+  | inr f ↦ rw f refl
+]
+
+-- ---- the run of a text that is made of one
+
+pub run_at : (test : ℕ → Bool) (a b : List ℕ) → every test a ≡ true → leads test b ≡ false → run test (a ++ b) ≡ a
+run_at test [] [] h f = refl
+run_at test [] (x ∷ b) h f = rw f refl
+run_at test (x ∷ a) b h f = rw (every_head test x a h) (ap (λ (z : List ℕ). x ∷ z) (run_at test a b (every_tail test x a h) f))
+
+pub left_at : (test : ℕ → Bool) (a b : List ℕ) → every test a ≡ true → leads test b ≡ false → left test (a ++ b) ≡ b
+left_at test [] [] h f = refl
+left_at test [] (x ∷ b) h f = rw f refl
+left_at test (x ∷ a) b h f = rw (every_head test x a h) (left_at test a b (every_tail test x a h) f)
+
+-- ---- the scan of a run
+
+-- up to `at` all pass
+pub record RunsTo (test : ℕ → Bool) (text : List ℕ) (at : ℕ) : Type 0 where
+  pub front : run test text ≡ take at text ++ run test (drop at text)
+  pub back : left test text ≡ left test (drop at text)
+
+pub runs_start : (test : ℕ → Bool) (text : List ℕ) → RunsTo test text 0
+runs_start test text = record { front = refl; back = refl }
+
+next : (text : List ℕ) (at : ℕ) → at < length text → drop at text ≡ slice_index text at ∷ drop (at + 1) text
+next text at within = drop-cons text at 0 within ∙ ap (λ (n : ℕ). slice_index text at ∷ drop n text) (sym (add-one at))
+
+one_more : (text : List ℕ) (at : ℕ) → at < length text → take (at + 1) text ≡ take at text ++ slice_index text at ∷ []
+one_more text at within = grind (arith, common_steps, within)
+
+pub runs_on : (test : ℕ → Bool) (text : List ℕ) (at : ℕ) → at < length text → test (slice_index text at) ≡ true → RunsTo test text at → RunsTo test text (at + 1)
+runs_on test text at within t r =
+    let e = next text at within in
+    record {
+      front = r.front ∙ ap (λ (z : List ℕ). take at text ++ run test z) e ∙ rw t (sym (append_assoc (take at text) (slice_index text at ∷ []) (run test (drop (at + 1) text))))
+          ∙ ap (λ (z : List ℕ). z ++ run test (drop (at + 1) text)) (sym (one_more text at within));
+      back = r.back ∙ ap (left test) e ∙ rw t refl;
+    }
+
+pub runs_to : (test : ℕ → Bool) (text : List ℕ) (at : ℕ) → at < length text → test (slice_index text at) ≡ false → RunsTo test text at → (take at text ≡ run test text) × (drop at text ≡ left test text)
+runs_to test text at within f r =
+    let e = next text at within in
+    let none : run test (drop at text) ≡ [] = ap (run test) e ∙ rw f refl in
+    let all : left test (drop at text) ≡ drop at text = ap (left test) e ∙ rw f (sym e) in
+    (sym (r.front ∙ ap (λ (z : List ℕ). take at text ++ z) none ∙ append-nil (take at text)), sym (r.back ∙ all))
+
+pub runs_all : (test : ℕ → Bool) (text : List ℕ) (at n : ℕ) → length text ≤ at → n ≡ length text → RunsTo test text at → (take n text ≡ run test text) × (drop n text ≡ left test text)
+runs_all test text at n le is r =
+    let none : drop at text ≡ [] = drop_all at text le in
+    let end : drop n text ≡ [] = drop_all n text (omega (arith, is)) in
+    let front : run test text ≡ take at text = r.front ∙ ap (λ (z : List ℕ). take at text ++ run test z) none ∙ append-nil (take at text) in
+    let back : left test text ≡ [] = r.back ∙ ap (left test) none in
+    (take_all n text (omega (arith, is)) ∙ sym (take_all at text le) ∙ sym front, end ∙ sym back)

@@ -1,0 +1,147 @@
+-- What each token adds to the units, and what the scan of a unit adds.
+use Rattle.std.proofs.Common.{◌≡◌, ℕ, ◌+◌, ◌-◌, ◌<◌, ◌≤◌, Bool, true, false, List, [], ◌∷◌, ◌++◌, length, take, drop, refl, sym, ap, ◌∙◌, subst, arith, append_assoc, length-drop, Option, Some, None, slice_index, drop-cons}
+use Rattle.std.proofs.lemmas.List.{append-nil, take-append-drop, get_or-take, append_cancel_right}
+use Rattle.std.proofs.Math.Seq.{take-add}
+use Rattle.std.proofs.Common.{take_all, unwrap_or}
+use Rattle.std.proofs.lemmas.List.{drop_all}
+use Rattle.std.proofs.lemmas.Grind.{common_steps}
+use Rattle.memchr.specs.Find.{IsFirstByte, is_byte2, is_byte3}
+use Rattle.psu_lex.specs.Bytes.{opens, separates, is_closed}
+use Rattle.psu_lex.specs.Message.{opens_first, ends_unit, BeginsPiece, HasNoPiece, Makes, Part, ended, next_first, fault_of, spelling}
+use Rattle.psu_lex.specs.declared.scpi_error.ScpiError.{ScpiError}
+use Rattle.psu_lex.specs.Message.Token.{Byte, Separator, Whole, Faulty}
+use Rattle.psu_lex.specs.Scan.{has, IsStop}
+use Rattle.psu_lex.proofs.Searches.{has_head, has_tail, has_shorter, free_before, free_all, drop-add, free_later}
+
+pub makes_byte : (first : Bool) (x : ℕ) (text rest : List ℕ) (units : List Part) → separates x ≡ false → opens x ≡ false
+    → Makes first (text ++ x ∷ []) rest units → Makes first text (x ∷ rest) units
+makes_byte first x text rest units f g m = (Byte x ∷ m.0, (rest, refl, (f, g), m.1), m.2)
+
+pub makes_run : (first : Bool) (run text rest : List ℕ) (units : List Part) → has separates run ≡ false → has opens run ≡ false
+    → Makes first (text ++ run) rest units → Makes first text (run ++ rest) units
+makes_run first [] text rest units f g m = subst (λ (z : List ℕ). Makes first z rest units) (append-nil text) m
+makes_run first (x ∷ run) text rest units f g m =
+    makes_byte first x text (run ++ rest) units (has_head separates x run f) (has_head opens x run g)
+    (makes_run first run (text ++ x ∷ []) rest units (has_tail separates x run f) (has_tail opens x run g)
+    (subst (λ (z : List ℕ). Makes first z rest units) (sym (append_assoc text (x ∷ []) run)) m))
+
+pub makes_piece : (first : Bool) (text bytes more : List ℕ) (units : List Part) → (b : BeginsPiece bytes more) → is_closed more ≡ true
+    → Makes first (text ++ spelling b.0) more units → Makes first text bytes units
+makes_piece first text bytes more units b h m = (Whole b.0 ∷ m.0, (more, b.1, (b.2, h), m.1), m.2)
+
+pub makes_fault : (first : Bool) (text bytes : List ℕ) → opens_first bytes ≡ true → HasNoPiece is_closed bytes
+    → Makes first text bytes (record { text = text ++ bytes; first = first; fault = Some (fault_of bytes) } ∷ [])
+makes_fault first text bytes o n = (Faulty bytes ∷ [], ([], sym (append-nil bytes), (refl, o, n), refl), refl)
+
+pub makes_end : (first : Bool) (text : List ℕ) → Makes first text [] (ended first text)
+makes_end first text = ([], refl, refl)
+
+pub makes_separator : (first : Bool) (x : ℕ) (text rest : List ℕ) (units : List Part) → separates x ≡ true
+    → Makes (next_first first text x) [] rest units → Makes first text (x ∷ rest) (ended first text ++ units)
+makes_separator first x text rest units h m = (Separator x ∷ m.0, (rest, refl, h, m.1), ap (λ (z : List Part). ended first text ++ z) m.2)
+
+opens_at : (s : List ℕ) (n : ℕ) → n < length s → opens (slice_index s n) ≡ true → opens_first (drop n s) ≡ true
+opens_at s n within h = rw (drop-cons s n 0 within) h
+
+-- the terminator that was found, or the end
+pub stop_at : (s : List ℕ) (r : Option ℕ) → IsFirstByte (is_byte2 59 10) s r
+    → (unwrap_or r (length s) ≤ length s) × (has separates (take (unwrap_or r (length s)) s) ≡ false) × (ends_unit (drop (unwrap_or r (length s)) s) ≡ true)
+stop_at s None h = (omega arith, has_shorter separates s (length s) (length s) (omega arith) (rw (take_all (length s) s (omega arith)) (free_all separates s h)), rw (drop_all (length s) s (omega arith)) refl)
+stop_at s (Some n) h = (omega (arith, h.0.high), free_before separates s n h, rw (drop-cons s n 0 h.0.high) h.1)
+
+-- the quote or `#` that was found before it
+pub open_at : (s : List ℕ) (run n : ℕ) → run ≤ length s → IsFirstByte (is_byte3 34 39 35) (take run s) (Some n) → has separates (take run s) ≡ false
+    → (n < length s) × (has separates (take n s) ≡ false) × (has opens (take n s) ≡ false) × (opens_first (drop n s) ≡ true)
+open_at s run n le h f =
+    let below : n < run = grind (arith, common_steps, h.0.high) in
+    let t : opens (slice_index (take run s) n) ≡ true = h.1 in
+    let same : take n (take run s) ≡ take n s = grind (arith, common_steps, below) in (
+      omega (arith, below, le),
+      has_shorter separates s n run (omega (arith, below)) f,
+      ap (has opens) (sym same) ∙ free_before opens (take run s) n h,
+      opens_at s n (omega (arith, below, le)) (ap opens (sym (get_or-take run s n 0 below)) ∙ t),
+    )
+
+-- ---- steps over a transmission
+
+pub step_run : (first : Bool) (bytes : List ℕ) (at run : ℕ) (units : List Part) → has separates (take run (drop at bytes)) ≡ false → has opens (take run (drop at bytes)) ≡ false
+    → Makes first (take (at + run) bytes) (drop (at + run) bytes) units → Makes first (take at bytes) (drop at bytes) units
+step_run first bytes at run units f g m =
+    subst (λ (z : List ℕ). Makes first (take at bytes) z units) (take-append-drop run (drop at bytes))
+    (makes_run first (take run (drop at bytes)) (take at bytes) (drop run (drop at bytes)) units f g
+    (subst (λ (z : List ℕ). Makes first z (drop run (drop at bytes)) units) (take-add at run bytes)
+    (subst (λ (z : List ℕ). Makes first (take (at + run) bytes) z units) (drop-add at run bytes) m)))
+
+pub step_piece : (first : Bool) (bytes : List ℕ) (at n : ℕ) (units : List Part) → BeginsPiece (drop at bytes) (drop n (drop at bytes)) → is_closed (drop n (drop at bytes)) ≡ true
+    → Makes first (take (at + n) bytes) (drop (at + n) bytes) units → Makes first (take at bytes) (drop at bytes) units
+step_piece first bytes at n units b h m =
+    let text : take n (drop at bytes) ≡ spelling b.0 = append_cancel_right (take n (drop at bytes)) (spelling b.0) (drop n (drop at bytes)) (take-append-drop n (drop at bytes) ∙ b.1) in
+    makes_piece first (take at bytes) (drop at bytes) (drop n (drop at bytes)) units b h
+    (subst (λ (z : List ℕ). Makes first (take at bytes ++ z) (drop n (drop at bytes)) units) text
+    (subst (λ (z : List ℕ). Makes first z (drop n (drop at bytes)) units) (take-add at n bytes)
+    (subst (λ (z : List ℕ). Makes first (take (at + n) bytes) z units) (drop-add at n bytes) m)))
+
+pub step_fault : (first : Bool) (bytes : List ℕ) (at : ℕ) → opens_first (drop at bytes) ≡ true → HasNoPiece is_closed (drop at bytes)
+    → Makes first (take at bytes) (drop at bytes) (record { text = bytes; first = first; fault = Some (fault_of (drop at bytes)) } ∷ [])
+step_fault first bytes at o n =
+    subst (λ (z : List ℕ). Makes first (take at bytes) (drop at bytes) (record { text = z; first = first; fault = Some (fault_of (drop at bytes)) } ∷ []))
+    (take-append-drop at bytes) (makes_fault first (take at bytes) (drop at bytes) o n)
+
+-- ---- the same, as the scan of a unit goes
+
+pub unit_step : (first : Bool) (bytes piece : List ℕ) (at found n : ℕ) (units : List Part) → piece ≡ drop (at + found) bytes
+    → has separates (take found (drop at bytes)) ≡ false → has opens (take found (drop at bytes)) ≡ false → BeginsPiece piece (drop n piece) → is_closed (drop n piece) ≡ true
+    → Makes first (take (at + (found + n)) bytes) (drop (at + (found + n)) bytes) units → Makes first (take at bytes) (drop at bytes) units
+unit_step first bytes piece at found n units e a b p h m =
+    let same : at + (found + n) ≡ at + found + n = omega arith in
+    step_run first bytes at found units a b
+    (step_piece first bytes (at + found) n units (subst (λ (z : List ℕ). BeginsPiece z (drop n z)) e p) (subst (λ (z : List ℕ). is_closed (drop n z) ≡ true) e h)
+    (subst (λ (z : ℕ). Makes first (take z bytes) (drop z bytes) units) same m))
+
+pub unit_fault : (first : Bool) (bytes piece : List ℕ) (at found : ℕ) (fault : ScpiError) → piece ≡ drop (at + found) bytes
+    → has separates (take found (drop at bytes)) ≡ false → has opens (take found (drop at bytes)) ≡ false → opens_first piece ≡ true → HasNoPiece is_closed piece → fault ≡ fault_of piece
+    → Makes first (take at bytes) (drop at bytes) (record { text = bytes; first = first; fault = Some fault } ∷ [])
+unit_fault first bytes piece at found fault e a b o n is =
+    let whole : Part = record { text = bytes; first = first; fault = Some fault } in
+    step_run first bytes at found (whole ∷ []) a b
+    (subst (λ (z : ScpiError). Makes first (take (at + found) bytes) (drop (at + found) bytes) (record { text = bytes; first = first; fault = Some z } ∷ []))
+    (ap fault_of (sym e) ∙ sym is)
+    (step_fault first bytes (at + found) (subst (λ (z : List ℕ). opens_first z ≡ true) e o) (subst (HasNoPiece is_closed) e n)))
+
+-- the unit ends at the stop, where nothing opens before it
+pub unit_stop : (first : Bool) (bytes : List ℕ) (at stop : ℕ) (units : List Part) → IsStop bytes at stop → has opens (take (stop - at) (drop at bytes)) ≡ false
+    → Makes first (take stop bytes) (drop stop bytes) units → Makes first (take at bytes) (drop at bytes) units
+unit_stop first bytes at stop units s f m =
+    let same : stop ≡ at + (stop - at) = omega (arith, s.low) in
+    step_run first bytes at (stop - at) units s.free f (subst (λ (z : ℕ). Makes first (take z bytes) (drop z bytes) units) same m)
+
+-- what stands where a quote or `#` was found before the stop
+pub piece_at : (bytes run : List ℕ) (at stop n : ℕ) → IsStop bytes at stop → run ≡ take (stop - at) (drop at bytes) → IsFirstByte (is_byte3 34 39 35) run (Some n)
+    → (at + n < length bytes) × (has separates (take n (drop at bytes)) ≡ false) × (has opens (take n (drop at bytes)) ≡ false) × (opens_first (drop (at + n) bytes) ≡ true)
+piece_at bytes run at stop n s e h =
+    let le : stop - at ≤ length (drop at bytes) = omega (arith, length-drop at bytes, s.low, s.high) in
+    let found = open_at (drop at bytes) (stop - at) n le (subst (λ (z : List ℕ). IsFirstByte (is_byte3 34 39 35) z (Some n)) e h) s.free in
+    (omega (arith, found.0, length-drop at bytes), found.1, found.2, subst (λ (z : List ℕ). opens_first z ≡ true) (sym (drop-add at n bytes)) found.3)
+
+-- a search from `at` on finds the stop
+pub stop_found : (bytes rest : List ℕ) (at n : ℕ) (r : Option ℕ) → at ≤ length bytes → rest ≡ drop at bytes → IsFirstByte (is_byte2 59 10) rest r → n ≡ unwrap_or r (length rest)
+    → IsStop bytes at (at + n)
+stop_found bytes rest at n r le e h is =
+    let found = stop_at (drop at bytes) r (subst (λ (z : List ℕ). IsFirstByte (is_byte2 59 10) z r) e h) in
+    let same : n ≡ unwrap_or r (length (drop at bytes)) = is ∙ ap (λ (z : List ℕ). unwrap_or r (length z)) e in
+    let run : at + n - at ≡ unwrap_or r (length (drop at bytes)) = omega (arith, same) in record {
+      low = omega arith;
+      high = omega (arith, found.0, same, length-drop at bytes, le);
+      free = rw run found.1;
+      ends = subst (λ (z : List ℕ). ends_unit z ≡ true) (ap (λ (z : ℕ). drop z (drop at bytes)) (sym same) ∙ sym (drop-add at n bytes)) found.2;
+    }
+
+-- the stop is still ahead
+pub stop_kept : (bytes : List ℕ) (at step stop : ℕ) → IsStop bytes at stop → at + step ≤ stop → IsStop bytes (at + step) stop
+stop_kept bytes at step stop s le =
+    let count : stop - (at + step) ≡ stop - at - step = omega arith in record {
+      low = le;
+      high = s.high;
+      free = rw (count, drop-add at step bytes) (free_later separates (drop at bytes) (stop - at) step s.free);
+      ends = s.ends;
+    }

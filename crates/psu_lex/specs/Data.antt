@@ -1,0 +1,25 @@
+-- Strings and blocks: the bytes that a text stands for, and the text that a block is answered as.
+-- Source: IEEE 488.2, 7.7.5 (strings), 7.7.6 (blocks), 8.7.9 (blocks as answered).
+use Rattle.std.specs.Prelude.{◌≡◌, ◌⊎◌, ℕ, List, [], ◌++◌, length, decimal}
+use Rattle.psu_lex.specs.Message.{spelling, IsWhole}
+use Rattle.psu_lex.specs.Message.Piece.{Quoted, Counted, Open}
+use Rattle.psu_lex.specs.declared.scpi_error.ScpiError.{ScpiError}
+use Rattle.psu_lex.specs.declared.scpi_error.ScpiError.TheVariants.{OutOfMemory}
+
+-- the text is one string, which stands for these bytes
+abbrev pub IsStringOf : List ℕ → List ℕ → Type 0
+IsStringOf text bytes = (quote : ℕ) × (text ≡ spelling (Quoted quote bytes)) × IsWhole (Quoted quote bytes) []
+
+-- the text is one block, which stands for these bytes: with their number, or up to END
+abbrev pub IsBlockOf : List ℕ → List ℕ → Type 0
+IsBlockOf text bytes =
+    ((digits : List ℕ) × (text ≡ spelling (Counted digits bytes)) × IsWhole (Counted digits bytes) [])
+    ⊎ ((more : List ℕ) × (text ≡ spelling (Open bytes) ++ more) × IsWhole (Open bytes) more)
+
+-- memory was refused, or there are no such bytes and this is the fault
+abbrev pub Refuses : ScpiError → (List ℕ → Type 0) → ScpiError → Type 0
+Refuses fault IsOf error = (error ≡ OutOfMemory) ⊎ ((error ≡ fault) × ((bytes : List ℕ) → IsOf bytes → ⊥))
+
+-- a block as answered: the number of its bytes in as few digits as it needs
+abbrev pub definite_text : List ℕ → List ℕ
+definite_text bytes = spelling (Counted (decimal (length bytes)) bytes)

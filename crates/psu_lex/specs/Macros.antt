@@ -1,0 +1,50 @@
+-- Macros: a body with its parameters put in. Source: IEEE 488.2, 10.8 (`*DMC`, placeholders).
+use Rattle.std.specs.Prelude.{◌≡◌, ℕ, ◌-◌, ◌==◌, ◌&&◌, nat_lt, max, Bool, true, false, List, [], ◌∷◌, ◌++◌, length, Result, Ok, Err, if◌then◌else◌}
+use Rattle.psu_lex.specs.Message.{Token, text_of, Reads}
+use Rattle.psu_lex.specs.Message.Token.{Byte}
+use Rattle.psu_lex.specs.declared.scpi_error.ScpiError.{ScpiError}
+use Rattle.psu_lex.specs.declared.scpi_error.ScpiError.TheVariants.{MacroParameterError, TooMuchData}
+
+-- `1` to `9`: behind a `$` it stands for a parameter
+abbrev pub is_placeholder : ℕ → Bool
+is_placeholder b = nat_lt 48 b && nat_lt b 58
+
+-- the parameter of this place, from 0 on; one that is missing is empty
+abbrev pub parameter : List (List ℕ) → ℕ → List ℕ
+parameter [] k = []
+parameter (x ∷ xs) k = if k == 0 then x else parameter xs (k - 1)
+
+-- the body with its parameters put in, where a `$` that is not written yet may stand before it;
+-- strings and blocks stay as they are, and so does a `$` before anything but a placeholder
+abbrev pub expansion : List (List ℕ) → Bool → List Token → List ℕ
+expansion args true [] = 36 ∷ []
+expansion args false [] = []
+expansion args true (Byte b ∷ tokens) =
+    if is_placeholder b then parameter args (b - 49) ++ expansion args false tokens
+    else 36 ∷ (if b == 36 then expansion args true tokens else b ∷ expansion args false tokens)
+expansion args false (Byte b ∷ tokens) = if b == 36 then expansion args true tokens else b ∷ expansion args false tokens
+expansion args true (token ∷ tokens) = 36 ∷ (text_of token ++ expansion args false tokens)
+expansion args false (token ∷ tokens) = text_of token ++ expansion args false tokens
+
+-- the greatest placeholder, 0 where there is none
+abbrev pub greatest : Bool → List Token → ℕ
+greatest dollar [] = 0
+greatest true (Byte b ∷ tokens) = if is_placeholder b then max (b - 48) (greatest false tokens) else greatest (b == 36) tokens
+greatest false (Byte b ∷ tokens) = greatest (b == 36) tokens
+greatest dollar (token ∷ tokens) = greatest false tokens
+
+-- anything may follow a string or a block in a body
+abbrev pub anything : List ℕ → Bool
+anything bytes = true
+
+-- what the tokens of a body give: there are as many parameters as the greatest placeholder says, and
+-- an expansion has 65,536 bytes at most
+abbrev pub outcome : List (List ℕ) → List Token → Result (List ℕ) ScpiError
+outcome args tokens =
+    if greatest false tokens == length args then (if nat_lt 65536 (length (expansion args false tokens)) then Err TooMuchData
+    else Ok (expansion args false tokens))
+    else Err MacroParameterError
+
+-- what a body gives
+abbrev pub ExpandsTo : List ℕ → List (List ℕ) → Result (List ℕ) ScpiError → Type 0
+ExpandsTo body args result = (tokens : List Token) × Reads anything body tokens × (result ≡ outcome args tokens)

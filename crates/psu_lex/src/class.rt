@@ -1,0 +1,27 @@
+// Classes of bytes in a number.
+ghost use Rattle.std.specs.Prelude.{◌≡◌};
+ghost use Rattle.psu_lex.specs.NumberScan.{belongs};
+
+/// A class of bytes in a number.
+#[derive(Clone, Copy, Debug, PartialEq, Eq)]
+pub enum Class {
+    /// `0` to `9`.
+    Digit,
+    /// White space.
+    White,
+    /// `A` to `Z` and `a` to `z`.
+    Letter,
+}
+
+impl Class {
+    /// Whether the byte is of this class.
+    pub fn has(self, byte: u8) -> bool
+        ensures { result ≡ belongs self byte }
+    {
+        match self {
+            Class::Digit => byte.is_ascii_digit(),
+            Class::White => byte <= 32 && byte != b'\n',
+            Class::Letter => byte.is_ascii_alphabetic(),
+        }
+    }
+}

@@ -1,0 +1,27 @@
+// Numbers as answered.
+ghost use Rattle.std.specs.Prelude.{◌≡◌, IfOk};
+ghost use Rattle.psu_lex.specs.Decimals.{fixed3_text};
+
+use crate::Bytes;
+use itoa::Buffer;
+use std::alloc::{AllocError, Allocator};
+
+/// A number of thousandths as answered: the whole part, a point and three decimals (IEEE 488.2, 8.7.3),
+/// as `-0.005` for -5.
+pub fn fixed3<A: Allocator + Copy>(alloc: A, thousandths: i64) -> Result<Bytes<A>, AllocError>
+    ensures { IfOk result (λ text. text ≡ fixed3_text thousandths) }
+{
+    let magnitude = thousandths.unsigned_abs();
+    let part = magnitude % 1000;
+    let mut buffer = Buffer::new();
+    let mut list = Vec::new(alloc);
+    if thousandths < 0 {
+        list.push(b'-')?;
+    }
+    list.extend_from_slice(buffer.format(magnitude / 1000).as_bytes())?;
+    list.push(b'.')?;
+    list.push(b'0' + (part / 100) as u8)?;
+    list.push(b'0' + (part / 10 % 10) as u8)?;
+    list.push(b'0' + (part % 10) as u8)?;
+    Ok(Bytes { list })
+}

@@ -1,0 +1,109 @@
+// The parts of a number in a text.
+ghost use Rattle.std.specs.Prelude.{ℕ, List, [], ◌≡◌, ◌==◌, ◌||◌, ◌++◌, length, IfSome, IfNone};
+ghost use Rattle.psu_lex.specs.Number.{Number, IsNumber, fraction_digits, number_text};
+ghost use Rattle.psu_lex.specs.NumberScan.{Shows, ShowsPower, after_exponent, after_fraction, after_sign, belongs, excess_of, exponent_of, fraction_of, is_nonempty, left, run, scanned, suffix_of};
+
+use crate::class::Class;
+use crate::pieces::{after, begins, front};
+use crate::written::{Power, Written};
+
+/// Cuts the text behind the bytes of this class that it begins with.
+fn run_of(text: &[u8], class: Class) -> (&[u8], &[u8])
+    ensures run { result.0.now ≡ run (belongs class) text.now }
+    ensures left { result.1.now ≡ left (belongs class) text.now }
+{
+    for at in 0..text.len() {
+        if !class.has(text[at]) {
+            return text.split_at(at);
+        }
+    }
+    text.split_at(text.len())
+}
+
+/// The text behind its sign, if it begins with one.
+fn behind_sign(text: &[u8]) -> &[u8]
+    ensures { result.now ≡ after_sign text.now }
+{
+    if begins(text, b'+') || begins(text, b'-') {
+        return after(text, 1);
+    }
+    text
+}
+
+/// The digits behind a point, if the text begins with one, and what follows them.
+fn fraction_at(text: &[u8]) -> (&[u8], &[u8])
+    ensures digits { result.0.now ≡ fraction_digits (fraction_of text.now) }
+    ensures rest { result.1.now ≡ after_fraction text.now }
+{
+    if begins(text, b'.') {
+        return run_of(after(text, 1), Class::Digit);
+    }
+    (front(text, 0), text)
+}
+
+/// The exponent that the text begins with, after white space.
+fn exponent_at(text: &[u8]) -> Power<'_>
+    ensures { ShowsPower result (exponent_of text.now) (after_exponent text.now) }
+{
+    let none = Power {
+        divides: false,
+        digits: front(text, 0),
+        rest: text,
+    };
+    let (_, marked) = run_of(text, Class::White);
+    if !begins(marked, b'E') && !begins(marked, b'e') {
+        return none;
+    }
+    let (_, signed) = run_of(after(marked, 1), Class::White);
+    let (digits, rest) = run_of(behind_sign(signed), Class::Digit);
+    if digits.is_empty() {
+        return none;
+    }
+    Power {
+        divides: begins(signed, b'-'),
+        digits,
+        rest,
+    }
+}
+
+/// Whether a suffix stands at the front, after white space, and whether more than white space follows.
+fn tail_at(text: &[u8]) -> (bool, bool)
+    ensures suffix { result.0 ≡ is_nonempty (suffix_of text.now) }
+    ensures more { result.1 ≡ is_nonempty (excess_of text.now) }
+{
+    let (_, marked) = run_of(text, Class::White);
+    let (suffix, rest) = run_of(marked, Class::Letter);
+    let (_, more) = run_of(rest, Class::White);
+    (!suffix.is_empty(), !more.is_empty())
+}
+
+/// Whether there is a digit before or after the point.
+fn has_digit(whole: &[u8], fraction: &[u8]) -> bool
+    ensures { result ≡ is_nonempty (whole.now ++ fraction.now) }
+{
+    !whole.is_empty() || !fraction.is_empty()
+}
+
+/// The number that the text is, if it is one.
+pub fn scan(text: &[u8]) -> Option<Written<'_>>
+    ensures some { IfSome result (λ shown. Shows shown (scanned text.now) × IsNumber (scanned text.now) × (text.now ≡ number_text (scanned text.now))) }
+    ensures none { IfNone result ((n : Number) → IsNumber n → text.now ≡ number_text n → ⊥) }
+{
+    let (whole, rest) = run_of(behind_sign(text), Class::Digit);
+    let (fraction, rest) = fraction_at(rest);
+    if !has_digit(whole, fraction) {
+        return None;
+    }
+    let power = exponent_at(rest);
+    let (has_suffix, has_more) = tail_at(power.rest);
+    if has_more {
+        return None;
+    }
+    Some(Written {
+        negative: begins(text, b'-'),
+        whole,
+        fraction,
+        power,
+        has_suffix,
+    })
+}

@@ -1,0 +1,145 @@
+// Numbers: their value as a whole number.
+ghost use Rattle.std.specs.Prelude.{ℕ, ◌≡◌, ◌+◌, ◌*◌, ◌^◌, ◌≤◌, ◌<◌, ◌++◌, min, true, length, take, slice_index, if◌then◌else◌, ℤ, pos};
+ghost use Rattle.psu_lex.specs.Bytes.{all_digits, value_after};
+ghost use Rattle.psu_lex.specs.Number.{Number, IsNumber, NumberGives, magnitude, reading_of, without_zeros};
+ghost use Rattle.psu_lex.specs.NumberScan.{Shows, with_minus};
+
+use crate::ScpiError;
+use crate::number_scan::scan;
+use crate::pieces::front;
+use crate::written::Written;
+
+/// What a value is held to.
+const GREATEST: u64 = 1_000_000_000_000_000;
+
+/// A digit of the mantissa, counted over the point.
+fn digit_at(whole: &[u8], fraction: &[u8], at: usize) -> u8
+    requires { at < length whole.now + length fraction.now }
+    ensures { result ≡ slice_index (whole.now ++ fraction.now) at }
+{
+    if at < whole.len() {
+        whole[at]
+    } else {
+        fraction[at - whole.len()]
+    }
+}
+
+/// The number that the first digits write, held to the greatest.
+fn held(whole: &[u8], fraction: &[u8], count: usize) -> u64
+    requires each { all_digits (whole.now ++ fraction.now) ≡ true }
+    requires within { count ≤ length whole.now + length fraction.now }
+    ensures { result ≡ min (10 ^ 15) (value_after 0 (take count (whole.now ++ fraction.now))) }
+{
+    let mut value = 0u64;
+    for at in 0..count {
+        let digit = digit_at(whole, fraction, at) - b'0';
+        value = (10 * value + digit as u64).min(GREATEST);
+    }
+    value
+}
+
+/// The value times a power of ten, held to the greatest.
+fn shifted(value: u64, power: usize) -> u64
+    requires { value ≤ 10 ^ 15 }
+    ensures { result ≡ min (10 ^ 15) (value * 10 ^ power) }
+{
+    let mut value = value;
+    for i in 0..power.min(16) {
+        let _ = i;
+        value = (10 * value).min(GREATEST);
+    }
+    value
+}
+
+/// The digits times 10^up / 10^down, rounded half away from zero and held to the greatest. No loop is
+/// longer than the digits, however great the powers.
+fn scaled(whole: &[u8], fraction: &[u8], up: usize, down: usize) -> u64
+    requires { all_digits (whole.now ++ fraction.now) ≡ true }
+    ensures { result ≡ magnitude (whole.now ++ fraction.now) up down }
+{
+    let total = whole.len() + fraction.len();
+    if up >= down {
+        return shifted(held(whole, fraction, total), up - down);
+    }
+    let cut = down - up;
+    if cut > total {
+        return 0;
+    }
+    let kept = total - cut;
+    let value = held(whole, fraction, kept);
+    if digit_at(whole, fraction, kept) >= b'5' {
+        (value + 1).min(GREATEST)
+    } else {
+        value
+    }
+}
+
+/// How many digits the mantissa has, leading zeros not counted.
+fn significant(whole: &[u8], fraction: &[u8]) -> usize
+    ensures { result ≡ length (without_zeros (whole.now ++ fraction.now)) }
+{
+    let total = whole.len() + fraction.len();
+    for at in 0..total {
+        if digit_at(whole, fraction, at) != b'0' {
+            return total - at;
+        }
+    }
+    0
+}
+
+/// The power, unless it is left out.
+fn unless(left_out: bool, power: u64) -> usize
+    ensures { result ≡ (if left_out then 0 else power) }
+{
+    if left_out { 0 } else { power as usize }
+}
+
+/// The value with its sign.
+fn signed(negative: bool, value: u64) -> i64
+    requires { value ≤ 10 ^ 15 }
+    ensures { result ≡ with_minus negative value }
+{
+    if negative {
+        -(value as i64)
+    } else {
+        value as i64
+    }
+}
+
+/// What a number gives that was found in a text.
+fn reading(shown: Written<'_>, places: u8) -> Result<i64, ScpiError>
+    requires { (n : Number) × IsNumber n × Shows shown n }
+    ensures { (n : Number) → IsNumber n → Shows shown.entry n → result ≡ reading_of n places }
+{
+    let digits = shown.power.digits;
+    let power = held(digits, front(digits, 0), digits.len());
+    if power > 32_000 {
+        return Err(ScpiError::ExponentTooLarge);
+    }
+    if significant(shown.whole, shown.fraction) > 255 {
+        return Err(ScpiError::TooManyDigits);
+    }
+    if shown.has_suffix {
+        return Err(ScpiError::InvalidSuffix);
+    }
+    let up = places as usize + unless(shown.power.divides, power);
+    let down = shown.fraction.len() + unless(!shown.power.divides, power);
+    Ok(signed(
+        shown.negative,
+        scaled(shown.whole, shown.fraction, up, down),
+    ))
+}
+
+/// The value of a text as decimal numeric data (IEEE 488.2, 7.7.2) times `10^places`, rounded half away
+/// from zero to a whole number and held to plus or minus 10^15.
+///
+/// The first of these that holds is the error: the text is no number; its exponent is over 32000 either
+/// way; its mantissa has more than 255 digits, leading zeros not counted; it has a suffix.
+pub fn number(text: &[u8], places: u8) -> Result<i64, ScpiError>
+    ensures { NumberGives text.now places result }
+{
+    let Some(shown) = scan(text) else {
+        return Err(ScpiError::SyntaxError);
+    };
+    reading(shown, places)
+}

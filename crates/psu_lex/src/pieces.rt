@@ -1,0 +1,183 @@
+// Where a string or a block ends.
+ghost use Rattle.std.specs.Prelude.{ℕ, List, ◌≡◌, ◌+◌, ◌-◌, ◌≤◌, ◌<◌, ◌∷◌, ◌++◌, true, false, length, take, drop, IfSome, IfNone, OnSome};
+ghost use Rattle.psu_lex.specs.Bytes.{all_digits, ends_in_newline, is_closed, is_quote, starts, starts_quoted, value_after};
+ghost use Rattle.psu_lex.specs.Message.{opens_first, BeginsPiece, EndsString, HasNoPiece};
+
+use memchr::memchr2;
+
+/// The bytes from the nth on.
+pub fn after(bytes: &[u8], n: usize) -> &[u8]
+    requires { n ≤ length bytes.now }
+    ensures { result.now ≡ drop n bytes.now }
+{
+    &bytes[n..]
+}
+
+/// The bytes from one place up to another.
+pub fn between(bytes: &[u8], from: usize, to: usize) -> &[u8]
+    requires low { from ≤ to }
+    requires high { to ≤ length bytes.now }
+    ensures { result.now ≡ take (to - from) (drop from bytes.now) }
+{
+    &bytes[from..to]
+}
+
+/// The first n bytes.
+pub fn front(bytes: &[u8], n: usize) -> &[u8]
+    requires { n ≤ length bytes.now }
+    ensures { result.now ≡ take n bytes.now }
+{
+    &bytes[..n]
+}
+
+/// Whether this byte is the first.
+pub fn begins(bytes: &[u8], byte: u8) -> bool
+    ensures { result ≡ starts byte bytes.now }
+{
+    !bytes.is_empty() && bytes[0] == byte
+}
+
+/// Whether a quote is the first byte.
+pub fn is_quote_byte(bytes: &[u8]) -> bool
+    ensures { result ≡ starts_quoted bytes.now }
+{
+    begins(bytes, b'"') || begins(bytes, b'\'')
+}
+
+/// How many bytes of the text, which begins after a quote, belong to its string.
+pub fn string_end(text: &[u8], quote: u8) -> Option<usize>
+    requires { is_quote quote ≡ true }
+    ensures within { IfSome result (λ n. n ≤ length text.now) }
+    ensures some { IfSome result (λ n. EndsString quote text.now (drop n text.now)) }
+    ensures none { IfNone result ((more : List ℕ) → EndsString quote text.now more → ⊥) }
+{
+    let mut rest = text;
+    while let Some(at) = memchr2(quote, b'\n', rest) {
+        if rest[at] == b'\n' {
+            return None;
+        }
+        let next = after(rest, at + 1);
+        if !begins(next, quote) {
+            return Some(text.len() - next.len());
+        }
+        rest = after(next, 1);
+    }
+    None
+}
+
+/// The number that digits write.
+fn decimal(digits: &[u8]) -> usize
+    requires few { length digits.now < 10 }
+    requires each { all_digits digits.now ≡ true }
+    ensures { result ≡ value_after 0 digits.now }
+{
+    let mut value = 0usize;
+    for digit in digits {
+        value = 10 * value + (*digit - b'0') as usize;
+    }
+    value
+}
+
+fn are_digits(text: &[u8]) -> bool
+    ensures { result ≡ all_digits text.now }
+{
+    for byte in text {
+        if !byte.is_ascii_digit() {
+            return false;
+        }
+    }
+    true
+}
+
+/// Whether what follows a string or a block may.
+fn closes(text: &[u8]) -> bool
+    ensures { result ≡ is_closed text.now }
+{
+    for byte in text {
+        if *byte > 32 || *byte == b'\n' {
+            return *byte == b',' || *byte == b';' || *byte == b'\n';
+        }
+    }
+    true
+}
+
+fn ends_line(text: &[u8]) -> bool
+    ensures { result ≡ ends_in_newline text.now }
+{
+    !text.is_empty() && text[text.len() - 1] == b'\n'
+}
+
+/// How many bytes of the text, which begins after a `#`, belong to its block.
+pub fn block_end(text: &[u8]) -> Option<usize>
+    ensures within { IfSome result (λ n. n ≤ length text.now) }
+    ensures some { IfSome result (λ n. BeginsPiece (35 ∷ text.now) (drop n text.now)) }
+    ensures none { IfNone result ((more : List ℕ) → BeginsPiece (35 ∷ text.now) more → ⊥) }
+{
+    if text.is_empty() {
+        return None;
+    }
+    let first = text[0];
+    let rest = after(text, 1);
+    if first == b'0' {
+        if ends_line(rest) {
+            return Some(rest.len());
+        }
+        return Some(text.len());
+    }
+    if first < b'1' || first > b'9' {
+        return None;
+    }
+    let count = (first - b'0') as usize;
+    if count > rest.len() {
+        return None;
+    }
+    let (digits, content) = rest.split_at(count);
+    if !are_digits(digits) {
+        return None;
+    }
+    let length = decimal(digits);
+    if length > content.len() {
+        return None;
+    }
+    Some(1 + count + length)
+}
+
+/// How many bytes the string or block at the front has.
+pub fn whole_end(bytes: &[u8]) -> Option<usize>
+    requires { opens_first bytes.now ≡ true }
+    ensures within { IfSome result (λ n. (0 < n) × (n ≤ length bytes.now)) }
+    ensures some { IfSome result (λ n. BeginsPiece bytes.now (drop n bytes.now)) }
+    ensures none { IfNone result ((more : List ℕ) → BeginsPiece bytes.now more → ⊥) }
+{
+    let rest = after(bytes, 1);
+    if bytes[0] == b'#' {
+        match block_end(rest) {
+            Some(length) => Some(length + 1),
+            None => None,
+        }
+    } else {
+        match string_end(rest, bytes[0]) {
+            Some(length) => Some(length + 1),
+            None => None,
+        }
+    }
+}
+
+/// The same, where what follows is as it must be in a message.
+pub fn piece_end(bytes: &[u8]) -> Option<usize>
+    requires { opens_first bytes.now ≡ true }
+    ensures within { IfSome result (λ n. (0 < n) × (n ≤ length bytes.now)) }
+    ensures some { IfSome result (λ n. BeginsPiece bytes.now (drop n bytes.now) × (is_closed (drop n bytes.now) ≡ true)) }
+    ensures none { IfNone result (HasNoPiece is_closed bytes.now) }
+{
+    match whole_end(bytes) {
+        Some(length) => {
+            if closes(after(bytes, length)) {
+                Some(length)
+            } else {
+                None
+            }
+        }
+        None => None,
+    }
+}
