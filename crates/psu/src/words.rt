@@ -74,10 +74,7 @@ fn chosen<'a>(matches: &ArgMatches<'a>) -> Option<Choice<'a>> {
     match name {
         "make" => Some(Choice::Make(inner.get_str("image")?)),
         "run" => Some(Choice::Run(inner.get_str("image"))),
-        "serve" => Some(Choice::Serve(
-            inner.get_str("image")?,
-            inner.get_one::<u16>("port")?,
-        )),
+        "serve" => Some(Choice::Serve(inner.get_str("image")?, inner.get_one::<u16>("port")?)),
         "recover" => Some(Choice::Recover(inner.get_str("image")?)),
         _ => None,
     }

@@ -12,7 +12,10 @@ use std::alloc::Allocator;
 /// Opens the image of a disk as a restart does, and so may close an older gate that stands open, and reports the contents that
 /// it finds. The report is of the contents that the image stands for, with the first service request that IEEE 488.2
 /// prescribes for them.
-pub fn recover<D: Disk + Drop, A: Allocator + Copy>(alloc: A, disk: D) -> Result<Report, RecoverFault>
+pub fn recover<D: Disk + Drop, A: Allocator + Copy>(
+    alloc: A,
+    disk: D,
+) -> Result<Report, RecoverFault>
     ensures found { D.honest → IfOk result (IsReported (D.state disk).bytes) }
     ensures refused { D.honest → IfErr result (IsRecoverRefusal (D.state disk).bytes) }
 {
