@@ -4,6 +4,9 @@ ghost use Rattle.psu_status.specs.Registers.{preset, filter_of, with_filter, wit
 
 use crate::Filter;
 
+/// The 15 bits of a register of a group.
+const FIFTEEN_BITS: u16 = 32767;
+
 /// The registers of a group, each of 15 bits: bit 15 is always 0.
 #[derive(Clone, Copy, Debug, PartialEq, Eq)]
 pub struct Registers {
@@ -23,7 +26,7 @@ impl Registers {
             condition: 0,
             event: 0,
             enable: 0,
-            positive: 32767,
+            positive: FIFTEEN_BITS,
             negative: 0,
         }
     }
@@ -33,7 +36,7 @@ impl Registers {
         ensures { self.new ≡ preset self.old }
     {
         self.enable = 0;
-        self.positive = 32767;
+        self.positive = FIFTEEN_BITS;
         self.negative = 0;
     }
 
@@ -51,7 +54,7 @@ impl Registers {
     pub fn set_filter(&mut self, filter: Filter, bits: u16)
         ensures { self.new ≡ with_filter self.old filter (fifteen_bits bits) }
     {
-        let bits = bits & 32767;
+        let bits = bits & FIFTEEN_BITS;
         match filter {
             Filter::Enable => self.enable = bits,
             Filter::Positive => self.positive = bits,
@@ -63,7 +66,7 @@ impl Registers {
     pub fn set_condition(&mut self, bits: u16)
         ensures { self.new ≡ with_condition self.old (fifteen_bits bits) }
     {
-        let bits = bits & 32767;
+        let bits = bits & FIFTEEN_BITS;
         let changed = self.condition ^ bits;
         let rising = changed & bits;
         let falling = changed & self.condition;

@@ -10,7 +10,31 @@ use psu_lex::ScpiError;
 use std::marker::Model;
 
 /// How many errors the queue holds.
-pub const QUEUE: usize = 16;
+const QUEUE: usize = 16;
+
+/// Bit 7 of the event status register: power on.
+const PON: u8 = 128;
+
+/// The bits of SRE that count: all but bit 6.
+const ENABLE_BITS: u8 = 191;
+
+/// Bit 2 of the status byte: an error is queued.
+const ERROR_QUEUE: u8 = 4;
+
+/// Bit 3 of the status byte: the summary of QUEStionable.
+const QUESTIONABLE: u8 = 8;
+
+/// Bit 4 of the status byte: a message is available.
+const MAV: u8 = 16;
+
+/// Bit 5 of the status byte: an event of the event status register is enabled.
+const ESB: u8 = 32;
+
+/// Bit 6 of the status byte: a bit of it is enabled by SRE.
+const MSS: u8 = 64;
+
+/// Bit 7 of the status byte: the summary of OPERation.
+const OPERATION: u8 = 128;
 
 /// The status of the instrument. No call takes memory.
 #[derive(Drop)]
@@ -42,8 +66,8 @@ impl Status {
     {
         let (sre, ese) = enables.unwrap_or((0, 0));
         Status {
-            esr: 128,
-            sre: sre & 191,
+            esr: PON,
+            sre: sre & ENABLE_BITS,
             ese,
             operation: Registers::new(),
             questionable: Registers::new(),
@@ -86,7 +110,7 @@ impl Status {
     pub fn set_sre(&mut self, bits: u8)
         ensures { self.new ≡ record self.old { sre = without_mss bits } }
     {
-        self.sre = bits & 191;
+        self.sre = bits & ENABLE_BITS;
     }
 
     /// Sets the event status enable register (`*ESE`).
@@ -157,11 +181,23 @@ impl Status {
         ensures value { result ≡ summaries self.now mav }
         ensures most { result ≤ 188 }
     {
-        let queued = if self.errors.is_empty() { 0 } else { 4 };
-        let questionable = if self.questionable.summary() { 8 } else { 0 };
-        let available = if mav { 16 } else { 0 };
-        let event = if self.esr & self.ese == 0 { 0 } else { 32 };
-        let operation = if self.operation.summary() { 128 } else { 0 };
+        let queued = if self.errors.is_empty() {
+            0
+        } else {
+            ERROR_QUEUE
+        };
+        let questionable = if self.questionable.summary() {
+            QUESTIONABLE
+        } else {
+            0
+        };
+        let available = if mav { MAV } else { 0 };
+        let event = if self.esr & self.ese == 0 { 0 } else { ESB };
+        let operation = if self.operation.summary() {
+            OPERATION
+        } else {
+            0
+        };
         queued + (questionable + (available + (event + operation)))
     }
 
@@ -173,7 +209,7 @@ impl Status {
         if summaries & self.sre == 0 {
             summaries
         } else {
-            summaries + 64
+            summaries + MSS
         }
     }
 
