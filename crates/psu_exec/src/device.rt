@@ -1,4 +1,4 @@
-//! The one state, without its store.
+// The one state, without its store.
 ghost use Rattle.std.specs.Prelude.{◌≡◌, true, IfOk, OnErr};
 ghost use Rattle.psu_exec.specs.Contents.{IsContents};
 ghost use Rattle.psu_exec.specs.Device.{State, is_open, power_on};

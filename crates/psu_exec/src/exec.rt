@@ -1,11 +1,11 @@
-//! The one state with its store, and its jobs.
-ghost use Rattle.std.specs.Prelude.{◌≡◌, ◌<◌, ◌≤◌, IfOk, IfErr, OnOk, OnErr, true, false, Some, None, is_none, is_ok, length};
+// The one state with its store, and its jobs.
+ghost use Rattle.std.specs.Prelude.{◌≡◌, ◌<◌, ◌≤◌, IfOk, IfErr, OnOk, OnErr, true, false, Some, None, is_none, is_ok, length, List, ℕ};
 ghost use Rattle.std.specs.Option.{ForSome};
 ghost use Rattle.psu_items.specs.Batch.{changed};
 ghost use Rattle.psu_exec.specs.Batch.{batch};
 ghost use Rattle.psu_exec.specs.Contents.{items_of, IsContents};
-ghost use Rattle.psu_exec.specs.Device.{power_on, is_open, State};
-ghost use Rattle.psu_exec.specs.Registers.{first_request};
+ghost use Rattle.psu_exec.specs.Device.{power_on, is_open, State, Answer, Error, Later, refused};
+ghost use Rattle.psu_exec.specs.Registers.{first_request, prescribed};
 ghost use Rattle.psu_exec.specs.Calls.{Allows, sessions_over};
 ghost use Rattle.psu_exec.specs.Calls.Entry.{Executed, Settled, Took, GaveBack, Opened};
 ghost use Rattle.psu_exec.specs.Consistent.{IsConsistent};
@@ -13,6 +13,8 @@ ghost use Rattle.psu_exec.specs.Shown.{outcome_of, taken_of};
 ghost use Rattle.psu_exec.specs.Jobs.{home_map, home_limit, is_home_whole};
 ghost use Rattle.psu_exec.specs.declared.condition.Condition.TheVariants.{Whole};
 ghost use Rattle.psu_exec.specs.declared.contents.Contents.{Contents as Kept};
+ghost use Rattle.psu_exec.specs.declared.scpi_error.ScpiError.{ScpiError as AnyError};
+ghost use Rattle.psu_exec.specs.declared.command.Command.TheVariants.{OpcQuery};
 
 use crate::{
     Contents, Crowded, Device, Ended, Finished, Home, Job, NoJob, Outcome, PowerCause, PowerFault,
@@ -46,7 +48,10 @@ impl<D: Disk, A: Allocator + Copy> Exec<D, A> {
     pub fn power_on(alloc: A, store: Store<D, A>) -> Result<Exec<D, A>, PowerFault<D, A>>
         ensures state { IfOk result (λ e. e.device ≡ power_on store.limit e.device.flush.contents) }
         ensures found { IfOk result (λ e. items_of e.device.flush.contents ≡ store.items) }
+        ensures only { IfOk result (λ e. (c : Kept) → items_of c ≡ store.items → c ≡ e.device.flush.contents) }
         ensures sound { IfOk result (λ e. IsContents e.device.flush.contents) }
+        // In the standard's words: 96 exactly where enables are kept with bit 5 of SRE and bit 7 of ESE, else none.
+        ensures request { IfOk result (λ e. first_request e.device.volatile.registers ≡ prescribed e.device.flush.contents.enables) }
         ensures home { IfOk result (λ e. e.home ≡ Some (at_home.Whole store)) }
 
         ensures back { IfErr result (λ f. f.store ≡ store) }
@@ -78,6 +83,12 @@ impl<D: Disk, A: Allocator + Copy> Exec<D, A> {
         requires no_job { self.old.device.flush.out ≡ false }
         ensures step { Allows self.old.device (Executed session request.now (outcome_of result)) self.new.device }
         ensures home { self.new.home ≡ self.old.home }
+
+        // What follows from the step: `*OPC?` is answered only where no change is in the tail; an error sets its bit in the
+        // event status register and changes nothing else; a unit that is to come later changes nothing.
+        ensures complete { request.now ≡ record { reading = Ok OpcQuery } → (text : List ℕ) → outcome_of result ≡ Answer text → length self.old.device.flush.tail ≡ 0 }
+        ensures refused { (e : AnyError) → outcome_of result ≡ Error e → self.new.device ≡ refused self.old.device e }
+        ensures later { outcome_of result ≡ Later → self.new.device ≡ self.old.device }
 
         // What follows from the step: the conditions still hold.
         ensures still_open { is_open self.new.device session ≡ true }

@@ -1,4 +1,4 @@
-//! What a job came to.
+// What a job came to.
 
 use psu_disk::Disk;
 use psu_items::{Batch, Broken, Store, UnstartedCause};

@@ -1,4 +1,4 @@
-//! A commit that is to be made.
+// A commit that is to be made.
 ghost use Rattle.std.specs.Prelude.{◌≡◌, ◌+◌, ◌≤◌, ◌^◌};
 ghost use Rattle.psu_disk.specs.Disk.{LeavesOnly};
 ghost use Rattle.psu_items.specs.Image.{IsEither};

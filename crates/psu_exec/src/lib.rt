@@ -13,7 +13,6 @@ mod exec;
 mod finished;
 mod home;
 mod job;
-mod laws;
 mod no_job;
 mod outcome;
 mod power_fault;
@@ -40,10 +39,6 @@ pub use exec::Exec;
 pub use finished::Finished;
 pub use home::Home;
 pub use job::Job;
-pub use laws::{
-    batch_leads, complete_where_answered, first_request_is_prescribed, later_changes_nothing,
-    one_contents, refused_sets_a_bit,
-};
 pub use no_job::NoJob;
 pub use outcome::Outcome;
 pub use power_fault::{PowerCause, PowerFault};

@@ -1,4 +1,4 @@
-//! The rules of a unit, on what they look at.
+// The rules of a unit, on what they look at.
 ghost use Rattle.std.specs.Prelude.{◌≡◌, true, Option, IfOk, OnErr};
 ghost use Rattle.psu_exec.specs.Device.{answer_with, change_in, is_late, is_refused, is_synchronizing, is_whole, waits_for, wants_memory};
 ghost use Rattle.psu_exec.specs.Shown.{outcome_of};

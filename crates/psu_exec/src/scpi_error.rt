@@ -27,7 +27,7 @@ impl ScpiError {
     }
 
     /// The bit that it sets in the event status register.
-    pub fn event_bit(self) -> u8
+    pub(crate) fn event_bit(self) -> u8
         ensures { result ≡ event_bit self }
     {
         let number = self.magnitude();

@@ -1,3 +1,4 @@
+// The first path, jobs and texts as the program uses them.
 ghost use Rattle.std.specs.Prelude.{◌≡◌, [], true, false};
 ghost use Rattle.psu_exec.specs.Device.{is_open};
 

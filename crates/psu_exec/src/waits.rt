@@ -1,4 +1,4 @@
-//! The waits of all sessions.
+// The waits of all sessions.
 ghost use Rattle.std.specs.Prelude.{◌≡◌, ◌+◌, ◌<◌, ◌≤◌, ◌++◌, length, map, option_map};
 ghost use Rattle.psu_exec.specs.Calls.{is_over, over_from, over_one, wait_cut, wait_less};
 

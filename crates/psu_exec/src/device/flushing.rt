@@ -1,4 +1,4 @@
-//! Jobs: what is to be flushed, and what came of it.
+// Jobs: what is to be flushed, and what came of it.
 ghost use Rattle.std.specs.Prelude.{◌≡◌, ◌≤◌, ◌↔◌, IsTrue, IfOk, OnErr, true, drop, vec_len};
 ghost use Rattle.psu_items.specs.Batch.{changed};
 ghost use Rattle.psu_exec.specs.Batch.{batch};

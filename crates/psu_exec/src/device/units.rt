@@ -1,4 +1,4 @@
-//! The units of a message, and the waits that they leave.
+// The units of a message, and the waits that they leave.
 ghost use Rattle.std.specs.Prelude.{◌≡◌, ◌<◌, true, false, Some, IfOk, OnOk, OnErr, is_some, length};
 ghost use Rattle.psu_exec.specs.Device.{answer_with, change_in, change_read, is_late, noted, refused, wait_of, wants_memory, with_state_registers};
 ghost use Rattle.psu_exec.specs.Registers.{effect};
