@@ -170,3 +170,36 @@ fn a_disk_that_fails_is_answered_by_a_storage_fault(rt: HostRuntime) {
         Err(fault) => assert_eq!(rt; fault.cause, RunCause::Device),
     }
 }
+
+/// A writer that counts the calls of `write`.
+#[derive(Drop)]
+struct Counting {
+    bytes: Vec<u8>,
+    calls: u32,
+}
+
+impl Write for Counting {
+    fn write(&mut self, buf: &[u8]) -> io::Result<usize> {
+        self.bytes.extend_from_slice(buf)?;
+        self.calls = self.calls.saturating_add(1);
+        Ok(buf.len())
+    }
+
+    fn flush(&mut self) -> io::Result<()> {
+        Ok(())
+    }
+}
+
+#[test]
+fn the_lines_of_a_piece_are_answered_in_one_write(rt: HostRuntime) {
+    let mut reader: &[u8] = INPUT;
+    let mut output = Counting {
+        bytes: Vec::new(rt.alloc()),
+        calls: 0,
+    };
+    let disk = formatted(rt.alloc()).expect(&rt, "an image");
+    assert!(rt; run(rt.alloc(), &mut reader, &mut output, disk).is_ok());
+    assert_eq!(rt; output.bytes.as_slice(), OUTPUT);
+    // The whole lines of the piece, and the last line that lacks its end.
+    assert_eq!(rt; output.calls, 2);
+}
