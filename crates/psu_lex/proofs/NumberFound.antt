@@ -2,13 +2,12 @@
 use Rattle.std.proofs.Common.{◌≡◌, ℕ, ◌==◌, ◌||◌, ◌<◌, Bool, true, false, List, [], ◌∷◌, ◌++◌, length, refl, sym, ap, ◌∙◌, subst, arith, append_assoc, inl, inr, Option, Some, None}
 use Rattle.std.proofs.lemmas.Bool.{cases_Bool}
 use Rattle.std.proofs.lemmas.Bool.Decides.{nat_tests}
-use Rattle.std.proofs.lemmas.List.{append-nil}
 use Rattle.psu_lex.specs.Bytes.{is_digit, is_letter, is_white}
 use Rattle.psu_lex.specs.Number.{Sign, Exponent, Number, IsNumber, ExponentHolds, sign_text, fraction_text, fraction_digits, exponent_text, number_text, mantissa}
 use Rattle.psu_lex.specs.Number.Sign.{Plus, Minus, Unsigned}
 use Rattle.psu_lex.specs.NumberScan.{run, left, sign_of, after_sign, fraction_of, after_fraction, exponent_with, exponent_from, exponent_of, after_exponent, is_nonempty, suffix_of, gap_of, end_of, excess_of, at_fraction, at_exponent, at_tail, scanned}
 use Rattle.psu_lex.proofs.Quotes.{both}
-use Rattle.psu_lex.proofs.Runs.{every, leads, digits_every, white_every, letters_every, every_head, every_tail, run_at, left_at}
+use Rattle.psu_lex.proofs.Runs.{every, leads, digits_every, white_every, letters_every, every_head, every_tail, run_at, left_at, every_append, every_left, left_none, run_all, every_more}
 
 -- what may stand behind the digits of a number
 abbrev is_tail : ℕ → Bool
@@ -53,22 +52,6 @@ body_digit x h = rw h refl
 
 tail_letter : (x : ℕ) → is_letter x ≡ true → is_tail x ≡ true
 tail_letter x h = grind (arith, nat_tests, h)
-
--- each byte passes a weaker test
-every_more : (a b : ℕ → Bool) (xs : List ℕ) → ((x : ℕ) → a x ≡ true → b x ≡ true) → every a xs ≡ true → every b xs ≡ true
-every_more a b [] f h = refl
-every_more a b (x ∷ xs) f h = rw (f x (every_head a x xs h)) (every_more a b xs f (every_tail a x xs h))
-
-every_append : (test : ℕ → Bool) (a b : List ℕ) → every test a ≡ true → every test b ≡ true → every test (a ++ b) ≡ true
-every_append test [] b h k = k
-every_append test (x ∷ a) b h k = rw (every_head test x a h) (every_append test a b (every_tail test x a h) k)
-
-every_left : (test skip : ℕ → Bool) (xs : List ℕ) → every test xs ≡ true → every test (left skip xs) ≡ true
-every_left test skip [] h = refl
-every_left test skip (x ∷ xs) h = elim (cases_Bool (skip x)) [
-  | inl t ↦ rw t (every_left test skip xs (every_tail test x xs h))
-  | inr f ↦ rw f h
-]
 
 every_sign : (test : ℕ → Bool) (xs : List ℕ) → every test xs ≡ true → every test (after_sign xs) ≡ true
 every_sign test [] h = refl
@@ -189,12 +172,6 @@ exponent_found (Some e) later h t =
     (found.exponent, found.after, first_of e.before e.letter (e.after ++ (sign_text e.sign ++ e.digits)) later (sym (white_every e.before) ∙ h.0) h.1)
 
 -- ---- the suffix and the white space round it
-
-left_none : (test : ℕ → Bool) (xs : List ℕ) → every test xs ≡ true → left test xs ≡ []
-left_none test xs h = ap (left test) (sym (append-nil xs)) ∙ left_at test xs [] h refl
-
-run_all : (test : ℕ → Bool) (xs : List ℕ) → every test xs ≡ true → run test xs ≡ xs
-run_all test xs h = ap (run test) (sym (append-nil xs)) ∙ run_at test xs [] h refl
 
 white_no_letter : (xs : List ℕ) → every is_white xs ≡ true → leads is_letter xs ≡ false
 white_no_letter [] h = refl

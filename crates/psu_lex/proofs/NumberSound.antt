@@ -6,7 +6,7 @@ use Rattle.psu_lex.specs.Bytes.{starts, is_digit, is_letter, is_white, all_digit
 use Rattle.psu_lex.specs.Number.{Sign, IsNumber, ExponentHolds, sign_text, fraction_text, fraction_digits, exponent_text, number_text, mantissa}
 use Rattle.psu_lex.specs.NumberScan.{run, left, sign_of, after_sign, fraction_of, after_fraction, exponent_with, exponent_from, exponent_of, after_exponent, is_nonempty, suffix_of, gap_of, end_of, excess_of, is_minus, at_fraction, at_exponent, at_tail, scanned}
 use Rattle.psu_lex.proofs.Quotes.{same_byte}
-use Rattle.psu_lex.proofs.Runs.{every, leads, digits_every, white_every, letters_every, every_head, every_tail, run_left, run_every, left_at}
+use Rattle.psu_lex.proofs.Runs.{every, leads, digits_every, white_every, letters_every, run_left, run_every, left_at, every_append}
 
 sign_split : (text : List ℕ) → sign_text (sign_of text) ++ after_sign text ≡ text
 sign_split [] = refl
@@ -118,10 +118,6 @@ no_gap_at [] d e = refl
 no_gap_at (x ∷ s) d e = absurd (cc (e))
 
 -- ---- all of it
-
-every_append : (test : ℕ → Bool) (a b : List ℕ) → every test a ≡ true → every test b ≡ true → every test (a ++ b) ≡ true
-every_append test [] b h k = k
-every_append test (x ∷ a) b h k = rw (every_head test x a h) (every_append test a b (every_tail test x a h) k)
 
 some_length : (xs : List ℕ) → is_nonempty xs ≡ true → 0 < length xs
 some_length [] h = absurd (cc (h))

@@ -102,3 +102,27 @@ runs_all test text at n le is r =
     let front : run test text ≡ take at text = r.front ∙ ap (λ (z : List ℕ). take at text ++ run test z) none ∙ append-nil (take at text) in
     let back : left test text ≡ [] = r.back ∙ ap (left test) none in
     (take_all n text (omega (arith, is)) ∙ sym (take_all at text le) ∙ sym front, end ∙ sym back)
+
+-- ---- more of runs
+
+pub every_append : (test : ℕ → Bool) (a b : List ℕ) → every test a ≡ true → every test b ≡ true → every test (a ++ b) ≡ true
+every_append test [] b h k = k
+every_append test (x ∷ a) b h k = rw (every_head test x a h) (every_append test a b (every_tail test x a h) k)
+
+pub every_left : (test skip : ℕ → Bool) (xs : List ℕ) → every test xs ≡ true → every test (left skip xs) ≡ true
+every_left test skip [] h = refl
+every_left test skip (x ∷ xs) h = elim (cases_Bool (skip x)) [
+  | inl t ↦ rw t (every_left test skip xs (every_tail test x xs h))
+  | inr f ↦ rw f h
+]
+
+pub left_none : (test : ℕ → Bool) (xs : List ℕ) → every test xs ≡ true → left test xs ≡ []
+left_none test xs h = ap (left test) (sym (append-nil xs)) ∙ left_at test xs [] h refl
+
+pub run_all : (test : ℕ → Bool) (xs : List ℕ) → every test xs ≡ true → run test xs ≡ xs
+run_all test xs h = ap (run test) (sym (append-nil xs)) ∙ run_at test xs [] h refl
+
+-- each byte passes a weaker test
+pub every_more : (a b : ℕ → Bool) (xs : List ℕ) → ((x : ℕ) → a x ≡ true → b x ≡ true) → every a xs ≡ true → every b xs ≡ true
+every_more a b [] f h = refl
+every_more a b (x ∷ xs) f h = rw (f x (every_head a x xs h)) (every_more a b xs f (every_tail a x xs h))
