@@ -1,5 +1,5 @@
 -- Fronts of a text that is written.
-use Rattle.std.proofs.Common.{◌≡◌, ℕ, ◌+◌, ◌≤◌, List, [], ◌++◌, length, take, drop, sym, ap, ◌∙◌, subst, arith, Option, ◌-◌, Result, Ok, Err, OnErr, IfErr}
+use Rattle.std.proofs.Common.{◌≡◌, ℕ, ◌+◌, ◌≤◌, List, [], ◌++◌, length, take, drop, sym, ap, ◌∙◌, subst, arith, Option, ◌-◌, Result, Ok, Err, OnErr, IfErr, IsErrAnd}
 use Rattle.std.proofs.lemmas.Grind.{common_steps}
 use Rattle.std.proofs.lemmas.List.{append-nil}
 use Rattle.std.proofs.Math.Seq.{take-add, take-append-add, take-append_seam}
@@ -7,7 +7,7 @@ use Rattle.std.proofs.Common.{length-append}
 use Rattle.std.proofs.KnownBytes.{Appends-trans}
 use Rattle.std.specs.Io.KnownBytes.{Appends, Consumes}
 use Rattle.std.specs.Io.{StartsWith}
-use Rattle.psu_server.specs.Output.{WritesFront}
+use Rattle.psu_server.specs.Output.{WritesFront, WritesShort}
 use Rattle.psu_server.proofs.Cuts.{whole_tail}
 
 pub starts_after : (t s rest : List ℕ) → StartsWith rest s → StartsWith (t ++ rest) (t ++ s)
@@ -20,6 +20,9 @@ starts_whole text = subst (λ (z : List ℕ). StartsWith z text) (append-nil tex
 
 pub whole_front : (u v : Option (List ℕ)) (text : List ℕ) → Appends u v text → WritesFront u v text
 whole_front u v text w = (text, w, starts_whole text)
+
+pub short_front : (u v : Option (List ℕ)) (text : List ℕ) → WritesShort u v text → WritesFront u v text
+short_front u v text w = (w.0, w.1, w.2)
 
 -- a write of what is left
 pub put_step : (all : List ℕ) (at n : ℕ) (u v w : Option (List ℕ)) → at ≤ length all → n ≤ length (take (length all - at) (drop at all))
@@ -41,3 +44,8 @@ consumes_none n s b c e p = subst (λ (k : ℕ). Consumes b c (take k s)) e p
 pub if_err : {A E : Type 0} (r : Result A E) (P : E → Type 0) → ((e : E) → P e) → IfErr r P
 if_err (Ok x) P p = tt
 if_err (Err e) P p = p e
+
+-- a fault that is passed on
+pub passed : {A E : Type 0} (r : Result A E) (e : E) (P : E → Type 0) → IsErrAnd r (λ told. told ≡ e) → P e → IfErr r P
+passed (Ok x) e P is p = tt
+passed (Err told) e P is p = subst P (sym is) p

@@ -1,5 +1,6 @@
 pub mod Alone
 pub mod Within
+pub mod Reasons
 pub mod Cuts
 pub mod Fronts
 pub mod Feeds
@@ -7,3 +8,4 @@ pub mod Readings
 pub mod Owning
 pub mod Flushed
 pub mod Starting
+pub mod Waits

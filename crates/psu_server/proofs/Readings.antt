@@ -1,5 +1,5 @@
 -- The pieces that a run reads, one after another.
-use Rattle.std.proofs.Common.{◌≡◌, ◌⊎◌, ℕ, ◌+◌, ◌-◌, ◌≤◌, Bool, true, false, List, [], ◌∷◌, ◌++◌, length, take, drop, refl, sym, ap, ◌∙◌, subst, arith, append_assoc, Some, None, Option, IfSome, inl, inr}
+use Rattle.std.proofs.Common.{◌≡◌, ◌⊎◌, ℕ, ◌+◌, ◌-◌, ◌≤◌, ◌<◌, Bool, true, false, List, [], ◌∷◌, ◌++◌, length, take, drop, refl, sym, ap, ◌∙◌, subst, arith, append_assoc, Some, None, Option, IfSome, inl, inr}
 use Rattle.std.proofs.lemmas.List.{append-nil}
 use Rattle.std.proofs.Math.Seq.{take-add}
 use Rattle.std.proofs.lemmas.Grind.{common_steps}
@@ -13,7 +13,9 @@ use Rattle.psu_exec.specs.Contents.{items_of}
 use Rattle.psu_exec.specs.Device.{State}
 use Rattle.psu_server.specs.Lines.{Message, message_now, coming, messages, has, is_none_begun}
 use Rattle.psu_server.specs.Script.{started}
-use Rattle.psu_server.specs.Output.{WritesFront}
+use Rattle.psu_server.specs.Output.{WritesFront, WritesShort}
+use Rattle.psu_server.specs.declared.run_cause.RunCause.{RunCause}
+use Rattle.psu_server.specs.declared.run_cause.RunCause.TheVariants.{Write}
 use Rattle.psu_server.specs.Runs.{Mishaps, MessageRuns, Runs, any}
 use Rattle.psu_server.specs.Within.{Within}
 use Rattle.psu_server.specs.Progress.{Fed, Stopped, Answered, Answers, Begins, WritesRun, WritesFirst}
@@ -24,13 +26,27 @@ use Rattle.psu_server.proofs.Feeds.{ToldLine}
 use Rattle.psu_server.proofs.Alone.{script_is_alone}
 
 -- nothing is written
-pub begins_here : (due : List Message) (s : State) (w : Option (List ℕ)) → Begins due s w w
-begins_here due s w = record { done = []; rest = due; is = refl; text = []; last = s; runs = (refl, refl); front = []; appends = Appends-nil w; starts = refl }
+pub begins_here : (cause : RunCause) (due : List Message) (s : State) (w : Option (List ℕ)) → (cause ≡ Write → ⊥) → Begins cause due s w w
+begins_here cause due s w other = record {
+  done = [];
+  rest = due;
+  is = refl;
+  text = [];
+  last = s;
+  runs = (refl, refl);
+  front = [];
+  appends = Appends-nil w;
+  starts = refl;
+  missing = λ e. absurd (other e);
+}
+
+longer : (text front more : List ℕ) → length front < length more → length (text ++ front) < length (text ++ more)
+longer text front more less = grind (arith, common_steps, less)
 
 -- what comes after messages that are answered
-pub begins_after : (due done more : List Message) (text : List ℕ) (s mid : State) (u v w : Option (List ℕ)) → due ≡ done ++ more → Runs any s done text mid
-    → Appends u v text → Begins more mid v w → Begins due s u w
-begins_after due done more text s mid u v w is runs p b = record {
+pub begins_after : (cause : RunCause) (due done more : List Message) (text : List ℕ) (s mid : State) (u v w : Option (List ℕ)) → due ≡ done ++ more → Runs any s done text mid
+    → Appends u v text → Begins cause more mid v w → Begins cause due s u w
+begins_after cause due done more text s mid u v w is runs p b = record {
   done = done ++ b.done;
   rest = b.rest;
   is = is ∙ ap (λ (z : List Message). done ++ z) b.is ∙ sym (append_assoc done b.done b.rest);
@@ -40,6 +56,7 @@ begins_after due done more text s mid u v w is runs p b = record {
   front = text ++ b.front;
   appends = Appends-trans u v w text b.front p b.appends;
   starts = starts_after text b.front b.text b.starts;
+  missing = λ e. longer text b.front b.text (b.missing e);
 }
 
 -- nothing is read yet
@@ -69,28 +86,28 @@ pub ran_on : (f mid after : List ℕ → List Message) (piece : List ℕ) (s s1 
 ran_on f mid after piece s s1 s2 a b c from to next u v w r p q =
     (r.0 ++ piece, Consumes-trans from to next r.0 piece r.1 p, answered_then f mid after r.0 piece s s1 s2 a b c u v w r.2 q)
 
-begins_seen : (f mid : List ℕ → List Message) (seen input : List ℕ) (s s1 : State) (a b : ℕ) (u v w : Option (List ℕ)) → Answered f seen mid s s1 a b u v
-    → Begins (mid input) s1 v w → Begins (f (seen ++ input)) s u w
-begins_seen f mid seen input s s1 a b u v w p q =
-    begins_after (f (seen ++ input)) p.0 (mid input) p.1 s s1 u v w (p.3 input) (within_any _ _ _ p.4) p.2 q
+begins_seen : (cause : RunCause) (f mid : List ℕ → List Message) (seen input : List ℕ) (s s1 : State) (a b : ℕ) (u v w : Option (List ℕ)) → Answered f seen mid s s1 a b u v
+    → Begins cause (mid input) s1 v w → Begins cause (f (seen ++ input)) s u w
+begins_seen cause f mid seen input s s1 a b u v w p q =
+    begins_after cause (f (seen ++ input)) p.0 (mid input) p.1 s s1 u v w (p.3 input) (within_any _ _ _ p.4) p.2 q
 
 -- a fault while nothing of the next piece is answered
-pub ran_front : (f mid : List ℕ → List Message) (s s1 : State) (a b : ℕ) (from to u v : Option (List ℕ)) → Ran f mid s s1 a b from to u v
-    → IfSome from (λ input. Begins (f input) s u v)
-ran_front f mid s s1 a b None to u v r = tt
-ran_front f mid s s1 a b (Some x) None u v r = absurd r.1
-ran_front f mid s s1 a b (Some x) (Some y) u v r =
-    subst (λ (z : List ℕ). Begins (f z) s u v) (sym r.1) (begins_seen f mid r.0 y s s1 a b u v v r.2 (begins_here (mid y) s1 v))
+pub ran_front : (cause : RunCause) (f mid : List ℕ → List Message) (s s1 : State) (a b : ℕ) (from to u v : Option (List ℕ)) → Ran f mid s s1 a b from to u v
+    → (cause ≡ Write → ⊥) → IfSome from (λ input. Begins cause (f input) s u v)
+ran_front cause f mid s s1 a b None to u v r other = tt
+ran_front cause f mid s s1 a b (Some x) None u v r other = absurd r.1
+ran_front cause f mid s s1 a b (Some x) (Some y) u v r other =
+    subst (λ (z : List ℕ). Begins cause (f z) s u v) (sym r.1) (begins_seen cause f mid r.0 y s s1 a b u v v r.2 (begins_here cause (mid y) s1 v other))
 
 -- a fault in a piece
-pub ran_stop : (f mid : List ℕ → List Message) (piece : List ℕ) (s s1 : State) (a b : ℕ) (from to next u v w : Option (List ℕ)) → Ran f mid s s1 a b from to u v
-    → Consumes to next piece → ((input : List ℕ) → Begins (mid (piece ++ input)) s1 v w) → IfSome from (λ input. Begins (f input) s u w)
-ran_stop f mid piece s s1 a b None to next u v w r p q = tt
-ran_stop f mid piece s s1 a b (Some x) None next u v w r p q = absurd r.1
-ran_stop f mid piece s s1 a b (Some x) (Some y) None u v w r p q = absurd p
-ran_stop f mid piece s s1 a b (Some x) (Some y) (Some z) u v w r p q =
-    subst (λ (l : List ℕ). Begins (f l) s u w) (sym (r.1 ∙ ap (λ (l : List ℕ). r.0 ++ l) p))
-    (begins_seen f mid r.0 (piece ++ z) s s1 a b u v w r.2 (q z))
+pub ran_stop : (cause : RunCause) (f mid : List ℕ → List Message) (piece : List ℕ) (s s1 : State) (a b : ℕ) (from to next u v w : Option (List ℕ)) → Ran f mid s s1 a b from to u v
+    → Consumes to next piece → ((input : List ℕ) → Begins cause (mid (piece ++ input)) s1 v w) → IfSome from (λ input. Begins cause (f input) s u w)
+ran_stop cause f mid piece s s1 a b None to next u v w r p q = tt
+ran_stop cause f mid piece s s1 a b (Some x) None next u v w r p q = absurd r.1
+ran_stop cause f mid piece s s1 a b (Some x) (Some y) None u v w r p q = absurd p
+ran_stop cause f mid piece s s1 a b (Some x) (Some y) (Some z) u v w r p q =
+    subst (λ (l : List ℕ). Begins cause (f l) s u w) (sym (r.1 ∙ ap (λ (l : List ℕ). r.0 ++ l) p))
+    (begins_seen cause f mid r.0 (piece ++ z) s s1 a b u v w r.2 (q z))
 
 -- the end of what was read
 pub ran_end : (f mid : List ℕ → List Message) (s s1 last : State) (a b c : ℕ) (from to next u v w : Option (List ℕ)) → Ran f mid s s1 a b from to u v
@@ -108,14 +125,14 @@ ran_end f mid s s1 last a b c (Some x) (Some y) (Some z) u v w r p e q =
     )
 
 -- a fault at the end of what was read
-pub ran_end_front : (f mid : List ℕ → List Message) (s s1 : State) (a b : ℕ) (from to next u v w : Option (List ℕ)) → Ran f mid s s1 a b from to u v
-    → Consumes to next [] → IsAtEnd next → Begins (mid []) s1 v w → IfSome from (λ input. Begins (f input) s u w)
-ran_end_front f mid s s1 a b None to next u v w r p e q = tt
-ran_end_front f mid s s1 a b (Some x) None next u v w r p e q = absurd r.1
-ran_end_front f mid s s1 a b (Some x) (Some y) None u v w r p e q = absurd p
-ran_end_front f mid s s1 a b (Some x) (Some y) (Some z) u v w r p e q =
-    subst (λ (l : List ℕ). Begins (f l) s u w) (sym (r.1 ∙ ap (λ (l : List ℕ). r.0 ++ l) (p ∙ e)))
-    (begins_seen f mid r.0 [] s s1 a b u v w r.2 q)
+pub ran_end_front : (cause : RunCause) (f mid : List ℕ → List Message) (s s1 : State) (a b : ℕ) (from to next u v w : Option (List ℕ)) → Ran f mid s s1 a b from to u v
+    → Consumes to next [] → IsAtEnd next → Begins cause (mid []) s1 v w → IfSome from (λ input. Begins cause (f input) s u w)
+ran_end_front cause f mid s s1 a b None to next u v w r p e q = tt
+ran_end_front cause f mid s s1 a b (Some x) None next u v w r p e q = absurd r.1
+ran_end_front cause f mid s s1 a b (Some x) (Some y) None u v w r p e q = absurd p
+ran_end_front cause f mid s s1 a b (Some x) (Some y) (Some z) u v w r p e q =
+    subst (λ (l : List ℕ). Begins cause (f l) s u w) (sym (r.1 ∙ ap (λ (l : List ℕ). r.0 ++ l) (p ∙ e)))
+    (begins_seen cause f mid r.0 [] s s1 a b u v w r.2 q)
 
 -- what was gathered of a piece is written
 pub fed_written : (f mid : List ℕ → List Message) (piece : List ℕ) (s s1 : State) (a b : ℕ) (start out shown : List ℕ) (u v : Option (List ℕ))
@@ -129,9 +146,9 @@ fed_written f mid piece s s1 a b start out shown u v p none d w = (
 )
 
 -- a front of what was gathered of a piece is written
-pub fed_front : (f mid : List ℕ → List Message) (piece : List ℕ) (s s1 : State) (a b : ℕ) (start out shown : List ℕ) (u v : Option (List ℕ))
-    → Fed f piece mid s s1 a b start out → start ≡ [] → shown ≡ out → WritesFront u v shown → (input : List ℕ) → Begins (f (piece ++ input)) s u v
-fed_front f mid piece s s1 a b start out shown u v p none d w input = record {
+pub fed_front : (cause : RunCause) (f mid : List ℕ → List Message) (piece : List ℕ) (s s1 : State) (a b : ℕ) (start out shown : List ℕ) (u v : Option (List ℕ))
+    → Fed f piece mid s s1 a b start out → start ≡ [] → shown ≡ out → WritesShort u v shown → (input : List ℕ) → Begins cause (f (piece ++ input)) s u v
+fed_front cause f mid piece s s1 a b start out shown u v p none d w input = record {
   done = p.0;
   rest = mid input;
   is = p.3 input;
@@ -141,11 +158,13 @@ fed_front f mid piece s s1 a b start out shown u v p none d w input = record {
   front = w.0;
   appends = w.1;
   starts = subst (λ (z : List ℕ). StartsWith z w.0) (d ∙ p.2 ∙ ap (λ (z : List ℕ). z ++ p.1) none) w.2;
+  missing = λ e. subst (λ (z : List ℕ). length w.0 < length z) (d ∙ p.2 ∙ ap (λ (z : List ℕ). z ++ p.1) none) w.3;
 }
 
-pub stopped_front : (f : List ℕ → List Message) (piece : List ℕ) (s : State) (start out shown : List ℕ) (u v : Option (List ℕ))
-    → Stopped f piece s start out → start ≡ [] → shown ≡ out → WritesFront u v shown → (input : List ℕ) → Begins (f (piece ++ input)) s u v
-stopped_front f piece s start out shown u v p none d w input = record {
+pub stopped_front : (cause : RunCause) (f : List ℕ → List Message) (piece : List ℕ) (s : State) (start out shown : List ℕ) (u v : Option (List ℕ))
+    → Stopped f piece s start out → start ≡ [] → shown ≡ out → WritesFront u v shown → (cause ≡ Write → ⊥) → (input : List ℕ)
+    → Begins cause (f (piece ++ input)) s u v
+stopped_front cause f piece s start out shown u v p none d w other input = record {
   done = p.0;
   rest = (p.4 input).0;
   is = (p.4 input).1;
@@ -155,6 +174,7 @@ stopped_front f piece s start out shown u v p none d w input = record {
   front = w.0;
   appends = w.1;
   starts = subst (λ (z : List ℕ). StartsWith z w.0) (d ∙ p.3 ∙ ap (λ (z : List ℕ). z ++ p.1) none) w.2;
+  missing = λ e. absurd (other e);
 }
 
 -- the line that the input ends in is answered
@@ -169,10 +189,10 @@ last_written over line s new a b start out shown u v begun free p none d w = (
       (λ can. runs_one can s new (message_now over line) p.0)),
 )
 
-pub last_front : (over : Bool) (line : List ℕ) (s new : State) (a b : ℕ) (start out shown : List ℕ) (u v : Option (List ℕ)) → is_none_begun over line ≡ false
-    → has 10 line ≡ false → ToldLine (message_now over line) s new a b start out → start ≡ [] → shown ≡ out → WritesFront u v shown
-    → Begins (coming over line []) s u v
-last_front over line s new a b start out shown u v begun free p none d w = record {
+pub last_front : (cause : RunCause) (over : Bool) (line : List ℕ) (s new : State) (a b : ℕ) (start out shown : List ℕ) (u v : Option (List ℕ)) → is_none_begun over line ≡ false
+    → has 10 line ≡ false → ToldLine (message_now over line) s new a b start out → start ≡ [] → shown ≡ out → WritesShort u v shown
+    → Begins cause (coming over line []) s u v
+last_front cause over line s new a b start out shown u v begun free p none d w = record {
   done = message_now over line ∷ [];
   rest = [];
   is = coming_last over line begun free;
@@ -182,11 +202,13 @@ last_front over line s new a b start out shown u v begun free p none d w = recor
   front = w.0;
   appends = w.1;
   starts = subst (λ (z : List ℕ). StartsWith z w.0) (d ∙ p.1 ∙ ap (λ (z : List ℕ). z ++ p.0) none) w.2;
+  missing = λ e. subst (λ (z : List ℕ). length w.0 < length z) (d ∙ p.1 ∙ ap (λ (z : List ℕ). z ++ p.0) none) w.3;
 }
 
 -- what is answered whole is begun
-pub answers_begin : (due : List Message) (s last : State) (a b : ℕ) (u v : Option (List ℕ)) → Answers due s last a b u v → Begins due s u v
-answers_begin due s last a b u v p = record {
+pub answers_begin : (cause : RunCause) (due : List Message) (s last : State) (a b : ℕ) (u v : Option (List ℕ)) → Answers due s last a b u v → (cause ≡ Write → ⊥)
+    → Begins cause due s u v
+answers_begin cause due s last a b u v p other = record {
   done = due;
   rest = [];
   is = sym (append-nil due);
@@ -196,12 +218,13 @@ answers_begin due s last a b u v p = record {
   front = p.0;
   appends = p.1;
   starts = starts_whole p.0;
+  missing = λ e. absurd (other e);
 }
 
 -- nothing is read, and nothing is written
-pub begins_none : (from old : Option (List ℕ)) (s : State) → IfSome from (λ input. Begins (messages input) s old old)
-begins_none None old s = tt
-begins_none (Some x) old s = begins_here (messages x) s old
+pub begins_none : (cause : RunCause) (from old : Option (List ℕ)) (s : State) → (cause ≡ Write → ⊥) → IfSome from (λ input. Begins cause (messages input) s old old)
+begins_none cause None old s other = tt
+begins_none cause (Some x) old s other = begins_here cause (messages x) s old other
 
 -- before the first read
 pub ran_start : (over : Bool) (line : List ℕ) (s : State) (a : ℕ) (from old : Option (List ℕ)) → over ≡ false → line ≡ []
@@ -217,23 +240,24 @@ cut_read n count buf le =
     ap (λ (k : ℕ). take k buf) sum ∙ take-add n (count - n) buf
 
 -- a read of which only a part is taken
-pub ran_cut : (f mid after : List ℕ → List Message) (n count : ℕ) (buf : List ℕ) (s s1 s2 : State) (a b c : ℕ) (from to next u v w : Option (List ℕ)) → n ≤ count
-    → Ran f mid s s1 a b from to u v → Consumes to next (take count buf) → Answered mid (take n buf) after s1 s2 b c v w → IfSome from (λ input. Begins (f input) s u w)
-ran_cut f mid after n count buf s s1 s2 a b c from to next u v w le r p q =
+pub ran_cut : (cause : RunCause) (f mid after : List ℕ → List Message) (n count : ℕ) (buf : List ℕ) (s s1 s2 : State) (a b c : ℕ) (from to next u v w : Option (List ℕ)) → n ≤ count
+    → Ran f mid s s1 a b from to u v → Consumes to next (take count buf) → Answered mid (take n buf) after s1 s2 b c v w → (cause ≡ Write → ⊥)
+    → IfSome from (λ input. Begins cause (f input) s u w)
+ran_cut cause f mid after n count buf s s1 s2 a b c from to next u v w le r p q other =
     let more = take (count - n) (drop n buf) in
-    ran_stop f mid (take count buf) s s1 a b from to next u v w r p
-    (λ input. subst (λ (l : List ℕ). Begins (mid l) s1 v w)
+    ran_stop cause f mid (take count buf) s s1 a b from to next u v w r p
+    (λ input. subst (λ (l : List ℕ). Begins cause (mid l) s1 v w)
     (sym (append_assoc (take n buf) more input) ∙ ap (λ (l : List ℕ). l ++ input) (sym (cut_read n count buf le)))
-    (begins_seen mid after (take n buf) (more ++ input) s1 s2 b c v w w q (begins_here (after (more ++ input)) s2 w)))
+    (begins_seen cause mid after (take n buf) (more ++ input) s1 s2 b c v w w q (begins_here cause (after (more ++ input)) s2 w other)))
 
 -- a read of which only a part is taken, and a fault in that
-pub ran_cut_front : (f mid : List ℕ → List Message) (n count : ℕ) (buf : List ℕ) (s s1 : State) (a b : ℕ) (from to next u v w : Option (List ℕ)) → n ≤ count
-    → Ran f mid s s1 a b from to u v → Consumes to next (take count buf) → ((input : List ℕ) → Begins (mid (take n buf ++ input)) s1 v w)
-    → IfSome from (λ input. Begins (f input) s u w)
-ran_cut_front f mid n count buf s s1 a b from to next u v w le r p q =
+pub ran_cut_front : (cause : RunCause) (f mid : List ℕ → List Message) (n count : ℕ) (buf : List ℕ) (s s1 : State) (a b : ℕ) (from to next u v w : Option (List ℕ)) → n ≤ count
+    → Ran f mid s s1 a b from to u v → Consumes to next (take count buf) → ((input : List ℕ) → Begins cause (mid (take n buf ++ input)) s1 v w)
+    → IfSome from (λ input. Begins cause (f input) s u w)
+ran_cut_front cause f mid n count buf s s1 a b from to next u v w le r p q =
     let more = take (count - n) (drop n buf) in
-    ran_stop f mid (take count buf) s s1 a b from to next u v w r p
-    (λ input. subst (λ (l : List ℕ). Begins (mid l) s1 v w)
+    ran_stop cause f mid (take count buf) s s1 a b from to next u v w r p
+    (λ input. subst (λ (l : List ℕ). Begins cause (mid l) s1 v w)
     (sym (append_assoc (take n buf) more input) ∙ ap (λ (l : List ℕ). l ++ input) (sym (cut_read n count buf le))) (q (more ++ input)))
 
 -- no line has begun, and nothing is answered
@@ -282,11 +306,11 @@ run_whole (Some input) u v image left contents limit s start a b (last, p, kept)
     )
 
 -- a front of it
-pub run_front : (from u v : Option (List ℕ)) (image : List ℕ) (Q : Type 0) (contents : Contents) (limit : ℕ) (s : State)
-    → IfSome from (λ input. Begins (messages input) s u v) → s ≡ started limit contents → Stands image limit (items_of contents)
-    → IfSome from (λ input. Q ⊎ ((size : ℕ) × (found : Contents) × Stands image size (items_of found) × WritesFirst found size input u v))
-run_front None u v image Q contents limit s p is holds = tt
-run_front (Some input) u v image Q contents limit s p is holds = inr (
+pub run_front : (cause : RunCause) (from u v : Option (List ℕ)) (image : List ℕ) (Q : Type 0) (contents : Contents) (limit : ℕ) (s : State)
+    → IfSome from (λ input. Begins cause (messages input) s u v) → s ≡ started limit contents → Stands image limit (items_of contents)
+    → IfSome from (λ input. Q ⊎ ((size : ℕ) × (found : Contents) × Stands image size (items_of found) × WritesFirst cause found size input u v))
+run_front cause None u v image Q contents limit s p is holds = tt
+run_front cause (Some input) u v image Q contents limit s p is holds = inr (
   limit,
   contents,
   holds,
@@ -301,6 +325,7 @@ run_front (Some input) u v image Q contents limit s p is holds = inr (
       whole = p.text;
       runs = subst (λ (z : State). Runs any z p.done p.text p.last) is p.runs;
       front = p.starts;
+      missing = p.missing;
     },
   ),
 )
@@ -322,3 +347,9 @@ read_all most seen (Some x) (Some y) (Some z) p q e le =
 
 pub taken_more : (seen buf : List ℕ) (count a b c : ℕ) → length seen ≡ a → count ≤ length buf → b ≡ a → c ≡ b + count → length (seen ++ take count buf) ≡ c
 taken_more seen buf count a b c taken bound same more = grind (arith, common_steps, taken, bound, same, more)
+
+-- the input is no shorter than what was taken of it
+pub taken_of : (least : ℕ) (seen : List ℕ) (from to : Option (List ℕ)) → Consumes from to seen → least ≤ length seen → IfSome from (λ input. least ≤ length input)
+taken_of least seen None to p le = tt
+taken_of least seen (Some x) None p le = absurd p
+taken_of least seen (Some x) (Some y) p le = grind (arith, common_steps, p, le)

@@ -46,16 +46,16 @@ covers_second can p q c = record {
 }
 
 -- a failure stays one
-failed_on : (a b c : ℕ) → IsLater b c → HasFailed a b → HasFailed a c
+pub failed_on : (a b c : ℕ) → IsLater b c → HasFailed a b → HasFailed a c
 failed_on a b c later f = ⊎_elim (λ le. ⊎_elim (λ less. inl (omega (arith, le, less))) (λ last. inr (omega (arith, le, last))) f) inr later
 
-failed_before : (a b c : ℕ) → IsLater a b → HasFailed b c → HasFailed a c
+pub failed_before : (a b c : ℕ) → IsLater a b → HasFailed b c → HasFailed a c
 failed_before a b c later f = ⊎_elim (λ le. ⊎_elim (λ less. inl (omega (arith, le, less))) inr f) (λ last. ⊎_elim (λ less. inr (omega (arith, last, less))) inr f) later
 
-later_on : (a b c : ℕ) → IsLater a b → IsLater b c → IsLater a c
+pub later_on : (a b c : ℕ) → IsLater a b → IsLater b c → IsLater a c
 later_on a b c p q = ⊎_elim (λ le. ⊎_elim (λ more. inl (omega (arith, le, more))) inr q) (λ last. ⊎_elim (λ more. inr (omega (arith, last, more))) inr q) p
 
-later_same : (n : ℕ) → IsLater n n
+pub later_same : (n : ℕ) → IsLater n n
 later_same n = inl (omega arith)
 
 later_failed : (a b : ℕ) → HasFailed a b → IsLater a b
@@ -101,7 +101,7 @@ failed_of (Stored limit map) b c f e = cc
 failed_of (Unstarted limit before edits cause) b c f e = cc
 failed_of (Broken limit before edits) b c f e = f
 
-later_of : (finished : JobEnd) (b c : ℕ) → Counts finished b c → IsLater b c
+pub later_of : (finished : JobEnd) (b c : ℕ) → Counts finished b c → IsLater b c
 later_of (Stored limit map) b c f = inl (omega (arith, f))
 later_of (Unstarted limit before edits cause) b c f = inl (omega (arith, f))
 later_of (Broken limit before edits) b c f = later_failed b c f
@@ -186,14 +186,13 @@ acts_waited can (Answer r) o s parked over new c t p f u final m = cc
 acts_waited can (Error n) o s parked over new c t p f u final m = cc
 acts_waited can Later o s parked over new c t p f u final m = cc
 
-pub acted_waited : (first o : Reply) (s parked over new : State) (c : Request) (a b d e : ℕ) → Allows s (Executed 1 c first) parked → is_parked first ≡ true
-    → b ≡ a → Within b d (λ can. Flushes can parked over) → Allows over (Settled 1 o) new → is_final o ≡ true → is_out_of_memory o ≡ false → e ≡ d
+pub acted_waited : (first o : Reply) (s parked new : State) (c : Request) (a b e : ℕ) → Allows s (Executed 1 c first) parked → is_parked first ≡ true
+    → b ≡ a → is_final o ≡ true → is_out_of_memory o ≡ false → Within b e (λ can. (over : State) × Flushes can parked over × Allows over (Settled 1 o) new)
     → Within a e (λ can. Acted can s c o new)
-acted_waited first o s parked over new c a b d e t p same f u final m last =
+acted_waited first o s parked new c a b e t p same final m w =
     subst (λ (n : ℕ). Within n e (λ can. Acted can s c o new)) same
-    (subst (λ (n : ℕ). Within b n (λ can. Acted can s c o new)) (sym last)
-    (within_as b d (λ can. Flushes can parked over) (λ can. Acted can s c o new) f
-    (λ can fl. acts_waited can first o s parked over new c t p fl u final m)))
+    (within_as b e (λ can. (over : State) × Flushes can parked over × Allows over (Settled 1 o) new) (λ can. Acted can s c o new) w
+    (λ can f. acts_waited can first o s parked f.0 new c t p f.1 f.2 final m))
 
 unit_at : (can : Mishaps) (o : Reply) (s new : State) (c : Request) → is_later o ≡ false → Acted can s c o new → UnitRuns can s c o new
 unit_at can o s new c later (inl l) = let is = l.0 in cc
@@ -272,3 +271,14 @@ runs_all s mid new text more xs ys a b c w v =
 pub is_whole_true : (c : Condition) → is_whole c ≡ true → c ≡ Whole
 is_whole_true Whole e = refl
 is_whole_true condition.Worn e = cc
+
+pub is_whole_false : (c : Condition) → is_whole c ≡ false → c ≡ condition.Worn
+is_whole_false Whole e = cc
+is_whole_false condition.Worn e = refl
+
+-- the end of a wait, after its flush
+pub waited_end : (parked over new : State) (reply : Reply) (b d e : ℕ) → Within b d (λ can. Flushes can parked over) → Allows over (Settled 1 reply) new → e ≡ d
+    → Within b e (λ can. (mid : State) × Flushes can parked mid × Allows mid (Settled 1 reply) new)
+waited_end parked over new reply b d e f t same =
+    subst (λ (n : ℕ). Within b n (λ can. (mid : State) × Flushes can parked mid × Allows mid (Settled 1 reply) new)) (sym same)
+    (within_as b d (λ can. Flushes can parked over) (λ can. (mid : State) × Flushes can parked mid × Allows mid (Settled 1 reply) new) f (λ can fl. (over, fl, t)))

@@ -1,5 +1,5 @@
 -- What a run may write where memory may be refused, a disk call may fail, or the store may be worn.
-use Rattle.std.specs.Prelude.{◌≡◌, ◌⊎◌, ℕ, zero, suc, ◌≤◌, Bool, true, false, List, [], ◌∷◌, ◌++◌, ⊤}
+use Rattle.std.specs.Prelude.{◌≡◌, ◌⊎◌, ℕ, zero, suc, ◌≤◌, ◌<◌, length, Bool, true, false, List, [], ◌∷◌, ◌++◌, ⊤}
 use Rattle.std.specs.Io.{StartsWith}
 use Rattle.psu_items.specs.declared.commit.UnstartedCause.TheVariants.{Memory, Worn}
 use Rattle.psu_exec.specs.declared.contents.Contents.{Contents}
@@ -9,6 +9,8 @@ use Rattle.psu_exec.specs.declared.scpi_error.ScpiError.TheVariants.{OutOfMemory
 use Rattle.psu_exec.specs.Contents.{items_of}
 use Rattle.psu_exec.specs.Device.{Reply, Error, Parked, Later, State}
 use Rattle.psu_exec.specs.Calls.{JobEnd, Stored, Unstarted, Broken, Job, Nothing, Executed, Settled, Took, GaveBack, Allows}
+use Rattle.psu_server.specs.declared.run_cause.RunCause.{RunCause}
+use Rattle.psu_server.specs.declared.run_cause.RunCause.TheVariants.{Write}
 use Rattle.psu_server.specs.Lines.{Message, requests_of, messages}
 use Rattle.psu_server.specs.Script.{started, with_answer, line_text, script}
 
@@ -111,8 +113,8 @@ Runs can s (m ∷ ms) text new =
 abbrev pub MayWrite : Mishaps → Contents → ℕ → List ℕ → List ℕ → Type 0
 MayWrite can contents limit bytes text = (last : State) × Runs can (started limit contents) (messages bytes) text last
 
--- the text is a front of what may be written for some first lines of the input
-pub record MayFront (can : Mishaps) (contents : Contents) (limit : ℕ) (bytes text : List ℕ) : Type 0 where
+-- The text is a front of what may be written for some first lines of the input. Where the writer failed, some of that is missing.
+pub record MayFront (can : Mishaps) (cause : RunCause) (contents : Contents) (limit : ℕ) (bytes text : List ℕ) : Type 0 where
   pub done : List Message
   pub rest : List Message
   pub is : messages bytes ≡ done ++ rest
@@ -120,6 +122,7 @@ pub record MayFront (can : Mishaps) (contents : Contents) (limit : ℕ) (bytes t
   pub whole : List ℕ
   pub runs : Runs can (started limit contents) done whole last
   pub front : StartsWith whole text
+  pub missing : cause ≡ Write → length text < length whole
 
 -- where nothing goes wrong, what may be written is the script
 abbrev pub ScriptAlone : Type 0

@@ -1,11 +1,12 @@
 // The lines that end in a piece of the input.
-ghost use Rattle.std.specs.Prelude.{◌≡◌, ◌++◌, [], List, ℕ, OnOk, OnErr, IfOk, false};
+ghost use Rattle.std.specs.Prelude.{◌≡◌, ◌++◌, [], List, ℕ, OnOk, OnErr, IfOk, IfErr, true, false};
 ghost use Rattle.std.specs.Str.{bytes_eq};
 ghost use Rattle.psu_server.specs.Failures.{failures_of};
 ghost use Rattle.psu_server.specs.Lines.{coming, message_now, power_line};
 ghost use Rattle.psu_server.specs.Runs.{MessageRuns, Restarts};
 ghost use Rattle.psu_server.specs.Within.{Within};
 ghost use Rattle.psu_server.specs.Progress.{Fed, Stopped};
+ghost use Rattle.psu_server.specs.Reasons.{IsExplained, Stops, is_of_device};
 
 use crate::answers::put_line;
 use crate::lines::Lines;
@@ -24,7 +25,11 @@ pub fn restart<D: Disk, A: Allocator + Copy>(
 ) -> Result<Powered<D, A>, RunFault<D>>
     ensures found { D.honest → IfOk result (λ p. Restarts powered.exec.device p.exec.device) }
     ensures works { IfOk result (λ p. failures_of p.exec ≡ failures_of powered.exec) }
+    ensures explained { IfOk result (λ p. (start : ℕ) → IsExplained start powered.exec → IsExplained start p.exec) }
+    ensures caused { D.honest → IfErr result (λ f. (start : ℕ) → IsExplained start powered.exec → Stops start (D.failures f.disk) (D.state f.disk).bytes f.cause) }
+    ensures device { IfErr result (λ f. is_of_device f.cause ≡ true) }
 {
+    let _kept = powered.exec.contents();
     let powered = Powered::on(alloc, powered.into_disk())?;
     Ok(powered)
 }
@@ -48,6 +53,9 @@ pub fn close_line<D: Disk, A: Allocator + Copy>(
     ensures over { OnOk result (lines.new.is_over ≡ false) }
     ensures empty { OnOk result (lines.new.line.items ≡ []) }
     ensures same { OnErr result (out.new.items ≡ out.old.items) }
+    ensures explained { IfOk result (λ p. (start : ℕ) → IsExplained start powered.exec → IsExplained start p.exec) }
+    ensures caused { D.honest → IfErr result (λ f. (start : ℕ) → IsExplained start powered.exec → Stops start (D.failures f.disk) (D.state f.disk).bytes f.cause) }
+    ensures device { IfErr result (λ f. is_of_device f.cause ≡ true) }
 {
     let mut answers = Vec::new(alloc);
     if lines.is_over {
@@ -87,6 +95,9 @@ pub fn feed<D: Disk, A: Allocator + Copy>(
         (failures_of powered.exec) (failures_of p.exec) out.old.items out.new.items) }
     ensures stopped { D.honest → OnErr result (Stopped (coming lines.old.is_over lines.old.line.items) piece.now
         powered.exec.device out.old.items out.new.items) }
+    ensures explained { IfOk result (λ p. (start : ℕ) → IsExplained start powered.exec → IsExplained start p.exec) }
+    ensures caused { D.honest → IfErr result (λ f. (start : ℕ) → IsExplained start powered.exec → Stops start (D.failures f.disk) (D.state f.disk).bytes f.cause) }
+    ensures device { IfErr result (λ f. is_of_device f.cause ≡ true) }
 {
     let mut powered = powered;
     let mut rest = piece;

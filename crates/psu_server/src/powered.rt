@@ -1,23 +1,23 @@
 // The device that is powered on.
-ghost use Rattle.std.specs.Prelude.{◌≡◌, IfOk, IfErr, true, false};
+ghost use Rattle.std.specs.Prelude.{◌≡◌, ◌⊎◌, ◌≤◌, ℕ, IfOk, IfErr, true, false, None};
+ghost use Rattle.psu_disk.specs.Disk.{HasFailed};
 ghost use Rattle.psu_items.specs.Image.{Stands, EachStands};
 ghost use Rattle.psu_exec.specs.Contents.{items_of};
-ghost use Rattle.psu_exec.specs.Device.{is_open, is_whole};
-ghost use Rattle.psu_exec.specs.Calls.{Allows};
-ghost use Rattle.psu_exec.specs.Calls.Entry.{Executed, Settled};
-ghost use Rattle.psu_exec.specs.Shown.{outcome_of};
-ghost use Rattle.psu_exec.specs.declared.condition.Condition.TheVariants.{Whole};
+ghost use Rattle.psu_exec.specs.Device.{is_open, is_whole, wait_of};
+ghost use Rattle.psu_exec.specs.declared.condition.Condition.TheVariants.{Whole, Worn};
 ghost use Rattle.psu_server.specs.Causes.{NotStarted};
 ghost use Rattle.psu_server.specs.Failures.{failures_of};
+ghost use Rattle.psu_server.specs.Reasons.{IsExplained, IsWornOut, is_of_device};
+ghost use Rattle.psu_server.specs.Within.{IsLater};
 ghost use Rattle.psu_server.specs.Script.{started};
 
 use crate::{RunCause, RunFault};
 use psu_disk::Disk;
-use psu_exec::{Crowded, Ended, Exec, Outcome, Request, Session};
+use psu_exec::{Crowded, Ended, Exec, Session};
 use psu_items::Store;
 use std::alloc::Allocator;
 
-/// A device that is powered on: its one session is open, and no job is out.
+/// A device that is powered on: its one session is open and waits for nothing, and no job is out.
 #[derive(Drop)]
 pub struct Powered<D: Disk, A: Allocator + Copy> {
     pub exec: Exec<D, A>,
@@ -28,6 +28,7 @@ pub struct Powered<D: Disk, A: Allocator + Copy> {
     pub ghost open: { is_open exec.device 1 ≡ true },
     pub ghost idle: { exec.device.flush.out ≡ false },
     pub ghost tells: { whole ≡ is_whole exec.device.flush.store },
+    pub ghost free: { wait_of exec.device.flush 1 ≡ None },
 }
 
 impl<D: Disk, A: Allocator + Copy> Powered<D, A> {
@@ -37,6 +38,9 @@ impl<D: Disk, A: Allocator + Copy> Powered<D, A> {
         ensures found { D.honest → IfOk result (λ p. Stands (D.state disk).bytes p.exec.device.flush.limit (items_of p.exec.device.flush.contents)) }
         ensures works { IfOk result (λ p. failures_of p.exec ≡ D.failures disk) }
         ensures refused { D.honest → IfErr result (λ f. NotStarted (D.state disk).bytes (D.failures disk) (D.failures f.disk) f.cause) }
+        ensures later { IfErr result (λ f. D.failures disk ≤ D.failures f.disk) }
+        ensures device { IfErr result (λ f. is_of_device f.cause ≡ true) }
+        ensures explained { IfOk result (λ p. (start : ℕ) → IsLater start (D.failures disk) → IsExplained start p.exec) }
     {
         let store = match Store::open(alloc, disk) {
             Ok(store) => store,
@@ -66,26 +70,12 @@ impl<D: Disk, A: Allocator + Copy> Powered<D, A> {
         }
     }
 
-    /// One unit.
-    pub fn execute(&mut self, request: &Request) -> Outcome<A>
-        ensures step { Allows self.old.exec.device (Executed 1 request.now (outcome_of result)) self.new.exec.device }
-        ensures home { self.new.exec.home ≡ self.old.exec.home }
-    {
-        self.exec.execute(self.session, request)
-    }
-
-    /// What the session's wait came to.
-    pub fn settle(&mut self) -> Outcome<A>
-        ensures step { Allows self.old.exec.device (Settled 1 (outcome_of result)) self.new.exec.device }
-        ensures home { self.new.exec.home ≡ self.old.exec.home }
-    {
-        self.exec.settle(self.session)
-    }
-
     /// The end: the disk.
     pub fn into_disk(self) -> D
         ensures failures { D.failures result ≡ failures_of self.exec }
         ensures stands { D.honest → self.exec.device.flush.store ≡ Whole → EachStands (D.state result) self.exec.device.flush.limit self.exec.device.flush.before }
+        ensures found { D.honest → (start : ℕ) → IsExplained start self.exec
+            → HasFailed start (D.failures result) ⊎ EachStands (D.state result) self.exec.device.flush.limit self.exec.device.flush.before }
     {
         disk_of(self.exec)
     }
@@ -94,11 +84,24 @@ impl<D: Disk, A: Allocator + Copy> Powered<D, A> {
     pub fn fault(self, cause: RunCause) -> RunFault<D>
         ensures cause { result.cause ≡ cause }
         ensures failures { D.failures result.disk ≡ failures_of self.exec }
+        ensures reason { D.honest → (start : ℕ) → IsExplained start self.exec → self.exec.device.flush.store ≡ Worn
+            → HasFailed start (D.failures result.disk) ⊎ IsWornOut (D.state result.disk).bytes }
     {
-        RunFault {
-            cause,
-            disk: self.into_disk(),
-        }
+        fault_of(self.exec, cause)
+    }
+}
+
+/// The early end of a run, from a device that has no job out.
+pub fn fault_of<D: Disk, A: Allocator + Copy>(exec: Exec<D, A>, cause: RunCause) -> RunFault<D>
+    requires { exec.device.flush.out ≡ false }
+    ensures cause { result.cause ≡ cause }
+    ensures failures { D.failures result.disk ≡ failures_of exec }
+    ensures reason { D.honest → (start : ℕ) → IsExplained start exec → exec.device.flush.store ≡ Worn
+        → HasFailed start (D.failures result.disk) ⊎ IsWornOut (D.state result.disk).bytes }
+{
+    RunFault {
+        cause,
+        disk: disk_of(exec),
     }
 }
 
@@ -107,9 +110,16 @@ pub fn disk_of<D: Disk, A: Allocator + Copy>(exec: Exec<D, A>) -> D
     requires { exec.device.flush.out ≡ false }
     ensures failures { D.failures result ≡ failures_of exec }
     ensures stands { D.honest → exec.device.flush.store ≡ Whole → EachStands (D.state result) exec.device.flush.limit exec.device.flush.before }
+    ensures reason { D.honest → (start : ℕ) → IsExplained start exec → exec.device.flush.store ≡ Worn
+        → HasFailed start (D.failures result) ⊎ IsWornOut (D.state result).bytes }
+    ensures found { D.honest → (start : ℕ) → IsExplained start exec
+        → HasFailed start (D.failures result) ⊎ EachStands (D.state result) exec.device.flush.limit exec.device.flush.before }
 {
     match exec.end() {
-        Ended::Whole(store) => store.into_disk(),
+        Ended::Whole(store) => {
+            store.number();
+            store.into_disk()
+        }
         Ended::Failed(broken) => broken.into_disk(),
         Ended::Out(_) => unreachable!(),
     }

@@ -1,20 +1,21 @@
 // The units of a message, with the flushes that they wait for.
-ghost use Rattle.std.specs.Prelude.{◌≡◌, ◌∷◌, [], IfOk};
-ghost use Rattle.psu_exec.specs.Device.{Reply};
+ghost use Rattle.std.specs.Prelude.{◌≡◌, ◌∷◌, [], ℕ, IfOk, IfErr, true, false};
+ghost use Rattle.psu_exec.specs.Device.{Reply, is_open, is_whole};
 ghost use Rattle.psu_exec.specs.Shown.{outcome_of};
 ghost use Rattle.psu_server.specs.Failures.{failures_of};
 ghost use Rattle.psu_server.specs.Lines.{is_blank, parts_of, request_of, requests};
 ghost use Rattle.psu_server.specs.Runs.{is_final, is_later, is_out_of_memory, is_parked, UnitRuns, UnitsRun};
 ghost use Rattle.psu_server.specs.Within.{Within};
-ghost use Rattle.psu_server.specs.Progress.{Acted};
+ghost use Rattle.psu_server.specs.Progress.{Acted, Waited};
+ghost use Rattle.psu_server.specs.Reasons.{IsExplained, Stops, is_of_device};
 
 use crate::answers::put_answer;
-use crate::jobs::flush;
-use crate::powered::Powered;
+use crate::jobs::{flush, flush_jobs};
+use crate::powered::{Powered, fault_of};
 use crate::{RunCause, RunFault};
 use memchr::memchr;
 use psu_disk::Disk;
-use psu_exec::{Outcome, Request, ScpiError, plain};
+use psu_exec::{Exec, Outcome, Request, ScpiError, Session, plain};
 use std::alloc::Allocator;
 
 fn is_parked<A: Allocator + Copy>(outcome: &Outcome<A>) -> bool
@@ -41,27 +42,69 @@ fn is_out_of_memory<A: Allocator + Copy>(outcome: &Outcome<A>) -> bool
     matches!(outcome, Outcome::Error(ScpiError::OutOfMemory))
 }
 
+// A parked unit waits for a flush.
+fn wait<D: Disk, A: Allocator + Copy>(
+    exec: Exec<D, A>,
+    session: Session,
+    whole: bool,
+) -> Result<(Powered<D, A>, Outcome<A>), RunFault<D>>
+    requires first { session ≡ 1 }
+    requires idle { exec.device.flush.out ≡ false }
+    requires open { is_open exec.device 1 ≡ true }
+    requires tells { whole ≡ is_whole exec.device.flush.store }
+    ensures waited { IfOk result (λ r. Waited exec r.0.exec (outcome_of r.1)) }
+    ensures explained { IfOk result (λ r. (start : ℕ) → IsExplained start exec → IsExplained start r.0.exec) }
+    ensures caused { D.honest → IfErr result (λ f. (start : ℕ) → IsExplained start exec → Stops start (D.failures f.disk) (D.state f.disk).bytes f.cause) }
+    ensures device { IfErr result (λ f. is_of_device f.cause ≡ true) }
+{
+    let (exec, whole) = flush_jobs(exec, whole)?;
+    let mut exec = exec;
+    let outcome = exec.settle(session);
+    if !is_final(&outcome) {
+        return Err(fault_of(exec, RunCause::Device));
+    }
+    if is_out_of_memory(&outcome) {
+        return Err(fault_of(exec, RunCause::Memory));
+    }
+    Ok((
+        Powered {
+            exec,
+            session,
+            whole,
+        },
+        outcome,
+    ))
+}
+
 /// Executes a unit; parked, it waits for a flush. It may still come later.
 pub fn act<D: Disk, A: Allocator + Copy>(
     powered: Powered<D, A>,
     request: &Request,
 ) -> Result<(Powered<D, A>, Outcome<A>), RunFault<D>>
-    ensures { IfOk result (λ r. Within (failures_of powered.exec) (failures_of r.0.exec)
+    ensures acted { IfOk result (λ r. Within (failures_of powered.exec) (failures_of r.0.exec)
         (λ can. Acted can powered.exec.device request.now (outcome_of r.1) r.0.exec.device)) }
+    ensures explained { IfOk result (λ r. (start : ℕ) → IsExplained start powered.exec → IsExplained start r.0.exec) }
+    ensures caused { D.honest → IfErr result (λ f. (start : ℕ) → IsExplained start powered.exec → Stops start (D.failures f.disk) (D.state f.disk).bytes f.cause) }
+    ensures device { IfErr result (λ f. is_of_device f.cause ≡ true) }
 {
-    let mut powered = powered;
-    let outcome = powered.execute(request);
+    let Powered {
+        exec,
+        session,
+        whole,
+    } = powered;
+    let mut exec = exec;
+    let outcome = exec.execute(session, request);
     if !is_parked(&outcome) {
-        return Ok((powered, outcome));
+        return Ok((
+            Powered {
+                exec,
+                session,
+                whole,
+            },
+            outcome,
+        ));
     }
-    let mut powered = flush(powered)?;
-    let outcome = powered.settle();
-    if !is_final(&outcome) {
-        return Err(powered.fault(RunCause::Device));
-    }
-    if is_out_of_memory(&outcome) {
-        return Err(powered.fault(RunCause::Memory));
-    }
+    let (powered, outcome) = wait(exec, session, whole)?;
     Ok((powered, outcome))
 }
 
@@ -70,8 +113,11 @@ pub fn unit<D: Disk, A: Allocator + Copy>(
     powered: Powered<D, A>,
     request: &Request,
 ) -> Result<(Powered<D, A>, Outcome<A>), RunFault<D>>
-    ensures { IfOk result (λ r. Within (failures_of powered.exec) (failures_of r.0.exec)
+    ensures runs { IfOk result (λ r. Within (failures_of powered.exec) (failures_of r.0.exec)
         (λ can. UnitRuns can powered.exec.device request.now (outcome_of r.1) r.0.exec.device)) }
+    ensures explained { IfOk result (λ r. (start : ℕ) → IsExplained start powered.exec → IsExplained start r.0.exec) }
+    ensures caused { D.honest → IfErr result (λ f. (start : ℕ) → IsExplained start powered.exec → Stops start (D.failures f.disk) (D.state f.disk).bytes f.cause) }
+    ensures device { IfErr result (λ f. is_of_device f.cause ≡ true) }
 {
     let (powered, outcome) = act(powered, request)?;
     if !is_later(&outcome) {
@@ -91,8 +137,11 @@ pub fn perform<D: Disk, A: Allocator + Copy>(
     request: &Request,
     answers: &mut Vec<u8, A>,
 ) -> Result<Powered<D, A>, RunFault<D>>
-    ensures { IfOk result (λ p. Within (failures_of powered.exec) (failures_of p.exec)
+    ensures runs { IfOk result (λ p. Within (failures_of powered.exec) (failures_of p.exec)
         (λ can. UnitsRun can powered.exec.device answers.old.items (request.now ∷ []) answers.new.items p.exec.device)) }
+    ensures explained { IfOk result (λ p. (start : ℕ) → IsExplained start powered.exec → IsExplained start p.exec) }
+    ensures caused { D.honest → IfErr result (λ f. (start : ℕ) → IsExplained start powered.exec → Stops start (D.failures f.disk) (D.state f.disk).bytes f.cause) }
+    ensures device { IfErr result (λ f. is_of_device f.cause ≡ true) }
 {
     let (powered, outcome) = unit(powered, request)?;
     let Ok(()) = put_answer(answers, &outcome) else {
@@ -113,8 +162,11 @@ pub fn perform_text<D: Disk, A: Allocator + Copy>(
     text: &[u8],
     answers: &mut Vec<u8, A>,
 ) -> Result<Powered<D, A>, RunFault<D>>
-    ensures { IfOk result (λ p. Within (failures_of powered.exec) (failures_of p.exec)
+    ensures runs { IfOk result (λ p. Within (failures_of powered.exec) (failures_of p.exec)
         (λ can. UnitsRun can powered.exec.device answers.old.items (requests (text.now ∷ [])) answers.new.items p.exec.device)) }
+    ensures explained { IfOk result (λ p. (start : ℕ) → IsExplained start powered.exec → IsExplained start p.exec) }
+    ensures caused { D.honest → IfErr result (λ f. (start : ℕ) → IsExplained start powered.exec → Stops start (D.failures f.disk) (D.state f.disk).bytes f.cause) }
+    ensures device { IfErr result (λ f. is_of_device f.cause ≡ true) }
 {
     if is_blank(text) {
         return Ok(powered);
@@ -129,8 +181,11 @@ pub fn message<D: Disk, A: Allocator + Copy>(
     bytes: &[u8],
     answers: &mut Vec<u8, A>,
 ) -> Result<Powered<D, A>, RunFault<D>>
-    ensures { IfOk result (λ p. Within (failures_of powered.exec) (failures_of p.exec)
+    ensures runs { IfOk result (λ p. Within (failures_of powered.exec) (failures_of p.exec)
         (λ can. UnitsRun can powered.exec.device answers.old.items (requests (parts_of 59 bytes.now)) answers.new.items p.exec.device)) }
+    ensures explained { IfOk result (λ p. (start : ℕ) → IsExplained start powered.exec → IsExplained start p.exec) }
+    ensures caused { D.honest → IfErr result (λ f. (start : ℕ) → IsExplained start powered.exec → Stops start (D.failures f.disk) (D.state f.disk).bytes f.cause) }
+    ensures device { IfErr result (λ f. is_of_device f.cause ≡ true) }
 {
     let mut powered = powered;
     let mut rest = bytes;

@@ -1,44 +1,12 @@
-use Rattle.std.proofs.Common.{◌≡◌, ℕ, arith, refl, sym, ap, subst, ◌∙◌}
-use Rattle.psu_exec.specs.Device.{State, is_open}
-use Rattle.psu_server.specs.Failures.{failures_of, failures_at}
-use Rattle.psu_server.specs.Jobs.{Ends}
-use Rattle.psu_server.specs.Runs.{Jobs}
-use Rattle.psu_server.proofs.Owning.{own_of}
-use Rattle.psu_server.proofs.Within.{within_here, job_step, gave_home, gave_open, gave_whole, flush_ends, flush_full}
+use Rattle.psu_server.proofs.Waits.{flush_free}
+use Rattle.psu_server.proofs.Within.{within_any}
 use Rattle.psu_server.proofs.jobs.flush.Goals as goal
 
-pub loop-init : goal.loop-init
-loop-init g c = record {
-  idle = c.args.powered.idle;
-  open_session = c.args.powered.open;
-  tells = c.args.powered.tells;
-  count = omega arith;
-  jobs = within_here (failures_of c.args.powered.exec) (λ can. Jobs 0 can c.args.powered.exec.device c.args.powered.exec.device) (λ can. refl);
+pub invariant_of-result : goal.invariant_of-result
+invariant_of-result g c = record {
+  first = c.args.powered.first;
+  «open» = c.in_ok-exec.ensures.open;
+  idle = c.in_ok-exec.ensures.idle;
+  tells = c.in_ok-exec.ensures.tells;
+  free = flush_free _ _ _ (within_any _ _ _ c.in_ok-exec.ensures.flushes) c.args.powered.free;
 }
-
-pub run_job-requires-clause-own : goal.run_job-requires-clause-own
-run_job-requires-clause-own g c =
-    own_of c.loop.exec.device c.take.new.self.device c.in-Ok.job.store.limit c.in-Ok.job.store.items c.in-Ok.job.batch c.in-Ok.ensures.step
-    (c.loop.exec.sized _ c.in-Ok.ensures.job) (c.loop.exec.holds _ c.in-Ok.ensures.job) c.in-Ok.ensures.edits c.in-Ok.ensures.leads
-
-pub returns-in-Err-Nothing : goal.returns-in-Err-Nothing
-returns-in-Err-Nothing g c =
-    flush_ends _ c.loop.exec.device c.take.new.self.device c.loop.counter _ _ _ c.loop.invariant.count c.loop.invariant.jobs
-    (rw c.in-Err-Nothing.field-0-is at c.in-Err-Nothing.ensures.step) c.in-Err-Nothing.ensures.same (ap failures_at c.in-Err-Nothing.ensures.home)
-
-pub loop-preserved : goal.loop-preserved
-loop-preserved g c =
-    let e = c.in_ok-next-in-Ok.ensures in record {
-      idle = gave_home e.finished _ _ e.give;
-      open_session = gave_open e.finished _ _ e.give ∙ ap (λ (z : State). is_open z 1) c.in-Ok.ensures.step.1 ∙ c.loop.invariant.open_session;
-      tells = e.stored_is ∙ gave_whole e.finished _ _ e.give e.over;
-      count = omega (arith, c.loop-test.true);
-      jobs = job_step _ c.loop.exec.device c.take.new.self.device _ c.loop.counter _ _ _ c.in_ok-next-in-Ok.stored c.loop.invariant.jobs c.in-Ok.ensures.step
-          (subst (λ (n : ℕ). Ends c.take.new.self.device c.in_ok-next-in-Ok.next.device n (failures_of c.in_ok-next-in-Ok.next) c.in_ok-next-in-Ok.stored)
-          (sym (ap failures_at c.in-Ok.ensures.job)) e);
-    }
-
-pub returns : goal.returns
-returns g c =
-    let all : c.loop.counter ≡ 4 = omega (arith, c.loop.invariant.count, c.loop-test.false) in
-    flush_full _ _ c.loop.counter _ _ all c.loop.invariant.jobs

@@ -1,4 +1,4 @@
-use Rattle.std.proofs.Common.{◌≡◌, ◌∙◌, ℕ, List, refl, sym, ap, subst, rules}
+use Rattle.std.proofs.Common.{◌≡◌, ◌∙◌, ℕ, List, refl, sym, ap, subst}
 use Rattle.psu_items.specs.Map.{Item, cost}
 use Rattle.psu_items.specs.Image.{Stands}
 use Rattle.psu_exec.specs.Contents.{items_of}
