@@ -13,7 +13,7 @@ use Rattle.psu_exec.specs.declared.condition.Condition.TheVariants.{Whole, Worn}
 use Rattle.psu_exec.specs.declared.wait.Wait.{Wait}
 use Rattle.psu_exec.specs.declared.wait.Wait.TheVariants.{Until, CutOff}
 use Rattle.psu_exec.specs.declared.request.Request.{Request}
-use Rattle.psu_exec.specs.declared.scpi_error.ScpiError.TheVariants.{OutOfMemory, StorageFault}
+use Rattle.psu_lex.specs.declared.scpi_error.ScpiError.TheVariants.{OutOfMemory, StorageFault}
 
 -- what a take answers
 pub data Taken : Type 0 where

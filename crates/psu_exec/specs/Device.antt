@@ -8,8 +8,8 @@ use Rattle.psu_exec.specs.declared.change.Change.{Change}
 use Rattle.psu_exec.specs.declared.change.Change.TheVariants as change
 use Rattle.psu_exec.specs.declared.command.Command.{Command}
 use Rattle.psu_exec.specs.declared.command.Command.TheVariants.{PscOn, PscOff, PscQuery, Sre, SreQuery, Ese, EseQuery, EsrQuery, StbQuery, IdnQuery, OpcQuery}
-use Rattle.psu_exec.specs.declared.scpi_error.ScpiError.{ScpiError}
-use Rattle.psu_exec.specs.declared.scpi_error.ScpiError.TheVariants.{OutOfMemory, StorageFault}
+use Rattle.psu_lex.specs.declared.scpi_error.ScpiError.{ScpiError}
+use Rattle.psu_lex.specs.declared.scpi_error.ScpiError.TheVariants.{OutOfMemory, StorageFault}
 use Rattle.psu_exec.specs.declared.request.Request.{Request}
 use Rattle.psu_exec.specs.declared.condition.Condition.{Condition}
 use Rattle.psu_exec.specs.declared.condition.Condition.TheVariants.{Whole, Worn}

@@ -1,4 +1,3 @@
-pub mod Errors
 pub mod Contents
 pub mod Reading
 pub mod Batch

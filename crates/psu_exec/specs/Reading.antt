@@ -4,8 +4,8 @@ use Rattle.std.specs.Char.{is_ascii_digit, to_ascii_lowercase}
 use Rattle.psu_exec.specs.declared.command.Command.{Command}
 use Rattle.psu_exec.specs.declared.command.Command.TheVariants.{PscOn, PscOff, PscQuery, Sre, SreQuery, Ese, EseQuery, EsrQuery, StbQuery, IdnQuery, OpcQuery}
 use Rattle.psu_exec.specs.declared.request.Number.{Number}
-use Rattle.psu_exec.specs.declared.scpi_error.ScpiError.{ScpiError}
-use Rattle.psu_exec.specs.declared.scpi_error.ScpiError.TheVariants.{UndefinedHeader, DataOutOfRange}
+use Rattle.psu_lex.specs.declared.scpi_error.ScpiError.{ScpiError}
+use Rattle.psu_lex.specs.declared.scpi_error.ScpiError.TheVariants.{UndefinedHeader, DataOutOfRange}
 
 -- two texts are the same without regard to case
 abbrev pub same_text : List ℕ → List ℕ → Bool

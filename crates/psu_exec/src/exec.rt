@@ -13,7 +13,7 @@ ghost use Rattle.psu_exec.specs.Shown.{outcome_of, taken_of};
 ghost use Rattle.psu_exec.specs.Jobs.{home_map, home_limit, is_home_whole};
 ghost use Rattle.psu_exec.specs.declared.condition.Condition.TheVariants.{Whole};
 ghost use Rattle.psu_exec.specs.declared.contents.Contents.{Contents as Kept};
-ghost use Rattle.psu_exec.specs.declared.scpi_error.ScpiError.{ScpiError as AnyError};
+ghost use Rattle.psu_lex.specs.declared.scpi_error.ScpiError.{ScpiError as AnyError};
 ghost use Rattle.psu_exec.specs.declared.command.Command.TheVariants.{OpcQuery};
 
 use crate::{

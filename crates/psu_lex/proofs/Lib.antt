@@ -15,3 +15,8 @@ pub mod NumberFound
 pub mod Rounding
 pub mod NumberValue
 pub mod Expansions
+pub mod HeaderScans
+pub mod DataScans
+pub mod DataLists
+pub mod HighBytes
+pub mod UnitParts

@@ -222,7 +222,7 @@ pub record Parts (text : List ℕ) (n : Number) : Type 0 where
   pub exponent : exponent_of (at_exponent text) ≡ n.exponent
   pub tail : Tail (at_tail text) n.gap n.suffix n.rest
 
-digits_parts : (a b : List ℕ) → every is_digit (a ++ b) ≡ true → (every is_digit a ≡ true) × (every is_digit b ≡ true)
+pub digits_parts : (a b : List ℕ) → every is_digit (a ++ b) ≡ true → (every is_digit a ≡ true) × (every is_digit b ≡ true)
 digits_parts [] b h = (refl, h)
 digits_parts (x ∷ a) b h =
     let later = digits_parts a b (every_tail is_digit x (a ++ b) h) in

@@ -40,7 +40,7 @@ pub makes_separator : (first : Bool) (x : ℕ) (text rest : List ℕ) (units : L
     → Makes (next_first first text x) [] rest units → Makes first text (x ∷ rest) (ended first text ++ units)
 makes_separator first x text rest units h m = (Separator x ∷ m.0, (rest, refl, h, m.1), ap (λ (z : List Part). ended first text ++ z) m.2)
 
-opens_at : (s : List ℕ) (n : ℕ) → n < length s → opens (slice_index s n) ≡ true → opens_first (drop n s) ≡ true
+pub opens_at : (s : List ℕ) (n : ℕ) → n < length s → opens (slice_index s n) ≡ true → opens_first (drop n s) ≡ true
 opens_at s n within h = rw (drop-cons s n 0 within) h
 
 -- the terminator that was found, or the end

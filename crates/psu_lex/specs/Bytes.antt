@@ -5,6 +5,10 @@ use Rattle.std.specs.Prelude.{ℕ, ◌+◌, ◌*◌, ◌-◌, ◌==◌, ◌||◌
 abbrev pub is_white : ℕ → Bool
 is_white b = nat_lt b 33 && not (b == 10)
 
+-- anything but white space
+abbrev pub is_dark : ℕ → Bool
+is_dark b = not (is_white b)
+
 -- `;` or NL
 abbrev pub separates : ℕ → Bool
 separates b = b == 59 || b == 10

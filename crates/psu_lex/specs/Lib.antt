@@ -8,3 +8,5 @@ pub mod NumberScan
 pub mod Macros
 pub mod MacroScan
 pub mod Decimals
+pub mod Syntax
+pub mod SyntaxScan

@@ -4,8 +4,15 @@
 mod blocks;
 mod bytes;
 mod class;
+mod data;
+mod data_scan;
+mod datum;
+mod datum_class;
 mod decimals;
 mod error_class;
+mod found;
+mod headers;
+mod high_bytes;
 mod laws;
 mod macros;
 mod message;
@@ -14,12 +21,17 @@ mod numbers;
 mod pieces;
 mod scpi_error;
 mod strings;
+mod syntaxes;
 mod unit;
+mod unit_syntax;
 mod units;
 mod written;
 
 pub use blocks::{block, definite};
 pub use bytes::Bytes;
+pub use data::Data;
+pub use datum::Datum;
+pub use datum_class::DatumClass;
 pub use decimals::fixed3;
 pub use error_class::ErrorClass;
 pub use laws::{
@@ -31,7 +43,9 @@ pub use message::split;
 pub use numbers::number;
 pub use scpi_error::ScpiError;
 pub use strings::string;
+pub use syntaxes::syntax;
 pub use unit::Unit;
+pub use unit_syntax::Syntax;
 pub use units::Units;
 
 #[cfg(test)]

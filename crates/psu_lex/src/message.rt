@@ -66,7 +66,8 @@ fn unit_end(bytes: &[u8]) -> Result<usize, ScpiError>
     }
 }
 
-fn is_blank(text: &[u8]) -> bool
+/// Whether the text is white space alone.
+pub fn is_blank(text: &[u8]) -> bool
     ensures { result ≡ all_white text.now }
 {
     for byte in text {

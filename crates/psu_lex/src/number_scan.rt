@@ -8,7 +8,7 @@ use crate::pieces::{after, begins, front};
 use crate::written::{Power, Written};
 
 /// Cuts the text behind the bytes of this class that it begins with.
-fn run_of(text: &[u8], class: Class) -> (&[u8], &[u8])
+pub fn run_of(text: &[u8], class: Class) -> (&[u8], &[u8])
     ensures run { result.0.now ≡ run (belongs class) text.now }
     ensures left { result.1.now ≡ left (belongs class) text.now }
 {

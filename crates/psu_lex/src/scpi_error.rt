@@ -1,6 +1,6 @@
 // The errors of SCPI that the instrument reports.
 ghost use Rattle.std.specs.Prelude.{◌≡◌, ◌≤◌};
-ghost use Rattle.psu_lex.specs.declared.scpi_error.ScpiError.TheVariants.{OutOfMemory};
+ghost use Rattle.psu_lex.specs.declared.scpi_error.ScpiError.TheVariants.{OutOfMemory, QueueOverflow};
 ghost use Rattle.psu_lex.specs.Errors.{magnitude, text, class_of, event_bit};
 
 use crate::ErrorClass;
@@ -183,7 +183,9 @@ impl From<AllocError> for ScpiError {
 
 /// What fills the unused places of a list of fixed capacity.
 impl Default for ScpiError {
-    fn default() -> Self {
+    fn default() -> Self
+        ensures { result ≡ QueueOverflow }
+    {
         ScpiError::QueueOverflow
     }
 }

@@ -1,0 +1,137 @@
+-- Headers: what their scan accepts is a header, and every header is accepted.
+use Rattle.std.proofs.Common.{◌≡◌, ℕ, ◌==◌, ◌||◌, ◌&&◌, Bool, true, false, List, [], ◌∷◌, ◌++◌, refl, sym, ap, ◌∙◌, subst, if◌then◌else◌, arith, append_assoc, inl, inr}
+use Rattle.std.proofs.lemmas.Bool.{cases_Bool}
+use Rattle.std.proofs.lemmas.Bool.Decides.{nat_tests}
+use Rattle.std.proofs.lemmas.Grind.{common_steps}
+use Rattle.psu_lex.specs.Bytes.{is_letter}
+use Rattle.psu_lex.specs.Syntax.{is_name_byte, all_name, is_node, all_nodes, behind, ask_text, Mark, mark_text, Header, IsHeader, SpellsHeader, header_text}
+use Rattle.psu_lex.specs.Syntax.Mark.{Star, Colon, Bare}
+use Rattle.psu_lex.specs.SyntaxScan.{is_empty, joins, is_part, is_path, is_header}
+use Rattle.psu_lex.proofs.Quotes.{same_byte, both}
+
+-- the rest of a path in whose first node a byte stands, or none yet
+abbrev Rest : Bool → Bool → List ℕ → Type 0
+Rest several true text =
+    (word : List ℕ) × (nodes : List (List ℕ)) × (asks : Bool) × (all_name word ≡ true) × (all_nodes nodes ≡ true) × (several ≡ false → nodes ≡ []) × (text ≡ word ++ (behind nodes ++ ask_text asks))
+Rest several false text =
+    (node : List ℕ) × (nodes : List (List ℕ)) × (asks : Bool) × (is_node node ≡ true) × (all_nodes nodes ≡ true) × (several ≡ false → nodes ≡ []) × (text ≡ node ++ (behind nodes ++ ask_text asks))
+
+-- ---- what is accepted is a path
+
+both_true : (a b : Bool) → (a && b) ≡ true → (a ≡ true) × (b ≡ true)
+both_true true true h = (refl, refl)
+both_true true false h = absurd (cc (h))
+both_true false b h = absurd (cc (h))
+
+empty_is : (xs : List ℕ) → is_empty xs ≡ true → xs ≡ []
+empty_is [] h = refl
+empty_is (x ∷ xs) h = absurd (cc (h))
+
+letter_name : (x : ℕ) → is_letter x ≡ true → is_name_byte x ≡ true
+letter_name x h = rw h refl
+
+asked : (several begun : Bool) (x : ℕ) (xs : List ℕ) → x ≡ 63 → (begun && is_empty xs) ≡ true → Rest several begun (x ∷ xs)
+asked several true x xs e h = ([], [], true, refl, refl, (λ f. refl), ap (λ (z : ℕ). z ∷ xs) e ∙ ap (λ (z : List ℕ). 63 ∷ z) (empty_is xs h))
+asked several false x xs e h = absurd (cc (h))
+
+joined : (several begun : Bool) (x : ℕ) (xs : List ℕ) → joins begun several x ≡ true → Rest several false xs → Rest several begun (x ∷ xs)
+joined true true x xs h (node, nodes, asks, n, ns, one, e) =
+    ([], node ∷ nodes, asks, refl, rw n ns, (λ f. absurd (cc (f))), ap (λ (z : ℕ). z ∷ xs) (same_byte x 58 h) ∙ ap (λ (z : List ℕ). 58 ∷ z) (e ∙ sym (append_assoc node (behind nodes) (ask_text asks))))
+joined true false x xs h r = absurd (cc (h))
+joined false true x xs h r = absurd (cc (h))
+joined false false x xs h r = absurd (cc (h))
+
+named : (several begun : Bool) (x : ℕ) (xs : List ℕ) → is_part begun x ≡ true → Rest several true xs → Rest several begun (x ∷ xs)
+named several true x xs h (word, nodes, asks, w, ns, one, e) = (x ∷ word, nodes, asks, rw h w, ns, one, ap (λ (z : List ℕ). x ∷ z) e)
+named several false x xs h (word, nodes, asks, w, ns, one, e) = (x ∷ word, nodes, asks, rw h w, ns, one, ap (λ (z : List ℕ). x ∷ z) e)
+
+path_out : (several begun : Bool) (text : List ℕ) → is_path several begun text ≡ true → Rest several begun text
+path_out several true [] h = ([], [], false, refl, refl, (λ f. refl), refl)
+path_out several false [] h = absurd (cc (h))
+path_out several begun (x ∷ xs) h = elim (cases_Bool (x == 63)) [
+  | inl t ↦ asked several begun x xs (same_byte x 63 t) (rw t at h)
+  | inr f ↦ elim (cases_Bool (joins begun several x)) [
+    | inl j ↦ joined several begun x xs j (path_out several false xs (rw (f, j) at h))
+    | inr g ↦ elim (cases_Bool (is_part begun x)) [
+      | inl p ↦ named several begun x xs p (path_out several true xs (rw (f, g, p) at h))
+      | inr q ↦ absurd (cc (rw (f, g, q) at h))
+    ]
+  ]
+]
+
+-- ---- every path is accepted
+
+name_plain : (x : ℕ) → is_name_byte x ≡ true → ((x == 63) ≡ false) × ((x == 58) ≡ false)
+name_plain x h = (grind (arith, nat_tests, h), grind (arith, nat_tests, h))
+
+letter_plain : (x : ℕ) → is_letter x ≡ true → (x == 63) ≡ false
+letter_plain x h = grind (arith, nat_tests, h)
+
+no_join : (several : Bool) (x : ℕ) → (x == 58) ≡ false → joins true several x ≡ false
+no_join true x h = h
+no_join false x h = refl
+
+over_word : (several : Bool) (word rest : List ℕ) → all_name word ≡ true → is_path several true (word ++ rest) ≡ is_path several true rest
+over_word several [] rest h = refl
+over_word several (x ∷ word) rest h =
+    let parts = both_true (is_name_byte x) (all_name word) h in
+    let plain = name_plain x parts.0 in
+    rw (plain.0, no_join several x plain.1, parts.0) (over_word several word rest parts.1)
+
+from_node : (several : Bool) (node rest : List ℕ) → is_node node ≡ true → is_path several false (node ++ rest) ≡ is_path several true rest
+from_node several [] rest h = absurd (cc (h))
+from_node several (x ∷ node) rest h =
+    let parts = both_true (is_letter x) (all_name node) h in
+    rw (letter_plain x parts.0, parts.0) (over_word several node rest parts.1)
+
+at_end : (several asks : Bool) → is_path several true (ask_text asks) ≡ true
+at_end several true = refl
+at_end several false = refl
+
+over_nodes : (several asks : Bool) (nodes : List (List ℕ)) → all_nodes nodes ≡ true → (several ≡ false → nodes ≡ []) → is_path several true (behind nodes ++ ask_text asks) ≡ true
+over_nodes several asks [] h one = at_end several asks
+over_nodes false asks (n ∷ ns) h one = absurd (cc (one refl))
+over_nodes true asks (n ∷ ns) h one =
+    let parts = both_true (is_node n) (all_nodes ns) h in
+    ap (is_path true false) (append_assoc n (behind ns) (ask_text asks)) ∙ from_node true n (behind ns ++ ask_text asks) parts.0 ∙ over_nodes true asks ns parts.1 (λ f. absurd (cc (f)))
+
+path_in : (several asks : Bool) (node : List ℕ) (nodes : List (List ℕ)) → is_node node ≡ true → all_nodes nodes ≡ true → (several ≡ false → nodes ≡ [])
+    → is_path several false (node ++ (behind nodes ++ ask_text asks)) ≡ true
+path_in several asks node nodes n ns one = from_node several node (behind nodes ++ ask_text asks) n ∙ over_nodes several asks nodes ns one
+
+-- ---- headers
+
+pub header_out : (text : List ℕ) → is_header text ≡ true → SpellsHeader text
+header_out [] h = absurd (cc (h))
+header_out (x ∷ xs) h = elim (cases_Bool (x == 42)) [
+  | inl t ↦
+      let r = path_out false false xs (rw t at h) in
+      (record { mark = Star; node = r.0; nodes = r.1; asks = r.2 }, record { node = r.3; nodes = r.4; common = λ e. r.5 refl }, ap (λ (z : ℕ). z ∷ xs) (same_byte x 42 t) ∙ ap (λ (z : List ℕ). 42 ∷ z) r.6)
+  | inr f ↦ elim (cases_Bool (x == 58)) [
+    | inl t ↦
+        let r = path_out true false xs (rw (f, t) at h) in
+        (record { mark = Colon; node = r.0; nodes = r.1; asks = r.2 }, record { node = r.3; nodes = r.4; common = λ e. absurd (cc (e)) }, ap (λ (z : ℕ). z ∷ xs) (same_byte x 58 t) ∙ ap (λ (z : List ℕ). 58 ∷ z) r.6)
+    | inr g ↦
+        let r = path_out true false (x ∷ xs) (rw (f, g) at h) in
+        (record { mark = Bare; node = r.0; nodes = r.1; asks = r.2 }, record { node = r.3; nodes = r.4; common = λ e. absurd (cc (e)) }, r.6)
+  ]
+]
+
+bare_first : (x : ℕ) → is_letter x ≡ true → ((x == 42) ≡ false) × ((x == 58) ≡ false)
+bare_first x h = (grind (arith, nat_tests, h), grind (arith, nat_tests, h))
+
+bare_in : (node rest : List ℕ) → is_node node ≡ true → is_header (node ++ rest) ≡ is_path true false (node ++ rest)
+bare_in [] rest h = absurd (cc (h))
+bare_in (x ∷ node) rest h = let plain = bare_first x ((both_true (is_letter x) (all_name node) h).0) in rw (plain.0, plain.1) refl
+
+header_at : (mark : Mark) (asks : Bool) (node : List ℕ) (nodes : List (List ℕ)) → is_node node ≡ true → all_nodes nodes ≡ true → (mark ≡ Star → nodes ≡ [])
+    → is_header (mark_text mark ++ (node ++ (behind nodes ++ ask_text asks))) ≡ true
+header_at Star asks node nodes n ns one = path_in false asks node nodes n ns (λ f. one refl)
+header_at Colon asks node nodes n ns one = path_in true asks node nodes n ns (λ f. absurd (cc (f)))
+header_at Bare asks node nodes n ns one = bare_in node (behind nodes ++ ask_text asks) n ∙ path_in true asks node nodes n ns (λ f. absurd (cc (f)))
+
+header_in : (h : Header) → IsHeader h → is_header (header_text h) ≡ true
+header_in h is = header_at h.mark h.asks h.node h.nodes is.node is.nodes is.common
+
+pub no_header : (text : List ℕ) → is_header text ≡ false → SpellsHeader text → ⊥
+no_header text f (h, is, e) = both (is_header text) (ap is_header e ∙ header_in h is) f

@@ -1,0 +1,152 @@
+-- A unit: its header, and what stands behind it.
+use Rattle.std.proofs.Common.{◌≡◌, ℕ, ◌==◌, ◌||◌, ◌&&◌, Bool, true, false, not, List, [], ◌∷◌, ◌++◌, refl, sym, ap, ◌∙◌, subst, arith, append_assoc, inl, inr, Option, Some, None, Result, Ok, Err, IfSome, IfNone}
+use Rattle.std.proofs.lemmas.Bool.{cases_Bool}
+use Rattle.std.proofs.lemmas.Bool.Decides.{nat_tests}
+use Rattle.std.proofs.lemmas.List.{append-nil}
+use Rattle.std.proofs.lemmas.Grind.{common_steps}
+use Rattle.std.specs.Option.{ok_or}
+use Rattle.psu_lex.specs.Bytes.{is_white, is_dark, is_letter, all_white, is_closed}
+use Rattle.psu_lex.specs.NumberScan.{run, left}
+use Rattle.psu_lex.specs.Message.{Token, Reads}
+use Rattle.psu_lex.specs.Syntax.{is_name_byte, is_node, all_nodes, behind, ask_text, Mark, mark_text, Header, IsHeader, header_text, SpellsHeader, Lists, Syntax, is_apart, UnitReads, has_high, TextGives, FaultGives}
+use Rattle.psu_lex.specs.Syntax.Mark.{Star, Colon, Bare}
+use Rattle.psu_lex.specs.SyntaxScan.{is_header, Shows, ShowsSyntax}
+use Rattle.psu_lex.specs.declared.unit_syntax.Syntax as rust
+use Rattle.psu_lex.specs.declared.scpi_error.ScpiError.{ScpiError}
+use Rattle.psu_lex.specs.declared.scpi_error.ScpiError.TheVariants.{InvalidCharacter, SyntaxError}
+use Rattle.psu_lex.proofs.Runs.{every, leads, white_every, every_head, every_append, every_more, run_at, left_at, run_left, run_every}
+use Rattle.psu_lex.proofs.Quotes.{both}
+use Rattle.psu_lex.proofs.Unique.{same_tokens}
+use Rattle.psu_lex.proofs.NumberSound.{left_stops}
+use Rattle.psu_lex.proofs.DataScans.{node_every}
+use Rattle.psu_lex.proofs.DataLists.{left_over, space_white, one_list}
+
+-- ---- a header has no white space
+
+name_dark : (x : ℕ) → is_name_byte x ≡ true → is_dark x ≡ true
+name_dark x h = grind (arith, nat_tests, h)
+
+node_dark : (node : List ℕ) → is_node node ≡ true → every is_dark node ≡ true
+node_dark node h = every_more is_name_byte is_dark node name_dark (node_every node h)
+
+behind_dark : (nodes : List (List ℕ)) → all_nodes nodes ≡ true → every is_dark (behind nodes) ≡ true
+behind_dark [] h = refl
+behind_dark (n ∷ ns) h =
+    let first : is_node n ≡ true = grind (arith, common_steps, h) in
+    let later : all_nodes ns ≡ true = grind (arith, common_steps, h) in
+    every_append is_dark n (behind ns) (node_dark n first) (behind_dark ns later)
+
+ask_dark : (asks : Bool) → every is_dark (ask_text asks) ≡ true
+ask_dark true = refl
+ask_dark false = refl
+
+mark_dark : (mark : Mark) → every is_dark (mark_text mark) ≡ true
+mark_dark Star = refl
+mark_dark Colon = refl
+mark_dark Bare = refl
+
+header_dark : (h : Header) → IsHeader h → every is_dark (header_text h) ≡ true
+header_dark h is =
+    every_append is_dark (mark_text h.mark) (h.node ++ (behind h.nodes ++ ask_text h.asks)) (mark_dark h.mark)
+    (every_append is_dark h.node (behind h.nodes ++ ask_text h.asks) (node_dark h.node is.node)
+    (every_append is_dark (behind h.nodes) (ask_text h.asks) (behind_dark h.nodes is.nodes) (ask_dark h.asks)))
+
+spelled_dark : (text : List ℕ) → SpellsHeader text → every is_dark text ≡ true
+spelled_dark text (h, is, e) = subst (λ (z : List ℕ). every is_dark z ≡ true) (sym e) (header_dark h is)
+
+dark_white : (x : ℕ) → is_dark x ≡ true → is_white x ≡ false
+dark_white x h = grind (arith, nat_tests, h)
+
+marked_some : (mark : Mark) (node later : List ℕ) → is_node node ≡ true → mark_text mark ++ (node ++ later) ≡ [] → ⊥
+marked_some Star node later h e = absurd (cc (e))
+marked_some Colon node later h e = absurd (cc (e))
+marked_some Bare [] later h e = absurd (cc (h))
+marked_some Bare (x ∷ node) later h e = absurd (cc (e))
+
+spelled_first : (text rest : List ℕ) → SpellsHeader text → leads is_white (text ++ rest) ≡ false
+spelled_first [] rest (h, is, e) = absurd (marked_some h.mark h.node (behind h.nodes ++ ask_text h.asks) is.node (sym e))
+spelled_first (x ∷ text) rest s = dark_white x (every_head is_dark x text (spelled_dark (x ∷ text) s))
+
+apart_leads : (rest : List ℕ) → is_apart rest ≡ true → leads is_dark rest ≡ false
+apart_leads [] h = refl
+apart_leads (x ∷ rest) h = rw h refl
+
+-- ---- the parts of a unit are found
+
+-- the header that is found, and what stands behind it
+pub record Parts (text header rest : List ℕ) : Type 0 where
+  pub header_is : run is_dark (left is_white text) ≡ header
+  pub rest_is : left is_dark (left is_white text) ≡ rest
+
+pub parts_of : (text : List ℕ) (s : Syntax) → (u : UnitReads text s) → Parts text s.header u.1
+parts_of text s (space, rest, w, e, h, a, l) =
+    let body : left is_white text ≡ s.header ++ rest = ap (left is_white) e ∙ left_over space (s.header ++ rest) w (spelled_first s.header rest h) in
+    let dark = spelled_dark s.header h in
+    record {
+      header_is = ap (run is_dark) body ∙ run_at is_dark s.header rest dark (apart_leads rest a);
+      rest_is = ap (left is_dark) body ∙ left_at is_dark s.header rest dark (apart_leads rest a);
+    }
+
+not_dark : (b : Bool) → not b ≡ false → b ≡ true
+not_dark true f = refl
+not_dark false f = absurd (cc (f))
+
+apart_at : (rest : List ℕ) → leads is_dark rest ≡ false → is_apart rest ≡ true
+apart_at [] f = refl
+apart_at (x ∷ rest) f = not_dark (is_white x) f
+
+pub unit_reads : (text header rest : List ℕ) (s : Syntax) → header ≡ run is_dark (left is_white text) → rest ≡ left is_dark (left is_white text) → SpellsHeader header → s.header ≡ header → Lists rest s.parameters
+    → UnitReads text s
+unit_reads text header rest s h r spelled e l =
+    let whole : text ≡ run is_white text ++ (s.header ++ rest)
+    = sym (run_left is_white text) ∙ ap (λ (z : List ℕ). run is_white text ++ z) (sym (run_left is_dark (left is_white text)) ∙ ap (λ (z : List ℕ). z ++ left is_dark (left is_white text)) (sym (e ∙ h)) ∙ ap (λ (z : List ℕ). s.header ++ z) (sym r)) in
+    (run is_white text, rest, space_white text, whole, subst SpellsHeader (sym e) spelled, apart_at rest (subst (λ (z : List ℕ). leads is_dark z ≡ false) (sym r) (left_stops is_dark (left is_white text))), l)
+
+-- ---- one syntax
+
+same_made : (s t : Syntax) → s.header ≡ t.header → s.parameters ≡ t.parameters → s ≡ t
+same_made s t h p = ap (λ (z : List ℕ). record { header = z; parameters = s.parameters }) h ∙ ap (λ z. record { header = t.header; parameters = z }) p
+
+pub one_syntax : (text : List ℕ) (s t : Syntax) → UnitReads text s → UnitReads text t → s ≡ t
+one_syntax text s t u v =
+    let p = parts_of text s u in
+    let q = parts_of text t v in
+    same_made s t (sym p.header_is ∙ q.header_is)
+    (one_list s.parameters t.parameters u.1 u.6 (subst (λ (z : List ℕ). Lists z t.parameters) (sym q.rest_is ∙ p.rest_is) v.6))
+
+one_gives : (high : Bool) (text : List ℕ) (r q : Result Syntax ScpiError) → TextGives high text r → TextGives high text q → r ≡ q
+one_gives true text r q g h = g ∙ sym h
+one_gives false text r q (inl g) (inl h) = g.2 ∙ ap (λ (z : Syntax). Ok z) (one_syntax text g.0 h.0 g.1 h.1) ∙ sym h.2
+one_gives false text r q (inl g) (inr h) = absurd (h.0 g.0 g.1)
+one_gives false text r q (inr g) (inl h) = absurd (g.0 h.0 h.1)
+one_gives false text r q (inr g) (inr h) = g.1 ∙ sym h.1
+
+pub one_result : (fault : Option ScpiError) (text : List ℕ) (r q : Result Syntax ScpiError) → FaultGives fault text r → FaultGives fault text q → r ≡ q
+one_result (Some e) text r q g h = g ∙ sym h
+one_result None text r q (tokens, reads, g) (others, more, h) =
+    let same : others ≡ tokens = same_tokens is_closed text others tokens more reads in
+    one_gives (has_high tokens) text r q g (subst (λ (z : List Token). TextGives (has_high z) text q) same h)
+
+-- ---- the same, as the code goes
+
+-- what the code's result stands for
+abbrev pub Given : Option ScpiError → List ℕ → Result rust.Syntax ScpiError → Type 0
+Given fault text shown = (given : Result Syntax ScpiError) × FaultGives fault text given × Shows shown given
+
+pub given_fault : (fault : Option ScpiError) (text : List ℕ) (e : ScpiError) → fault ≡ Some e → Given fault text (Err e)
+given_fault fault text e is = subst (λ (z : Option ScpiError). Given z text (Err e)) (sym is) (Err e, refl, refl)
+
+given_at : (text : List ℕ) (tokens : List Token) (r : Option rust.Syntax) → Reads is_closed text tokens → has_high tokens ≡ false
+    → IfSome r (λ shown. (s : Syntax) × UnitReads text s × ShowsSyntax shown s) → IfNone r ((s : Syntax) → UnitReads text s → ⊥) → Given None text (ok_or r SyntaxError)
+given_at text tokens (Some shown) reads f (s, u, w) none = (Ok s, (tokens, reads, subst (λ (z : Bool). TextGives z text (Ok s)) (sym f) (inl (s, u, refl))), w)
+given_at text tokens None reads f some none = (Err SyntaxError, (tokens, reads, subst (λ (z : Bool). TextGives z text (Err SyntaxError)) (sym f) (inr (none, refl))), refl)
+
+pub given_cut : (fault : Option ScpiError) (text : List ℕ) (tokens : List Token) (r : Option rust.Syntax) (q : Result rust.Syntax ScpiError) → fault ≡ None → Reads is_closed text tokens → has_high tokens ≡ false
+    → IfSome r (λ shown. (s : Syntax) × UnitReads text s × ShowsSyntax shown s) → IfNone r ((s : Syntax) → UnitReads text s → ⊥) → q ≡ ok_or r SyntaxError → Given fault text q
+given_cut fault text tokens r q is reads f some none e =
+    subst (λ (z : Option ScpiError). Given z text q) (sym is) (subst (Given None text) (sym e) (given_at text tokens r reads f some none))
+
+pub given_high : (fault : Option ScpiError) (text : List ℕ) (tokens : List Token) → fault ≡ None → Reads is_closed text tokens → has_high tokens ≡ true → Given fault text (Err InvalidCharacter)
+given_high fault text tokens is reads h =
+    subst (λ (z : Option ScpiError). Given z text (Err InvalidCharacter)) (sym is)
+    (Err InvalidCharacter, (tokens, reads, subst (λ (z : Bool). TextGives z text (Err InvalidCharacter)) (sym h) refl), refl)

@@ -1,0 +1,10 @@
+use Rattle.std.proofs.Common.{Bool, length}
+use Rattle.psu_lex.proofs.HighBytes.{Tells}
+use Rattle.psu_lex.proofs.high_bytes.has_high.Given as goal
+
+-- all has such a byte exactly where the rest has one
+abbrev pub invariant-pieces : goal.invariant-pieces
+invariant-pieces l = (high : Bool) → Tells l.rest high → Tells l.text high
+
+abbrev pub decreases-pieces : goal.decreases-pieces
+decreases-pieces l = length l.rest

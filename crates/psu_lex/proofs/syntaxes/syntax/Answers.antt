@@ -1,0 +1,16 @@
+use Rattle.std.proofs.Common.{◌≡◌, sym, ◌∙◌}
+use Rattle.psu_lex.proofs.UnitParts.{given_fault, given_high, given_cut}
+use Rattle.psu_lex.proofs.syntaxes.syntax.Goals as goal
+
+pub returns-in-Some : goal.returns-in-Some
+returns-in-Some c = given_fault c.args.unit.now.fault c.args.unit.now.text.now c.in-Some.fault c.in-Some.is
+
+pub returns-then-has_high : goal.returns-then-has_high
+returns-then-has_high c =
+    let high = c.has_high.ensures in
+    given_high c.args.unit.now.fault c.args.unit.now.text.now high.0 c.in_default.is high.1 (sym high.2 ∙ c.if-has_high.true)
+
+pub returns : goal.returns
+returns c =
+    let high = c.has_high.ensures in
+    given_cut c.args.unit.now.fault c.args.unit.now.text.now high.0 c.cut.result c.ok_or.result c.in_default.is high.1 (sym high.2 ∙ c.if-has_high.false) c.cut.ensures.some c.cut.ensures.none c.ok_or.ensures.value

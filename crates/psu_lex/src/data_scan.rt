@@ -1,0 +1,184 @@
+// Where the data of a unit begin and end.
+ghost use Rattle.std.specs.Prelude.{ℕ, List, ◌∷◌, ◌≡◌, ◌<◌, ◌≤◌, true, false, length, take, drop, IfSome, IfNone};
+ghost use Rattle.psu_lex.specs.Bytes.{all_white, is_white};
+ghost use Rattle.psu_lex.specs.NumberScan.{left};
+ghost use Rattle.psu_lex.specs.Syntax.{Datum as DatumData, Lists, datum_of, ends_in_white};
+ghost use Rattle.psu_lex.specs.SyntaxScan.{Begins, Ends, HasNone, Trims, class_at, is_parted};
+ghost use Rattle.psu_lex.specs.declared.datum_class.DatumClass.TheVariants.{Numeric, Character, String, Block};
+
+use crate::class::Class;
+use crate::found::Found;
+use crate::headers::is_node;
+use crate::message::is_blank;
+use crate::number_scan::{run_of, scan};
+use crate::pieces::{after, begins, front, is_quote_byte, whole_end};
+use crate::{Datum, DatumClass};
+use memchr::memchr;
+
+/// Where the white space at the end begins.
+fn dark_end(text: &[u8]) -> usize
+    ensures within { result ≤ length text.now }
+    ensures white { all_white (drop result text.now) ≡ true }
+    ensures dark { ends_in_white (take result text.now) ≡ false }
+{
+    let mut end = text.len();
+    while end > 0 && Class::White.has(text[end - 1]) {
+        end -= 1;
+    }
+    end
+}
+
+/// How many bytes stand before the `,` or the end, without the white space at their end.
+fn written_end(body: &[u8]) -> usize
+    ensures within { result ≤ length body.now }
+    ensures trims { Trims body.now (take result body.now) }
+{
+    let end = memchr(b',', body).unwrap_or(body.len());
+    dark_end(front(body, end))
+}
+
+/// How many bytes the number has that is the body up to a `,`.
+fn number_end(body: &[u8]) -> Option<usize>
+    ensures within { IfSome result (λ n. n ≤ length body.now) }
+    ensures some { IfSome result (λ n. Ends Numeric body.now n) }
+    ensures none { IfNone result (HasNone Numeric body.now) }
+{
+    let end = written_end(body);
+    match scan(front(body, end)) {
+        Some(_) => Some(end),
+        None => None,
+    }
+}
+
+/// The same of a word.
+fn word_end(body: &[u8]) -> Option<usize>
+    ensures within { IfSome result (λ n. n ≤ length body.now) }
+    ensures some { IfSome result (λ n. Ends Character body.now n) }
+    ensures none { IfNone result (HasNone Character body.now) }
+{
+    let end = written_end(body);
+    if is_node(front(body, end)) {
+        Some(end)
+    } else {
+        None
+    }
+}
+
+/// How many bytes the string at the front has.
+fn text_end(body: &[u8]) -> Option<usize>
+    ensures within { IfSome result (λ n. n ≤ length body.now) }
+    ensures some { IfSome result (λ n. Ends String body.now n) }
+    ensures none { IfNone result (HasNone String body.now) }
+{
+    if is_quote_byte(body) {
+        whole_end(body)
+    } else {
+        None
+    }
+}
+
+/// How many bytes the block at the front has; one without a length has all.
+fn bytes_end(body: &[u8]) -> Option<usize>
+    ensures within { IfSome result (λ n. n ≤ length body.now) }
+    ensures some { IfSome result (λ n. Ends Block body.now n) }
+    ensures none { IfNone result (HasNone Block body.now) }
+{
+    if !begins(body, b'#') {
+        return None;
+    }
+    if begins(after(body, 1), b'0') {
+        return Some(body.len());
+    }
+    whole_end(body)
+}
+
+/// How many bytes the datum of this class has at the front.
+fn datum_end(body: &[u8], class: DatumClass) -> Option<usize>
+    ensures within { IfSome result (λ n. n ≤ length body.now) }
+    ensures some { IfSome result (λ n. Ends class body.now n) }
+    ensures none { IfNone result (HasNone class body.now) }
+{
+    match class {
+        DatumClass::Numeric => number_end(body),
+        DatumClass::Character => word_end(body),
+        DatumClass::String => text_end(body),
+        DatumClass::Block => bytes_end(body),
+    }
+}
+
+/// The class of a datum by its first byte.
+fn class_at(byte: u8) -> DatumClass
+    ensures { result ≡ class_at byte }
+{
+    match byte {
+        b'"' | b'\'' => DatumClass::String,
+        b'#' => DatumClass::Block,
+        b'A'..=b'Z' | b'a'..=b'z' => DatumClass::Character,
+        _ => DatumClass::Numeric,
+    }
+}
+
+/// Whether a datum may stand before this: nothing, or a `,`.
+fn is_parted(tail: &[u8]) -> bool
+    ensures { result ≡ is_parted tail.now }
+{
+    tail.is_empty() || tail[0] == b','
+}
+
+/// The datum at the front, after white space.
+pub fn datum_at(text: &[u8]) -> Option<Found<'_>>
+    ensures within { IfSome result (λ found. length found.tail.now ≤ length text.now) }
+    ensures some { IfSome result (λ found. (next : List ℕ) × Begins text.now (datum_of found.datum) next × (found.tail.now ≡ left is_white next)) }
+    ensures none { IfNone result ((datum : DatumData) (next : List ℕ) → Begins text.now datum next → ⊥) }
+{
+    let (_, body) = run_of(text, Class::White);
+    if body.is_empty() {
+        return None;
+    }
+    let class = class_at(body[0]);
+    let Some(end) = datum_end(body, class) else {
+        return None;
+    };
+    let next = after(body, end);
+    let (_, tail) = run_of(next, Class::White);
+    if !is_parted(tail) {
+        return None;
+    }
+    Some(Found {
+        datum: Datum {
+            class,
+            text: front(body, end),
+        },
+        tail,
+    })
+}
+
+/// What stands behind the `,`, or nothing where there is none.
+pub fn others(tail: &[u8]) -> &[u8]
+    ensures { result.now ≡ drop 1 tail.now }
+{
+    if tail.is_empty() {
+        return tail;
+    }
+    after(tail, 1)
+}
+
+/// Whether the text is white space alone, or data separated by `,`.
+pub fn is_list(text: &[u8]) -> bool
+    ensures yes { result ≡ true → (list : List DatumData) × Lists text.now list }
+    ensures no { result ≡ false → (list : List DatumData) → Lists text.now list → ⊥ }
+{
+    if is_blank(text) {
+        return true;
+    }
+    let mut rest = text;
+    'next: loop {
+        let Some(found) = datum_at(rest) else {
+            return false;
+        };
+        if found.tail.is_empty() {
+            return true;
+        }
+        rest = after(found.tail, 1);
+    }
+}

@@ -1,0 +1,48 @@
+// The syntax of a unit.
+ghost use Rattle.std.specs.Prelude.{◌≡◌, Result, IfSome, IfNone};
+ghost use Rattle.psu_lex.specs.Message.{part};
+ghost use Rattle.psu_lex.specs.Syntax.{Syntax as Parts, SyntaxGives, UnitReads};
+ghost use Rattle.psu_lex.specs.SyntaxScan.{Shows, ShowsSyntax};
+ghost use Rattle.psu_lex.specs.declared.scpi_error.ScpiError.{ScpiError as Error};
+
+use crate::class::Class;
+use crate::data_scan::is_list;
+use crate::headers::is_header;
+use crate::high_bytes::has_high;
+use crate::number_scan::run_of;
+use crate::{Data, ScpiError, Syntax, Unit};
+
+/// The header and the data of a text.
+fn cut(text: &[u8]) -> Option<Syntax<'_>>
+    ensures some { IfSome result (λ shown. (syntax : Parts) × UnitReads text.now syntax × ShowsSyntax shown syntax) }
+    ensures none { IfNone result ((syntax : Parts) → UnitReads text.now syntax → ⊥) }
+{
+    let (_, body) = run_of(text, Class::White);
+    let (header, rest) = run_of(body, Class::Dark);
+    if !is_header(header) {
+        return None;
+    }
+    if !is_list(rest) {
+        return None;
+    }
+    Some(Syntax {
+        header,
+        parameters: Data { text: rest },
+    })
+}
+
+/// The header and the data of a unit (IEEE 488.2, 7.3.2). Nothing is copied.
+///
+/// The first of these that holds is the error: the unit has a fault; a byte of 127 or more stands outside
+/// its strings and blocks; it is no header that nothing, or white space and data, follow.
+pub fn syntax<'a>(unit: &Unit<'a>) -> Result<Syntax<'a>, ScpiError>
+    ensures { (given : Result Parts Error) × SyntaxGives (part unit.now) given × Shows result given }
+{
+    if let Some(fault) = unit.fault {
+        return Err(fault);
+    }
+    if has_high(unit.text) {
+        return Err(ScpiError::InvalidCharacter);
+    }
+    cut(unit.text).ok_or(ScpiError::SyntaxError)
+}
