@@ -159,9 +159,10 @@ behind_leads [] false = refl
 behind_leads (n ∷ ns) asks = refl
 
 same_node : (n m x y : List ℕ) → is_node n ≡ true → is_node m ≡ true → leads is_name_byte x ≡ false → leads is_name_byte y ≡ false → n ++ x ≡ m ++ y → (n ≡ m) × (x ≡ y)
-same_node n m x y h k f g e =
-    (sym (run_at is_name_byte n x (node_bytes n h) f) ∙ ap (run is_name_byte) e ∙ run_at is_name_byte m y (node_bytes m k) g,
-    sym (left_at is_name_byte n x (node_bytes n h) f) ∙ ap (left is_name_byte) e ∙ left_at is_name_byte m y (node_bytes m k) g)
+same_node n m x y h k f g e = (
+  sym (run_at is_name_byte n x (node_bytes n h) f) ∙ ap (run is_name_byte) e ∙ run_at is_name_byte m y (node_bytes m k) g,
+  sym (left_at is_name_byte n x (node_bytes n h) f) ∙ ap (left is_name_byte) e ∙ left_at is_name_byte m y (node_bytes m k) g,
+)
 
 same_asks : (a b : Bool) → ask_text a ≡ ask_text b → a ≡ b
 same_asks true true e = refl
