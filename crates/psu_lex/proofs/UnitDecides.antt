@@ -1,11 +1,11 @@
 -- Whether a text is a header and data.
-use Rattle.std.proofs.Common.{◌≡◌, ◌⊎◌, ℕ, zero, suc, ◌+◌, ◌-◌, ◌<◌, ◌≤◌, ◌==◌, ◌&&◌, Bool, true, false, List, [], ◌∷◌, ◌++◌, length, take, drop, refl, sym, ap, ◌∙◌, subst, arith, append_assoc, inl, inr, Option, Some, None, Result, Ok, Err, length-append}
+use Rattle.std.proofs.Common.{◌≡◌, ◌⊎◌, ℕ, zero, suc, ◌+◌, ◌-◌, ◌<◌, ◌≤◌, ◌==◌, ◌&&◌, Bool, true, false, List, [], ◌∷◌, ◌++◌, length, take, drop, refl, sym, ap, ◌∙◌, subst, arith, append_assoc, inl, inr, Option, Some, None, Result, Ok, Err, ℤ, length-append}
 use Rattle.std.proofs.lemmas.Bool.{cases_Bool}
 use Rattle.std.proofs.lemmas.Bool.Decides.{nat_tests}
 use Rattle.std.proofs.lemmas.List.{append-nil, take-append-drop}
 use Rattle.std.proofs.Math.Seq.{take-append_seam}
 use Rattle.psu_lex.specs.Bytes.{is_white, is_dark, is_quote, opens, is_closed, all_white, starts, starts_quoted}
-use Rattle.psu_lex.specs.Number.{Number, IsNumber, number_text, mantissa}
+use Rattle.psu_lex.specs.Number.{Number, IsNumber, NumberGives, number_text, mantissa, reading_of}
 use Rattle.psu_lex.specs.NumberScan.{run, left, is_nonempty, scanned, excess_of, at_tail}
 use Rattle.psu_lex.specs.Message.{Token, BeginsPiece, spelling, opens_first}
 use Rattle.psu_lex.specs.Syntax.{Datum, ends_in_white, is_node, IsDatum, Lists, Syntax, SpellsHeader, UnitReads, has_high, TextGives, FaultGives}
@@ -34,6 +34,12 @@ decide_number text = elim (cases_Bool (is_nonempty (mantissa (scanned text)))) [
     | inl more ↦ inr (none_with_excess text more)
     | inr none ↦ inl (scanned text, is_number text t, is_text text (nothing (excess_of (at_tail text)) none))
   ]
+]
+
+pub some_value : (text : List ℕ) (places : ℕ) → (value : Result ℤ ScpiError) × NumberGives text places value
+some_value text places = elim (decide_number text) [
+  | inl n ↦ (reading_of n.0 places, inl (n.0, n.1, n.2, refl))
+  | inr none ↦ (Err SyntaxError, inr (none, refl))
 ]
 
 -- ---- where the white space at the end of a text begins

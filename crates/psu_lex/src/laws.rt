@@ -36,6 +36,11 @@ pub fn one_value_of_a_text()
     ensures { (text : List ℕ) (places : ℕ) (value other : Result ℤ ScpiError) → NumberGives text places value → NumberGives text places other → value ≡ other }
 {}
 
+/// Every text gives a value, or an error in its place.
+pub fn every_text_gives_a_value()
+    ensures { (text : List ℕ) (places : ℕ) → (value : Result ℤ ScpiError) × NumberGives text places value }
+{}
+
 /// No text has two headers, or two lists of data.
 pub fn one_syntax_of_a_text()
     ensures { (text : List ℕ) (syntax other : Syntax) → UnitReads text syntax → UnitReads text other → syntax ≡ other }
