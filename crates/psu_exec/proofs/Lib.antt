@@ -9,3 +9,4 @@ pub mod Holding
 pub mod Batches
 pub mod FirstRequest
 pub mod Ending
+pub mod Readings

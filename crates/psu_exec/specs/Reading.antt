@@ -1,73 +1,108 @@
--- The command of a text between two `;`, or its error, until the message grammar stands.
-use Rattle.std.specs.Prelude.{ℕ, ◌+◌, ◌-◌, ◌*◌, nat_lt, ◌==◌, ◌&&◌, ◌||◌, not, Bool, true, false, if◌then◌else◌, Option, Some, None, option_map, Result, Ok, Err, List, [], ◌∷◌, length, map, take, drop, codes, bytes_eq}
-use Rattle.std.specs.Char.{is_ascii_digit, to_ascii_lowercase}
+-- The command of a unit, or the first fault of its reading.
+-- Sources: IEEE 488.2, chapter 10 (common commands and queries); SCPI-1999 volume 2, chapter 21 (the errors).
+use Rattle.std.specs.Prelude.{ℕ, ◌≡◌, nat_lt, ◌==◌, ◌||◌, Bool, true, false, if◌then◌else◌, Option, Some, None, option_map, Result, Ok, Err, List, [], ◌∷◌, map, codes, bytes_eq, ℤ, pos, nat_abs, int_lt}
+use Rattle.std.specs.Char.{to_ascii_lowercase}
+use Rattle.psu_lex.specs.Message.{Part}
+use Rattle.psu_lex.specs.Number.{NumberGives}
+use Rattle.psu_lex.specs.Syntax.{Datum, Syntax, SyntaxGives, datum_of}
+use Rattle.psu_lex.specs.declared.datum.Datum as rust
+use Rattle.psu_lex.specs.declared.datum_class.DatumClass.{DatumClass}
+use Rattle.psu_lex.specs.declared.datum_class.DatumClass.TheVariants.{Numeric, Character, String, Block}
+use Rattle.psu_lex.specs.declared.scpi_error.ScpiError.{ScpiError}
+use Rattle.psu_lex.specs.declared.scpi_error.ScpiError.TheVariants.{UndefinedHeader, DataOutOfRange, DataTypeError, MissingParameter, ParameterNotAllowed}
 use Rattle.psu_exec.specs.declared.command.Command.{Command}
 use Rattle.psu_exec.specs.declared.command.Command.TheVariants.{PscOn, PscOff, PscQuery, Sre, SreQuery, Ese, EseQuery, EsrQuery, StbQuery, IdnQuery, OpcQuery}
-use Rattle.psu_exec.specs.declared.request.Number.{Number}
-use Rattle.psu_lex.specs.declared.scpi_error.ScpiError.{ScpiError}
-use Rattle.psu_lex.specs.declared.scpi_error.ScpiError.TheVariants.{UndefinedHeader, DataOutOfRange}
+use Rattle.psu_exec.specs.declared.row.Row.{Row}
+use Rattle.psu_exec.specs.declared.row.Row.TheVariants.{Set, Query}
+use Rattle.psu_exec.specs.declared.setter.Setter.{Setter}
+use Rattle.psu_exec.specs.declared.setter.Setter.TheVariants.{Flag, ServiceEnable, EventEnable}
 
 -- two texts are the same without regard to case
 abbrev pub same_text : List ℕ → List ℕ → Bool
 same_text one other = bytes_eq (map to_ascii_lowercase one) (map to_ascii_lowercase other)
 
--- the number of decimal digits after those of n; none where a byte is no digit
-abbrev pub digits_from : ℕ → List ℕ → Option ℕ
-digits_from n [] = Some n
-digits_from n (c ∷ cs) = if is_ascii_digit c then digits_from (10 * n + (c - 48)) cs else None
-
--- one to five digits
-abbrev pub digits_of : List ℕ → Option ℕ
-digits_of text = if (length text == 0) || nat_lt 5 (length text) then None else digits_from 0 text
-
-abbrev pub signed : Bool → ℕ → Number
-signed negative size = record { negative = negative; size = size }
-
--- one to five digits with an optional minus sign
-abbrev pub number_of : List ℕ → Option Number
-number_of [] = None
-number_of (c ∷ cs) = if c == 45 then option_map (signed true) (digits_of cs) else option_map (signed false) (digits_of (c ∷ cs))
-
--- `*PSC` takes -32767 to 32767; 0 makes the flag false, any other number true
-abbrev pub flag_setter : Option Number → Result Command ScpiError
-flag_setter None = Err UndefinedHeader
-flag_setter (Some n) = if nat_lt 32767 n.size then Err DataOutOfRange else Ok (if n.size == 0 then PscOff else PscOn)
-
--- a number from 0 to 255
-abbrev pub is_octet : Number → Bool
-is_octet n = nat_lt n.size 256 && ((n.size == 0) || not n.negative)
-
-abbrev pub octet_of : Option Number → Result ℕ ScpiError
-octet_of None = Err UndefinedHeader
-octet_of (Some n) = if is_octet n then Ok n.size else Err DataOutOfRange
-
-abbrev pub enable_setter : (ℕ → Command) → Result ℕ ScpiError → Result Command ScpiError
-enable_setter make (Ok n) = Ok (make n)
-enable_setter make (Err e) = Err e
-
--- a header with one space, and the text after it
-abbrev pub setter_of : List ℕ → List ℕ → Result Command ScpiError
-setter_of header text =
-    if same_text header (codes "*PSC ") then flag_setter (number_of text)
-    else (if same_text header (codes "*SRE ") then enable_setter Sre (octet_of (number_of text))
-    else (if same_text header (codes "*ESE ") then enable_setter Ese (octet_of (number_of text))
-    else Err UndefinedHeader))
-
--- the headers that stand alone
+-- the headers that take nothing
 abbrev pub query_of : List ℕ → Option Command
-query_of text =
-    if same_text text (codes "*PSC?") then Some PscQuery
-    else (if same_text text (codes "*SRE?") then Some SreQuery
-    else (if same_text text (codes "*ESE?") then Some EseQuery
-    else (if same_text text (codes "*ESR?") then Some EsrQuery
-    else (if same_text text (codes "*STB?") then Some StbQuery
-    else (if same_text text (codes "*IDN?") then Some IdnQuery
-    else (if same_text text (codes "*OPC?") then Some OpcQuery
+query_of header =
+    if same_text header (codes "*PSC?") then Some PscQuery
+    else (if same_text header (codes "*SRE?") then Some SreQuery
+    else (if same_text header (codes "*ESE?") then Some EseQuery
+    else (if same_text header (codes "*ESR?") then Some EsrQuery
+    else (if same_text header (codes "*STB?") then Some StbQuery
+    else (if same_text header (codes "*IDN?") then Some IdnQuery
+    else (if same_text header (codes "*OPC?") then Some OpcQuery
     else None))))))
 
-abbrev pub reading_with : Option Command → List ℕ → Result Command ScpiError
-reading_with (Some command) text = Ok command
-reading_with None text = setter_of (take 5 text) (drop 5 text)
+-- the table of headers
+abbrev pub row_of : List ℕ → Option Row
+row_of header =
+    if same_text header (codes "*PSC") then Some (Set Flag)
+    else (if same_text header (codes "*SRE") then Some (Set ServiceEnable)
+    else (if same_text header (codes "*ESE") then Some (Set EventEnable)
+    else option_map Query (query_of header)))
 
-abbrev pub reading_of : List ℕ → Result Command ScpiError
-reading_of text = reading_with (query_of text) text
+-- ---- numbers
+
+-- -32767 to 32767: 0 makes the flag false, any other number true
+abbrev pub flag_of : ℤ → Result Command ScpiError
+flag_of n = if nat_lt 32767 (nat_abs n) then Err DataOutOfRange else Ok (if nat_abs n == 0 then PscOff else PscOn)
+
+-- 0 to 255
+abbrev pub octet_of : ℤ → Result ℕ ScpiError
+octet_of n = if int_lt n (pos 0) || int_lt (pos 255) n then Err DataOutOfRange else Ok (nat_abs n)
+
+abbrev pub made_of : (ℕ → Command) → Result ℕ ScpiError → Result Command ScpiError
+made_of make (Ok n) = Ok (make n)
+made_of make (Err e) = Err e
+
+-- the command of a header and its number
+abbrev pub command_of : Setter → ℤ → Result Command ScpiError
+command_of Flag n = flag_of n
+command_of ServiceEnable n = made_of Sre (octet_of n)
+command_of EventEnable n = made_of Ese (octet_of n)
+
+abbrev pub command_from : Setter → Result ℤ ScpiError → Result Command ScpiError
+command_from setter (Ok n) = command_of setter n
+command_from setter (Err e) = Err e
+
+-- ---- parameters
+
+-- the one datum that is asked
+abbrev pub only_of : List Datum → Result Datum ScpiError
+only_of [] = Err MissingParameter
+only_of (datum ∷ []) = Ok datum
+only_of (datum ∷ other ∷ more) = Err ParameterNotAllowed
+
+-- what a datum gives where a whole number is asked
+abbrev pub DatumGives : DatumClass → List ℕ → Result ℤ ScpiError → Type 0
+DatumGives Numeric text given = NumberGives text 0 given
+DatumGives class text given = given ≡ Err DataTypeError
+
+abbrev pub OnlyReads : Setter → Result Datum ScpiError → Result Command ScpiError → Type 0
+OnlyReads setter (Err e) reading = reading ≡ Err e
+OnlyReads setter (Ok datum) reading = (given : Result ℤ ScpiError) × DatumGives datum.class datum.text given × (reading ≡ command_from setter given)
+
+-- a header that takes nothing
+abbrev pub asked : Command → List Datum → Result Command ScpiError
+asked command [] = Ok command
+asked command (datum ∷ more) = Err ParameterNotAllowed
+
+-- ---- units
+
+abbrev pub RowReads : Option Row → List Datum → Result Command ScpiError → Type 0
+RowReads None list reading = reading ≡ Err UndefinedHeader
+RowReads (Some (Query command)) list reading = reading ≡ asked command list
+RowReads (Some (Set setter)) list reading = OnlyReads setter (only_of list) reading
+
+abbrev pub SyntaxReads : Result Syntax ScpiError → Result Command ScpiError → Type 0
+SyntaxReads (Err e) reading = reading ≡ Err e
+SyntaxReads (Ok syntax) reading = RowReads (row_of syntax.header) syntax.parameters reading
+
+-- the unit reads as this
+abbrev pub ReadsAs : Part → Result Command ScpiError → Type 0
+ReadsAs unit reading = (given : Result Syntax ScpiError) × SyntaxGives unit given × SyntaxReads given reading
+
+-- a datum of the code, without where it lies in memory
+abbrev pub shown_datum : Result rust.Datum ScpiError → Result Datum ScpiError
+shown_datum (Ok datum) = Ok (datum_of datum)
+shown_datum (Err e) = Err e

@@ -7,6 +7,7 @@ use crate::{
 };
 use psu_disk::MemDisk;
 use psu_items::{Batch, Commit, Store};
+use psu_lex::{Unit, split};
 use std::alloc::Global;
 use std::process::Abort;
 
@@ -46,6 +47,15 @@ fn opened(rt: &impl Abort, exec: &mut Power) -> Session
     }
 }
 
+// A unit without strings and blocks.
+fn unit_of(text: &[u8]) -> Unit<'_> {
+    Unit {
+        text,
+        first: true,
+        fault: None,
+    }
+}
+
 // Executes a unit, and looks at what it says.
 fn says(rt: &impl Abort, exec: &mut Power, session: Session, unit: &[u8], want: &[u8])
     requires open { is_open exec.old.device session ≡ true }
@@ -53,7 +63,7 @@ fn says(rt: &impl Abort, exec: &mut Power, session: Session, unit: &[u8], want: 
     ensures open { is_open exec.new.device session ≡ true }
     ensures no_job { exec.new.device.flush.out ≡ false }
 {
-    match exec.execute(session, &plain(unit)) {
+    match exec.execute(session, &plain(&unit_of(unit))) {
         Outcome::Done => assert_eq!(rt; "done".as_bytes(), want),
         Outcome::Answer(text) => assert_eq!(rt; text.as_bytes(), want),
         Outcome::Error(_) => assert_eq!(rt; "error".as_bytes(), want),
@@ -132,24 +142,85 @@ fn enables_do_not_come_back(rt: HostRuntime) {
 }
 
 #[test]
-fn texts_read_as_units(rt: HostRuntime) {
-    assert_eq!(rt; plain(b"*sRe 00005").reading, Ok(Command::Sre(5)));
-    assert_eq!(rt; plain(b"*ESE -0").reading, Ok(Command::Ese(0)));
-    assert_eq!(rt; plain(b"*PSC 0").reading, Ok(Command::PscOff));
-    assert_eq!(rt; plain(b"*PSC -32767").reading, Ok(Command::PscOn));
-    assert_eq!(rt;
-        plain(b"*PSC 32768").reading,
-        Err(ScpiError::DataOutOfRange)
-    );
-    assert_eq!(rt; plain(b"*ESE -1").reading, Err(ScpiError::DataOutOfRange));
-    assert_eq!(rt;
-        plain(b"*SRE 000005").reading,
-        Err(ScpiError::UndefinedHeader)
-    );
-    assert_eq!(rt; plain(b"*SRE  5").reading, Err(ScpiError::UndefinedHeader));
-    assert_eq!(rt; plain(b"*SRE +5").reading, Err(ScpiError::UndefinedHeader));
-    assert_eq!(rt; plain(b"*SRE").reading, Err(ScpiError::UndefinedHeader));
-    assert_eq!(rt; plain(b"*OPC").reading, Err(ScpiError::UndefinedHeader));
+fn units_read_as_commands(rt: HostRuntime) {
+    let rows: [(&[u8], Command); 16] = [
+        (b"*sRe 00005", Command::Sre(5)),
+        (b"*SRE \t5 ", Command::Sre(5)),
+        (b"*SRE +5", Command::Sre(5)),
+        (b"*SRE 000000000005", Command::Sre(5)),
+        (b"*SRE 1 E +2", Command::Sre(100)),
+        (b"*SRE 255.4", Command::Sre(255)),
+        (b"*ESE -0", Command::Ese(0)),
+        (b"*ESE -0.4", Command::Ese(0)),
+        (b"*PSC 0", Command::PscOff),
+        (b"*PSC -0.4", Command::PscOff),
+        (b"*PSC 0.5", Command::PscOn),
+        (b"*PSC -32767", Command::PscOn),
+        (b"*PSC 32767.4", Command::PscOn),
+        (b" *idn?\r", Command::IdnQuery),
+        (b"*STB? ", Command::StbQuery),
+        (b"*OPC?", Command::OpcQuery),
+    ];
+    for (text, command) in rows {
+        assert_eq!(rt; plain(&unit_of(text)).reading, Ok(command));
+    }
+}
+
+#[test]
+fn faults_of_a_reading_come_in_order(rt: HostRuntime) {
+    let rows: [(&[u8], ScpiError); 30] = [
+        (b"*SRE \xff", ScpiError::InvalidCharacter),
+        (b"*SRE ,\xff", ScpiError::InvalidCharacter),
+        (b"*SRE 5,", ScpiError::SyntaxError),
+        (b"*SRE5 ,5", ScpiError::SyntaxError),
+        (b":*IDN?", ScpiError::SyntaxError),
+        (b"*SRE ?", ScpiError::SyntaxError),
+        (b"*SRE 1 E + 2", ScpiError::SyntaxError),
+        (b"*SRE5", ScpiError::UndefinedHeader),
+        (b"SRE 5", ScpiError::UndefinedHeader),
+        (b"*OPC", ScpiError::UndefinedHeader),
+        (b"*IDN", ScpiError::UndefinedHeader),
+        (b"*ESR 1,2", ScpiError::UndefinedHeader),
+        (b"FOO 1E99999", ScpiError::UndefinedHeader),
+        (b"*SRE", ScpiError::MissingParameter),
+        (b"*PSC ", ScpiError::MissingParameter),
+        (b"*SRE 5,FOO", ScpiError::ParameterNotAllowed),
+        (b"*IDN? 'a'", ScpiError::ParameterNotAllowed),
+        (b"*SRE? 5", ScpiError::ParameterNotAllowed),
+        (b"*SRE FOO", ScpiError::DataTypeError),
+        (b"*PSC ON", ScpiError::DataTypeError),
+        (b"*ESE '5'", ScpiError::DataTypeError),
+        (b"*ESE #11a", ScpiError::DataTypeError),
+        (b"*ESE 1E32001 V", ScpiError::ExponentTooLarge),
+        (b"*ESE 1 V", ScpiError::InvalidSuffix),
+        (b"*ESE 999 V", ScpiError::InvalidSuffix),
+        (b"*ESE 255.5", ScpiError::DataOutOfRange),
+        (b"*ESE -1", ScpiError::DataOutOfRange),
+        (b"*SRE 256", ScpiError::DataOutOfRange),
+        (b"*PSC 32768", ScpiError::DataOutOfRange),
+        (b"*PSC -32767.5", ScpiError::DataOutOfRange),
+    ];
+    for (text, error) in rows {
+        assert_eq!(rt; plain(&unit_of(text)).reading, Err(error));
+    }
+}
+
+// The units of a message, and the fault of the last.
+#[test]
+fn units_of_a_message_are_read(rt: HostRuntime) {
+    let Ok(units) = split(rt.alloc(), b"*SRE 255; *sre? ;*ESE 'a") else {
+        panic!(rt; "out of memory");
+    };
+    let readings = [
+        Ok(Command::Sre(255)),
+        Ok(Command::SreQuery),
+        Err(ScpiError::InvalidStringData),
+    ];
+    let units = units.as_slice();
+    assert_eq!(rt; units.len(), readings.len());
+    for (unit, reading) in units.iter().zip(readings) {
+        assert_eq!(rt; plain(unit).reading, reading);
+    }
 }
 
 // A job is out once, its own end is taken, and the end of another's is not.

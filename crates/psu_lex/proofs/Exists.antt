@@ -150,7 +150,7 @@ decide_block (c ∷ rest) = elim (cases_lt c 48) [
 pub hash_left : (x : ℕ) → opens x ≡ true → is_quote x ≡ false → x ≡ 35
 hash_left x h f = grind (arith, nat_tests, h, f)
 
-decide_piece : (x : ℕ) (text : List ℕ) → opens x ≡ true → Begun (x ∷ text)
+pub decide_piece : (x : ℕ) (text : List ℕ) → opens x ≡ true → Begun (x ∷ text)
 decide_piece x text h = elim (cases_Bool (is_quote x)) [
   | inl t ↦ elim (decide_string x text (quote_line x t)) [
     | inl s ↦ inl (s.0, string_piece x text s.0 t s.1)

@@ -7,7 +7,9 @@ use Rattle.psu_lex.specs.Bytes.{is_letter}
 use Rattle.psu_lex.specs.Syntax.{is_name_byte, all_name, is_node, all_nodes, behind, ask_text, Mark, mark_text, Header, IsHeader, SpellsHeader, header_text}
 use Rattle.psu_lex.specs.Syntax.Mark.{Star, Colon, Bare}
 use Rattle.psu_lex.specs.SyntaxScan.{is_empty, joins, is_part, is_path, is_header}
-use Rattle.psu_lex.proofs.Quotes.{same_byte, both}
+use Rattle.psu_lex.specs.NumberScan.{run, left}
+use Rattle.psu_lex.proofs.Quotes.{same_byte, same_head, same_tail, both}
+use Rattle.psu_lex.proofs.Runs.{every, leads, run_at, left_at}
 
 -- the rest of a path in whose first node a byte stands, or none yet
 abbrev Rest : Bool → Bool → List ℕ → Type 0
@@ -135,3 +137,84 @@ header_in h is = header_at h.mark h.asks h.node h.nodes is.node is.nodes is.comm
 
 pub no_header : (text : List ℕ) → is_header text ≡ false → SpellsHeader text → ⊥
 no_header text f (h, is, e) = both (is_header text) (ap is_header e ∙ header_in h is) f
+
+-- ---- one header
+
+name_bytes : (text : List ℕ) → all_name text ≡ true → every is_name_byte text ≡ true
+name_bytes [] h = refl
+name_bytes (x ∷ text) h =
+    let parts = both_true (is_name_byte x) (all_name text) h in
+    rw (parts.0) (name_bytes text parts.1)
+
+node_bytes : (text : List ℕ) → is_node text ≡ true → every is_name_byte text ≡ true
+node_bytes [] h = refl
+node_bytes (x ∷ text) h =
+    let parts = both_true (is_letter x) (all_name text) h in
+    rw (letter_name x parts.0) (name_bytes text parts.1)
+
+-- what stands behind a node begins with no byte of one
+behind_leads : (nodes : List (List ℕ)) (asks : Bool) → leads is_name_byte (behind nodes ++ ask_text asks) ≡ false
+behind_leads [] true = refl
+behind_leads [] false = refl
+behind_leads (n ∷ ns) asks = refl
+
+same_node : (n m x y : List ℕ) → is_node n ≡ true → is_node m ≡ true → leads is_name_byte x ≡ false → leads is_name_byte y ≡ false → n ++ x ≡ m ++ y → (n ≡ m) × (x ≡ y)
+same_node n m x y h k f g e = (
+  sym (run_at is_name_byte n x (node_bytes n h) f) ∙ ap (run is_name_byte) e ∙ run_at is_name_byte m y (node_bytes m k) g,
+  sym (left_at is_name_byte n x (node_bytes n h) f) ∙ ap (left is_name_byte) e ∙ left_at is_name_byte m y (node_bytes m k) g,
+)
+
+same_asks : (a b : Bool) → ask_text a ≡ ask_text b → a ≡ b
+same_asks true true e = refl
+same_asks true false e = absurd (cc (e))
+same_asks false true e = absurd (cc (e))
+same_asks false false e = refl
+
+no_asks : (a : Bool) (x : List ℕ) → ask_text a ≡ 58 ∷ x → ⊥
+no_asks true x e = omega (arith, same_head 63 58 _ _ e)
+no_asks false x e = absurd (cc (e))
+
+same_behind : (ns ms : List (List ℕ)) (a b : Bool) → all_nodes ns ≡ true → all_nodes ms ≡ true → behind ns ++ ask_text a ≡ behind ms ++ ask_text b → (ns ≡ ms) × (a ≡ b)
+same_behind [] [] a b h k e = (refl, same_asks a b e)
+same_behind [] (m ∷ ms) a b h k e = absurd (no_asks a _ e)
+same_behind (n ∷ ns) [] a b h k e = absurd (no_asks b _ (sym e))
+same_behind (n ∷ ns) (m ∷ ms) a b h k e =
+    let p = both_true (is_node n) (all_nodes ns) h in
+    let q = both_true (is_node m) (all_nodes ms) k in
+    let front = same_node n m (behind ns ++ ask_text a) (behind ms ++ ask_text b) p.0 q.0 (behind_leads ns a) (behind_leads ms b)
+    (sym (append_assoc n (behind ns) (ask_text a)) ∙ same_tail 58 58 _ _ e ∙ append_assoc m (behind ms) (ask_text b)) in
+    let later = same_behind ns ms a b p.1 q.1 front.1 in
+    (cc (front.0, later.0), later.1)
+
+-- a mark by the first byte
+abbrev mark_at : ℕ → Mark
+mark_at x = if x == 42 then Star else (if x == 58 then Colon else Bare)
+
+abbrev mark_of : List ℕ → Mark
+mark_of [] = Bare
+mark_of (x ∷ xs) = mark_at x
+
+mark_is : (mark : Mark) (node rest : List ℕ) → is_node node ≡ true → mark_of (mark_text mark ++ (node ++ rest)) ≡ mark
+mark_is Star node rest h = refl
+mark_is Colon node rest h = refl
+mark_is Bare [] rest h = absurd (cc (h))
+mark_is Bare (x ∷ node) rest h = let plain = bare_first x ((both_true (is_letter x) (all_name node) h).0) in rw (plain.0, plain.1) refl
+
+behind_mark : (mark : Mark) (x y : List ℕ) → mark_text mark ++ x ≡ mark_text mark ++ y → x ≡ y
+behind_mark Star x y e = same_tail 42 42 x y e
+behind_mark Colon x y e = same_tail 58 58 x y e
+behind_mark Bare x y e = e
+
+abbrev made : Mark → List ℕ → List (List ℕ) → Bool → Header
+made mark node nodes asks = record { mark = mark; node = node; nodes = nodes; asks = asks }
+
+pub one_header : (h g : Header) → IsHeader h → IsHeader g → header_text h ≡ header_text g → h ≡ g
+one_header h g p q e =
+    let hs = behind h.nodes ++ ask_text h.asks in
+    let gs = behind g.nodes ++ ask_text g.asks in
+    let mark : h.mark ≡ g.mark = sym (mark_is h.mark h.node hs p.node) ∙ ap mark_of e ∙ mark_is g.mark g.node gs q.node in
+    let body : h.node ++ hs ≡ g.node ++ gs = behind_mark g.mark (h.node ++ hs) (g.node ++ gs) (ap (λ (z : Mark). mark_text z ++ (h.node ++ hs)) (sym mark) ∙ e) in
+    let front = same_node h.node g.node hs gs p.node q.node (behind_leads h.nodes h.asks) (behind_leads g.nodes g.asks) body in
+    let later = same_behind h.nodes g.nodes h.asks g.asks p.nodes q.nodes front.1 in
+    ap (λ (z : Mark). made z h.node h.nodes h.asks) mark ∙ ap (λ (z : List ℕ). made g.mark z h.nodes h.asks) front.0
+    ∙ ap (λ (z : List (List ℕ)). made g.mark g.node z h.asks) later.0 ∙ ap (made g.mark g.node g.nodes) later.1

@@ -20,3 +20,4 @@ pub mod DataScans
 pub mod DataLists
 pub mod HighBytes
 pub mod UnitParts
+pub mod UnitDecides

@@ -1,9 +1,10 @@
 -- A text that is a number is scanned as that number.
-use Rattle.std.proofs.Common.{◌≡◌, ℕ, ◌==◌, ◌||◌, ◌<◌, Bool, true, false, List, [], ◌∷◌, ◌++◌, length, refl, sym, ap, ◌∙◌, subst, arith, append_assoc, inl, inr, Option, Some, None}
+use Rattle.std.proofs.Common.{◌≡◌, ℕ, ◌==◌, ◌||◌, ◌<◌, Bool, true, false, List, [], ◌∷◌, ◌++◌, length, refl, sym, ap, ◌∙◌, subst, arith, append_assoc, inl, inr, Option, Some, None, Result, ℤ}
 use Rattle.std.proofs.lemmas.Bool.{cases_Bool}
 use Rattle.std.proofs.lemmas.Bool.Decides.{nat_tests}
 use Rattle.psu_lex.specs.Bytes.{is_digit, is_letter, is_white}
-use Rattle.psu_lex.specs.Number.{Sign, Exponent, Number, IsNumber, ExponentHolds, sign_text, fraction_text, fraction_digits, exponent_text, number_text, mantissa}
+use Rattle.psu_lex.specs.declared.scpi_error.ScpiError.{ScpiError}
+use Rattle.psu_lex.specs.Number.{Sign, Exponent, Number, IsNumber, NumberGives, reading_of, ExponentHolds, sign_text, fraction_text, fraction_digits, exponent_text, number_text, mantissa}
 use Rattle.psu_lex.specs.Number.Sign.{Plus, Minus, Unsigned}
 use Rattle.psu_lex.specs.NumberScan.{run, left, sign_of, after_sign, fraction_of, after_fraction, exponent_with, exponent_from, exponent_of, after_exponent, is_nonempty, suffix_of, gap_of, end_of, excess_of, at_fraction, at_exponent, at_tail, scanned}
 use Rattle.psu_lex.proofs.Quotes.{both}
@@ -285,3 +286,13 @@ pub none_with_excess : (text : List ℕ) → is_nonempty (excess_of (at_tail tex
 none_with_excess text some n h e =
     let p = parts_of text n h e in
     both (is_nonempty (excess_of (at_tail text))) some (ap is_nonempty p.tail.none)
+
+-- ---- one value
+
+pub one_value : (text : List ℕ) (places : ℕ) (r q : Result ℤ ScpiError) → NumberGives text places r → NumberGives text places q → r ≡ q
+one_value text places r q (inl g) (inl h) =
+    let same : g.0 ≡ h.0 = sym (scanned_is text g.0 g.1 g.2) ∙ scanned_is text h.0 h.1 h.2 in
+    g.3 ∙ ap (λ (n : Number). reading_of n places) same ∙ sym h.3
+one_value text places r q (inl g) (inr h) = absurd (h.0 g.0 g.1 g.2)
+one_value text places r q (inr g) (inl h) = absurd (g.0 h.0 h.1 h.2)
+one_value text places r q (inr g) (inr h) = g.1 ∙ sym h.1

@@ -1,8 +1,10 @@
 // Laws of the definitions.
-ghost use Rattle.std.specs.Prelude.{ℕ, List, ◌≡◌};
+ghost use Rattle.std.specs.Prelude.{ℕ, List, Result, ℤ, ◌≡◌};
 ghost use Rattle.psu_lex.specs.Data.{IsStringOf, IsBlockOf};
-ghost use Rattle.psu_lex.specs.Number.{Number, IsNumber, number_text};
+ghost use Rattle.psu_lex.specs.Number.{Number, IsNumber, NumberGives, number_text};
 ghost use Rattle.psu_lex.specs.Message.{Part, IsMessage};
+ghost use Rattle.psu_lex.specs.Syntax.{Header, IsHeader, Syntax, SyntaxGives, UnitReads, header_text};
+ghost use Rattle.psu_lex.specs.declared.scpi_error.ScpiError.{ScpiError};
 
 /// Every list of bytes has units.
 pub fn every_list_has_units()
@@ -27,4 +29,34 @@ pub fn one_content_of_a_block()
 /// No text is written as two numbers.
 pub fn one_number_of_a_text()
     ensures { (m n : Number) → IsNumber m → IsNumber n → number_text m ≡ number_text n → m ≡ n }
+{}
+
+/// No text gives two values.
+pub fn one_value_of_a_text()
+    ensures { (text : List ℕ) (places : ℕ) (value other : Result ℤ ScpiError) → NumberGives text places value → NumberGives text places other → value ≡ other }
+{}
+
+/// Every text gives a value, or an error in its place.
+pub fn every_text_gives_a_value()
+    ensures { (text : List ℕ) (places : ℕ) → (value : Result ℤ ScpiError) × NumberGives text places value }
+{}
+
+/// No text has two headers, or two lists of data.
+pub fn one_syntax_of_a_text()
+    ensures { (text : List ℕ) (syntax other : Syntax) → UnitReads text syntax → UnitReads text other → syntax ≡ other }
+{}
+
+/// No header has other nodes, or asks where it does not.
+pub fn one_header_of_a_text()
+    ensures { (header other : Header) → IsHeader header → IsHeader other → header_text header ≡ header_text other → header ≡ other }
+{}
+
+/// No unit gives two results.
+pub fn one_syntax_of_a_unit()
+    ensures { (unit : Part) (result other : Result Syntax ScpiError) → SyntaxGives unit result → SyntaxGives unit other → result ≡ other }
+{}
+
+/// Every unit gives a result.
+pub fn every_unit_has_a_syntax()
+    ensures { (unit : Part) → (result : Result Syntax ScpiError) × SyntaxGives unit result }
 {}

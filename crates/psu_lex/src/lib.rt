@@ -35,8 +35,9 @@ pub use datum_class::DatumClass;
 pub use decimals::fixed3;
 pub use error_class::ErrorClass;
 pub use laws::{
-    every_list_has_units, one_content_of_a_block, one_content_of_a_string, one_list_of_units,
-    one_number_of_a_text,
+    every_list_has_units, every_text_gives_a_value, every_unit_has_a_syntax,
+    one_content_of_a_block, one_content_of_a_string, one_header_of_a_text, one_list_of_units,
+    one_number_of_a_text, one_syntax_of_a_text, one_syntax_of_a_unit, one_value_of_a_text,
 };
 pub use macros::expand;
 pub use message::split;

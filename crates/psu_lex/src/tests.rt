@@ -1,5 +1,7 @@
 // The worked examples of the grammar; expected values by its rules.
-use crate::{ScpiError, Unit, block, definite, expand, fixed3, number, split, string};
+use crate::{
+    DatumClass, ScpiError, Unit, block, definite, expand, fixed3, number, split, string, syntax,
+};
 
 fn is_unit(unit: Unit<'_>, text: &[u8], first: bool, fault: Option<ScpiError>) -> bool {
     unit.text == text && unit.first == first && unit.fault == fault
@@ -179,4 +181,186 @@ fn answers_are_written(rt: HostRuntime) {
         panic!(rt; "out of memory");
     };
     assert!(rt; text.as_slice() == b"#211a;b\n0123456".as_slice());
+}
+
+// A unit that is `text`, cut out of a transmission that is no more than it.
+fn unit_of(text: &[u8]) -> Unit<'_> {
+    Unit {
+        text,
+        first: true,
+        fault: None,
+    }
+}
+
+// Whether the unit has this header, and these data: each with its class, and no others.
+fn reads(text: &[u8], header: &[u8], expected: &[(DatumClass, &[u8])]) -> bool {
+    let Ok(parts) = syntax(&unit_of(text)) else {
+        return false;
+    };
+    if parts.header != header {
+        return false;
+    }
+    let mut rest = parts.parameters;
+    for (class, text) in expected {
+        let Some((datum, others)) = rest.first() else {
+            return false;
+        };
+        if datum.class != *class || datum.text != *text {
+            return false;
+        }
+        rest = others;
+    }
+    rest.first().is_none()
+}
+
+#[test]
+fn units_are_read_by_their_parts(rt: HostRuntime) {
+    let rows: [(&[u8], &[u8]); 8] = [
+        (b"*IDN?", b"*IDN?"),
+        (b"*IDN? ", b"*IDN?"),
+        (b" \t*CLS\r", b"*CLS"),
+        (b"SYST:ERR?", b"SYST:ERR?"),
+        (b":syst:err:count?", b":syst:err:count?"),
+        (b"a_1:B2", b"a_1:B2"),
+        (b"x", b"x"),
+        (b"*GMC? ", b"*GMC?"),
+    ];
+    for (text, header) in rows {
+        assert!(rt; reads(text, header, &[]));
+    }
+    let number = DatumClass::Numeric;
+    let word = DatumClass::Character;
+    assert!(rt; reads(b"VOLT 5", b"VOLT", &[(number, b"5")]));
+    assert!(rt; reads(b"VOLT  1 E +2 ", b"VOLT", &[(number, b"1 E +2")]));
+    assert!(rt; reads(b"VOLT 5 V", b"VOLT", &[(number, b"5 V")]));
+    assert!(rt;
+        reads(
+            b"VOLT -.5,MAX",
+            b"VOLT",
+            &[(number, b"-.5"), (word, b"MAX")]
+        )
+    );
+    assert!(rt;
+        reads(
+            b"VOLT? MIN , ON5",
+            b"VOLT?",
+            &[(word, b"MIN"), (word, b"ON5")]
+        )
+    );
+    assert!(rt; reads(b"F 5ON", b"F", &[(number, b"5ON")]));
+    let string = DatumClass::String;
+    let block = DatumClass::Block;
+    assert!(rt;
+        reads(
+            b"*DMC \"A\",#13a,b",
+            b"*DMC",
+            &[(string, b"\"A\""), (block, b"#13a,b")]
+        )
+    );
+    assert!(rt;
+        reads(
+            b"D 'it''s' , \";,\" ",
+            b"D",
+            &[(string, b"'it''s'"), (string, b"\";,\"")]
+        )
+    );
+    assert!(rt; reads(b"D #10,1", b"D", &[(block, b"#10"), (number, b"1")]));
+    assert!(rt;
+        reads(
+            b"D 1,#0a, \xff ",
+            b"D",
+            &[(number, b"1"), (block, b"#0a, \xff ")]
+        )
+    );
+    assert!(rt; reads(b"D '\xe9'", b"D", &[(string, b"'\xe9'")]));
+}
+
+#[test]
+fn what_is_no_unit_is_a_syntax_error(rt: HostRuntime) {
+    let rows: [&[u8]; 26] = [
+        b"",
+        b" ",
+        b"?",
+        b"*",
+        b":",
+        b"1",
+        b"*?",
+        b"A:",
+        b"A::B",
+        b":*IDN?",
+        b"*A:B",
+        b"VOLT ,1",
+        b"VOLT 1,",
+        b"VOLT ,",
+        b"VOLT 1,,2",
+        b"*GMC?\"A\"",
+        b"VOLT?MAX",
+        b"VOLT ?",
+        b"SYST :ERR?",
+        b"A? ?",
+        b"A 5_",
+        b"A 1 2",
+        b"A +",
+        b"A B C",
+        b"A $1",
+        b"VO\"a\"LT",
+    ];
+    for text in rows {
+        assert!(rt; syntax(&unit_of(text)).err() == Some(ScpiError::SyntaxError));
+    }
+}
+
+#[test]
+fn faults_of_a_unit_come_in_order(rt: HostRuntime) {
+    let rows: [&[u8]; 5] = [
+        b"VOLT \xff",
+        b"\x7f",
+        b"A 'b' ,\x80",
+        b"A::B \xe9",
+        b"A #11\xff,\xff",
+    ];
+    for text in rows {
+        assert!(rt; syntax(&unit_of(text)).err() == Some(ScpiError::InvalidCharacter));
+    }
+    let faulty = Unit {
+        text: b"A\xff 'b",
+        first: true,
+        fault: Some(ScpiError::InvalidStringData),
+    };
+    assert!(rt; syntax(&faulty).err() == Some(ScpiError::InvalidStringData));
+}
+
+#[test]
+fn many_data_are_read_in_one_pass(rt: HostRuntime) {
+    let mut commas = [b','; 65_536];
+    commas[0] = b'A';
+    commas[1] = b' ';
+    assert!(rt; syntax(&unit_of(&commas)).err() == Some(ScpiError::SyntaxError));
+    for at in 2..65_536 {
+        if at % 2 == 0 {
+            commas[at] = b'1';
+        }
+    }
+    assert!(rt; syntax(&unit_of(&commas)).err() == Some(ScpiError::SyntaxError));
+    commas[65_535] = b'2';
+    assert!(rt; syntax(&unit_of(&commas)).is_ok());
+    let mut quotes = [b'\''; 65_536];
+    quotes[0] = b'A';
+    quotes[1] = b' ';
+    assert!(rt; syntax(&unit_of(&quotes)).is_ok());
+}
+
+// Every beginning of a message reads in one way, and no beginning stops the program.
+#[test]
+fn beginnings_of_a_message_are_read(rt: HostRuntime) {
+    let text = b" *DMC \"a\"\"b\" , #212a;b,c\n'\"#1x ,-1.5 E +2 MV;SYST:ERR? 'x";
+    for length in 0..text.len() {
+        let Ok(units) = split(rt.alloc(), &text[..length]) else {
+            panic!(rt; "out of memory");
+        };
+        for unit in units.as_slice() {
+            let error = syntax(unit).err();
+            assert!(rt; unit.fault.is_none() || error == unit.fault);
+        }
+    }
 }
