@@ -7,14 +7,14 @@ use Rattle.psu_exec.specs.declared.contents.Contents.{Contents}
 use Rattle.psu_exec.specs.declared.change.Change.{Change}
 use Rattle.psu_exec.specs.declared.request.Request.{Request}
 use Rattle.psu_exec.specs.declared.condition.Condition.TheVariants.{Whole}
-use Rattle.psu_exec.specs.declared.scpi_error.ScpiError.TheVariants.{OutOfMemory}
+use Rattle.psu_lex.specs.declared.scpi_error.ScpiError.TheVariants.{OutOfMemory}
 use Rattle.psu_exec.specs.declared.wait.Wait.{Wait}
 use Rattle.psu_exec.specs.declared.wait.Wait.TheVariants.{Until, CutOff}
 use Rattle.psu_exec.specs.Contents.{items_of, enables_items}
 use Rattle.psu_exec.specs.Device.{Reply, Done, Answer, Error, Parked, Later, State, Flush, answer, after_unit, wait_of, wants_memory, change_of}
 use Rattle.psu_exec.specs.Calls.{JobEnd, Stored, Unstarted, Broken, Job, Nothing, Allows, Took, GaveBack, job_out, stored, settle_answer, after_settle, settled, unparked, wait_less}
-use Rattle.psu_server.specs.Lines.{Message, requests_of, messages}
-use Rattle.psu_server.specs.Script.{started, at_start, Rest, Went, Told, flushed_by, flushed, waited, after_reply, after_first, unit, units, message, script_from, with_answer, line_text}
+use Rattle.psu_server.specs.Lines.{Message, Asks, messages}
+use Rattle.psu_server.specs.Script.{started, at_start, Rest, Went, Told, flushed_by, flushed, waited, after_reply, after_first, unit, units, message, Scripted, with_answer, line_text}
 use Rattle.psu_server.specs.Runs.{none, JobDone, Jobs, Flushes, IsMeant, IsSound, is_later, is_out_of_memory, ScriptAlone, Acts, UnitRuns, UnitsRun, MessageRuns, Restarts, Runs, is_final}
 
 no_tail : (l : List Change) → 1 ≤ length l → l ≡ [] → ⊥
@@ -233,7 +233,7 @@ one_contents a b e = ap (λ (z : Option (ℕ × ℕ)). the_contents z) (same_ena
 start_quiet : (limit : ℕ) (c : Contents) → Quiet (at_start limit c)
 start_quiet limit c = record { whole = refl; wait = refl; holds = refl }
 
-restart_alone : (r : Rest) (new : State) → Quiet r → Restarts r.state new → SameTold (message r Message.Power) [] new
+restart_alone : (r : Rest) (new : State) → Quiet r → Restarts r.state new → SameTold (message r Message.Power []) [] new
 restart_alone r new q again = record {
   state = ap (started r.state.flush.limit) (sym (one_contents again.contents r.stored (again.same_map q.whole ∙ sym q.holds)))
       ∙ ap (λ (n : ℕ). started n again.contents) (sym (again.same_limit q.whole)) ∙ sym again.is;
@@ -241,21 +241,37 @@ restart_alone r new q again = record {
   quiet = start_quiet r.state.flush.limit r.stored;
 }
 
-message_alone : (m : Message) (r : Rest) (text : List ℕ) (new : State) → Quiet r → MessageRuns none r.state m text new → SameTold (message r m) text new
-message_alone Message.Power r text new q (again, none) = subst (λ (z : List ℕ). SameTold (message r Message.Power) z new) (sym none) (restart_alone r new q again)
-message_alone Message.Overlong r text new q (all, u, is) =
-    let t = units_alone (requests_of Message.Overlong) r [] all new q u in
-    record { state = t.state; text = ap line_text t.text ∙ sym is; quiet = t.quiet }
-message_alone (Message.Units bytes) r text new q (all, u, is) =
-    let t = units_alone (requests_of (Message.Units bytes)) r [] all new q u in
+pub record SameMessage (r : Rest) (m : Message) (text : List ℕ) (new : State) : Type 0 where
+  pub requests : List Request
+  pub asks : Asks m requests
+  pub told : SameTold (message r m requests) text new
+
+units_told : (r : Rest) (requests : List Request) (all text : List ℕ) (new : State) → Quiet r → UnitsRun none r.state [] requests all new → text ≡ line_text all
+    → SameTold (record { rest = (units r [] requests).rest; text = line_text (units r [] requests).text }) text new
+units_told r requests all text new q u is =
+    let t = units_alone requests r [] all new q u in
     record { state = t.state; text = ap line_text t.text ∙ sym is; quiet = t.quiet }
 
-runs_alone : (ms : List Message) (r : Rest) (text : List ℕ) (last : State) → Quiet r → Runs none r.state ms text last → text ≡ script_from r ms
+message_alone : (m : Message) (r : Rest) (text : List ℕ) (new : State) → Quiet r → MessageRuns none r.state m text new → SameMessage r m text new
+message_alone Message.Power r text new q (again, none) = record {
+  requests = [];
+  asks = refl;
+  told = subst (λ (z : List ℕ). SameTold (message r Message.Power []) z new) (sym none) (restart_alone r new q again);
+}
+message_alone Message.Overlong r text new q (requests, asks, all, u, is) = record { requests = requests; asks = asks; told = units_told r requests all text new q u is }
+message_alone (Message.Units bytes) r text new q (requests, asks, all, u, is) = record { requests = requests; asks = asks; told = units_told r requests all text new q u is }
+
+runs_alone : (ms : List Message) (r : Rest) (text : List ℕ) (last : State) → Quiet r → Runs none r.state ms text last → Scripted r ms text
 runs_alone [] r text last q u = u.1
 runs_alone (m ∷ ms) r text last q (first, more, mid, u, us, is) =
-    let t = message_alone m r first mid q u in
-    is ∙ ap (λ (z : List ℕ). z ++ more) (sym t.text)
-    ∙ ap (λ (z : List ℕ). (message r m).text ++ z) (runs_alone ms (message r m).rest more last t.quiet (subst (λ (z : State). Runs none z ms more last) (sym t.state) us))
+    let a = message_alone m r first mid q u in
+    let t = a.told in (
+      a.requests,
+      more,
+      a.asks,
+      runs_alone ms (message r m a.requests).rest more last t.quiet (subst (λ (z : State). Runs none z ms more last) (sym t.state) us),
+      is ∙ ap (λ (z : List ℕ). z ++ more) (sym t.text),
+    )
 
 pub script_is_alone : ScriptAlone
 script_is_alone contents limit input text (last, runs) =

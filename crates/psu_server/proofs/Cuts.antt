@@ -1,16 +1,12 @@
 -- Lemmas on the parts of a text.
-use Rattle.std.proofs.Common.{◌≡◌, ℕ, ◌+◌, ◌-◌, ◌==◌, ◌<◌, ◌≤◌, Bool, true, false, List, [], ◌∷◌, ◌++◌, length, take, drop, map, refl, sym, ap, ◌∙◌, if◌then◌else◌, arith, slice_index, append_assoc, inl, inr, Result, Some, None, suc, add-one, drop-cons}
+use Rattle.std.proofs.Common.{◌≡◌, ℕ, ◌+◌, ◌-◌, ◌==◌, ◌<◌, ◌≤◌, Bool, true, false, List, [], ◌∷◌, ◌++◌, length, take, drop, map, refl, sym, ap, ◌∙◌, arith, slice_index, append_assoc, inl, inr, Some, None, suc, add-one, drop-cons}
 use Rattle.std.proofs.lemmas.Bool.{cases_Bool}
 use Rattle.std.proofs.lemmas.List.{append-nil, get_or-take, take-append-drop}
 use Rattle.std.proofs.lemmas.Grind.{common_steps}
 use Rattle.std.proofs.lemmas.Bool.Decides.{nat_tests}
 use Rattle.std.specs.Str.{bytes_eq}
 use Rattle.memchr.specs.Find.{IsFirstByte, is_byte}
-use Rattle.psu_exec.specs.Reading.{reading_of}
-use Rattle.psu_exec.specs.declared.command.Command.{Command}
-use Rattle.psu_exec.specs.declared.request.Request.{Request}
-use Rattle.psu_exec.specs.declared.scpi_error.ScpiError.{ScpiError}
-use Rattle.psu_server.specs.Lines.{first_onto, parts_of, first_part, after_part, has, Message, message_of, messages, coming, message_now, power_line, is_blank, is_none_begun, request_of, requests}
+use Rattle.psu_server.specs.Lines.{first_onto, parts_of, first_part, after_part, has, Message, message_of, messages, coming, message_now, power_line, is_none_begun}
 
 no_head : (e x : ℕ) (p : List ℕ) → has e (x ∷ p) ≡ false → (x == e) ≡ false
 no_head e x p h = grind (arith, common_steps, h)
@@ -75,41 +71,6 @@ found_parts e s at h =
     let within : at < length s = h.0.high in
     let is : slice_index s at ≡ e = grind (arith, nat_tests, h.1) in
     sym (take-append-drop at s) ∙ ap (λ (z : List ℕ). take at s ++ z) (drop-cons s at 0 within ∙ ap (λ (x : ℕ). x ∷ drop (suc at) s) is ∙ ap (λ (n : ℕ). e ∷ drop n s) (sym (add-one at)))
-
-requests_more : (blank : Bool) (u : List ℕ) (us : List (List ℕ))
-    → (if blank then requests us else request_of u ∷ requests us) ≡ (if blank then [] else request_of u ∷ []) ++ requests us
-requests_more true u us = refl
-requests_more false u us = refl
-
--- the requests of a unit, and those after it
-requests_cons : (u : List ℕ) (us : List (List ℕ)) → requests (u ∷ us) ≡ requests (u ∷ []) ++ requests us
-requests_cons u us = requests_more (is_blank u) u us
-
-pub text_blank : (u : List ℕ) → is_blank u ≡ true → requests (u ∷ []) ≡ []
-text_blank u b = rw b refl
-
-abbrev the_request : Result Command ScpiError → Request
-the_request reading = record { reading = reading }
-
-pub text_plain : (u : List ℕ) (request : Request) → is_blank u ≡ false → request.reading ≡ reading_of u → requests (u ∷ []) ≡ request ∷ []
-text_plain u request b e = rw b (ap (λ (z : Result Command ScpiError). the_request z ∷ []) (sym e))
-
--- the requests up to the unit that was found
-pub units_found : (all done : List Request) (rest : List ℕ) (at : ℕ) → all ≡ done ++ requests (parts_of 59 rest) → IsFirstByte (is_byte 59) rest (Some at)
-    → all ≡ (done ++ requests (take at rest ∷ [])) ++ requests (parts_of 59 (take (length rest - (at + 1)) (drop (at + 1) rest)))
-units_found all done rest at is found =
-    let u = take at rest in
-    let tail = drop (at + 1) rest in
-    let cut : parts_of 59 rest ≡ u ∷ parts_of 59 tail = ap (parts_of 59) (found_parts 59 rest at found) ∙ parts_at 59 u tail (free_before 59 rest at found) in
-    is ∙ ap (λ (z : List (List ℕ)). done ++ requests z) cut ∙ ap (λ (z : List Request). done ++ z) (requests_cons u (parts_of 59 tail))
-    ∙ sym (append_assoc done (requests (u ∷ [])) (requests (parts_of 59 tail)))
-    ∙ ap (λ (z : List ℕ). (done ++ requests (u ∷ [])) ++ requests (parts_of 59 z)) (sym (whole_tail rest (at + 1)))
-
--- the requests of the last unit
-pub units_last : (all done : List Request) (rest : List ℕ) → all ≡ done ++ requests (parts_of 59 rest) → has 59 rest ≡ false
-    → all ≡ done ++ requests (rest ∷ [])
-units_last all done [] is free = is
-units_last all done (x ∷ rest) is free = is ∙ ap (λ (z : List (List ℕ)). done ++ requests z) (parts_last 59 x rest free)
 
 long_message : (l : List ℕ) → 65536 < length l → message_of l ≡ Message.Overlong
 long_message l long = grind (arith, nat_tests, long)

@@ -4,7 +4,8 @@ use Rattle.std.proofs.lemmas.List.{append-nil}
 use Rattle.std.specs.Str.{bytes_eq}
 use Rattle.memchr.specs.Find.{IsFirstByte, is_byte}
 use Rattle.psu_exec.specs.Device.{State}
-use Rattle.psu_server.specs.Lines.{Message, message_now, coming, too_much, requests, parts_of, has, power_line}
+use Rattle.psu_server.specs.Lines.{Message, Asks, message_now, coming, too_much, has, power_line}
+use Rattle.psu_exec.specs.declared.request.Request.{Request}
 use Rattle.psu_server.specs.Script.{line_text}
 use Rattle.psu_server.specs.Runs.{UnitsRun, MessageRuns, Restarts, Runs}
 use Rattle.psu_server.specs.Within.{Within}
@@ -23,23 +24,25 @@ told_over true line s new a b start all shown old_text new_text o n d e w = (
   line_text all,
   e ∙ ap (λ (z : List ℕ). old_text ++ line_text z) d,
   within_as a b (λ can. UnitsRun can s start (too_much ∷ []) all new) (λ can. MessageRuns can s Message.Overlong (line_text all) new) w
-      (λ can u. (all, subst (λ (z : List ℕ). UnitsRun can s z (too_much ∷ []) all new) n u, refl)),
+      (λ can u. (too_much ∷ [], refl, all, subst (λ (z : List ℕ). UnitsRun can s z (too_much ∷ []) all new) n u, refl)),
 )
 told_over false line s new a b start all shown old_text new_text o n d e w = cc
 
 pub told_units : (over : Bool) (line bytes : List ℕ) (s new : State) (a b : ℕ) (start all shown old_text new_text : List ℕ) → over ≡ false → length line ≤ 65536
     → bytes ≡ line → bytes_eq line power_line ≡ false → start ≡ [] → shown ≡ all → new_text ≡ old_text ++ line_text shown
-    → Within a b (λ can. UnitsRun can s start (requests (parts_of 59 bytes)) all new) → ToldLine (message_now over line) s new a b old_text new_text
+    → (requests : List Request) × Asks (Message.Units bytes) requests × Within a b (λ can. UnitsRun can s start requests all new)
+    → ToldLine (message_now over line) s new a b old_text new_text
 told_units true line bytes s new a b start all shown old_text new_text o short same p n d e w = cc
-told_units false line bytes s new a b start all shown old_text new_text o short same p n d e w =
+told_units false line bytes s new a b start all shown old_text new_text o short same p n d e (requests, asks, w) =
     subst (λ (m : Message). ToldLine m s new a b old_text new_text) (sym (plain_message line short p)) (
       line_text all,
       e ∙ ap (λ (z : List ℕ). old_text ++ line_text z) d,
-      within_as a b (λ can. UnitsRun can s start (requests (parts_of 59 bytes)) all new) (λ can. MessageRuns can s (Message.Units line) (line_text all) new) w
+      within_as a b (λ can. UnitsRun can s start requests all new) (λ can. MessageRuns can s (Message.Units line) (line_text all) new) w
           (λ can u. (
+            requests,
+            subst (λ (z : List ℕ). Asks (Message.Units z) requests) same asks,
             all,
-            subst (λ (z : List ℕ). UnitsRun can s z (requests (parts_of 59 line)) all new) n
-                (subst (λ (z : List ℕ). UnitsRun can s start (requests (parts_of 59 z)) all new) same u),
+            subst (λ (z : List ℕ). UnitsRun can s z requests all new) n u,
             refl,
           )),
     )

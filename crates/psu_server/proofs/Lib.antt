@@ -1,6 +1,7 @@
 pub mod Alone
 pub mod Within
 pub mod Reasons
+pub mod Asking
 pub mod Cuts
 pub mod Fronts
 pub mod Feeds
@@ -9,3 +10,4 @@ pub mod Owning
 pub mod Flushed
 pub mod Starting
 pub mod Waits
+pub mod Scripts

@@ -6,11 +6,11 @@ use Rattle.psu_exec.specs.declared.change.Change.{Change}
 use Rattle.psu_exec.specs.declared.command.Command.{Command}
 use Rattle.psu_exec.specs.declared.command.Command.TheVariants.{PscOn, PscOff, PscQuery, Sre, SreQuery, Ese, EseQuery, EsrQuery, StbQuery, IdnQuery, OpcQuery}
 use Rattle.psu_exec.specs.declared.registers.Registers.{Registers}
-use Rattle.psu_exec.specs.declared.scpi_error.ScpiError.TheVariants.{StorageFault}
+use Rattle.psu_lex.specs.declared.scpi_error.ScpiError.TheVariants.{StorageFault}
 use Rattle.psu_exec.specs.declared.condition.Condition.{Condition}
 use Rattle.psu_exec.specs.declared.condition.Condition.TheVariants as condition
 use Rattle.psu_exec.specs.declared.request.Request.{Request}
-use Rattle.psu_exec.specs.declared.scpi_error.ScpiError.{ScpiError}
+use Rattle.psu_lex.specs.declared.scpi_error.ScpiError.{ScpiError}
 use Rattle.psu_exec.specs.declared.wait.Wait.{Wait}
 use Rattle.psu_exec.specs.declared.wait.Wait.TheVariants.{Until, CutOff}
 use Rattle.psu_exec.specs.Device.{Reply, Done, Answer, Error, Parked, Later, State, Flush, wait_of, answer_read, answer_with, is_late, is_refused, waits_for, with_wait, change_of}

@@ -1,10 +1,10 @@
--- The lines of an input, and the units of a line.
-use Rattle.std.specs.Prelude.{ℕ, ◌==◌, ◌||◌, ◌&&◌, not, nat_lt, nat_le, Bool, false, List, [], ◌∷◌, ◌++◌, length, Err, if◌then◌else◌, codes, map}
+-- The lines of an input, and the requests of a line.
+use Rattle.std.specs.Prelude.{◌≡◌, ℕ, ◌==◌, ◌||◌, ◌&&◌, not, nat_lt, Bool, false, List, [], ◌∷◌, ◌++◌, length, Err, if◌then◌else◌, codes, map}
 use Rattle.std.specs.Str.{bytes_eq}
-use Rattle.std.specs.List.{list_all}
-use Rattle.psu_exec.specs.Reading.{reading_of}
+use Rattle.psu_lex.specs.Message.{Part, IsMessage}
+use Rattle.psu_exec.specs.Reading.{ReadsAs}
 use Rattle.psu_exec.specs.declared.request.Request.{Request}
-use Rattle.psu_exec.specs.declared.scpi_error.ScpiError.TheVariants.{TooMuchData}
+use Rattle.psu_lex.specs.declared.scpi_error.ScpiError.TheVariants.{TooMuchData}
 
 -- a byte goes onto the first part of the rest
 abbrev pub first_onto : ℕ → List (List ℕ) → List (List ℕ)
@@ -30,7 +30,7 @@ abbrev pub has : ℕ → List ℕ → Bool
 has end [] = false
 has end (x ∷ xs) = x == end || has end xs
 
--- A line of the input, without its line feed: a power loss at rest, a line that is too long, or a message, whose units end at `;`.
+-- A line of the input, without its line feed: a power loss at rest, a line that is too long, or a message.
 pub data Message : Type 0 where
   Power : Message
   Overlong : Message
@@ -60,28 +60,18 @@ message_now over line = if over then Message.Overlong else message_of line
 abbrev pub is_none_begun : Bool → List ℕ → Bool
 is_none_begun over line = not over && (length line == 0)
 
--- bytes 0 to 9 and 11 to 32 are white space
-abbrev pub is_white : ℕ → Bool
-is_white x = nat_le x 32 && not (x == 10)
-
-abbrev pub is_blank : List ℕ → Bool
-is_blank text = list_all is_white text
-
--- the request of a text between two `;`
-abbrev pub request_of : List ℕ → Request
-request_of text = record { reading = reading_of text }
-
--- a text of white space alone is no unit
-abbrev pub requests : List (List ℕ) → List Request
-requests [] = []
-requests (text ∷ texts) = if is_blank text then requests texts else request_of text ∷ requests texts
+-- the requests of units, one for each
+abbrev pub AreRequests : List Part → List Request → Type 0
+AreRequests [] requests = requests ≡ []
+AreRequests (unit ∷ units) requests =
+    (request : Request) × (more : List Request) × ReadsAs unit request.reading × AreRequests units more × (requests ≡ request ∷ more)
 
 -- a line that is too long is one request that has too much data
 abbrev pub too_much : Request
 too_much = record { reading = Err TooMuchData }
 
--- the requests of a message
-abbrev pub requests_of : Message → List Request
-requests_of Message.Power = []
-requests_of Message.Overlong = too_much ∷ []
-requests_of (Message.Units bytes) = requests (parts_of 59 bytes)
+-- the requests of a message: those of its units
+abbrev pub Asks : Message → List Request → Type 0
+Asks Message.Power requests = requests ≡ []
+Asks Message.Overlong requests = requests ≡ too_much ∷ []
+Asks (Message.Units bytes) requests = (units : List Part) × IsMessage bytes units × AreRequests units requests

@@ -12,7 +12,7 @@ use Rattle.psu_exec.specs.Calls.{Executed, Settled, Allows}
 use Rattle.psu_exec.specs.declared.exec.Exec.{Exec}
 use Rattle.psu_exec.specs.Contents.{items_of}
 use Rattle.psu_server.specs.Lines.{Message, messages}
-use Rattle.psu_server.specs.Script.{started, script}
+use Rattle.psu_server.specs.Script.{started, IsScript}
 use Rattle.psu_server.specs.Failures.{failures_of}
 use Rattle.psu_server.specs.Runs.{Mishaps, Acts, Flushes, Runs, MayFront, any, none, is_final, is_out_of_memory}
 use Rattle.psu_server.specs.Within.{Within}
@@ -77,7 +77,7 @@ pub record WritesRun (contents : Contents) (limit : ℕ) (input : List ℕ) (old
   pub written : Appends old_written new_written text
   pub last : State
   pub runs : Runs gone (started limit contents) (messages input) text last
-  pub calm : gone ≡ none → text ≡ script contents limit input
+  pub calm : gone ≡ none → IsScript contents limit input text
   pub kept : EachStands disk last.flush.limit (items_of last.flush.contents)
 
 -- the writer gained a front of what may be written

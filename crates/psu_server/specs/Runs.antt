@@ -5,14 +5,14 @@ use Rattle.psu_items.specs.declared.commit.UnstartedCause.TheVariants.{Memory, W
 use Rattle.psu_exec.specs.declared.contents.Contents.{Contents}
 use Rattle.psu_exec.specs.declared.request.Request.{Request}
 use Rattle.psu_exec.specs.declared.condition.Condition.TheVariants.{Whole}
-use Rattle.psu_exec.specs.declared.scpi_error.ScpiError.TheVariants.{OutOfMemory}
+use Rattle.psu_lex.specs.declared.scpi_error.ScpiError.TheVariants.{OutOfMemory}
 use Rattle.psu_exec.specs.Contents.{items_of}
 use Rattle.psu_exec.specs.Device.{Reply, Error, Parked, Later, State}
 use Rattle.psu_exec.specs.Calls.{JobEnd, Stored, Unstarted, Broken, Job, Nothing, Executed, Settled, Took, GaveBack, Allows}
 use Rattle.psu_server.specs.declared.run_cause.RunCause.{RunCause}
 use Rattle.psu_server.specs.declared.run_cause.RunCause.TheVariants.{Write}
-use Rattle.psu_server.specs.Lines.{Message, requests_of, messages}
-use Rattle.psu_server.specs.Script.{started, with_answer, line_text, script}
+use Rattle.psu_server.specs.Lines.{Message, Asks, messages}
+use Rattle.psu_server.specs.Script.{started, with_answer, line_text, IsScript}
 
 -- what may go wrong: memory refused inside a unit, a failed disk call, a store whose root number is the last
 pub record Mishaps : Type 0 where
@@ -101,7 +101,7 @@ pub record Restarts (s new : State) : Type 0 where
 -- a message with its text
 abbrev pub MessageRuns : Mishaps → State → Message → List ℕ → State → Type 0
 MessageRuns can s Message.Power text new = Restarts s new × (text ≡ [])
-MessageRuns can s m text new = (all : List ℕ) × UnitsRun can s [] (requests_of m) all new × (text ≡ line_text all)
+MessageRuns can s m text new = (requests : List Request) × Asks m requests × (all : List ℕ) × UnitsRun can s [] requests all new × (text ≡ line_text all)
 
 -- the messages of an input with their text
 abbrev pub Runs : Mishaps → State → List Message → List ℕ → State → Type 0
@@ -126,4 +126,4 @@ pub record MayFront (can : Mishaps) (cause : RunCause) (contents : Contents) (li
 
 -- where nothing goes wrong, what may be written is the script
 abbrev pub ScriptAlone : Type 0
-ScriptAlone = (contents : Contents) (limit : ℕ) (input text : List ℕ) → MayWrite none contents limit input text → text ≡ script contents limit input
+ScriptAlone = (contents : Contents) (limit : ℕ) (input text : List ℕ) → MayWrite none contents limit input text → IsScript contents limit input text

@@ -1,11 +1,11 @@
--- What a run writes where nothing goes wrong: a function over the step.
-use Rattle.std.specs.Prelude.{ℕ, List, [], ◌∷◌, ◌++◌}
+-- What a run writes where nothing goes wrong: over the step, and the one reading of each message.
+use Rattle.std.specs.Prelude.{◌≡◌, ℕ, List, [], ◌∷◌, ◌++◌}
 use Rattle.psu_exec.specs.declared.contents.Contents.{Contents}
 use Rattle.psu_exec.specs.declared.change.Change.{Change}
 use Rattle.psu_exec.specs.declared.request.Request.{Request}
 use Rattle.psu_exec.specs.Device.{Reply, Answer, Parked, Later, State, answer, after_unit, power_on, wait_of}
 use Rattle.psu_exec.specs.Calls.{job_out, stored, settle_answer, after_settle, opened}
-use Rattle.psu_server.specs.Lines.{Message, requests_of, messages}
+use Rattle.psu_server.specs.Lines.{Message, Asks, messages}
 
 -- the answers of a message so far, with one more; `;` joins them
 abbrev pub joined : List ℕ → List ℕ → List ℕ
@@ -79,14 +79,17 @@ units r text (request ∷ more) = units (unit r request).rest (with_answer text 
 abbrev pub restarted : Rest → Rest
 restarted r = at_start r.state.flush.limit r.stored
 
-abbrev pub message : Rest → Message → Told
-message r Message.Power = record { rest = restarted r; text = [] }
-message r m = record { rest = (units r [] (requests_of m)).rest; text = line_text (units r [] (requests_of m)).text }
+-- a message with these requests
+abbrev pub message : Rest → Message → List Request → Told
+message r Message.Power requests = record { rest = restarted r; text = [] }
+message r m requests = record { rest = (units r [] requests).rest; text = line_text (units r [] requests).text }
 
-abbrev pub script_from : Rest → List Message → List ℕ
-script_from r [] = []
-script_from r (m ∷ ms) = (message r m).text ++ script_from (message r m).rest ms
+-- the text of messages, one after another
+abbrev pub Scripted : Rest → List Message → List ℕ → Type 0
+Scripted r [] text = text ≡ []
+Scripted r (m ∷ ms) text =
+    (requests : List Request) × (more : List ℕ) × Asks m requests × Scripted (message r m requests).rest ms more × (text ≡ (message r m requests).text ++ more)
 
--- what is written for the bytes of an input, on an image of this limit that holds these contents
-abbrev pub script : Contents → ℕ → List ℕ → List ℕ
-script contents limit bytes = script_from (at_start limit contents) (messages bytes)
+-- what is written for the bytes of an input, on an image of this limit that holds these contents; there is one such text
+abbrev pub IsScript : Contents → ℕ → List ℕ → List ℕ → Type 0
+IsScript contents limit bytes text = Scripted (at_start limit contents) (messages bytes) text

@@ -1,7 +1,29 @@
-// The law of the text that a run writes.
+// The laws of the text that a run writes.
+ghost use Rattle.std.specs.Prelude.{ℕ, List, ◌≡◌};
+ghost use Rattle.psu_exec.specs.declared.contents.Contents.{Contents};
 ghost use Rattle.psu_server.specs.Runs.{ScriptAlone};
+ghost use Rattle.psu_server.specs.Script.{IsScript};
+
+use psu_exec::{every_unit_reads, one_reading_of_a_unit};
+use psu_lex::{every_list_has_units, one_list_of_units};
 
 /// Where no memory is refused, no disk call fails and the store isn't worn, the text that may be written is the script.
 pub fn script_is_the_only_text()
     ensures { ScriptAlone }
 {}
+
+/// No input has two scripts.
+pub fn one_script_of_an_input()
+    ensures { (contents : Contents) (limit : ℕ) (input text other : List ℕ) → IsScript contents limit input text → IsScript contents limit input other → text ≡ other }
+{
+    one_list_of_units();
+    one_reading_of_a_unit();
+}
+
+/// Every input has a script.
+pub fn every_input_has_a_script()
+    ensures { (contents : Contents) (limit : ℕ) (input : List ℕ) → (text : List ℕ) × IsScript contents limit input text }
+{
+    every_list_has_units();
+    every_unit_reads();
+}

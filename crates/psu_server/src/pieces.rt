@@ -74,7 +74,7 @@ pub fn close_line<D: Disk, A: Allocator + Copy>(
         lines.clear();
         return Ok(powered);
     }
-    let powered = message(powered, &lines.line, &mut answers)?;
+    let powered = message(alloc, powered, &lines.line, &mut answers)?;
     let Ok(()) = put_line(out, &answers) else {
         return Err(powered.fault(RunCause::Memory));
     };

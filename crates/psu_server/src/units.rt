@@ -1,9 +1,10 @@
 // The units of a message, with the flushes that they wait for.
-ghost use Rattle.std.specs.Prelude.{◌≡◌, ◌∷◌, [], ℕ, IfOk, IfErr, true, false};
+ghost use Rattle.std.specs.Prelude.{◌≡◌, ◌∷◌, [], ℕ, List, IfOk, IfErr, true, false};
 ghost use Rattle.psu_exec.specs.Device.{Reply, is_open, is_whole};
+ghost use Rattle.psu_exec.specs.declared.request.Request.{Request};
 ghost use Rattle.psu_exec.specs.Shown.{outcome_of};
 ghost use Rattle.psu_server.specs.Failures.{failures_of};
-ghost use Rattle.psu_server.specs.Lines.{is_blank, parts_of, request_of, requests};
+ghost use Rattle.psu_server.specs.Lines.{Message, Asks};
 ghost use Rattle.psu_server.specs.Runs.{is_final, is_later, is_out_of_memory, is_parked, UnitRuns, UnitsRun};
 ghost use Rattle.psu_server.specs.Within.{Within};
 ghost use Rattle.psu_server.specs.Progress.{Acted, Waited};
@@ -13,9 +14,9 @@ use crate::answers::put_answer;
 use crate::jobs::{flush, flush_jobs};
 use crate::powered::{Powered, fault_of};
 use crate::{RunCause, RunFault};
-use memchr::memchr;
 use psu_disk::Disk;
 use psu_exec::{Exec, Outcome, Request, ScpiError, Session, plain};
+use psu_lex::split;
 use std::alloc::Allocator;
 
 fn is_parked<A: Allocator + Copy>(outcome: &Outcome<A>) -> bool
@@ -150,49 +151,27 @@ pub fn perform<D: Disk, A: Allocator + Copy>(
     Ok(powered)
 }
 
-fn is_blank(text: &[u8]) -> bool
-    ensures { result ≡ is_blank text.now }
-{
-    text.iter().all(|&byte| byte <= 32 && byte != 10)
-}
-
-/// Executes the text between two `;`. White space alone is no unit.
-pub fn perform_text<D: Disk, A: Allocator + Copy>(
-    powered: Powered<D, A>,
-    text: &[u8],
-    answers: &mut Vec<u8, A>,
-) -> Result<Powered<D, A>, RunFault<D>>
-    ensures runs { IfOk result (λ p. Within (failures_of powered.exec) (failures_of p.exec)
-        (λ can. UnitsRun can powered.exec.device answers.old.items (requests (text.now ∷ [])) answers.new.items p.exec.device)) }
-    ensures explained { IfOk result (λ p. (start : ℕ) → IsExplained start powered.exec → IsExplained start p.exec) }
-    ensures caused { D.honest → IfErr result (λ f. (start : ℕ) → IsExplained start powered.exec → Stops start (D.failures f.disk) (D.state f.disk).bytes f.cause) }
-    ensures device { IfErr result (λ f. is_of_device f.cause ≡ true) }
-{
-    if is_blank(text) {
-        return Ok(powered);
-    }
-    let powered = perform(powered, &plain(text), answers)?;
-    Ok(powered)
-}
-
 /// Executes the units of a message.
 pub fn message<D: Disk, A: Allocator + Copy>(
+    alloc: A,
     powered: Powered<D, A>,
     bytes: &[u8],
     answers: &mut Vec<u8, A>,
 ) -> Result<Powered<D, A>, RunFault<D>>
-    ensures runs { IfOk result (λ p. Within (failures_of powered.exec) (failures_of p.exec)
-        (λ can. UnitsRun can powered.exec.device answers.old.items (requests (parts_of 59 bytes.now)) answers.new.items p.exec.device)) }
+    ensures runs { IfOk result (λ p. (requests : List Request) × Asks (Message.Units bytes.now) requests
+        × Within (failures_of powered.exec) (failures_of p.exec)
+        (λ can. UnitsRun can powered.exec.device answers.old.items requests answers.new.items p.exec.device)) }
     ensures explained { IfOk result (λ p. (start : ℕ) → IsExplained start powered.exec → IsExplained start p.exec) }
     ensures caused { D.honest → IfErr result (λ f. (start : ℕ) → IsExplained start powered.exec → Stops start (D.failures f.disk) (D.state f.disk).bytes f.cause) }
     ensures device { IfErr result (λ f. is_of_device f.cause ≡ true) }
 {
+    let Ok(units) = split(alloc, bytes) else {
+        return Err(powered.fault(RunCause::Memory));
+    };
+    let list = units.as_slice();
     let mut powered = powered;
-    let mut rest = bytes;
-    while let Some(at) = memchr(b';', rest) {
-        powered = perform_text(powered, &rest[..at], answers)?;
-        rest = &rest[at + 1..];
+    for unit in list {
+        powered = perform(powered, &plain(unit), answers)?;
     }
-    let powered = perform_text(powered, rest, answers)?;
     Ok(powered)
 }

@@ -16,6 +16,10 @@ returns-clause-runs g c =
     unit_later (outcome_of c.in_ok-powered.outcome) (outcome_of c.in_ok-powered-3.outcome) _ _ _ _ _ _ _ _ _ c.in_ok-powered.ensures.acted
     (sym c.is_later.ensures ∙ c.if-not-is_later.false) c.in_ok-powered-2.ensures.flushes c.in_ok-powered-3.ensures.acted (sym c.is_later-2.ensures ∙ c.if-is_later.false)
 
+pub returns-in_err-powered-clause-caused : goal.returns-in_err-powered-clause-caused
+returns-in_err-powered-clause-caused g c = λ h.
+    passed c.from_residual.result c.in_err-powered.field-0.0 _ c.from_residual.ensures.1 (c.in_err-powered.ensures.caused h)
+
 pub returns-in_err-powered-3-clause-caused : goal.returns-in_err-powered-3-clause-caused
 returns-in_err-powered-3-clause-caused g c = λ h.
     passed c.from_residual-in_err-powered-3.result c.in_err-powered-3.field-0.0 _ c.from_residual-in_err-powered-3.ensures.1
