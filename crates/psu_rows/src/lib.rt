@@ -12,6 +12,8 @@ mod locks;
 #[cfg(test)]
 mod memory;
 #[cfg(test)]
+mod messages;
+#[cfg(test)]
 mod outputs;
 #[cfg(test)]
 mod reports;

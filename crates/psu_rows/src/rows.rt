@@ -39,10 +39,6 @@ fn refusals_set_their_bit_alone(rt: HostRuntime) {
         ("*ESE -1;*ESR?;*ESE?\n", "144;0\n"),
         ("*PSC 32768;*ESR?;*PSC?\n", "144;1\n"),
         ("*PSC -32767;*ESR?\n", "128\n"),
-        // Not the text of a setter: two spaces, no number, six digits.
-        ("*SRE  1;*ESR?\n", "160\n"),
-        ("*SRE;*ESR?\n", "160\n"),
-        ("*SRE 000001;*ESR?\n", "160\n"),
         ("*PSC 0;*SRE 300;*OPC?\n!POWER\n*SRE?;*PSC?\n", "1\n0;0\n"),
     ];
     for (input, want) in rows {
