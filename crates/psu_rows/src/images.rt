@@ -9,21 +9,23 @@ pub const SIZE: u64 = 263_168;
 
 /// A formatted image of 256 pages, where memory suffices.
 pub fn formatted(alloc: Global) -> Option<MemDisk<Global>> {
-    let Ok(disk) = MemDisk::new(alloc, SIZE) else {
-        return None;
-    };
-    match Store::format(alloc, disk, 256) {
-        Ok(store) => Some(store.into_disk()),
-        Err(_) => None,
-    }
+    image(alloc, SIZE, 256)
 }
 
 /// A formatted image of 4 pages, the least there is.
 pub fn least(alloc: Global) -> Option<MemDisk<Global>> {
-    let Ok(disk) = MemDisk::new(alloc, 5_120) else {
+    image(alloc, 5_120, 4)
+}
+
+// A formatted image of so many bytes under this limit; none where the limit or the room is not one that an image can have.
+fn image(alloc: Global, size: u64, limit: u16) -> Option<MemDisk<Global>> {
+    if limit < 4 || limit > 480 || size < 512 * (2 + 2 * u64::from(limit)) {
+        return None;
+    }
+    let Ok(disk) = MemDisk::new(alloc, size) else {
         return None;
     };
-    match Store::format(alloc, disk, 4) {
+    match Store::format(alloc, disk, limit) {
         Ok(store) => Some(store.into_disk()),
         Err(_) => None,
     }
