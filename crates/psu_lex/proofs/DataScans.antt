@@ -1,22 +1,21 @@
 -- One datum at the front of a text.
-use Rattle.std.proofs.Common.{◌≡◌, ℕ, zero, suc, ◌+◌, ◌-◌, ◌<◌, ◌≤◌, ◌==◌, ◌||◌, ◌&&◌, not, Bool, true, false, List, [], ◌∷◌, ◌++◌, length, take, drop, refl, sym, ap, ◌∙◌, subst, if◌then◌else◌, arith, append_assoc, inl, inr, Option, Some, None, slice_index, take_all, drop-cons, IfSome, IfNone, unwrap_or}
-use Rattle.std.proofs.lemmas.Bool.{cases_Bool}
+use Rattle.std.proofs.Common.{◌≡◌, ℕ, zero, suc, ◌+◌, ◌-◌, ◌<◌, ◌≤◌, ◌==◌, ◌||◌, ◌&&◌, not, Bool, true, false, List, [], ◌∷◌, ◌++◌, length, take, drop, refl, sym, ap, ◌∙◌, subst, arith, append_assoc, Option, Some, None, slice_index, take_all, drop-cons, IfSome, IfNone, unwrap_or}
 use Rattle.std.proofs.lemmas.Bool.Decides.{nat_tests}
 use Rattle.std.proofs.lemmas.List.{append-nil, take-append-drop, append_cancel_right, drop_all}
 use Rattle.std.proofs.lemmas.Grind.{common_steps}
 use Rattle.psu_lex.specs.Bytes.{is_white, is_digit, is_letter, is_quote, all_white, starts, starts_quoted}
 use Rattle.psu_lex.specs.Number.{Number, IsNumber, Sign, Exponent, ExponentHolds, number_text, sign_text, fraction_text, fraction_digits, exponent_text, mantissa}
 use Rattle.psu_lex.specs.Number.Sign.{Plus, Minus, Unsigned}
-use Rattle.psu_lex.specs.Message.{Piece, spelling, IsWhole, BeginsPiece}
+use Rattle.psu_lex.specs.Message.{Piece, spelling, BeginsPiece}
 use Rattle.psu_lex.specs.Message.Piece.{Quoted, Counted, Open}
 use Rattle.psu_lex.specs.NumberScan.{run, left}
-use Rattle.psu_lex.specs.Syntax.{is_name_byte, all_name, is_node, Datum, class_of, IsWholeIn, ends_in_white, IsDatum, IsBefore, Lists}
+use Rattle.psu_lex.specs.Syntax.{is_name_byte, all_name, is_node, Datum, class_of, IsWholeIn, ends_in_white, IsDatum}
 use Rattle.psu_lex.specs.SyntaxScan.{is_uncut, class_at, is_parted, Trims, Splits, Ends, HasNone, Begins}
 use Rattle.psu_lex.specs.declared.datum_class.DatumClass.{DatumClass}
 use Rattle.psu_lex.specs.declared.datum_class.DatumClass.TheVariants.{Numeric, Character, String, Block}
 use Rattle.psu_lex.proofs.Quotes.{same_byte, same_head, same_tail, both}
 use Rattle.psu_lex.proofs.Unique.{same_piece, no_hash}
-use Rattle.psu_lex.proofs.Runs.{every, leads, digits_every, white_every, letters_every, every_head, every_tail, every_append, every_more, run_at, left_at, run_left, run_every, run_all}
+use Rattle.psu_lex.proofs.Runs.{every, leads, digits_every, white_every, letters_every, every_head, every_tail, every_append, every_more, run_at, run_left, run_every, run_all}
 use Rattle.psu_lex.proofs.Searches.{has_head, has_tail, free_before, free_all}
 use Rattle.psu_lex.specs.Scan.{has}
 use Rattle.memchr.specs.Find.{IsFirstByte, is_byte}

@@ -1,5 +1,4 @@
-use Rattle.std.proofs.Common.{sym, ◌∙◌, List, ℕ, subst}
-use Rattle.psu_lex.specs.Number.{IsNumber, number_text}
+use Rattle.std.proofs.Common.{sym, ◌∙◌}
 use Rattle.psu_lex.proofs.DataScans.{number_ends, no_number}
 use Rattle.psu_lex.proofs.data_scan.number_end.Goals as goal
 
