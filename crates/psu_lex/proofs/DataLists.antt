@@ -9,16 +9,17 @@ use Rattle.psu_lex.specs.SyntaxScan.{is_parted, Begins}
 use Rattle.psu_lex.specs.declared.datum_class.DatumClass.{DatumClass}
 use Rattle.psu_lex.proofs.Quotes.{same_byte, both}
 use Rattle.psu_lex.proofs.Runs.{leads, white_every, run_left, run_every, left_at, left_none}
-use Rattle.psu_lex.proofs.DataScans.{IsFirst, first_of, one_datum}
+use Rattle.psu_lex.proofs.FirstBytes.{IsFirst, first_of}
+use Rattle.psu_lex.proofs.DataScans.{one_datum}
 
 -- ---- white space
 
-pub white_left : (xs : List ℕ) → left is_white xs ≡ [] → all_white xs ≡ true
+white_left : (xs : List ℕ) → left is_white xs ≡ [] → all_white xs ≡ true
 white_left xs e =
     let same : run is_white xs ≡ xs = sym (append-nil (run is_white xs)) ∙ ap (λ (z : List ℕ). run is_white xs ++ z) (sym e) ∙ run_left is_white xs in
     subst (λ (z : List ℕ). all_white z ≡ true) same (white_every (run is_white xs) ∙ run_every is_white xs)
 
-pub left_white : (xs : List ℕ) → all_white xs ≡ true → left is_white xs ≡ []
+left_white : (xs : List ℕ) → all_white xs ≡ true → left is_white xs ≡ []
 left_white xs h = left_none is_white xs (sym (white_every xs) ∙ h)
 
 pub left_shorter : (xs : List ℕ) → length (left is_white xs) ≤ length xs

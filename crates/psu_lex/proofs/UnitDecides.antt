@@ -20,7 +20,10 @@ use Rattle.psu_lex.proofs.Exists.{some_tokens, Begun, decide_piece}
 use Rattle.psu_lex.proofs.NumberSound.{is_number, is_text, nothing}
 use Rattle.psu_lex.proofs.NumberFound.{none_without_digits, none_with_excess}
 use Rattle.psu_lex.proofs.HeaderScans.{header_out, no_header}
-use Rattle.psu_lex.proofs.DataScans.{number_ends, no_number, node_ends, no_node, quoted_ends, no_quoted, unquoted, open_ends, counted_ends, no_counted, unmarked, none_at, unparted_at, trims_at, first_of}
+use Rattle.psu_lex.proofs.FirstBytes.{first_of}
+use Rattle.psu_lex.proofs.WrittenData.{number_ends, no_number, node_ends, no_node}
+use Rattle.psu_lex.proofs.DataPieces.{quoted_ends, no_quoted, unquoted, open_ends, counted_ends, no_counted, unmarked}
+use Rattle.psu_lex.proofs.DataScans.{none_at, unparted_at, trims_at}
 use Rattle.psu_lex.proofs.StringScans.{suffix}
 use Rattle.psu_lex.proofs.DataLists.{left_shorter, lists_begin, lists_last, lists_more, rest_of, some_listed}
 use Rattle.psu_lex.proofs.UnitParts.{parts_of, unit_reads}

@@ -15,7 +15,7 @@ use Rattle.psu_lex.specs.declared.scpi_error.ScpiError.TheVariants.{InvalidChara
 use Rattle.psu_lex.proofs.Runs.{every, leads, every_head, every_append, every_more, run_at, left_at, run_left}
 use Rattle.psu_lex.proofs.Unique.{same_tokens}
 use Rattle.psu_lex.proofs.NumberSound.{left_stops}
-use Rattle.psu_lex.proofs.DataScans.{node_every}
+use Rattle.psu_lex.proofs.WrittenData.{node_every}
 use Rattle.psu_lex.proofs.DataLists.{left_over, space_white, one_list}
 
 -- ---- a header has no white space
@@ -127,7 +127,7 @@ one_result None text r q (tokens, reads, g) (others, more, h) =
 -- ---- the same, as the code goes
 
 -- what the code's result stands for
-abbrev pub Given : Option ScpiError → List ℕ → Result rust.Syntax ScpiError → Type 0
+abbrev Given : Option ScpiError → List ℕ → Result rust.Syntax ScpiError → Type 0
 Given fault text shown = (given : Result Syntax ScpiError) × FaultGives fault text given × Shows shown given
 
 pub given_fault : (fault : Option ScpiError) (text : List ℕ) (e : ScpiError) → fault ≡ Some e → Given fault text (Err e)
