@@ -1,26 +1,25 @@
 -- Lists of data: one datum after another.
-use Rattle.std.proofs.Common.{◌≡◌, ℕ, ◌+◌, ◌<◌, ◌≤◌, ◌==◌, ◌&&◌, Bool, true, false, List, [], ◌∷◌, ◌++◌, length, take, drop, refl, sym, ap, ◌∙◌, subst, arith, append_assoc, inl, inr, Option, Some, None, length-drop}
+use Rattle.std.proofs.Common.{◌≡◌, ℕ, ◌≤◌, ◌==◌, Bool, true, false, List, [], ◌∷◌, ◌++◌, length, drop, refl, sym, ap, ◌∙◌, subst, arith, inl, inr}
 use Rattle.std.proofs.lemmas.Bool.{cases_Bool}
-use Rattle.std.proofs.lemmas.Bool.Decides.{nat_tests}
-use Rattle.std.proofs.lemmas.List.{append-nil, take-append-drop}
-use Rattle.std.proofs.lemmas.Grind.{common_steps}
+use Rattle.std.proofs.lemmas.List.{append-nil}
 use Rattle.psu_lex.specs.Bytes.{is_white, all_white}
 use Rattle.psu_lex.specs.NumberScan.{run, left}
-use Rattle.psu_lex.specs.Syntax.{Datum, IsDatum, IsBefore, Lists, datum_of}
-use Rattle.psu_lex.specs.SyntaxScan.{class_at, is_parted, Splits, Ends, HasNone, Begins, FirstIs}
+use Rattle.psu_lex.specs.Syntax.{Datum, IsBefore, Lists}
+use Rattle.psu_lex.specs.SyntaxScan.{is_parted, Begins}
 use Rattle.psu_lex.specs.declared.datum_class.DatumClass.{DatumClass}
-use Rattle.psu_lex.proofs.Quotes.{same_byte, same_head, same_tail, both}
-use Rattle.psu_lex.proofs.Runs.{every, leads, white_every, run_left, run_every, left_at, left_none}
-use Rattle.psu_lex.proofs.DataScans.{IsFirst, first_of, class_is, one_datum}
+use Rattle.psu_lex.proofs.Quotes.{same_byte, both}
+use Rattle.psu_lex.proofs.Runs.{leads, white_every, run_left, run_every, left_at, left_none}
+use Rattle.psu_lex.proofs.FirstBytes.{IsFirst, first_of}
+use Rattle.psu_lex.proofs.DataScans.{one_datum}
 
 -- ---- white space
 
-pub white_left : (xs : List ℕ) → left is_white xs ≡ [] → all_white xs ≡ true
+white_left : (xs : List ℕ) → left is_white xs ≡ [] → all_white xs ≡ true
 white_left xs e =
     let same : run is_white xs ≡ xs = sym (append-nil (run is_white xs)) ∙ ap (λ (z : List ℕ). run is_white xs ++ z) (sym e) ∙ run_left is_white xs in
     subst (λ (z : List ℕ). all_white z ≡ true) same (white_every (run is_white xs) ∙ run_every is_white xs)
 
-pub left_white : (xs : List ℕ) → all_white xs ≡ true → left is_white xs ≡ []
+left_white : (xs : List ℕ) → all_white xs ≡ true → left is_white xs ≡ []
 left_white xs h = left_none is_white xs (sym (white_every xs) ∙ h)
 
 pub left_shorter : (xs : List ℕ) → length (left is_white xs) ≤ length xs

@@ -1,5 +1,5 @@
 -- Bytes of 127 or more outside strings and blocks.
-use Rattle.std.proofs.Common.{◌≡◌, ℕ, ◌+◌, ◌<◌, ◌||◌, nat_lt, Bool, true, false, List, [], ◌∷◌, ◌++◌, length, take, drop, refl, sym, ap, ◌∙◌, subst, arith, inl, inr, Option, Some, None, slice_index}
+use Rattle.std.proofs.Common.{◌≡◌, ℕ, ◌||◌, Bool, true, false, List, [], ◌∷◌, ◌++◌, take, drop, refl, sym, ap, subst, arith, inl, inr, Some, None}
 use Rattle.std.proofs.lemmas.Bool.{cases_Bool}
 use Rattle.std.proofs.lemmas.Bool.Decides.{nat_tests}
 use Rattle.std.proofs.lemmas.List.{append-nil, take-append-drop}
@@ -31,7 +31,7 @@ or_same : (a b c : Bool) → a || (b || c) ≡ (a || b) || c
 or_same true b c = refl
 or_same false b c = refl
 
-pub tells_run : (run rest : List ℕ) (high : Bool) → has opens run ≡ false → Tells rest high → Tells (run ++ rest) (has is_high run || high)
+tells_run : (run rest : List ℕ) (high : Bool) → has opens run ≡ false → Tells rest high → Tells (run ++ rest) (has is_high run || high)
 tells_run [] rest high o t = t
 tells_run (x ∷ run) rest high o t =
     subst (Tells (x ∷ (run ++ rest))) (or_same (is_high x) (has is_high run) high)
@@ -52,7 +52,7 @@ or_false false = refl
 
 -- ---- the same, as the scan goes
 
-pub no_opening : (bytes : List ℕ) → IsFirstByte (is_byte3 34 39 35) bytes None → has opens bytes ≡ false
+no_opening : (bytes : List ℕ) → IsFirstByte (is_byte3 34 39 35) bytes None → has opens bytes ≡ false
 no_opening bytes h = free_all opens bytes h
 
 pub before_opening : (bytes : List ℕ) (n : ℕ) → IsFirstByte (is_byte3 34 39 35) bytes (Some n) → (has opens (take n bytes) ≡ false) × (opens_first (drop n bytes) ≡ true)

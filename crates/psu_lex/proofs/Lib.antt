@@ -16,6 +16,9 @@ pub mod Rounding
 pub mod NumberValue
 pub mod Expansions
 pub mod HeaderScans
+pub mod FirstBytes
+pub mod WrittenData
+pub mod DataPieces
 pub mod DataScans
 pub mod DataLists
 pub mod HighBytes

@@ -1,28 +1,31 @@
 -- Whether a text is a header and data.
-use Rattle.std.proofs.Common.{◌≡◌, ◌⊎◌, ℕ, zero, suc, ◌+◌, ◌-◌, ◌<◌, ◌≤◌, ◌==◌, ◌&&◌, Bool, true, false, List, [], ◌∷◌, ◌++◌, length, take, drop, refl, sym, ap, ◌∙◌, subst, arith, append_assoc, inl, inr, Option, Some, None, Result, Ok, Err, ℤ, length-append}
+use Rattle.std.proofs.Common.{◌≡◌, ◌⊎◌, ℕ, zero, suc, ◌-◌, ◌<◌, ◌≤◌, Bool, true, false, List, [], ◌∷◌, ◌++◌, length, take, drop, refl, sym, ap, ◌∙◌, subst, arith, inl, inr, Option, Some, None, Result, Ok, Err, ℤ, length-append}
 use Rattle.std.proofs.lemmas.Bool.{cases_Bool}
 use Rattle.std.proofs.lemmas.Bool.Decides.{nat_tests}
-use Rattle.std.proofs.lemmas.List.{append-nil, take-append-drop}
+use Rattle.std.proofs.lemmas.List.{take-append-drop}
 use Rattle.std.proofs.Math.Seq.{take-append_seam}
-use Rattle.psu_lex.specs.Bytes.{is_white, is_dark, is_quote, opens, is_closed, all_white, starts, starts_quoted}
+use Rattle.psu_lex.specs.Bytes.{is_white, is_dark, is_closed, all_white, starts, starts_quoted}
 use Rattle.psu_lex.specs.Number.{Number, IsNumber, NumberGives, number_text, mantissa, reading_of}
 use Rattle.psu_lex.specs.NumberScan.{run, left, is_nonempty, scanned, excess_of, at_tail}
-use Rattle.psu_lex.specs.Message.{Token, BeginsPiece, spelling, opens_first}
-use Rattle.psu_lex.specs.Syntax.{Datum, ends_in_white, is_node, IsDatum, Lists, Syntax, SpellsHeader, UnitReads, has_high, TextGives, FaultGives}
+use Rattle.psu_lex.specs.Message.{BeginsPiece, spelling, opens_first}
+use Rattle.psu_lex.specs.Syntax.{Datum, ends_in_white, is_node, Lists, Syntax, SpellsHeader, UnitReads, has_high, TextGives, FaultGives}
 use Rattle.psu_lex.specs.SyntaxScan.{is_header, is_uncut, class_at, is_parted, Trims, Splits, Ends, HasNone, Begins}
 use Rattle.psu_lex.specs.declared.datum_class.DatumClass.{DatumClass}
 use Rattle.psu_lex.specs.declared.datum_class.DatumClass.TheVariants.{Numeric, Character, String, Block}
 use Rattle.psu_lex.specs.declared.scpi_error.ScpiError.{ScpiError}
 use Rattle.psu_lex.specs.declared.scpi_error.ScpiError.TheVariants.{InvalidCharacter, SyntaxError}
-use Rattle.psu_lex.proofs.Quotes.{both, same_byte}
+use Rattle.psu_lex.proofs.Quotes.{same_byte}
 use Rattle.psu_lex.proofs.Runs.{run_left}
 use Rattle.psu_lex.proofs.Exists.{some_tokens, Begun, decide_piece}
 use Rattle.psu_lex.proofs.NumberSound.{is_number, is_text, nothing}
 use Rattle.psu_lex.proofs.NumberFound.{none_without_digits, none_with_excess}
 use Rattle.psu_lex.proofs.HeaderScans.{header_out, no_header}
-use Rattle.psu_lex.proofs.DataScans.{number_ends, no_number, node_ends, no_node, quoted_ends, no_quoted, unquoted, open_ends, counted_ends, no_counted, unmarked, none_at, unparted_at, trims_at, first_of}
+use Rattle.psu_lex.proofs.FirstBytes.{first_of}
+use Rattle.psu_lex.proofs.WrittenData.{number_ends, no_number, node_ends, no_node}
+use Rattle.psu_lex.proofs.DataPieces.{quoted_ends, no_quoted, unquoted, open_ends, counted_ends, no_counted, unmarked}
+use Rattle.psu_lex.proofs.DataScans.{none_at, unparted_at, trims_at}
 use Rattle.psu_lex.proofs.StringScans.{suffix}
-use Rattle.psu_lex.proofs.DataLists.{left_shorter, lists_begin, lists_last, lists_more, rest_of, some_listed, none_begins}
+use Rattle.psu_lex.proofs.DataLists.{left_shorter, lists_begin, lists_last, lists_more, rest_of, some_listed}
 use Rattle.psu_lex.proofs.UnitParts.{parts_of, unit_reads}
 
 -- ---- numbers

@@ -1,24 +1,21 @@
 -- A unit: its header, and what stands behind it.
-use Rattle.std.proofs.Common.{◌≡◌, ℕ, ◌==◌, ◌||◌, ◌&&◌, Bool, true, false, not, List, [], ◌∷◌, ◌++◌, refl, sym, ap, ◌∙◌, subst, arith, append_assoc, inl, inr, Option, Some, None, Result, Ok, Err, IfSome, IfNone}
-use Rattle.std.proofs.lemmas.Bool.{cases_Bool}
+use Rattle.std.proofs.Common.{◌≡◌, ℕ, Bool, true, false, not, List, [], ◌∷◌, ◌++◌, refl, sym, ap, ◌∙◌, subst, arith, inl, inr, Option, Some, None, Result, Ok, Err, IfSome, IfNone}
 use Rattle.std.proofs.lemmas.Bool.Decides.{nat_tests}
-use Rattle.std.proofs.lemmas.List.{append-nil}
 use Rattle.std.proofs.lemmas.Grind.{common_steps}
 use Rattle.std.specs.Option.{ok_or}
-use Rattle.psu_lex.specs.Bytes.{is_white, is_dark, is_letter, all_white, is_closed}
+use Rattle.psu_lex.specs.Bytes.{is_white, is_dark, is_closed}
 use Rattle.psu_lex.specs.NumberScan.{run, left}
 use Rattle.psu_lex.specs.Message.{Token, Reads}
 use Rattle.psu_lex.specs.Syntax.{is_name_byte, is_node, all_nodes, behind, ask_text, Mark, mark_text, Header, IsHeader, header_text, SpellsHeader, Lists, Syntax, is_apart, UnitReads, has_high, TextGives, FaultGives}
 use Rattle.psu_lex.specs.Syntax.Mark.{Star, Colon, Bare}
-use Rattle.psu_lex.specs.SyntaxScan.{is_header, Shows, ShowsSyntax}
+use Rattle.psu_lex.specs.SyntaxScan.{Shows, ShowsSyntax}
 use Rattle.psu_lex.specs.declared.unit_syntax.Syntax as rust
 use Rattle.psu_lex.specs.declared.scpi_error.ScpiError.{ScpiError}
 use Rattle.psu_lex.specs.declared.scpi_error.ScpiError.TheVariants.{InvalidCharacter, SyntaxError}
-use Rattle.psu_lex.proofs.Runs.{every, leads, white_every, every_head, every_append, every_more, run_at, left_at, run_left, run_every}
-use Rattle.psu_lex.proofs.Quotes.{both}
+use Rattle.psu_lex.proofs.Runs.{every, leads, every_head, every_append, every_more, run_at, left_at, run_left}
 use Rattle.psu_lex.proofs.Unique.{same_tokens}
 use Rattle.psu_lex.proofs.NumberSound.{left_stops}
-use Rattle.psu_lex.proofs.DataScans.{node_every}
+use Rattle.psu_lex.proofs.WrittenData.{node_every}
 use Rattle.psu_lex.proofs.DataLists.{left_over, space_white, one_list}
 
 -- ---- a header has no white space
@@ -130,7 +127,7 @@ one_result None text r q (tokens, reads, g) (others, more, h) =
 -- ---- the same, as the code goes
 
 -- what the code's result stands for
-abbrev pub Given : Option ScpiError → List ℕ → Result rust.Syntax ScpiError → Type 0
+abbrev Given : Option ScpiError → List ℕ → Result rust.Syntax ScpiError → Type 0
 Given fault text shown = (given : Result Syntax ScpiError) × FaultGives fault text given × Shows shown given
 
 pub given_fault : (fault : Option ScpiError) (text : List ℕ) (e : ScpiError) → fault ≡ Some e → Given fault text (Err e)

@@ -1,11 +1,11 @@
 -- The syntax of a unit: its header, and its data.
 -- Sources: IEEE 488.2, 7.3 (units), 7.6 (headers), 7.7 (data); SCPI-1999 volume 1, 6.2 (headers of several nodes).
-use Rattle.std.specs.Prelude.{◌≡◌, ◌⊎◌, ℕ, ◌<◌, ◌==◌, ◌||◌, ◌&&◌, nat_lt, Bool, true, false, List, [], ◌∷◌, ◌++◌, length, Option, Some, None, Result, Ok, Err, if◌then◌else◌}
+use Rattle.std.specs.Prelude.{◌≡◌, ◌⊎◌, ℕ, ◌==◌, ◌||◌, ◌&&◌, nat_lt, Bool, true, false, List, [], ◌∷◌, ◌++◌, Option, Some, None, Result, Ok, Err, if◌then◌else◌}
 use Rattle.psu_lex.specs.Bytes.{is_white, is_digit, is_letter, all_white, is_closed}
 use Rattle.psu_lex.specs.Number.{Number, IsNumber, number_text}
 use Rattle.psu_lex.specs.Message.{Piece, spelling, IsWhole, Token, Reads, Part}
 use Rattle.psu_lex.specs.Message.Piece.{Quoted, Counted, Open}
-use Rattle.psu_lex.specs.Message.Token.{Byte, Separator, Whole, Faulty}
+use Rattle.psu_lex.specs.Message.Token.{Byte}
 use Rattle.psu_lex.specs.declared.datum_class.DatumClass.{DatumClass}
 use Rattle.psu_lex.specs.declared.datum_class.DatumClass.TheVariants.{Numeric, Character, String, Block}
 use Rattle.psu_lex.specs.declared.datum.Datum as rust

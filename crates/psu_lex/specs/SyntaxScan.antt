@@ -1,5 +1,5 @@
 -- Words of the contracts inside this crate: what the scan of a unit's header and data has found.
-use Rattle.std.specs.Prelude.{◌≡◌, ℕ, ◌==◌, ◌||◌, ◌&&◌, not, nat_lt, Bool, true, false, List, [], ◌∷◌, ◌++◌, take, drop, Option, Some, None, Result, Ok, Err, if◌then◌else◌}
+use Rattle.std.specs.Prelude.{◌≡◌, ℕ, ◌==◌, ◌&&◌, not, nat_lt, Bool, true, false, List, [], ◌∷◌, ◌++◌, take, drop, Option, Some, None, Result, Ok, Err, if◌then◌else◌}
 use Rattle.psu_lex.specs.Bytes.{is_white, is_letter, is_quote, all_white}
 use Rattle.psu_lex.specs.NumberScan.{run, left}
 use Rattle.psu_lex.specs.Syntax.{is_name_byte, ends_in_white, Datum, IsDatum, Lists, Syntax, datum_of}

@@ -1,5 +1,5 @@
 // Where the data of a unit begin and end.
-ghost use Rattle.std.specs.Prelude.{ℕ, List, ◌∷◌, ◌≡◌, ◌<◌, ◌≤◌, true, false, length, take, drop, IfSome, IfNone};
+ghost use Rattle.std.specs.Prelude.{ℕ, List, ◌≡◌, ◌≤◌, true, false, length, take, drop, IfSome, IfNone};
 ghost use Rattle.psu_lex.specs.Bytes.{all_white, is_white};
 ghost use Rattle.psu_lex.specs.NumberScan.{left};
 ghost use Rattle.psu_lex.specs.Syntax.{Datum as DatumData, Lists, datum_of, ends_in_white};

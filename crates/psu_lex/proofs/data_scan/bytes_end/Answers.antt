@@ -1,6 +1,7 @@
 use Rattle.std.proofs.Common.{sym, ◌∙◌, ap, refl}
 use Rattle.psu_lex.specs.Bytes.{starts}
-use Rattle.psu_lex.proofs.DataScans.{open_ends, counted_some, counted_none, unmarked}
+use Rattle.psu_lex.proofs.DataPieces.{open_ends, unmarked}
+use Rattle.psu_lex.proofs.DataScans.{counted_some, counted_none}
 use Rattle.psu_lex.proofs.data_scan.bytes_end.Goals as goal
 
 pub returns-then-not-begins-clause-none : goal.returns-then-not-begins-clause-none

@@ -1,4 +1,4 @@
-use Rattle.std.proofs.Common.{◌≡◌, ◌<◌, ◌≤◌, sym, ◌∙◌, ap, List, ℕ, subst, length, arith, length-drop, drop}
+use Rattle.std.proofs.Common.{sym, ◌∙◌, ap, List, ℕ, subst, length, arith, length-drop}
 use Rattle.psu_lex.specs.Bytes.{is_white}
 use Rattle.psu_lex.specs.NumberScan.{left}
 use Rattle.psu_lex.specs.SyntaxScan.{Splits, is_parted}

@@ -1,7 +1,5 @@
 use Rattle.std.proofs.Common.{◌≡◌, ◌∷◌, [], List, ℕ, true, sym, ap, ◌∙◌, subst, drop}
-use Rattle.psu_lex.specs.Bytes.{is_white}
-use Rattle.psu_lex.specs.NumberScan.{left}
-use Rattle.psu_lex.specs.Syntax.{Datum, Lists, datum_of}
+use Rattle.psu_lex.specs.Syntax.{Lists, datum_of}
 use Rattle.psu_lex.specs.SyntaxScan.{is_parted}
 use Rattle.psu_lex.proofs.Expansions.{no_bytes}
 use Rattle.psu_lex.proofs.DataLists.{some_listed, lists_begin, lists_last, lists_more, parted_cons, rest_of}

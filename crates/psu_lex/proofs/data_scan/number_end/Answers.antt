@@ -1,6 +1,5 @@
-use Rattle.std.proofs.Common.{sym, ◌∙◌, List, ℕ, subst}
-use Rattle.psu_lex.specs.Number.{IsNumber, number_text}
-use Rattle.psu_lex.proofs.DataScans.{number_ends, no_number}
+use Rattle.std.proofs.Common.{sym, ◌∙◌}
+use Rattle.psu_lex.proofs.WrittenData.{number_ends, no_number}
 use Rattle.psu_lex.proofs.data_scan.number_end.Goals as goal
 
 pub returns-in-Some-clause-some : goal.returns-in-Some-clause-some

@@ -1,5 +1,6 @@
 use Rattle.std.proofs.Common.{sym, ◌∙◌}
-use Rattle.psu_lex.proofs.DataScans.{quoted_some, quoted_none, unquoted}
+use Rattle.psu_lex.proofs.DataPieces.{unquoted}
+use Rattle.psu_lex.proofs.DataScans.{quoted_some, quoted_none}
 use Rattle.psu_lex.proofs.data_scan.text_end.Goals as goal
 
 pub returns-then-is_quote_byte-clause-some : goal.returns-then-is_quote_byte-clause-some

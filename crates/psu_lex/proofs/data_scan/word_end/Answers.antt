@@ -1,6 +1,6 @@
 use Rattle.std.proofs.Common.{sym, ◌∙◌, ap}
 use Rattle.psu_lex.specs.Syntax.{is_node}
-use Rattle.psu_lex.proofs.DataScans.{node_ends, no_node}
+use Rattle.psu_lex.proofs.WrittenData.{node_ends, no_node}
 use Rattle.psu_lex.proofs.data_scan.word_end.Goals as goal
 
 pub returns-then-is_node-clause-some : goal.returns-then-is_node-clause-some

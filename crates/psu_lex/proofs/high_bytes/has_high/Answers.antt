@@ -1,5 +1,5 @@
 use Rattle.std.proofs.Common.{◌≡◌, ◌||◌, ℕ, List, Bool, true, false, take, sym, subst, ◌∙◌, ap}
-use Rattle.psu_lex.specs.Message.{HasNoPiece, BeginsPiece, opens_first}
+use Rattle.psu_lex.specs.Message.{HasNoPiece}
 use Rattle.psu_lex.specs.Bytes.{is_closed}
 use Rattle.psu_lex.specs.Scan.{has}
 use Rattle.psu_lex.specs.SyntaxScan.{is_high}

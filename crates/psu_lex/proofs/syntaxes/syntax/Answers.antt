@@ -1,4 +1,4 @@
-use Rattle.std.proofs.Common.{◌≡◌, sym, ◌∙◌}
+use Rattle.std.proofs.Common.{sym, ◌∙◌}
 use Rattle.psu_lex.proofs.UnitParts.{given_fault, given_high, given_cut}
 use Rattle.psu_lex.proofs.syntaxes.syntax.Goals as goal
 

@@ -1,6 +1,5 @@
-use Rattle.std.proofs.Common.{◌≡◌, List, ℕ, sym, subst}
-use Rattle.psu_lex.specs.Syntax.{Datum, Lists, datum_of}
-use Rattle.psu_lex.specs.SyntaxScan.{Begins}
+use Rattle.std.proofs.Common.{List, ℕ, sym, subst}
+use Rattle.psu_lex.specs.Syntax.{Lists, datum_of}
 use Rattle.psu_lex.proofs.DataLists.{none_begins, rest_of}
 use Rattle.psu_lex.proofs.data.Data.first.Goals as goal
 
