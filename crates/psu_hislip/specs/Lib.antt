@@ -1,0 +1,2 @@
+pub mod MessageType
+pub mod Header
