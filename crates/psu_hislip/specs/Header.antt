@@ -1,4 +1,4 @@
--- The header of a message. Source: IVI-6.1, table 3.
+-- The header of a message. Source: IVI-6.1.
 use Rattle.std.specs.Prelude.{ℕ, ◌<◌, ◌^◌, List, ◌∷◌, ◌++◌}
 use Rattle.std.specs.Int.{w32, w64, to_be_bytes}
 use Rattle.psu_hislip.specs.declared.header.Header.{Header}

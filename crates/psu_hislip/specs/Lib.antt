@@ -1,2 +1,5 @@
 pub mod MessageType
 pub mod Header
+pub mod Faults
+pub mod Stream
+pub mod First

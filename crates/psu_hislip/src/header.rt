@@ -4,7 +4,7 @@ ghost use Rattle.psu_hislip.specs.MessageType.{type_of};
 
 use crate::MessageType;
 
-/// The header of a message (IVI-6.1, table 3), without its prologue `HS`.
+/// The header of a message (IVI-6.1), without its prologue `HS`.
 #[derive(Clone, Copy, Debug, PartialEq, Eq)]
 pub struct Header {
     /// The code of the message's type, also where there is no such type.

@@ -2,7 +2,7 @@
 ghost use Rattle.std.specs.Prelude.{◌≡◌};
 ghost use Rattle.psu_hislip.specs.MessageType.{code_of, type_of};
 
-/// The type of a message, by its name in IVI-6.1 (table 4).
+/// The type of a message, by its name in IVI-6.1.
 #[derive(Clone, Copy, Debug, PartialEq, Eq)]
 pub enum MessageType {
     Initialize = 0,
