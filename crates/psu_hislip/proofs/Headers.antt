@@ -67,3 +67,7 @@ pub read_one : (h k : Header) (bs : List ℕ) → Fits h → Fits k → header_b
 read_one h k bs f g d e =
     let both : header_bytes h ++ [] ≡ header_bytes k ++ [] = ap (λ (z : List ℕ). z ++ []) (d ∙ e) in
     (same_header h k [] [] f g both).0
+
+pub header_begins : (h : Header) (x : List ℕ) → take 2 (header_bytes h ++ x) ≡ 72 ∷ 83 ∷ []
+unfolding header_bytes
+header_begins h x = refl

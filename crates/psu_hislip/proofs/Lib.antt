@@ -1,3 +1,5 @@
 pub mod Headers
 pub mod Items
 pub mod Types
+pub mod Channels
+pub mod Divisions

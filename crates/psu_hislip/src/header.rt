@@ -24,6 +24,7 @@ impl Header {
     pub fn read(bytes: &[u8; 16]) -> Option<Header>
         ensures some { IsSome result ↔ (take 2 bytes.now ≡ 72 ∷ 83 ∷ []) }
         ensures bytes { IfSome result (λ header. header_bytes header ≡ bytes.now) }
+        ensures fits { IfSome result (λ header. Fits header) }
         ensures inverse { (header : Header) → Fits header → bytes.now ≡ header_bytes header → result ≡ Some header }
     {
         let [

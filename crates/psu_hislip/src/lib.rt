@@ -3,18 +3,24 @@
 //! Source: IVI-6.1 (HiSLIP 1.0, synchronized mode), with the choices of this project's profile.
 #![tactic(auto)]
 
+mod channel;
 mod error_code;
 mod fatal_code;
 mod first;
 mod header;
+mod laws;
 mod message;
 mod message_type;
+mod rest;
 mod side;
+mod step;
 
+pub use channel::Channel;
 pub use error_code::ErrorCode;
 pub use fatal_code::FatalCode;
 pub use first::First;
 pub use header::Header;
+pub use laws::{fed_is_the_stream, one_division, pieces_do_not_count};
 pub use message::Message;
 pub use message_type::MessageType;
 pub use side::Side;
