@@ -1,7 +1,11 @@
 pub mod MessageType
 pub mod Header
 pub mod Faults
+pub mod Frame
 pub mod Stream
 pub mod First
 pub mod Channel
 pub mod Rest
+pub mod Action
+pub mod Core
+pub mod Answer

@@ -19,6 +19,19 @@ pub struct Header {
 
 impl Header {
     ghost use Rattle.psu_hislip.specs.Header.{header_bytes, Fits};
+    ghost use Rattle.psu_hislip.specs.Frame.{header_of};
+
+    /// The header of a message of this type, control code and parameter, with so many bytes of payload.
+    pub fn new(kind: MessageType, control: u8, parameter: u32, length: u64) -> Header
+        ensures { result ≡ header_of kind control parameter length }
+    {
+        Header {
+            kind: kind.code(),
+            control,
+            parameter,
+            length,
+        }
+    }
 
     /// The header that these bytes are, unless they do not begin with `HS`. Numbers come most significant byte first.
     pub fn read(bytes: &[u8; 16]) -> Option<Header>

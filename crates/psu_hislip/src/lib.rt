@@ -3,10 +3,14 @@
 //! Source: IVI-6.1 (HiSLIP 1.0, synchronized mode), with the choices of this project's profile.
 #![tactic(auto)]
 
+mod action;
 mod channel;
+mod device_clear;
 mod error_code;
 mod fatal_code;
+mod faults;
 mod first;
+mod frames;
 mod header;
 mod laws;
 mod message;
@@ -15,8 +19,10 @@ mod rest;
 mod side;
 mod step;
 
+pub use action::Action;
 pub use channel::Channel;
 pub use error_code::ErrorCode;
+pub use device_clear::DeviceClear;
 pub use fatal_code::FatalCode;
 pub use first::First;
 pub use header::Header;
