@@ -3,3 +3,4 @@ pub mod Items
 pub mod Types
 pub mod Channels
 pub mod Divisions
+pub mod Cuts

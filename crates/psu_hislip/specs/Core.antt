@@ -157,19 +157,29 @@ locked h string =
 abbrev pub own_size : List ℕ
 own_size = 0 ∷ 0 ∷ 0 ∷ 0 ∷ 0 ∷ 1 ∷ 0 ∷ 0 ∷ []
 
+abbrev pub joining : Core → Outcome
+joining core = told (reply Async AsyncInitializeResponse 0 ∷ []) (record core { joined = true })
+
+abbrev pub triggered : Core → Outcome
+triggered core = unless_begun core (told (Act.Trigger ∷ []) core)
+
+-- the client's size, most significant byte first
+abbrev pub sized : Core → List ℕ → Outcome
+sized core size =
+    told (Act.Send Async (frame_bytes AsyncMaximumMessageSizeResponse 0 0 own_size) ∷ []) (record core { size = Some (from_be_bytes w64 size) })
+
 abbrev pub row : Core → MessageType → Header → List ℕ → Outcome
-row core AsyncInitialize h payload = told (reply Async AsyncInitializeResponse 0 ∷ []) (record core { joined = true })
+row core AsyncInitialize h payload = joining core
 row core Data h payload = unless_begun core (told (delivered h) (with_bytes core payload))
 row core DataEnd h payload =
     unless_begun core (told (delivered h ++ executed (with_bytes core payload) h.parameter ∷ []) (without_bytes core))
-row core Trigger h payload = unless_begun core (told (Act.Trigger ∷ []) core)
+row core Trigger h payload = triggered core
 row core DeviceClearComplete h payload = completed core core.clear
 row core AsyncDeviceClear h payload = cleared core core.clear
 row core AsyncLock h payload = told (locked h payload ∷ []) core
 row core AsyncLockInfo h payload = told (Act.Info ∷ []) core
 row core AsyncRemoteLocalControl h payload = told (reply Async AsyncRemoteLocalResponse 0 ∷ []) core
-row core AsyncMaximumMessageSize h payload =
-    told (Act.Send Async (frame_bytes AsyncMaximumMessageSizeResponse 0 0 own_size) ∷ []) (record core { size = Some (from_be_bytes w64 payload) })
+row core AsyncMaximumMessageSize h payload = sized core payload
 row core AsyncStatusQuery h payload = told (Act.Status (is_delivered h) ∷ []) core
 row core type h payload = told [] core
 

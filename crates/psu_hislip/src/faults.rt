@@ -40,8 +40,9 @@ fn ill_formed(kind: MessageType, header: Header, payload: &[u8]) -> Option<Error
 {
     match kind {
         MessageType::AsyncLock if header.control > 1 => Some(ErrorCode::UnrecognizedControl),
-        MessageType::AsyncRemoteLocalControl if header.control > 6 =>
-            Some(ErrorCode::UnrecognizedControl),
+        MessageType::AsyncRemoteLocalControl if header.control > 6 => Some(
+            ErrorCode::UnrecognizedControl,
+        ),
         MessageType::AsyncMaximumMessageSize if payload.len() != 8 => Some(ErrorCode::Unidentified),
         _ => None,
     }
@@ -54,7 +55,9 @@ pub fn error<A: Allocator + Copy>(side: Side, message: &Message<A>) -> Option<Er
     match message {
         Message::BadHeader => None,
         Message::Oversize(_) => Some(ErrorCode::TooLarge),
-        Message::Frame(header, _) if header.kind >= VENDOR => Some(ErrorCode::UnrecognizedVendorType),
+        Message::Frame(header, _) if header.kind >= VENDOR => Some(
+            ErrorCode::UnrecognizedVendorType,
+        ),
         Message::Frame(header, payload) => match header.message_type() {
             Some(kind) if takes(side, kind) => ill_formed(kind, *header, payload),
             _ => Some(ErrorCode::UnrecognizedType),

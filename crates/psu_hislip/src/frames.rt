@@ -58,3 +58,14 @@ pub fn one<A: Allocator + Copy>(
     actions.push(action)?;
     Ok(actions)
 }
+
+/// Adds an action.
+pub fn put<A: Allocator + Copy>(
+    actions: &mut Vec<Action<A>, A>,
+    action: Action<A>,
+) -> Result<(), AllocError>
+    ensures { OnOk result (acts actions.new.items ≡ acts actions.old.items ++ act action ∷ []) }
+{
+    actions.push(action)?;
+    Ok(())
+}
