@@ -1,12 +1,12 @@
 -- What a channel awaits, from one step to the next.
-use Rattle.std.proofs.Common.{◌≡◌, ◌≢◌, ℕ, ◌+◌, ◌-◌, ◌<◌, ◌≤◌, List, [], ◌∷◌, ◌++◌, length, take, drop, refl, sym, ap, ◌∙◌, subst, arith, append_assoc, inl, inr, length-append, length-drop, ◌⊎◌, Bool, true, ◌==◌, Option, Some, None}
+use Rattle.std.proofs.Common.{◌≡◌, ◌≢◌, ℕ, ◌-◌, ◌<◌, ◌≤◌, List, [], ◌∷◌, ◌++◌, length, take, drop, refl, sym, ap, ◌∙◌, subst, arith, append_assoc, inl, inr, length-append, length-drop, Bool, true, ◌==◌, Option, Some, None}
 use Rattle.std.proofs.lemmas.List.{append-nil, take-append-le, take-append-drop, take_all}
 use Rattle.psu_hislip.specs.declared.header.Header.{Header}
 use Rattle.psu_hislip.specs.Header.{header_bytes, Fits}
-use Rattle.psu_hislip.specs.Stream.{Received, Stands, IsStream, received}
+use Rattle.psu_hislip.specs.Stream.{Received, IsStream, received}
 use Rattle.psu_hislip.specs.Stream.Received.{Frame, Oversize, BadHeader}
 use Rattle.psu_hislip.specs.Channel.{Awaited, Follows, Moves, Fed}
-use Rattle.psu_hislip.specs.Channel.Awaited.{Begun, Passing, Ended, Failed}
+use Rattle.psu_hislip.specs.Channel.Awaited.{Begun, Passing, Ended}
 use Rattle.psu_hislip.specs.Rest.{awaited, IsRest, all_received, given}
 use Rattle.psu_hislip.specs.declared.message.Message.{Message}
 use Rattle.psu_hislip.specs.declared.rest.Rest.{Rest}

@@ -4,7 +4,7 @@ use Rattle.std.proofs.lemmas.List.{append-nil, take-append-drop, take_all, lengt
 use Rattle.std.proofs.lemmas.List.Elements.{All-nil, All-push}
 use Rattle.std.specs.Prelude.{flat_map}
 use Rattle.psu_hislip.specs.Frame.{frame_bytes}
-use Rattle.psu_hislip.specs.Answer.{joined, IsCut, frames_of, IsAnswer}
+use Rattle.psu_hislip.specs.Answer.{joined, IsAnswer}
 use Rattle.psu_hislip.specs.declared.message_type.MessageType.TheVariants.{Data, DataEnd}
 
 -- the full pieces so far as Data, and the rest of the answer

@@ -1,5 +1,5 @@
 -- Headers and their bytes.
-use Rattle.std.proofs.Common.{◌≡◌, ℕ, zero, suc, ◌+◌, ◌<◌, ◌^◌, List, [], ◌∷◌, ◌++◌, length, get_or, take, drop, refl, sym, ap, ◌∙◌, arith, ◌↔◌, Some, None, IsSome}
+use Rattle.std.proofs.Common.{◌≡◌, ℕ, zero, suc, ◌<◌, List, [], ◌∷◌, ◌++◌, length, get_or, take, drop, refl, sym, ap, ◌∙◌, arith}
 use Rattle.std.specs.Int.{w32, w64, to_be_bytes, from_be_bytes}
 use Rattle.std.proofs.lemmas.Nat.{from_be_bytes-to_be_bytes_4, from_be_bytes-to_be_bytes_8, be_bytes_4, be_bytes_8}
 use Rattle.psu_hislip.specs.declared.header.Header.{Header}
@@ -33,7 +33,7 @@ pub first_of_header : (h : Header) (bs : List ℕ) → bs ≡ header_bytes h →
 unfolding header_bytes
 first_of_header h bs e = (ap (λ (z : List ℕ). get_or z 0 0) e, ap (λ (z : List ℕ). get_or z 1 0) e)
 
-none_fits : (i : ℕ) → get_or [] i 0 < 256
+pub none_fits : (i : ℕ) → get_or [] i 0 < 256
 none_fits zero = omega arith
 none_fits (suc i) = omega arith
 

@@ -1,5 +1,5 @@
 -- Places of a list.
-use Rattle.std.proofs.Common.{◌≡◌, ℕ, ◌≤◌, ◌<◌, List, length, refl, sym, ◌∙◌, Option, Some, None, Bor, get_or}
+use Rattle.std.proofs.Common.{◌≡◌, ℕ, List, length, refl, sym, Option, Some, None, Bor}
 use Rattle.std.specs.Option.{option_copied}
 use Rattle.std.specs.List.{slice_get}
 use Rattle.std.specs.Slice.{IsItemAt}

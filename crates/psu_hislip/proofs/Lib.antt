@@ -4,3 +4,5 @@ pub mod Types
 pub mod Channels
 pub mod Divisions
 pub mod Cuts
+pub mod Exists
+pub mod Transmissions

@@ -1,5 +1,5 @@
 -- Types and their codes.
-use Rattle.std.proofs.Common.{◌≡◌, ℕ, zero, suc, ◌+◌, List, [], ◌∷◌, Some, refl, sym, ap, ◌∙◌, arith}
+use Rattle.std.proofs.Common.{◌≡◌, ℕ, zero, suc, ◌+◌, List, [], ◌∷◌, Some, refl, ap, arith}
 use Rattle.std.specs.List.{slice_get}
 use Rattle.psu_hislip.specs.MessageType.{code_of, type_of, types}
 use Rattle.psu_hislip.specs.declared.message_type.MessageType.{MessageType}

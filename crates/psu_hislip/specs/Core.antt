@@ -115,6 +115,11 @@ with_bytes core more =
     if core.is_over || nat_lt 65536 (length core.bytes + length more) then record core { bytes = []; is_over = true }
     else record core { bytes = core.bytes ++ more }
 
+-- the core after Data with these payloads
+abbrev pub with_all : Core → List (List ℕ) → Core
+with_all core [] = core
+with_all core (payload ∷ payloads) = with_all (with_bytes core payload) payloads
+
 abbrev pub without_bytes : Core → Core
 without_bytes core = record core { bytes = []; is_over = false }
 

@@ -1,5 +1,5 @@
 -- The first message of a connection. Source: IVI-6.1.
-use Rattle.std.specs.Prelude.{ℕ, ◌==◌, if◌then◌else◌}
+use Rattle.std.specs.Prelude.{◌==◌, if◌then◌else◌}
 use Rattle.psu_hislip.specs.Stream.{Received}
 use Rattle.psu_hislip.specs.Stream.Received.{Frame, Oversize, BadHeader}
 use Rattle.psu_hislip.specs.MessageType.{code_of}

@@ -1,5 +1,5 @@
 -- What has come of a message that is not whole.
-use Rattle.std.specs.Prelude.{ℕ, ◌<◌, ◌≤◌, ⊤, List, [], ◌∷◌, ◌++◌, length, Option, Some, None}
+use Rattle.std.specs.Prelude.{◌<◌, ◌≤◌, ⊤, List, [], ◌∷◌, ◌++◌, length, Option, Some, None}
 use Rattle.psu_hislip.specs.Header.{header_bytes, Fits}
 use Rattle.psu_hislip.specs.Stream.{Received, received}
 use Rattle.psu_hislip.specs.Channel.{Awaited}

@@ -1,14 +1,22 @@
 // Laws of the definitions.
-ghost use Rattle.std.specs.Prelude.{ℕ, List, ◌≡◌};
+ghost use Rattle.std.specs.Prelude.{ℕ, List, [], ◌++◌, ◌≡◌, ◌<◌, All, length, nat_lt, false, if◌then◌else◌};
 ghost use Rattle.psu_hislip.specs.Stream.{Received, IsStream};
 ghost use Rattle.psu_hislip.specs.Channel.{Awaited, Fed};
+ghost use Rattle.psu_hislip.specs.Action.Act.{TooMuch, Execute};
+ghost use Rattle.psu_hislip.specs.Answer.{joined};
+ghost use Rattle.psu_hislip.specs.Core.{Core, with_bytes, with_all, executed};
 
 /// What a channel has given are the messages of the stream that it was fed.
 pub fn fed_is_the_stream()
     ensures { (channel : Awaited) (stream : List ℕ) (given : List Received) → Fed channel stream given → IsStream stream given }
 {}
 
-/// A stream of bytes is cut into messages in one way.
+/// Every stream of bytes is cut into messages.
+pub fn some_division()
+    ensures { (stream : List ℕ) → All (λ byte. byte < 256) stream → (messages : List Received) × IsStream stream messages }
+{}
+
+/// It is so in one way alone.
 pub fn one_division()
     ensures { (stream : List ℕ) (messages others : List Received) → IsStream stream messages → IsStream stream others → messages ≡ others }
 {}
@@ -17,4 +25,11 @@ pub fn one_division()
 pub fn pieces_do_not_count()
     ensures { (first second : Awaited) (stream : List ℕ) (given others : List Received)
         → Fed first stream given → Fed second stream others → given ≡ others }
+{}
+
+/// What is executed are the payloads of the frames since the last DataEnd, end to end, unless they have more than 65,536 bytes.
+pub fn whole_transmission()
+    ensures { (core : Core) (id : ℕ) (payloads : List (List ℕ)) (last : List ℕ) → core.bytes ≡ [] → core.is_over ≡ false
+        → executed (with_bytes (with_all core payloads) last) id
+        ≡ (if nat_lt 65536 (length (joined payloads ++ last)) then TooMuch else Execute id (joined payloads ++ last)) }
 {}

@@ -27,7 +27,9 @@ pub use error_code::ErrorCode;
 pub use fatal_code::FatalCode;
 pub use first::First;
 pub use header::Header;
-pub use laws::{fed_is_the_stream, one_division, pieces_do_not_count};
+pub use laws::{
+    fed_is_the_stream, one_division, pieces_do_not_count, some_division, whole_transmission,
+};
 pub use message::Message;
 pub use message_type::MessageType;
 pub use session_core::SessionCore;

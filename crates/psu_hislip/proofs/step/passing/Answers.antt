@@ -1,4 +1,4 @@
-use Rattle.std.proofs.Common.{◌≡◌, ◌-◌, [], ℕ, List, length, take, sym, subst, arith, ap}
+use Rattle.std.proofs.Common.{◌-◌, [], ℕ, List, length, sym, subst}
 use Rattle.std.proofs.Math.Seq.{take-length}
 use Rattle.psu_hislip.specs.Channel.{Moves}
 use Rattle.psu_hislip.specs.Channel.Awaited.{Passing}

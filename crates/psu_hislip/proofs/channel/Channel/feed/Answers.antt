@@ -1,7 +1,7 @@
-use Rattle.std.proofs.Common.{◌≡◌, List, ℕ, [], ◌∷◌, ◌++◌, take, sym, ap, ◌∙◌, subst}
+use Rattle.std.proofs.Common.{◌≡◌, List, ◌++◌, take, sym, ap, ◌∙◌, subst}
 use Rattle.psu_hislip.specs.Stream.{Received}
 use Rattle.psu_hislip.specs.Channel.{Awaited, Fed, Moves}
-use Rattle.psu_hislip.specs.Rest.{awaited, all_received, given, IsRest}
+use Rattle.psu_hislip.specs.Rest.{awaited, all_received, given}
 use Rattle.psu_hislip.proofs.Channels.{a_step, settled, fed_on, all_steps, no_more, a_message, no_message}
 use Rattle.psu_hislip.proofs.channel.Channel.feed.Goals as goal
 use Rattle.psu_hislip.proofs.channel.Channel.feed.Goals.{in-Some+in_ok-push, in_default}

@@ -1,4 +1,4 @@
-use Rattle.std.proofs.Common.{◌≡◌, ◌≤◌, List, ℕ, ◌++◌, length}
+use Rattle.std.proofs.Common.{◌≡◌, List, ℕ, ◌++◌, length}
 use Rattle.psu_hislip.specs.Channel.{Moves}
 use Rattle.psu_hislip.specs.Rest.{awaited, all_received, IsRest}
 use Rattle.psu_hislip.proofs.channel.Channel.feed.Given as goal

@@ -1,5 +1,5 @@
 use Rattle.psu_hislip.proofs.Cuts.{cut_piece}
-use Rattle.std.proofs.Common.{List, ℕ, [], ◌∷◌, ◌++◌, take}
+use Rattle.std.proofs.Common.{[], ◌∷◌, ◌++◌, take}
 use Rattle.psu_hislip.proofs.session_core.SessionCore.answer.Goals as goal
 
 pub loop-rest-preserved : goal.loop-rest-preserved

@@ -1,4 +1,4 @@
-use Rattle.std.proofs.Common.{ℕ, List, length, ◌≤◌}
+use Rattle.std.proofs.Common.{ℕ, List, length}
 use Rattle.psu_hislip.proofs.Cuts.{CutSoFar}
 use Rattle.psu_hislip.proofs.session_core.SessionCore.answer.Given as goal
 
