@@ -117,9 +117,10 @@ all_steps r s piece left ms f none =
     subst (λ (z : List ℕ). Moves r z ms s) (sym (f.1 ∙ ap (λ (z : List ℕ). f.0 ++ z) none ∙ append-nil f.0)) f.2
 
 -- what a step gave
-pub a_message : {A : Type 0} (before after : List (Message A)) (m : Option (Message A)) (x : Message A) → m ≡ Some x → after ≡ before ++ x ∷ []
+pub a_message : {A : Type 0} (before pushed after : List (Message A)) (m : Option (Message A)) (x : Message A) → m ≡ Some x → after ≡ pushed → pushed ≡ before ++ x ∷ []
     → all_received after ≡ all_received before ++ given m
-a_message before after m x e a = ap all_received a ∙ all_received-append before (x ∷ []) ∙ ap (λ z. all_received before ++ given z) (sym e)
+a_message before pushed after m x e same a =
+    ap all_received (same ∙ a) ∙ all_received-append before (x ∷ []) ∙ ap (λ z. all_received before ++ given z) (sym e)
 
 pub no_message : {A : Type 0} (before after : List (Message A)) (m : Option (Message A)) → m ≡ None → after ≡ before
     → all_received after ≡ all_received before ++ given m

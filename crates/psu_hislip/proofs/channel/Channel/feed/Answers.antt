@@ -14,7 +14,7 @@ loop-left-preserved g c =
     (all_received c.loop-left.messages.items) (given step.message) c.loop-left.invariant.so_far moved in
     let more : all_received c.match-message.messages.items ≡ all_received c.loop-left.messages.items ++ given step.message =
     elim c.match-message.branch [
-      | in-Some+in_ok-push w ↦ a_message c.loop-left.messages.items c.match-message.messages.items step.message w.in-Some.message w.in-Some.is (ap (λ z. z.items) w.messages-is ∙ w.in_ok-push.ensures.items)
+      | in-Some+in_ok-push w ↦ a_message c.loop-left.messages.items w.push.new.self.items c.match-message.messages.items step.message w.in-Some.message w.in-Some.is (ap (λ z. z.items) w.messages-is) w.in_ok-push.ensures.items
       | in_default w ↦ no_message c.loop-left.messages.items c.match-message.messages.items step.message w.in_default.is (ap (λ z. z.items) w.messages-is)
     ] in
     record {
