@@ -1,6 +1,6 @@
 -- The core of a session: what each message asks for, and what the core is then. Source: IVI-6.1; what it leaves open is this
 -- project's profile.
-use Rattle.std.specs.Prelude.{ℕ, ◌+◌, ◌%◌, ◌==◌, ◌&&◌, ◌||◌, not, nat_lt, nat_le, Bool, true, false, if◌then◌else◌, Option, Some, None, List, [], ◌∷◌, ◌++◌, length}
+use Rattle.std.specs.Prelude.{ℕ, ◌%◌, ◌==◌, ◌&&◌, ◌||◌, not, nat_lt, nat_le, Bool, true, false, if◌then◌else◌, Option, Some, None, List, [], ◌∷◌, ◌++◌, length}
 use Rattle.std.specs.Int.{w64, from_be_bytes}
 use Rattle.psu_hislip.specs.Header.{header_bytes}
 use Rattle.psu_hislip.specs.MessageType.{code_of, type_of}
@@ -8,6 +8,7 @@ use Rattle.psu_hislip.specs.Faults.{fatal_code, error_code}
 use Rattle.psu_hislip.specs.Stream.{Received}
 use Rattle.psu_hislip.specs.Frame.{header_of, frame_bytes}
 use Rattle.psu_hislip.specs.Action.{Act}
+use Rattle.psu_hislip.specs.Transmission.{added, executed}
 use Rattle.psu_hislip.specs.declared.header.Header.{Header}
 use Rattle.psu_hislip.specs.declared.side.Side.{Side}
 use Rattle.psu_hislip.specs.declared.side.Side.TheVariants.{Sync, Async}
@@ -21,14 +22,13 @@ use Rattle.psu_hislip.specs.declared.message_type.MessageType.{MessageType}
 use Rattle.psu_hislip.specs.declared.message_type.MessageType.TheVariants.{Initialize, FatalError, Error, AsyncLock, AsyncLockResponse, Data, DataEnd, DeviceClearComplete, DeviceClearAcknowledge, AsyncRemoteLocalControl, AsyncRemoteLocalResponse, Trigger, AsyncMaximumMessageSize, AsyncMaximumMessageSizeResponse, AsyncInitialize, AsyncInitializeResponse, AsyncDeviceClear, AsyncStatusQuery, AsyncDeviceClearAcknowledge, AsyncLockInfo}
 
 -- The session's number; whether its asynchronous channel is joined; whether it has failed; the greatest message that the client
--- takes; the bytes of the transmission so far, or that they are too many; the device clear.
+-- takes; the bytes of the transmission so far, or none where they are too many; the device clear.
 pub record Core : Type 0 where
   pub session : ℕ
   pub joined : Bool
   pub failed : Bool
   pub size : Option ℕ
-  pub bytes : List ℕ
-  pub is_over : Bool
+  pub transmission : Option (List ℕ)
   pub clear : DeviceClear
 
 -- the actions of a message, and the core after them
@@ -100,7 +100,7 @@ error side (Received.Frame h payload) =
     if nat_le 128 h.kind then Some UnrecognizedVendorType else type_error side (type_of h.kind) h payload
 error side Received.BadHeader = None
 
--- # Transmissions
+-- # What the client has read
 
 -- bit 0 of the control code
 abbrev pub is_delivered : Header → Bool
@@ -109,22 +109,9 @@ is_delivered h = h.control % 2 == 1
 abbrev pub delivered : Header → List Act
 delivered h = if is_delivered h then Act.Delivered ∷ [] else []
 
--- the transmission with more bytes: over 65,536 none are kept
-abbrev pub with_bytes : Core → List ℕ → Core
-with_bytes core more =
-    if core.is_over || nat_lt 65536 (length core.bytes + length more) then record core { bytes = []; is_over = true }
-    else record core { bytes = core.bytes ++ more }
-
--- the core after Data with these payloads
-abbrev pub with_all : Core → List (List ℕ) → Core
-with_all core [] = core
-with_all core (payload ∷ payloads) = with_all (with_bytes core payload) payloads
-
+-- the next transmission begins
 abbrev pub without_bytes : Core → Core
-without_bytes core = record core { bytes = []; is_over = false }
-
-abbrev pub executed : Core → ℕ → Act
-executed core id = if core.is_over then Act.TooMuch else Act.Execute id core.bytes
+without_bytes core = record core { transmission = Some [] }
 
 -- # Device clear
 
@@ -175,9 +162,9 @@ sized core size =
 
 abbrev pub row : Core → MessageType → Header → List ℕ → Outcome
 row core AsyncInitialize h payload = joining core
-row core Data h payload = unless_begun core (told (delivered h) (with_bytes core payload))
+row core Data h payload = unless_begun core (told (delivered h) (record core { transmission = added core.transmission payload }))
 row core DataEnd h payload =
-    unless_begun core (told (delivered h ++ executed (with_bytes core payload) h.parameter ∷ []) (without_bytes core))
+    unless_begun core (told (delivered h ++ executed h.parameter (added core.transmission payload) ∷ []) (without_bytes core))
 row core Trigger h payload = triggered core
 row core DeviceClearComplete h payload = completed core core.clear
 row core AsyncDeviceClear h payload = cleared core core.clear

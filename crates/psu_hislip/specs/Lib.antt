@@ -7,5 +7,6 @@ pub mod First
 pub mod Channel
 pub mod Rest
 pub mod Action
+pub mod Transmission
 pub mod Core
 pub mod Answer

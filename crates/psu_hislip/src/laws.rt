@@ -1,10 +1,10 @@
 // Laws of the definitions.
-ghost use Rattle.std.specs.Prelude.{ℕ, List, [], ◌++◌, ◌≡◌, ◌<◌, All, length, nat_lt, false, if◌then◌else◌};
+ghost use Rattle.std.specs.Prelude.{ℕ, List, [], ◌++◌, ◌≡◌, ◌<◌, All, length, nat_lt, Some, if◌then◌else◌};
 ghost use Rattle.psu_hislip.specs.Stream.{Received, IsStream};
 ghost use Rattle.psu_hislip.specs.Channel.{Awaited, Fed};
 ghost use Rattle.psu_hislip.specs.Action.Act.{TooMuch, Execute};
 ghost use Rattle.psu_hislip.specs.Answer.{joined};
-ghost use Rattle.psu_hislip.specs.Core.{Core, with_bytes, with_all, executed};
+ghost use Rattle.psu_hislip.specs.Transmission.{added, all_added, executed};
 
 /// What a channel has given are the messages of the stream that it was fed.
 pub fn fed_is_the_stream()
@@ -29,7 +29,6 @@ pub fn pieces_do_not_count()
 
 /// What is executed are the payloads of the frames since the last DataEnd, end to end, unless they have more than 65,536 bytes.
 pub fn whole_transmission()
-    ensures { (core : Core) (id : ℕ) (payloads : List (List ℕ)) (last : List ℕ) → core.bytes ≡ [] → core.is_over ≡ false
-        → executed (with_bytes (with_all core payloads) last) id
+    ensures { (id : ℕ) (payloads : List (List ℕ)) (last : List ℕ) → executed id (added (all_added (Some []) payloads) last)
         ≡ (if nat_lt 65536 (length (joined payloads ++ last)) then TooMuch else Execute id (joined payloads ++ last)) }
 {}

@@ -19,6 +19,7 @@ mod rest;
 mod session_core;
 mod side;
 mod step;
+mod transmission;
 
 pub use action::Action;
 pub use channel::Channel;

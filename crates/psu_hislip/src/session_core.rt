@@ -1,8 +1,8 @@
 // The core of a session.
-ghost use Rattle.std.specs.Prelude.{◌≡◌, ◌+◌, ◌<◌, [], length, IfOk, OnOk, OnErr, None, false};
+ghost use Rattle.std.specs.Prelude.{◌≡◌, ◌+◌, ◌<◌, [], length, IfOk, OnOk, OnErr, None, Some, false};
 ghost use Rattle.psu_hislip.specs.Stream.{received};
 ghost use Rattle.psu_hislip.specs.Action.{act, acts};
-ghost use Rattle.psu_hislip.specs.Core.{joins, initializes, misplaced, fatal, ill_formed, told, is_delivered, delivered, with_bytes, without_bytes, executed, completed, cleared, locked, sized, joining, triggered, row, outcome_of};
+ghost use Rattle.psu_hislip.specs.Core.{joins, initializes, misplaced, fatal, ill_formed, told, is_delivered, delivered, completed, cleared, locked, sized, joining, triggered, row, outcome_of};
 ghost use Rattle.psu_hislip.specs.Frame.{header_of};
 ghost use Rattle.psu_hislip.specs.Answer.{answer_size, IsAnswer};
 ghost use Rattle.psu_hislip.specs.declared.device_clear.DeviceClear.TheVariants.{Idle};
@@ -10,12 +10,10 @@ ghost use Rattle.psu_hislip.specs.declared.message_type.MessageType.TheVariants.
 
 use crate::faults::error;
 use crate::frames::{one, put, put_frame, reply};
+use crate::transmission::Transmission;
 use crate::{Action, DeviceClear, FatalCode, Header, Message, MessageType, Side};
 use std::alloc::{AllocError, Allocator};
 use std::marker::Model;
-
-/// The most bytes of a transmission.
-const MOST: usize = 65_536;
 
 /// The most bytes of a shared lock's string.
 const LOCK_STRING: usize = 256;
@@ -41,20 +39,16 @@ pub struct SessionCore<A: Allocator + Copy> {
     joined: bool,
     failed: bool,
     size: Option<u64>,
-    bytes: Vec<u8, A>,
-    is_over: bool,
+    transmission: Transmission<A>,
     clear: DeviceClear,
 }
 
 impl<A: Allocator + Copy> Model for SessionCore<A> {
-    ghost use Rattle.std.specs.Prelude.{◌≤◌, length};
     ghost use Rattle.psu_hislip.specs.Core.{Core};
 
     ghost Value = { Core };
 
-    ghost view = { λ c. record { session = c.session; joined = c.joined; failed = c.failed; size = c.size; bytes = c.bytes.items; is_over = c.is_over; clear = c.clear } };
-
-    ghost invariant = { λ c. length c.bytes.items ≤ 65536 };
+    ghost view = { λ c. record { session = c.session; joined = c.joined; failed = c.failed; size = c.size; transmission = c.transmission; clear = c.clear } };
 }
 
 fn initializes(header: Header) -> bool
@@ -102,7 +96,7 @@ fn locked<A: Allocator + Copy>(
 impl<A: Allocator + Copy> SessionCore<A> {
     /// The core of a session of this number, whose synchronous channel alone is there.
     pub fn new(alloc: A, session: u16) -> SessionCore<A>
-        ensures { result ≡ record { session = session; joined = false; failed = false; size = None; bytes = []; is_over = false; clear = Idle } }
+        ensures { result ≡ record { session = session; joined = false; failed = false; size = None; transmission = Some []; clear = Idle } }
     {
         SessionCore {
             alloc,
@@ -110,8 +104,7 @@ impl<A: Allocator + Copy> SessionCore<A> {
             joined: false,
             failed: false,
             size: None,
-            bytes: Vec::new(alloc),
-            is_over: false,
+            transmission: Transmission::new(alloc),
             clear: DeviceClear::Idle,
         }
     }
@@ -164,40 +157,6 @@ impl<A: Allocator + Copy> SessionCore<A> {
         }
     }
 
-    // Adds the bytes of a Data to the transmission.
-    fn add(&mut self, payload: &[u8]) -> Result<(), AllocError>
-        ensures ok { OnOk result (self.new ≡ with_bytes self.old payload.now) }
-        ensures err { OnErr result (self.new ≡ self.old) }
-    {
-        if self.is_over || payload.len() > MOST - self.bytes.len() {
-            self.bytes = Vec::new(self.alloc);
-            self.is_over = true;
-            return Ok(());
-        }
-        self.bytes.extend_from_slice(payload)
-    }
-
-    // What the transmission asks for, with the bytes of its DataEnd.
-    fn executed(&self, id: u32, payload: &[u8]) -> Result<Action<A>, AllocError>
-        ensures { IfOk result (λ action. act action ≡ executed (with_bytes self.now payload.now) id) }
-    {
-        if self.is_over || payload.len() > MOST - self.bytes.len() {
-            return Ok(Action::TooMuch);
-        }
-        let mut bytes = Vec::with_capacity(self.alloc, self.bytes.len() + payload.len())?;
-        bytes.extend_from_slice(&self.bytes)?;
-        bytes.extend_from_slice(payload)?;
-        Ok(Action::Execute(id, bytes))
-    }
-
-    // The transmission is empty again.
-    fn drop_bytes(&mut self)
-        ensures { self.new ≡ without_bytes self.old }
-    {
-        self.bytes = Vec::new(self.alloc);
-        self.is_over = false;
-    }
-
     fn data(&mut self, header: Header, payload: &[u8]) -> Result<Vec<Action<A>, A>, AllocError>
         ensures done { IfOk result (λ actions. acts actions.items ≡ (row self.old Data header payload.now).actions) }
         ensures core { OnOk result (self.new ≡ (row self.old Data header payload.now).core) }
@@ -207,7 +166,7 @@ impl<A: Allocator + Copy> SessionCore<A> {
             return Ok(Vec::new(self.alloc));
         }
         let actions = delivered(self.alloc, header)?;
-        self.add(payload)?;
+        self.transmission.add(payload)?;
         Ok(actions)
     }
 
@@ -220,8 +179,9 @@ impl<A: Allocator + Copy> SessionCore<A> {
             return Ok(Vec::new(self.alloc));
         }
         let mut actions = delivered(self.alloc, header)?;
-        put(&mut actions, self.executed(header.parameter, payload)?)?;
-        self.drop_bytes();
+        let last = self.transmission.executed(header.parameter, payload)?;
+        put(&mut actions, last)?;
+        self.transmission.clear();
         Ok(actions)
     }
 
@@ -238,7 +198,7 @@ impl<A: Allocator + Copy> SessionCore<A> {
             let kind = MessageType::DeviceClearAcknowledge;
             put(&mut actions, reply(self.alloc, Side::Sync, kind, 0)?)?;
         }
-        self.drop_bytes();
+        self.transmission.clear();
         self.clear = if is_early {
             DeviceClear::Idle
         } else {

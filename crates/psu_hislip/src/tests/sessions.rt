@@ -1,6 +1,7 @@
 // Messages of a session.
 use super::{Told, bare, executes, first, is_sent, joined, sends, tell};
 use crate::{Action, FatalCode, First, SessionCore, Side};
+use std::alloc::Global;
 
 // The session ends with this code.
 fn ends(told: &Told, side: Side, code: u8) -> bool {
@@ -26,17 +27,20 @@ fn is_nothing(told: &Told) -> bool {
     }
 }
 
+// A message whose payload is too long.
+fn long(kind: u8, control: u8) -> [u8; 16] {
+    let mut message = bare(kind, control);
+    message[8] = 1;
+    message
+}
+
 #[test]
-fn every_fault_in_its_order(rt: HostRuntime) {
+fn every_error_in_its_order(rt: HostRuntime) {
     let alloc = rt.alloc();
     let mut core = joined(alloc).expect(&rt, "a core");
-    let mut long_vendor = bare(0xc8, 0);
-    long_vendor[8] = 1;
-    let mut long_lock = bare(4, 2);
-    long_lock[8] = 1;
-    let errors: [(Side, [u8; 16], u8); 12] = [
-        (Side::Sync, long_vendor, 4),
-        (Side::Async, long_lock, 4),
+    let rows: [(Side, [u8; 16], u8); 12] = [
+        (Side::Sync, long(0xc8, 0), 4),
+        (Side::Async, long(4, 2), 4),
         (Side::Sync, bare(0xc8, 0), 3),
         (Side::Async, bare(0x80, 0), 3),
         (Side::Sync, bare(0x1a, 0), 1),
@@ -48,44 +52,52 @@ fn every_fault_in_its_order(rt: HostRuntime) {
         (Side::Async, bare(10, 7), 2),
         (Side::Async, bare(15, 0), 0),
     ];
-    for (side, message, code) in errors {
-        assert!(rt;
-            sends(
-                &tell(alloc, &mut core, side, &message),
-                side,
-                &bare(3, code)
-            )
-        );
+    for (side, message, code) in rows {
+        let told = tell(alloc, &mut core, side, &message);
+        assert!(rt; sends(&told, side, &bare(3, code)));
     }
-    let mut long_start = bare(0, 0);
-    long_start[8] = 1;
-    let fatal: [(bool, Side, [u8; 16], u8); 10] = [
+}
+
+// A message ends the session, and each later one finds it closed.
+fn ends_for_good(alloc: Global, is_joined: bool, side: Side, message: &[u8], code: u8) -> bool {
+    let mut core = SessionCore::new(alloc, 1);
+    if is_joined {
+        let Some(session) = joined(alloc) else {
+            return false;
+        };
+        core = session;
+    }
+    ends(&tell(alloc, &mut core, side, message), side, code)
+        && is_closed(&tell(alloc, &mut core, Side::Sync, &bare(12, 0)))
+        && is_closed(&tell(alloc, &mut core, Side::Async, &bare(21, 0)))
+}
+
+#[test]
+fn every_fatal_error_in_its_order(rt: HostRuntime) {
+    let rows: [(bool, Side, [u8; 16], u8); 10] = [
         (true, Side::Sync, [0; 16], 1),
         (false, Side::Sync, [0; 16], 1),
         (false, Side::Sync, bare(6, 0), 2),
         (false, Side::Sync, bare(17, 0), 2),
-        (false, Side::Sync, long_vendor, 2),
+        (false, Side::Sync, long(0xc8, 0), 2),
         (false, Side::Async, bare(21, 0), 3),
         (false, Side::Async, bare(17, 0), 3),
         (true, Side::Async, bare(17, 0), 3),
         (true, Side::Sync, bare(0, 0), 3),
-        (true, Side::Sync, long_start, 3),
+        (true, Side::Sync, long(0, 0), 3),
     ];
-    for (is_joined, side, message, code) in fatal {
-        let mut core = if is_joined {
-            joined(alloc).expect(&rt, "a core")
-        } else {
-            SessionCore::new(alloc, 1)
-        };
-        assert!(rt; ends(&tell(alloc, &mut core, side, &message), side, code));
-        assert!(rt; is_closed(&tell(alloc, &mut core, Side::Sync, &bare(12, 0))));
-        assert!(rt; is_closed(&tell(alloc, &mut core, Side::Async, &bare(21, 0))));
+    for (is_joined, side, message, code) in rows {
+        assert!(rt; ends_for_good(rt.alloc(), is_joined, side, &message, code));
     }
+}
+
+#[test]
+fn first_messages(rt: HostRuntime) {
     let refused = First::Refused(FatalCode::InvalidInitialization);
-    assert!(rt; first(alloc, &bare(21, 0)) == Some(refused));
+    assert!(rt; first(rt.alloc(), &bare(21, 0)) == Some(refused));
     let mut join = bare(17, 0);
     join[4] = 2;
-    assert!(rt; first(alloc, &join) == Some(First::Join(0x0200_0000)));
+    assert!(rt; first(rt.alloc(), &join) == Some(First::Join(0x0200_0000)));
     assert!(rt; FatalCode::TooManyClients.code() == 4);
 }
 

@@ -1,4 +1,4 @@
-use Rattle.std.proofs.Common.{◌≡◌, List, ◌++◌, take, sym, ap, ◌∙◌, subst}
+use Rattle.std.proofs.Common.{◌≡◌, List, ◌++◌, take, sym, ap, subst}
 use Rattle.psu_hislip.specs.Stream.{Received}
 use Rattle.psu_hislip.specs.Channel.{Awaited, Fed, Moves}
 use Rattle.psu_hislip.specs.Rest.{awaited, all_received, given}
