@@ -6,6 +6,8 @@ mod faults;
 #[cfg(test)]
 mod files;
 #[cfg(test)]
+mod hislip;
+#[cfg(test)]
 mod images;
 #[cfg(test)]
 mod locks;

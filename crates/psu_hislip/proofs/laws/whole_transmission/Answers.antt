@@ -1,0 +1,5 @@
+use Rattle.psu_hislip.proofs.Transmissions.{whole_transmission}
+use Rattle.psu_hislip.proofs.laws.whole_transmission.Goals as goal
+
+pub returns : goal.returns
+returns c = λ id payloads last. whole_transmission id payloads last

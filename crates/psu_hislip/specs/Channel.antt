@@ -1,0 +1,30 @@
+-- A channel: what it was fed, what it has given, and what it waits for.
+use Rattle.std.specs.Prelude.{◌≡◌, ◌⊎◌, ℕ, ◌<◌, List, [], ◌++◌, length}
+use Rattle.psu_hislip.specs.Stream.{Received, IsStream}
+
+-- What a channel waits for after the messages that it has given: a message that has begun with these bytes, so many bytes of an
+-- oversize frame, nothing any more, or nothing since memory was refused.
+pub data Awaited : Type 0 where
+  Begun : List ℕ → Awaited
+  Passing : ℕ → Awaited
+  Ended : Awaited
+  Failed : Awaited
+
+-- what is awaited, and then more bytes, come to these messages
+abbrev pub Follows : Awaited → List ℕ → List Received → Type 0
+Follows (Begun bytes) more messages = IsStream (bytes ++ more) messages
+Follows (Passing n) more messages =
+    ((length more < n) × (messages ≡ []))
+    ⊎ ((passed : List ℕ) × (rest : List ℕ) × (more ≡ passed ++ rest) × (length passed ≡ n) × IsStream rest messages)
+Follows Ended more messages = messages ≡ []
+Follows Failed more messages = messages ≡ []
+
+-- with these bytes a channel gives these messages, and then waits for something else
+abbrev pub Moves : Awaited → List ℕ → List Received → Awaited → Type 0
+Moves old bytes messages new =
+    (more : List ℕ) (later : List Received) → Follows new more later → Follows old (bytes ++ more) (messages ++ later)
+
+-- The channel was fed this stream and has given these messages: they are the stream's, and what the channel goes on to give is
+-- what the stream goes on with.
+abbrev pub Fed : Awaited → List ℕ → List Received → Type 0
+Fed channel stream given = IsStream stream given × Moves (Begun []) stream given channel

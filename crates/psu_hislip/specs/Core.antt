@@ -1,0 +1,202 @@
+-- The core of a session: what each message asks for, and what the core is then. Source: IVI-6.1; what it leaves open is this
+-- project's profile.
+use Rattle.std.specs.Prelude.{ℕ, ◌%◌, ◌==◌, ◌&&◌, ◌||◌, not, nat_lt, nat_le, Bool, true, false, if◌then◌else◌, Option, Some, None, List, [], ◌∷◌, ◌++◌, length}
+use Rattle.std.specs.Int.{w64, from_be_bytes}
+use Rattle.psu_hislip.specs.Header.{header_bytes}
+use Rattle.psu_hislip.specs.MessageType.{code_of, type_of}
+use Rattle.psu_hislip.specs.Faults.{fatal_code, error_code}
+use Rattle.psu_hislip.specs.Stream.{Received}
+use Rattle.psu_hislip.specs.Frame.{header_of, frame_bytes}
+use Rattle.psu_hislip.specs.Action.{Act}
+use Rattle.psu_hislip.specs.Transmission.{added, executed}
+use Rattle.psu_hislip.specs.declared.header.Header.{Header}
+use Rattle.psu_hislip.specs.declared.side.Side.{Side}
+use Rattle.psu_hislip.specs.declared.side.Side.TheVariants.{Sync, Async}
+use Rattle.psu_hislip.specs.declared.device_clear.DeviceClear.{DeviceClear}
+use Rattle.psu_hislip.specs.declared.device_clear.DeviceClear.TheVariants.{Idle, Begun, Early}
+use Rattle.psu_hislip.specs.declared.fatal_code.FatalCode.{FatalCode}
+use Rattle.psu_hislip.specs.declared.fatal_code.FatalCode.TheVariants.{PoorlyFormedHeader, ChannelsNotJoined, InvalidInitialization}
+use Rattle.psu_hislip.specs.declared.error_code.ErrorCode.{ErrorCode}
+use Rattle.psu_hislip.specs.declared.error_code.ErrorCode.TheVariants.{Unidentified, UnrecognizedType, UnrecognizedControl, UnrecognizedVendorType, TooLarge}
+use Rattle.psu_hislip.specs.declared.message_type.MessageType.{MessageType}
+use Rattle.psu_hislip.specs.declared.message_type.MessageType.TheVariants.{Initialize, FatalError, Error, AsyncLock, AsyncLockResponse, Data, DataEnd, DeviceClearComplete, DeviceClearAcknowledge, AsyncRemoteLocalControl, AsyncRemoteLocalResponse, Trigger, AsyncMaximumMessageSize, AsyncMaximumMessageSizeResponse, AsyncInitialize, AsyncInitializeResponse, AsyncDeviceClear, AsyncStatusQuery, AsyncDeviceClearAcknowledge, AsyncLockInfo}
+
+-- The session's number; whether its asynchronous channel is joined; whether it has failed; the greatest message that the client
+-- takes; the bytes of the transmission so far, or none where they are too many; the device clear.
+pub record Core : Type 0 where
+  pub session : ℕ
+  pub joined : Bool
+  pub failed : Bool
+  pub size : Option ℕ
+  pub transmission : Option (List ℕ)
+  pub clear : DeviceClear
+
+-- the actions of a message, and the core after them
+pub record Outcome : Type 0 where
+  pub actions : List Act
+  pub core : Core
+
+abbrev pub told : List Act → Core → Outcome
+told actions core = record { actions = actions; core = core }
+
+-- a message without parameter and payload
+abbrev pub reply : Side → MessageType → ℕ → Act
+reply side type control = Act.Send side (header_bytes (header_of type control 0 0))
+
+-- # Faults
+
+abbrev pub is_sync : Side → Bool
+is_sync Sync = true
+is_sync Async = false
+
+-- AsyncInitialize as the first message of the second connection, for this session
+abbrev pub joins : Core → Side → Header → Bool
+joins core side h = not (is_sync side) && not core.joined && h.kind == code_of AsyncInitialize && h.parameter == core.session
+
+abbrev pub initializes : Header → Bool
+initializes h = h.kind == code_of Initialize || h.kind == code_of AsyncInitialize
+
+-- Before both channels are there, nothing may come on the first, and on the second only what joins it; after that neither
+-- initialization.
+abbrev pub misplaced : Core → Side → Header → Bool → Option FatalCode
+misplaced core side h joins =
+    if is_sync side && not core.joined then Some ChannelsNotJoined
+    else (if not joins && (initializes h || not core.joined) then Some InvalidInitialization else None)
+
+abbrev pub fatal : Core → Side → Received → Option FatalCode
+fatal core side Received.BadHeader = Some PoorlyFormedHeader
+fatal core side (Received.Frame h payload) = misplaced core side h (joins core side h)
+fatal core side (Received.Oversize h) = misplaced core side h false
+
+-- the types that a channel takes
+abbrev pub takes : Side → MessageType → Bool
+takes Sync Data = true
+takes Sync DataEnd = true
+takes Sync DeviceClearComplete = true
+takes Sync Trigger = true
+takes Async AsyncInitialize = true
+takes Async AsyncLock = true
+takes Async AsyncLockInfo = true
+takes Async AsyncRemoteLocalControl = true
+takes Async AsyncMaximumMessageSize = true
+takes Async AsyncDeviceClear = true
+takes Async AsyncStatusQuery = true
+takes side type = false
+
+-- the control codes that a type has, and the payload of a size
+abbrev pub ill_formed : MessageType → Header → List ℕ → Option ErrorCode
+ill_formed AsyncLock h payload = if nat_lt 1 h.control then Some UnrecognizedControl else None
+ill_formed AsyncRemoteLocalControl h payload = if nat_lt 6 h.control then Some UnrecognizedControl else None
+ill_formed AsyncMaximumMessageSize h payload = if length payload == 8 then None else Some Unidentified
+ill_formed type h payload = None
+
+abbrev pub type_error : Side → Option MessageType → Header → List ℕ → Option ErrorCode
+type_error side None h payload = Some UnrecognizedType
+type_error side (Some type) h payload = if takes side type then ill_formed type h payload else Some UnrecognizedType
+
+abbrev pub error : Side → Received → Option ErrorCode
+error side (Received.Oversize h) = Some TooLarge
+error side (Received.Frame h payload) =
+    if nat_le 128 h.kind then Some UnrecognizedVendorType else type_error side (type_of h.kind) h payload
+error side Received.BadHeader = None
+
+-- # What the client has read
+
+-- bit 0 of the control code
+abbrev pub is_delivered : Header → Bool
+is_delivered h = h.control % 2 == 1
+
+abbrev pub delivered : Header → List Act
+delivered h = if is_delivered h then Act.Delivered ∷ [] else []
+
+-- the next transmission begins
+abbrev pub without_bytes : Core → Core
+without_bytes core = record core { transmission = Some [] }
+
+-- # Device clear
+
+abbrev pub is_begun : DeviceClear → Bool
+is_begun Idle = false
+is_begun Begun = true
+is_begun Early = false
+
+-- what is discarded until the clear is complete
+abbrev pub unless_begun : Core → Outcome → Outcome
+unless_begun core outcome = if is_begun core.clear then told [] core else outcome
+
+-- DeviceClearComplete; one that comes before its AsyncDeviceClear is remembered
+abbrev pub completed : Core → DeviceClear → Outcome
+completed core Begun = told (reply Sync DeviceClearAcknowledge 0 ∷ []) (record core { clear = Idle })
+completed core Idle = told [] (record core { clear = Early })
+completed core Early = told [] core
+
+-- AsyncDeviceClear drops the transmission
+abbrev pub cleared : Core → DeviceClear → Outcome
+cleared core Early =
+    told (Act.Clear ∷ reply Async AsyncDeviceClearAcknowledge 0 ∷ reply Sync DeviceClearAcknowledge 0 ∷ []) (record (without_bytes core) { clear = Idle })
+cleared core Idle = told (Act.Clear ∷ reply Async AsyncDeviceClearAcknowledge 0 ∷ []) (record (without_bytes core) { clear = Begun })
+cleared core Begun = told (Act.Clear ∷ reply Async AsyncDeviceClearAcknowledge 0 ∷ []) (record (without_bytes core) { clear = Begun })
+
+-- # The rows of the types
+
+-- a shared string has at most 256 bytes
+abbrev pub locked : Header → List ℕ → Act
+locked h string =
+    if h.control == 0 then Act.Release
+    else (if nat_lt 256 (length string) then reply Async AsyncLockResponse 3 else Act.Lock h.parameter string)
+
+-- the greatest message that the server takes: 65,536 bytes
+abbrev pub own_size : List ℕ
+own_size = 0 ∷ 0 ∷ 0 ∷ 0 ∷ 0 ∷ 1 ∷ 0 ∷ 0 ∷ []
+
+abbrev pub joining : Core → Outcome
+joining core = told (reply Async AsyncInitializeResponse 0 ∷ []) (record core { joined = true })
+
+abbrev pub triggered : Core → Outcome
+triggered core = unless_begun core (told (Act.Trigger ∷ []) core)
+
+-- the client's size, most significant byte first
+abbrev pub sized : Core → List ℕ → Outcome
+sized core size =
+    told (Act.Send Async (frame_bytes AsyncMaximumMessageSizeResponse 0 0 own_size) ∷ []) (record core { size = Some (from_be_bytes w64 size) })
+
+abbrev pub row : Core → MessageType → Header → List ℕ → Outcome
+row core AsyncInitialize h payload = joining core
+row core Data h payload = unless_begun core (told (delivered h) (record core { transmission = added core.transmission payload }))
+row core DataEnd h payload =
+    unless_begun core (told (delivered h ++ executed h.parameter (added core.transmission payload) ∷ []) (without_bytes core))
+row core Trigger h payload = triggered core
+row core DeviceClearComplete h payload = completed core core.clear
+row core AsyncDeviceClear h payload = cleared core core.clear
+row core AsyncLock h payload = told (locked h payload ∷ []) core
+row core AsyncLockInfo h payload = told (Act.Info ∷ []) core
+row core AsyncRemoteLocalControl h payload = told (reply Async AsyncRemoteLocalResponse 0 ∷ []) core
+row core AsyncMaximumMessageSize h payload = sized core payload
+row core AsyncStatusQuery h payload = told (Act.Status (is_delivered h) ∷ []) core
+row core type h payload = told [] core
+
+-- # A message
+
+abbrev pub heeded : Core → Option MessageType → Header → List ℕ → Outcome
+heeded core None h payload = told [] core
+heeded core (Some type) h payload = row core type h payload
+
+abbrev pub without_fault : Core → Received → Outcome
+without_fault core (Received.Frame h payload) = heeded core (type_of h.kind) h payload
+without_fault core (Received.Oversize h) = told [] core
+without_fault core Received.BadHeader = told [] core
+
+-- a message with an error is answered and ignored
+abbrev pub unless_error : Core → Side → Option ErrorCode → Outcome → Outcome
+unless_error core side None outcome = outcome
+unless_error core side (Some code) outcome = told (reply side Error (error_code code) ∷ []) core
+
+-- a fatal fault ends the session
+abbrev pub unless_fatal : Core → Side → Option FatalCode → Outcome → Outcome
+unless_fatal core side None outcome = outcome
+unless_fatal core side (Some code) outcome = told (reply side FatalError (fatal_code code) ∷ Act.Closed ∷ []) (record core { failed = true })
+
+abbrev pub outcome_of : Core → Side → Received → Outcome
+outcome_of core side message =
+    if core.failed then told (Act.Closed ∷ []) core
+    else unless_fatal core side (fatal core side message) (unless_error core side (error side message) (without_fault core message))

@@ -1,0 +1,12 @@
+pub mod MessageType
+pub mod Header
+pub mod Faults
+pub mod Frame
+pub mod Stream
+pub mod First
+pub mod Channel
+pub mod Rest
+pub mod Action
+pub mod Transmission
+pub mod Core
+pub mod Answer

@@ -1,0 +1,34 @@
+-- The messages of a stream of bytes. Source: IVI-6.1 (a header, then its payload); how long a payload may be, and what a
+-- bad header comes to, are this project's profile.
+use Rattle.std.specs.Prelude.{◌≡◌, ◌≢◌, ◌⊎◌, ℕ, ◌<◌, ◌≤◌, List, [], ◌∷◌, ◌++◌, length, take}
+use Rattle.psu_hislip.specs.Header.{header_bytes, Fits}
+use Rattle.psu_hislip.specs.declared.header.Header.{Header}
+use Rattle.psu_hislip.specs.declared.message.Message as rust
+use Rattle.psu_hislip.specs.declared.message.Message.TheVariants as message
+
+-- A message: a frame with its payload, a frame whose payload is too long to be kept, or sixteen bytes that are no header.
+pub data Received : Type 0 where
+  Frame : Header → List ℕ → Received
+  Oversize : Header → Received
+  BadHeader : Received
+
+-- The message stands at the front of the bytes, and more comes after it. An oversize frame stands once its header is there; its
+-- payload is passed over as it comes. After a bad header all is passed over.
+abbrev pub Stands : Received → List ℕ → List ℕ → Type 0
+Stands (Frame h payload) bytes more =
+    Fits h × (bytes ≡ header_bytes h ++ (payload ++ more)) × (length payload ≡ h.length) × (h.length ≤ 65536)
+Stands (Oversize h) bytes more =
+    Fits h × (65536 < h.length) × ((passed : List ℕ) × (bytes ≡ header_bytes h ++ (passed ++ more))
+    × ((length passed ≡ h.length) ⊎ ((length passed < h.length) × (more ≡ []))))
+Stands BadHeader bytes more = (16 ≤ length bytes) × (take 2 bytes ≢ 72 ∷ 83 ∷ []) × (more ≡ [])
+
+-- the bytes are these messages end to end, and then a rest at which none stands
+abbrev pub IsStream : List ℕ → List Received → Type 0
+IsStream bytes [] = (m : Received) (more : List ℕ) → Stands m bytes more → ⊥
+IsStream bytes (m ∷ ms) = (more : List ℕ) × Stands m bytes more × IsStream more ms
+
+-- a message of the code, without where its payload lies in memory
+abbrev pub received : {A : Type 0} → rust.Message A → Received
+received (message.Frame h payload) = Frame h payload.items
+received (message.Oversize h) = Oversize h
+received message.BadHeader = BadHeader

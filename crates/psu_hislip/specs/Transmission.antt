@@ -1,0 +1,17 @@
+-- A transmission: the payloads of its Data and its DataEnd, end to end. How long it may be is this project's profile.
+use Rattle.std.specs.Prelude.{ℕ, ◌+◌, nat_lt, if◌then◌else◌, Option, Some, None, List, [], ◌∷◌, ◌++◌, length}
+use Rattle.psu_hislip.specs.Action.{Act}
+
+-- with more bytes; over 65,536 none are kept
+abbrev pub added : Option (List ℕ) → List ℕ → Option (List ℕ)
+added None more = None
+added (Some bytes) more = if nat_lt 65536 (length bytes + length more) then None else Some (bytes ++ more)
+
+abbrev pub all_added : Option (List ℕ) → List (List ℕ) → Option (List ℕ)
+all_added transmission [] = transmission
+all_added transmission (more ∷ later) = all_added (added transmission more) later
+
+-- what a whole transmission asks for
+abbrev pub executed : ℕ → Option (List ℕ) → Act
+executed id None = Act.TooMuch
+executed id (Some bytes) = Act.Execute id bytes

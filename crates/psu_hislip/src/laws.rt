@@ -1,0 +1,34 @@
+// Laws of the definitions.
+ghost use Rattle.std.specs.Prelude.{ℕ, List, [], ◌++◌, ◌≡◌, ◌<◌, All, length, nat_lt, Some, if◌then◌else◌};
+ghost use Rattle.psu_hislip.specs.Stream.{Received, IsStream};
+ghost use Rattle.psu_hislip.specs.Channel.{Awaited, Fed};
+ghost use Rattle.psu_hislip.specs.Action.Act.{TooMuch, Execute};
+ghost use Rattle.psu_hislip.specs.Answer.{joined};
+ghost use Rattle.psu_hislip.specs.Transmission.{added, all_added, executed};
+
+/// What a channel has given are the messages of the stream that it was fed.
+pub fn fed_is_the_stream()
+    ensures { (channel : Awaited) (stream : List ℕ) (given : List Received) → Fed channel stream given → IsStream stream given }
+{}
+
+/// Every stream of bytes is cut into messages.
+pub fn some_division()
+    ensures { (stream : List ℕ) → All (λ byte. byte < 256) stream → (messages : List Received) × IsStream stream messages }
+{}
+
+/// It is so in one way alone.
+pub fn one_division()
+    ensures { (stream : List ℕ) (messages others : List Received) → IsStream stream messages → IsStream stream others → messages ≡ others }
+{}
+
+/// Fed in pieces or at once, a stream gives the same messages.
+pub fn pieces_do_not_count()
+    ensures { (first second : Awaited) (stream : List ℕ) (given others : List Received)
+        → Fed first stream given → Fed second stream others → given ≡ others }
+{}
+
+/// What is executed are the payloads of the frames since the last DataEnd, end to end, unless they have more than 65,536 bytes.
+pub fn whole_transmission()
+    ensures { (id : ℕ) (payloads : List (List ℕ)) (last : List ℕ) → executed id (added (all_added (Some []) payloads) last)
+        ≡ (if nat_lt 65536 (length (joined payloads ++ last)) then TooMuch else Execute id (joined payloads ++ last)) }
+{}

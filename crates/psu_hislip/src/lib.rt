@@ -1,0 +1,40 @@
+//! HiSLIP: the frames of a stream, and what each frame of a session asks for. No socket stands here.
+//!
+//! Source: IVI-6.1 (HiSLIP 1.0, synchronized mode), with the choices of this project's profile.
+#![tactic(auto)]
+
+mod action;
+mod channel;
+mod device_clear;
+mod error_code;
+mod fatal_code;
+mod faults;
+mod first;
+mod frames;
+mod header;
+mod laws;
+mod message;
+mod message_type;
+mod rest;
+mod session_core;
+mod side;
+mod step;
+mod transmission;
+
+pub use action::Action;
+pub use channel::Channel;
+pub use device_clear::DeviceClear;
+pub use error_code::ErrorCode;
+pub use fatal_code::FatalCode;
+pub use first::First;
+pub use header::Header;
+pub use laws::{
+    fed_is_the_stream, one_division, pieces_do_not_count, some_division, whole_transmission,
+};
+pub use message::Message;
+pub use message_type::MessageType;
+pub use session_core::SessionCore;
+pub use side::Side;
+
+#[cfg(test)]
+mod tests;

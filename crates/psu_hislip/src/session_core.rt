@@ -1,0 +1,354 @@
+// The core of a session.
+ghost use Rattle.std.specs.Prelude.{◌≡◌, ◌+◌, ◌<◌, [], length, IfOk, OnOk, OnErr, None, Some, false};
+ghost use Rattle.psu_hislip.specs.Stream.{received};
+ghost use Rattle.psu_hislip.specs.Action.{act, acts};
+ghost use Rattle.psu_hislip.specs.Core.{joins, initializes, misplaced, fatal, ill_formed, told, is_delivered, delivered, completed, cleared, locked, sized, joining, triggered, row, outcome_of};
+ghost use Rattle.psu_hislip.specs.Frame.{header_of};
+ghost use Rattle.psu_hislip.specs.Answer.{answer_size, IsAnswer};
+ghost use Rattle.psu_hislip.specs.declared.device_clear.DeviceClear.TheVariants.{Idle};
+ghost use Rattle.psu_hislip.specs.declared.message_type.MessageType.TheVariants.{InitializeResponse, Data, DataEnd, AsyncMaximumMessageSize};
+
+use crate::faults::error;
+use crate::frames::{one, put, put_frame, reply};
+use crate::transmission::Transmission;
+use crate::{Action, DeviceClear, FatalCode, Header, Message, MessageType, Side};
+use std::alloc::{AllocError, Allocator};
+use std::marker::Model;
+
+/// The most bytes of a shared lock's string.
+const LOCK_STRING: usize = 256;
+
+/// The most bytes of a payload that is sent.
+const PAYLOAD: u64 = 65_520;
+
+/// How many bytes a header has.
+const HEADER: u64 = 16;
+
+/// The greatest message that the server takes, 65,536 bytes, as AsyncMaximumMessageSizeResponse has it.
+const SIZE: [u8; 8] = [0, 0, 0, 0, 0, 1, 0, 0];
+
+/// Version 1.0 of the protocol, in the upper half of InitializeResponse's parameter.
+const VERSION: u32 = 0x0100_0000;
+
+/// A session between its messages: whether it is joined or has failed, the client's message size, the transmission that has
+/// begun, and the device clear. Contracts see just that.
+#[derive(Drop)]
+pub struct SessionCore<A: Allocator + Copy> {
+    alloc: A,
+    session: u16,
+    joined: bool,
+    failed: bool,
+    size: Option<u64>,
+    transmission: Transmission<A>,
+    clear: DeviceClear,
+}
+
+impl<A: Allocator + Copy> Model for SessionCore<A> {
+    ghost use Rattle.psu_hislip.specs.Core.{Core};
+
+    ghost Value = { Core };
+
+    ghost view = { λ c. record { session = c.session; joined = c.joined; failed = c.failed; size = c.size; transmission = c.transmission; clear = c.clear } };
+}
+
+fn initializes(header: Header) -> bool
+    ensures { result ≡ initializes header }
+{
+    header.kind == MessageType::Initialize.code()
+        || header.kind == MessageType::AsyncInitialize.code()
+}
+
+// Bit 0 of the control code.
+fn is_delivered(header: Header) -> bool
+    ensures { result ≡ is_delivered header }
+{
+    header.control % 2 == 1
+}
+
+// Delivered, where bit 0 of the control code says so.
+fn delivered<A: Allocator + Copy>(alloc: A, header: Header) -> Result<Vec<Action<A>, A>, AllocError>
+    ensures { IfOk result (λ actions. acts actions.items ≡ delivered header) }
+{
+    if is_delivered(header) {
+        return one(alloc, Action::Delivered);
+    }
+    Ok(Vec::new(alloc))
+}
+
+// What AsyncLock asks for.
+fn locked<A: Allocator + Copy>(
+    alloc: A,
+    header: Header,
+    string: &[u8],
+) -> Result<Action<A>, AllocError>
+    ensures { IfOk result (λ action. act action ≡ locked header string.now) }
+{
+    if header.control == 0 {
+        return Ok(Action::Release);
+    }
+    if string.len() > LOCK_STRING {
+        return reply(alloc, Side::Async, MessageType::AsyncLockResponse, 3);
+    }
+    let string = Vec::from_slice(alloc, string)?;
+    Ok(Action::Lock(header.parameter, string))
+}
+
+impl<A: Allocator + Copy> SessionCore<A> {
+    /// The core of a session of this number, whose synchronous channel alone is there.
+    pub fn new(alloc: A, session: u16) -> SessionCore<A>
+        ensures { result ≡ record { session = session; joined = false; failed = false; size = None; transmission = Some []; clear = Idle } }
+    {
+        SessionCore {
+            alloc,
+            session,
+            joined: false,
+            failed: false,
+            size: None,
+            transmission: Transmission::new(alloc),
+            clear: DeviceClear::Idle,
+        }
+    }
+
+    /// The answer to Initialize: version 1.0 and the number of the session.
+    pub fn response(&self) -> Header
+        ensures { result ≡ header_of InitializeResponse 0 (16777216 + self.now.session) 0 }
+    {
+        let parameter = VERSION + self.session as u32;
+        Header::new(MessageType::InitializeResponse, 0, parameter, 0)
+    }
+
+    // Whether this is the AsyncInitialize that joins the session's second connection.
+    fn joins(&self, side: Side, header: Header) -> bool
+        ensures { result ≡ joins self.now side header }
+    {
+        match side {
+            Side::Sync => false,
+            Side::Async => {
+                !self.joined
+                    && header.kind == MessageType::AsyncInitialize.code()
+                    && header.parameter == self.session as u32
+            }
+        }
+    }
+
+    // Why the session ends with a message for its place in the order of messages, if it does.
+    fn misplaced(&self, side: Side, header: Header, joins: bool) -> Option<FatalCode>
+        ensures { result ≡ misplaced self.now side header joins }
+    {
+        if matches!(side, Side::Sync) && !self.joined {
+            return Some(FatalCode::ChannelsNotJoined);
+        }
+        if !joins && (initializes(header) || !self.joined) {
+            return Some(FatalCode::InvalidInitialization);
+        }
+        None
+    }
+
+    // Why the session ends with a message, if it does.
+    fn fatal(&self, side: Side, message: &Message<A>) -> Option<FatalCode>
+        ensures { result ≡ fatal self.now side (received message.now) }
+    {
+        match message {
+            Message::BadHeader => Some(FatalCode::PoorlyFormedHeader),
+            Message::Oversize(header) => self.misplaced(side, *header, false),
+            Message::Frame(header, _) => {
+                self.misplaced(side, *header, self.joins(side, *header))
+            }
+        }
+    }
+
+    fn data(&mut self, header: Header, payload: &[u8]) -> Result<Vec<Action<A>, A>, AllocError>
+        ensures done { IfOk result (λ actions. acts actions.items ≡ (row self.old Data header payload.now).actions) }
+        ensures core { OnOk result (self.new ≡ (row self.old Data header payload.now).core) }
+        ensures refused { OnErr result (self.new ≡ self.old) }
+    {
+        if self.clear == DeviceClear::Begun {
+            return Ok(Vec::new(self.alloc));
+        }
+        let actions = delivered(self.alloc, header)?;
+        self.transmission.add(payload)?;
+        Ok(actions)
+    }
+
+    fn data_end(&mut self, header: Header, payload: &[u8]) -> Result<Vec<Action<A>, A>, AllocError>
+        ensures done { IfOk result (λ actions. acts actions.items ≡ (row self.old DataEnd header payload.now).actions) }
+        ensures core { OnOk result (self.new ≡ (row self.old DataEnd header payload.now).core) }
+        ensures refused { OnErr result (self.new ≡ self.old) }
+    {
+        if self.clear == DeviceClear::Begun {
+            return Ok(Vec::new(self.alloc));
+        }
+        let mut actions = delivered(self.alloc, header)?;
+        let last = self.transmission.executed(header.parameter, payload)?;
+        put(&mut actions, last)?;
+        self.transmission.clear();
+        Ok(actions)
+    }
+
+    fn device_clear(&mut self) -> Result<Vec<Action<A>, A>, AllocError>
+        ensures done { IfOk result (λ actions. acts actions.items ≡ (cleared self.old self.old.clear).actions) }
+        ensures core { OnOk result (self.new ≡ (cleared self.old self.old.clear).core) }
+        ensures refused { OnErr result (self.new ≡ self.old) }
+    {
+        let kind = MessageType::AsyncDeviceClearAcknowledge;
+        let mut actions = one(self.alloc, Action::Clear)?;
+        put(&mut actions, reply(self.alloc, Side::Async, kind, 0)?)?;
+        let is_early = self.clear == DeviceClear::Early;
+        if is_early {
+            let kind = MessageType::DeviceClearAcknowledge;
+            put(&mut actions, reply(self.alloc, Side::Sync, kind, 0)?)?;
+        }
+        self.transmission.clear();
+        self.clear = if is_early {
+            DeviceClear::Idle
+        } else {
+            DeviceClear::Begun
+        };
+        Ok(actions)
+    }
+
+    fn complete_clear(&mut self) -> Result<Vec<Action<A>, A>, AllocError>
+        ensures done { IfOk result (λ actions. acts actions.items ≡ (completed self.old self.old.clear).actions) }
+        ensures core { OnOk result (self.new ≡ (completed self.old self.old.clear).core) }
+        ensures refused { OnErr result (self.new ≡ self.old) }
+    {
+        if self.clear != DeviceClear::Begun {
+            self.clear = DeviceClear::Early;
+            return Ok(Vec::new(self.alloc));
+        }
+        let kind = MessageType::DeviceClearAcknowledge;
+        let actions = one(self.alloc, reply(self.alloc, Side::Sync, kind, 0)?)?;
+        self.clear = DeviceClear::Idle;
+        Ok(actions)
+    }
+
+    fn message_size(&mut self, size: &[u8]) -> Result<Vec<Action<A>, A>, AllocError>
+        requires { length size.now ≡ 8 }
+        ensures done { IfOk result (λ actions. acts actions.items ≡ (sized self.old size.now).actions) }
+        ensures core { OnOk result (self.new ≡ (sized self.old size.now).core) }
+        ensures refused { OnErr result (self.new ≡ self.old) }
+    {
+        let mut bytes = Vec::new(self.alloc);
+        put_frame(
+            &mut bytes,
+            MessageType::AsyncMaximumMessageSizeResponse,
+            0,
+            &SIZE,
+        )?;
+        let actions = one(self.alloc, Action::Send(Side::Async, bytes))?;
+        let size = u64::from_be_bytes([
+            size[0], size[1], size[2], size[3], size[4], size[5], size[6], size[7],
+        ]);
+        self.size = Some(size);
+        Ok(actions)
+    }
+
+    fn join(&mut self) -> Result<Vec<Action<A>, A>, AllocError>
+        ensures done { IfOk result (λ actions. acts actions.items ≡ (joining self.old).actions) }
+        ensures core { OnOk result (self.new ≡ (joining self.old).core) }
+        ensures refused { OnErr result (self.new ≡ self.old) }
+    {
+        let kind = MessageType::AsyncInitializeResponse;
+        let actions = one(self.alloc, reply(self.alloc, Side::Async, kind, 0)?)?;
+        self.joined = true;
+        Ok(actions)
+    }
+
+    fn trigger(&self) -> Result<Vec<Action<A>, A>, AllocError>
+        ensures { IfOk result (λ actions. told (acts actions.items) self.now ≡ triggered self.now) }
+    {
+        if self.clear == DeviceClear::Begun {
+            return Ok(Vec::new(self.alloc));
+        }
+        one(self.alloc, Action::Trigger)
+    }
+
+    // What a message without fault asks for, by its type.
+    fn row(
+        &mut self,
+        kind: MessageType,
+        header: Header,
+        payload: &[u8],
+    ) -> Result<Vec<Action<A>, A>, AllocError>
+        requires { ill_formed kind header payload.now ≡ None }
+        ensures done { IfOk result (λ actions. acts actions.items ≡ (row self.old kind header payload.now).actions) }
+        ensures core { OnOk result (self.new ≡ (row self.old kind header payload.now).core) }
+        ensures refused { OnErr result (self.new ≡ self.old) }
+    {
+        match kind {
+            MessageType::AsyncInitialize => self.join(),
+            MessageType::Data => self.data(header, payload),
+            MessageType::DataEnd => self.data_end(header, payload),
+            MessageType::Trigger => self.trigger(),
+            MessageType::DeviceClearComplete => self.complete_clear(),
+            MessageType::AsyncDeviceClear => self.device_clear(),
+            MessageType::AsyncLock => one(self.alloc, locked(self.alloc, header, payload)?),
+            MessageType::AsyncLockInfo => one(self.alloc, Action::Info),
+            MessageType::AsyncRemoteLocalControl => {
+                let kind = MessageType::AsyncRemoteLocalResponse;
+                one(self.alloc, reply(self.alloc, Side::Async, kind, 0)?)
+            }
+            MessageType::AsyncMaximumMessageSize => self.message_size(payload),
+            MessageType::AsyncStatusQuery => one(self.alloc, Action::Status(is_delivered(header))),
+            _ => Ok(Vec::new(self.alloc)),
+        }
+    }
+
+    /// What a message on one of the session's channels asks for, in order. The first message of the asynchronous channel, its
+    /// AsyncInitialize, is one of them; that of the synchronous channel is not.
+    ///
+    /// After a fatal fault each message gives the one action Closed. Where memory is refused nothing has changed.
+    pub fn on(&mut self, side: Side, message: &Message<A>) -> Result<Vec<Action<A>, A>, AllocError>
+        ensures done { IfOk result (λ actions. acts actions.items ≡ (outcome_of self.old side (received message.now)).actions) }
+        ensures core { OnOk result (self.new ≡ (outcome_of self.old side (received message.now)).core) }
+        ensures refused { OnErr result (self.new ≡ self.old) }
+    {
+        if self.failed {
+            return one(self.alloc, Action::Closed);
+        }
+        if let Some(code) = self.fatal(side, message) {
+            let kind = MessageType::FatalError;
+            let mut actions = one(self.alloc, reply(self.alloc, side, kind, code.code())?)?;
+            put(&mut actions, Action::Closed)?;
+            self.failed = true;
+            return Ok(actions);
+        }
+        if let Some(code) = error(side, message) {
+            let kind = MessageType::Error;
+            return one(self.alloc, reply(self.alloc, side, kind, code.code())?);
+        }
+        let Message::Frame(header, payload) = message else {
+            return Ok(Vec::new(self.alloc));
+        };
+        match header.message_type() {
+            Some(kind) => self.row(kind, *header, payload),
+            None => Ok(Vec::new(self.alloc)),
+        }
+    }
+
+    // The most bytes of a payload of an answer.
+    fn answer_size(&self) -> usize
+        ensures size { result ≡ answer_size self.now.size }
+        ensures some { 0 < result }
+    {
+        match self.size {
+            None => PAYLOAD as usize,
+            Some(size) => size.saturating_sub(HEADER).min(PAYLOAD).max(1) as usize,
+        }
+    }
+
+    /// The frames of an answer to the transmission of this MessageID, none longer than the client takes, nor than 65,536 bytes.
+    pub fn answer(&self, id: u32, bytes: &[u8]) -> Result<Vec<u8, A>, AllocError>
+        ensures { IfOk result (λ frames. IsAnswer (answer_size self.now.size) id bytes.now frames.items) }
+    {
+        let size = self.answer_size();
+        let mut frames = Vec::new(self.alloc);
+        let mut rest = bytes;
+        while rest.len() > size {
+            put_frame(&mut frames, MessageType::Data, id, &rest[..size])?;
+            rest = &rest[size..];
+        }
+        put_frame(&mut frames, MessageType::DataEnd, id, rest)?;
+        Ok(frames)
+    }
+}

@@ -1,0 +1,164 @@
+// One step through a stream.
+ghost use Rattle.std.specs.Prelude.{◌≡◌, ℕ, ◌<◌, ◌≤◌, [], ◌++◌, List, length, take, IfOk};
+ghost use Rattle.psu_hislip.specs.Channel.{Moves};
+ghost use Rattle.psu_hislip.specs.Channel.Awaited.{Begun, Passing};
+ghost use Rattle.psu_hislip.specs.Header.{header_bytes, Fits};
+ghost use Rattle.psu_hislip.specs.Rest.{awaited, given, IsRest};
+
+use crate::rest::Rest;
+use crate::{Header, Message};
+use arrayvec::ArrayVec;
+use std::alloc::{AllocError, Allocator};
+
+/// The most bytes of a payload that is kept.
+const MOST: u64 = 65_536;
+
+/// One step through a stream: how many bytes it took, the message that they ended, and what has come of the next one.
+#[derive(Drop)]
+pub struct Step<A: Allocator + Copy> {
+    pub used: usize,
+    pub message: Option<Message<A>>,
+    pub rest: Rest<A>,
+}
+
+// What a whole header comes to.
+fn headed<A: Allocator + Copy>(
+    alloc: A,
+    bytes: &[u8; 16],
+    used: usize,
+) -> Result<Step<A>, AllocError>
+    ensures used { IfOk result (λ step. step.used ≡ used) }
+    ensures rest { IfOk result (λ step. IsRest step.rest) }
+    ensures moves { IfOk result (λ step. Moves (Begun bytes.now) [] (given step.message) (awaited step.rest)) }
+{
+    let Some(header) = Header::read(bytes) else {
+        return Ok(Step {
+            used,
+            message: Some(Message::BadHeader),
+            rest: Rest::Ended,
+        });
+    };
+    if header.length > MOST {
+        return Ok(Step {
+            used,
+            message: Some(Message::Oversize(header)),
+            rest: Rest::Passing(header.length),
+        });
+    }
+    if header.length == 0 {
+        return Ok(Step {
+            used,
+            message: Some(Message::Frame(header, Vec::new(alloc))),
+            rest: Rest::Header(ArrayVec::new()),
+        });
+    }
+    let payload = Vec::with_capacity(alloc, header.length as usize)?;
+    Ok(Step {
+        used,
+        message: None,
+        rest: Rest::Payload(header, payload),
+    })
+}
+
+// Takes bytes of a header.
+fn header<A: Allocator + Copy>(
+    alloc: A,
+    head: ArrayVec<u8, 16>,
+    piece: &[u8],
+) -> Result<Step<A>, AllocError>
+    requires begun { length head.items < 16 }
+    requires some { 0 < length piece.now }
+    ensures used { IfOk result (λ step. (0 < step.used) × (step.used ≤ length piece.now)) }
+    ensures rest { IfOk result (λ step. IsRest step.rest) }
+    ensures moves { IfOk result (λ step. Moves (Begun head.items) (take step.used piece.now) (given step.message) (awaited step.rest)) }
+{
+    let mut head = head;
+    let used = piece.len().min(16 - head.len());
+    head.try_extend_from_slice(&piece[..used]).unwrap();
+    match head.into_inner() {
+        Ok(bytes) => headed(alloc, &bytes, used),
+        Err(head) => Ok(Step {
+            used,
+            message: None,
+            rest: Rest::Header(head),
+        }),
+    }
+}
+
+// Takes bytes of a payload.
+fn payload<A: Allocator + Copy>(
+    header: Header,
+    payload: Vec<u8, A>,
+    piece: &[u8],
+) -> Result<Step<A>, AllocError>
+    requires fits { Fits header }
+    requires begun { length payload.items < header.length }
+    requires short { header.length ≤ 65536 }
+    requires some { 0 < length piece.now }
+    ensures used { IfOk result (λ step. (0 < step.used) × (step.used ≤ length piece.now)) }
+    ensures rest { IfOk result (λ step. IsRest step.rest) }
+    ensures moves { IfOk result (λ step. Moves (Begun (header_bytes header ++ payload.items)) (take step.used piece.now) (given step.message) (awaited step.rest)) }
+{
+    let mut payload = payload;
+    let wanted = header.length as usize - payload.len();
+    let used = piece.len().min(wanted);
+    payload.extend_from_slice(&piece[..used])?;
+    if used < wanted {
+        return Ok(Step {
+            used,
+            message: None,
+            rest: Rest::Payload(header, payload),
+        });
+    }
+    Ok(Step {
+        used,
+        message: Some(Message::Frame(header, payload)),
+        rest: Rest::Header(ArrayVec::new()),
+    })
+}
+
+// Passes over bytes of a payload.
+fn passing<A: Allocator + Copy>(count: u64, piece: &[u8]) -> Step<A>
+    requires begun { 0 < count }
+    requires some { 0 < length piece.now }
+    ensures used { (0 < result.used) × (result.used ≤ length piece.now) }
+    ensures rest { IsRest result.rest }
+    ensures moves { Moves (Passing count) (take result.used piece.now) (given result.message) (awaited result.rest) }
+{
+    let come = piece.len() as u64;
+    if come < count {
+        return Step {
+            used: piece.len(),
+            message: None,
+            rest: Rest::Passing(count - come),
+        };
+    }
+    Step {
+        used: count as usize,
+        message: None,
+        rest: Rest::Header(ArrayVec::new()),
+    }
+}
+
+impl<A: Allocator + Copy> Step<A> {
+    /// Takes bytes of a piece of the stream, up to the end of a message or of the piece.
+    pub fn take(alloc: A, rest: Rest<A>, piece: &[u8]) -> Result<Step<A>, AllocError>
+        requires good { IsRest rest }
+        requires some { 0 < length piece.now }
+        ensures used { IfOk result (λ step. (0 < step.used) × (step.used ≤ length piece.now)) }
+        ensures rest { IfOk result (λ step. IsRest step.rest) }
+        ensures moves { IfOk result (λ step. Moves (awaited rest) (take step.used piece.now) (given step.message) (awaited step.rest)) }
+    {
+        match rest {
+            Rest::Header(head) => header(alloc, head, piece),
+            Rest::Payload(head, come) => payload(head, come, piece),
+            Rest::Passing(count) => Ok(passing(count, piece)),
+            Rest::Ended => Ok(Step {
+                used: piece.len(),
+                message: None,
+                rest: Rest::Ended,
+            }),
+            Rest::Failed => Err(AllocError),
+        }
+    }
+}

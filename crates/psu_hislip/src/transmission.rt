@@ -1,0 +1,76 @@
+// A transmission.
+ghost use Rattle.std.specs.Prelude.{◌≡◌, Some, [], IfOk, OnOk, OnErr};
+ghost use Rattle.psu_hislip.specs.Action.{act};
+ghost use Rattle.psu_hislip.specs.Transmission.{added, executed};
+
+use crate::Action;
+use std::alloc::{AllocError, Allocator};
+use std::marker::Model;
+
+/// The most bytes of a transmission.
+const MOST: usize = 65_536;
+
+/// The bytes of a transmission so far. Contracts see them, or none where they are too many to be kept.
+#[derive(Drop)]
+pub struct Transmission<A: Allocator + Copy> {
+    alloc: A,
+    bytes: Vec<u8, A>,
+    is_over: bool,
+}
+
+impl<A: Allocator + Copy> Model for Transmission<A> {
+    ghost use Rattle.std.specs.Prelude.{ℕ, List, Option, Some, None, ◌≤◌, length, if◌then◌else◌};
+
+    ghost Value = { Option (List ℕ) };
+
+    ghost view = { λ t. if t.is_over then None else Some t.bytes.items };
+
+    ghost invariant = { λ t. length t.bytes.items ≤ 65536 };
+}
+
+impl<A: Allocator + Copy> Transmission<A> {
+    /// No bytes yet.
+    pub fn new(alloc: A) -> Transmission<A>
+        ensures { result ≡ Some [] }
+    {
+        Transmission {
+            alloc,
+            bytes: Vec::new(alloc),
+            is_over: false,
+        }
+    }
+
+    /// Adds the payload of a Data. Where memory is refused nothing has changed.
+    pub fn add(&mut self, payload: &[u8]) -> Result<(), AllocError>
+        ensures ok { OnOk result (self.new ≡ added self.old payload.now) }
+        ensures err { OnErr result (self.new ≡ self.old) }
+    {
+        if self.is_over || payload.len() > MOST - self.bytes.len() {
+            self.bytes = Vec::new(self.alloc);
+            self.is_over = true;
+            return Ok(());
+        }
+        self.bytes.extend_from_slice(payload)
+    }
+
+    /// What the transmission asks for, with the payload of its DataEnd.
+    pub fn executed(&self, id: u32, payload: &[u8]) -> Result<Action<A>, AllocError>
+        ensures { IfOk result (λ action. act action ≡ executed id (added self.now payload.now)) }
+    {
+        if self.is_over || payload.len() > MOST - self.bytes.len() {
+            return Ok(Action::TooMuch);
+        }
+        let mut bytes = Vec::with_capacity(self.alloc, self.bytes.len() + payload.len())?;
+        bytes.extend_from_slice(&self.bytes)?;
+        bytes.extend_from_slice(payload)?;
+        Ok(Action::Execute(id, bytes))
+    }
+
+    /// The next one begins.
+    pub fn clear(&mut self)
+        ensures { self.new ≡ Some [] }
+    {
+        self.bytes = Vec::new(self.alloc);
+        self.is_over = false;
+    }
+}
