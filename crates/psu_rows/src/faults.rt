@@ -1,7 +1,6 @@
 // Runs that end in a fault: readers and writers that fail, input that is too long, images that can't be opened.
 use crate::images::{SIZE, formatted};
-use psu_disk::{FailOnce, MemDisk};
-use psu_items::Store;
+use psu_disk::{Disk, FailOnce, MemDisk};
 use psu_server::{RunCause, StartCause, run};
 use std::io::{self, ErrorKind, Read, Write};
 
@@ -158,17 +157,40 @@ fn an_image_that_is_none_is_not_opened(rt: HostRuntime) {
 
 #[test]
 fn a_disk_that_fails_is_answered_by_a_storage_fault(rt: HostRuntime) {
-    let mut reader: &[u8] = b"*PSC 0;*OPC?;*ESR?;*OPC?;*ESR?";
+    let mut ends = [0u32; 3];
+    for call in 0..40 {
+        let mut reader: &[u8] = b"*PSC 0;*OPC?;*ESR?;*OPC?;*ESR?";
+        let mut output = Vec::new(rt.alloc());
+        let disk = formatted(rt.alloc()).expect(&rt, "an image");
+        // A failed opening ends the run at once. After a failed commit `*OPC?` is -320, which sets DDE (8); PON (128) was there.
+        let (end, want) = match run(rt.alloc(), &mut reader, &mut output, FailOnce::new(disk, call)) {
+            Ok(_) => (0, "1;128;1;0\n"),
+            Err(fault) => match fault.cause {
+                RunCause::Device => (1, "136;8\n"),
+                cause => {
+                    assert_eq!(rt; cause, RunCause::Open(StartCause::Device));
+                    (2, "")
+                }
+            },
+        };
+        assert_eq!(rt; output.as_slice(), want.as_bytes(), "at call {call}");
+        ends[end] += 1;
+    }
+    assert!(rt; ends[0] > 0 && ends[1] > 0 && ends[2] > 0);
+}
+
+#[test]
+fn an_image_of_the_last_number_takes_no_commit(rt: HostRuntime) {
+    let mut reader: &[u8] = b"*PSC 0;*OPC?;*ESR?\n!POWER\n*PSC?;*SRE 1;*PSC 0\n";
     let mut output = Vec::new(rt.alloc());
-    let disk = formatted(rt.alloc()).expect(&rt, "an image");
-    let store = Store::open(rt.alloc(), disk).ok().expect(&rt, "it opens");
-    // The opening reads and syncs; the first commit then meets a call that fails.
-    let disk = FailOnce::new(store.into_disk(), 20);
-    let outcome = run(rt.alloc(), &mut reader, &mut output, disk);
-    match outcome {
-        Ok(_) => assert!(rt; output.starts_with(b"1;128;")),
+    let mut disk = formatted(rt.alloc()).expect(&rt, "an image");
+    assert!(rt; disk.write(8, &[255; 8]).is_ok());
+    assert!(rt; disk.sync().is_ok());
+    match run(rt.alloc(), &mut reader, &mut output, disk) {
+        Ok(_) => assert!(rt; false, "it ends well"),
         Err(fault) => assert_eq!(rt; fault.cause, RunCause::Device),
     }
+    assert_eq!(rt; output.as_slice(), b"136\n1\n".as_slice());
 }
 
 /// A writer that counts the calls of `write`.
