@@ -6,6 +6,6 @@ use crate::Data;
 pub struct Syntax<'a> {
     /// The header as written, with its `*` or `:` and its `?`.
     pub header: &'a [u8],
-    /// What stands behind it.
+    /// Its data, in order.
     pub parameters: Data<'a>,
 }
