@@ -16,7 +16,7 @@ pub fn some_division()
     ensures { (stream : List ℕ) → All (λ byte. byte < 256) stream → (messages : List Received) × IsStream stream messages }
 {}
 
-/// It is so in one way alone.
+/// A stream is cut into messages in one way alone.
 pub fn one_division()
     ensures { (stream : List ℕ) (messages others : List Received) → IsStream stream messages → IsStream stream others → messages ≡ others }
 {}

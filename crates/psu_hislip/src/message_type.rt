@@ -5,31 +5,57 @@ ghost use Rattle.psu_hislip.specs.MessageType.{code_of, type_of};
 /// The type of a message, by its name in IVI-6.1.
 #[derive(Clone, Copy, Debug, PartialEq, Eq)]
 pub enum MessageType {
+    /// Client: begins a session, on its first connection.
     Initialize = 0,
+    /// Server: the number of the session.
     InitializeResponse = 1,
+    /// Either: the session ends.
     FatalError = 2,
+    /// Either: a message was ignored.
     Error = 3,
+    /// Client: asks for a lock, or gives one up.
     AsyncLock = 4,
+    /// Server: what came of that.
     AsyncLockResponse = 5,
+    /// Either: a part of a transmission that goes on.
     Data = 6,
+    /// Either: the last part of a transmission.
     DataEnd = 7,
+    /// Client: completes a device clear.
     DeviceClearComplete = 8,
+    /// Server: the device clear is complete.
     DeviceClearAcknowledge = 9,
+    /// Client: asks for remote or local control.
     AsyncRemoteLocalControl = 10,
+    /// Server: answers that.
     AsyncRemoteLocalResponse = 11,
+    /// Client: a trigger.
     Trigger = 12,
+    /// Server: an answer was interrupted, said on the synchronous channel.
     Interrupted = 13,
+    /// Server: the same, said on the asynchronous channel.
     AsyncInterrupted = 14,
+    /// Client: the greatest message that it takes.
     AsyncMaximumMessageSize = 15,
+    /// Server: the greatest message that it takes.
     AsyncMaximumMessageSizeResponse = 16,
+    /// Client: joins a second connection to its session.
     AsyncInitialize = 17,
+    /// Server: the second connection is joined.
     AsyncInitializeResponse = 18,
+    /// Client: begins a device clear.
     AsyncDeviceClear = 19,
+    /// Server: a service request, with the status byte.
     AsyncServiceRequest = 20,
+    /// Client: asks for the status byte.
     AsyncStatusQuery = 21,
+    /// Server: the status byte.
     AsyncStatusResponse = 22,
+    /// Server: the device clear has begun.
     AsyncDeviceClearAcknowledge = 23,
+    /// Client: asks who holds locks.
     AsyncLockInfo = 24,
+    /// Server: who holds locks.
     AsyncLockInfoResponse = 25,
 }
 

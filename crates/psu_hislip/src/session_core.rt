@@ -337,7 +337,8 @@ impl<A: Allocator + Copy> SessionCore<A> {
         }
     }
 
-    /// The frames of an answer to the transmission of this MessageID, none longer than the client takes, nor than 65,536 bytes.
+    /// The frames of an answer to the transmission of this MessageID. A payload has at most the bytes that the client takes less a
+    /// header's 16, but at least 1 and at most 65,520; an empty answer is one empty frame.
     pub fn answer(&self, id: u32, bytes: &[u8]) -> Result<Vec<u8, A>, AllocError>
         ensures { IfOk result (λ frames. IsAnswer (answer_size self.now.size) id bytes.now frames.items) }
     {

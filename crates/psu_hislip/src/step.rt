@@ -13,11 +13,14 @@ use std::alloc::{AllocError, Allocator};
 /// The most bytes of a payload that is kept.
 const MOST: u64 = 65_536;
 
-/// One step through a stream: how many bytes it took, the message that they ended, and what has come of the next one.
+/// One step through a stream, up to the end of a message or of a piece.
 #[derive(Drop)]
 pub struct Step<A: Allocator + Copy> {
+    /// How many bytes of the piece it took, at least one.
     pub used: usize,
+    /// The message that they ended.
     pub message: Option<Message<A>>,
+    /// What has come of the next message.
     pub rest: Rest<A>,
 }
 
