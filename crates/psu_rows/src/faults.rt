@@ -163,7 +163,12 @@ fn a_disk_that_fails_is_answered_by_a_storage_fault(rt: HostRuntime) {
         let mut output = Vec::new(rt.alloc());
         let disk = formatted(rt.alloc()).expect(&rt, "an image");
         // A failed opening ends the run at once. After a failed commit `*OPC?` is -320, which sets DDE (8); PON (128) was there.
-        let (end, want) = match run(rt.alloc(), &mut reader, &mut output, FailOnce::new(disk, call)) {
+        let (end, want) = match run(
+            rt.alloc(),
+            &mut reader,
+            &mut output,
+            FailOnce::new(disk, call),
+        ) {
             Ok(_) => (0, "1;128;1;0\n"),
             Err(fault) => match fault.cause {
                 RunCause::Device => (1, "136;8\n"),

@@ -59,9 +59,14 @@ fn every_front_of_a_message_is_read(rt: HostRuntime) {
     let message = b"*SRE 1.5E1 ;FOO \"a''b\", #13x;y,#0;:A:B? 1V , c;*ESE #H1;'\n*SRE?\n";
     for end in 0..message.len() {
         let mut input = Vec::new(rt.alloc());
-        input.extend_from_slice(&message[..end]).expect(&rt, "memory");
+        input
+            .extend_from_slice(&message[..end])
+            .expect(&rt, "memory");
         input.extend_from_slice(b"\n*IDN?\n").expect(&rt, "memory");
         let got = written(rt.alloc(), input.as_slice()).expect(&rt, "the run ends well");
-        assert!(rt; got.as_slice().ends_with(b"EXAMPLE,PSU4,0,1.0\n"), "at {end}");
+        assert!(rt;
+            got.as_slice().ends_with(b"EXAMPLE,PSU4,0,1.0\n"),
+            "at {end}"
+        );
     }
 }

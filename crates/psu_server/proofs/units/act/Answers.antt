@@ -17,7 +17,7 @@ returns-then-not-is_parked-clause-acted g c =
 pub invariant_of-result : goal.invariant_of-result
 invariant_of-result g c =
     let step = executed_one c.args.powered.exec.device c.execute-outcome.new.self.device c.args.request.now (outcome_of c.execute-outcome.result) c.args.powered.session
-        c.args.powered.first c.execute-outcome.ensures.step in record {
+    c.args.powered.first c.execute-outcome.ensures.step in record {
       first = c.args.powered.first;
       «open» = subst (λ (n : ℕ). is_open c.execute-outcome.new.self.device n ≡ true) c.args.powered.first c.execute-outcome.ensures.still_open;
       idle = c.execute-outcome.ensures.still_home;

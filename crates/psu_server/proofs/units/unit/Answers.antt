@@ -28,8 +28,8 @@ returns-in_err-powered-3-clause-caused g c = λ h.
 pub returns-then-is_later-clause-caused : goal.returns-then-is_later-clause-caused
 returns-then-is_later-clause-caused g c = λ h start e.
     let worn = later_worn any c.in_ok-powered.powered.exec.device c.in_ok-powered-2.powered.exec.device c.in_ok-powered-3.powered.exec.device c.args.request.now
-        (outcome_of c.in_ok-powered-3.outcome) (within_any _ _ _ c.in_ok-powered-2.ensures.flushes) c.in_ok-powered-2.powered.free
-        (sym c.is_later-2.ensures ∙ c.if-is_later.true) (within_any _ _ _ c.in_ok-powered-3.ensures.acted) in
+    (outcome_of c.in_ok-powered-3.outcome) (within_any _ _ _ c.in_ok-powered-2.ensures.flushes) c.in_ok-powered-2.powered.free
+    (sym c.is_later-2.ensures ∙ c.if-is_later.true) (within_any _ _ _ c.in_ok-powered-3.ensures.acted) in
     stops_device start (g.D.Disk.failures c.fault.result.disk) (g.D.Disk.state c.fault.result.disk).bytes c.fault.result.cause c.fault.ensures.cause
     (c.fault.ensures.reason h start (c.in_ok-powered-3.ensures.explained start (c.in_ok-powered-2.ensures.explained start (c.in_ok-powered.ensures.explained start e))) worn)
 

@@ -12,7 +12,7 @@ pub returns-then-not-is_final-clause-caused : goal.returns-then-not-is_final-cla
 returns-then-not-is_final-clause-caused g c = λ h start e.
     let step = settled_one c.in_ok-exec.exec.device c.settle-outcome.new.self.device (outcome_of c.settle-outcome.result) c.args.session c.requires.first c.settle-outcome.ensures.step in
     let worn = settle_worn any c.args.exec.device c.in_ok-exec.exec.device c.settle-outcome.new.self.device (outcome_of c.settle-outcome.result) (within_any _ _ _ c.in_ok-exec.ensures.flushes) step (sym c.is_final.ensures ∙ c.if-not-is_final.true)
-        (λ parked. c.settle-outcome.ensures.parked (parked_of _ parked)) in
+    (λ parked. c.settle-outcome.ensures.parked (parked_of _ parked)) in
     stops_device start (g.D.Disk.failures c.fault_of.result.disk) (g.D.Disk.state c.fault_of.result.disk).bytes c.fault_of.result.cause c.fault_of.ensures.cause (c.fault_of.ensures.reason h start
     (same_explained start c.in_ok-exec.exec c.settle-outcome.new.self (settle_store c.in_ok-exec.exec.device c.settle-outcome.new.self.device (outcome_of c.settle-outcome.result) step) c.settle-outcome.ensures.home (c.in_ok-exec.ensures.explained start e)) worn)
 
