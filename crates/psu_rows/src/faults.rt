@@ -157,7 +157,7 @@ fn an_image_that_is_none_is_not_opened(rt: HostRuntime) {
 
 #[test]
 fn a_disk_that_fails_is_answered_by_a_storage_fault(rt: HostRuntime) {
-    let mut ends = [0u32; 3];
+    let mut seen = [false; 3];
     for call in 0..40 {
         let mut reader: &[u8] = b"*PSC 0;*OPC?;*ESR?;*OPC?;*ESR?";
         let mut output = Vec::new(rt.alloc());
@@ -179,9 +179,9 @@ fn a_disk_that_fails_is_answered_by_a_storage_fault(rt: HostRuntime) {
             },
         };
         assert_eq!(rt; output.as_slice(), want.as_bytes(), "at call {call}");
-        ends[end] += 1;
+        seen[end] = true;
     }
-    assert!(rt; ends[0] > 0 && ends[1] > 0 && ends[2] > 0);
+    assert!(rt; seen[0] && seen[1] && seen[2]);
 }
 
 #[test]
@@ -189,6 +189,7 @@ fn an_image_of_the_last_number_takes_no_commit(rt: HostRuntime) {
     let mut reader: &[u8] = b"*PSC 0;*OPC?;*ESR?\n!POWER\n*PSC?;*SRE 1;*PSC 0\n";
     let mut output = Vec::new(rt.alloc());
     let mut disk = formatted(rt.alloc()).expect(&rt, "an image");
+    assert!(rt; disk.size() >= 16);
     assert!(rt; disk.write(8, &[255; 8]).is_ok());
     assert!(rt; disk.sync().is_ok());
     match run(rt.alloc(), &mut reader, &mut output, disk) {
