@@ -110,20 +110,20 @@ by_test : (f : Flush) (b : Bool) → is_final (if b then Answer (decimal 1) else
 by_test f true h = refl
 by_test f false h = cc
 
-flush_settled : (f : Flush) (w : Option Wait) → is_final (settle_answer w) ≡ true → settled f 1 (settle_answer w) ≡ unparked f 1
+pub flush_settled : (f : Flush) (w : Option Wait) → is_final (settle_answer w) ≡ true → settled f 1 (settle_answer w) ≡ unparked f 1
 flush_settled f None h = refl
 flush_settled f (Some CutOff) h = refl
 flush_settled f (Some (Until n)) h = by_test f (n == 0) h
 
 -- no session waits any more
-no_wait : (waits : List (Option Wait)) → slice_index_or (slice_set waits 0 None) 0 None ≡ None
+pub no_wait : (waits : List (Option Wait)) → slice_index_or (slice_set waits 0 None) 0 None ≡ None
 no_wait [] = refl
 no_wait (w ∷ ws) = refl
 
--- a flush makes no wait
-no_wait_after : (waits : List (Option Wait)) (k : ℕ) → slice_index_or waits 0 None ≡ None → slice_index_or (map (option_map (wait_less k)) waits) 0 None ≡ None
-no_wait_after [] k h = refl
-no_wait_after (w ∷ ws) k h = ap (option_map (wait_less k)) h
+-- what a job's end turns each wait into is none where there was none
+pub no_wait_after : (turn : Wait → Wait) (waits : List (Option Wait)) → slice_index_or waits 0 None ≡ None → slice_index_or (map (option_map turn) waits) 0 None ≡ None
+no_wait_after turn [] h = refl
+no_wait_after turn (w ∷ ws) h = ap (option_map turn) h
 
 settle_at : (r : Rest) (o : Reply) (new : State) → r.state.flush.store ≡ Whole → items_of r.stored ≡ r.state.flush.before → o ≡ settle_answer (wait_of r.state.flush 1)
     → new ≡ after_settle r.state 1 o → is_final o ≡ true → Same (waited r) o new
@@ -183,7 +183,7 @@ first_is r c Later h = cc
 
 wait_after_flush : (l : List Change) (r : Rest) → wait_of r.state.flush 1 ≡ None → wait_of (flushed_by l r).state.flush 1 ≡ None
 wait_after_flush [] r w = w
-wait_after_flush (c ∷ cs) r w = no_wait_after r.state.flush.waits (length r.state.flush.tail) w
+wait_after_flush (c ∷ cs) r w = no_wait_after (wait_less (length r.state.flush.tail)) r.state.flush.waits w
 
 -- a unit goes on in one way
 pub unit_alone : (r : Rest) (c : Request) (o : Reply) (new : State) → Quiet r → UnitRuns none r.state c o new → Same (unit r c) o new

@@ -1,5 +1,5 @@
 -- A session that waits for nothing, and the end of a wait.
-use Rattle.std.proofs.Common.{◌≡◌, ℕ, zero, suc, ◌==◌, ◌&&◌, nat_le, Bool, true, false, Result, Ok, Err, List, [], ◌∷◌, length, ◌<◌, map, slice_index_or, slice_set, decimal, if◌then◌else◌, refl, sym, ap, ◌∙◌, subst, inl, inr, arith, Option, Some, None, is_some, option_map}
+use Rattle.std.proofs.Common.{◌≡◌, ℕ, zero, suc, ◌==◌, ◌&&◌, nat_le, Bool, true, false, Result, Ok, Err, List, length, ◌<◌, map, slice_index_or, decimal, if◌then◌else◌, refl, sym, ap, ◌∙◌, subst, inl, inr, arith, Option, Some, None, is_some}
 use Rattle.std.proofs.lemmas.Bool.Decides.{nat_tests}
 use Rattle.psu_items.specs.declared.commit.UnstartedCause.TheVariants.{Memory, Worn}
 use Rattle.psu_exec.specs.declared.change.Change.{Change}
@@ -20,18 +20,14 @@ use Rattle.psu_exec.specs.declared.outcome.Outcome.{Outcome}
 use Rattle.psu_exec.specs.declared.outcome.Outcome.TheVariants as outcome
 use Rattle.psu_server.specs.Runs.{Mishaps, Jobs, Flushes, is_final, is_later, is_out_of_memory, is_parked}
 use Rattle.psu_server.specs.Progress.{Acted}
+use Rattle.psu_server.proofs.Alone.{flush_settled, no_wait, no_wait_after}
 use Rattle.psu_server.proofs.Flushed.{flush_clean}
 
--- no wait becomes none
-free_map : (turn : Wait → Wait) (waits : List (Option Wait)) → slice_index_or waits 0 None ≡ None → slice_index_or (map (option_map turn) waits) 0 None ≡ None
-free_map turn [] e = refl
-free_map turn (w ∷ ws) e = ap (option_map turn) e
-
 gave_free : (finished : JobEnd) (s new : State) → Allows s (GaveBack finished true) new → wait_of s.flush 1 ≡ None → wait_of new.flush 1 ≡ None
-gave_free (Stored limit map) s new g e = ap (λ (z : State). wait_of z.flush 1) g.2 ∙ free_map _ s.flush.waits e
+gave_free (Stored limit map) s new g e = ap (λ (z : State). wait_of z.flush 1) g.2 ∙ no_wait_after _ s.flush.waits e
 gave_free (Unstarted limit before edits Memory) s new g e = ap (λ (z : State). wait_of z.flush 1) g.2 ∙ e
-gave_free (Unstarted limit before edits Worn) s new g e = ap (λ (z : State). wait_of z.flush 1) g.2 ∙ free_map wait_cut s.flush.waits e
-gave_free (Broken limit before edits) s new g e = ap (λ (z : State). wait_of z.flush 1) g.2 ∙ free_map wait_cut s.flush.waits e
+gave_free (Unstarted limit before edits Worn) s new g e = ap (λ (z : State). wait_of z.flush 1) g.2 ∙ no_wait_after wait_cut s.flush.waits e
+gave_free (Broken limit before edits) s new g e = ap (λ (z : State). wait_of z.flush 1) g.2 ∙ no_wait_after wait_cut s.flush.waits e
 
 jobs_free : (n : ℕ) (can : Mishaps) (s new : State) → Jobs n can s new → wait_of s.flush 1 ≡ None → wait_of new.flush 1 ≡ None
 jobs_free zero can s new is e = ap (λ (z : State). wait_of z.flush 1) is ∙ e
@@ -47,17 +43,9 @@ worn_unless : (state : Condition) → (state ≡ condition.Whole → ⊥) → st
 worn_unless condition.Whole not = absurd (not refl)
 worn_unless condition.Worn not = refl
 
-unparked_free : (waits : List (Option Wait)) → slice_index_or (slice_set waits 0 None) 0 None ≡ None
-unparked_free [] = refl
-unparked_free (w ∷ ws) = refl
-
 -- the reply to a wait for changes
 abbrev until : Bool → Reply
 until b = if b then Answer (decimal 1) else Parked
-
-over_if : (f : Flush) (b : Bool) → is_final (until b) ≡ true → wait_of (settled f 1 (until b)) 1 ≡ None
-over_if f true final = unparked_free f.waits
-over_if f false final = cc
 
 store_if : (f : Flush) (b : Bool) → (settled f 1 (until b)).store ≡ f.store
 store_if f true = refl
@@ -69,9 +57,7 @@ waiting_if false e = refl
 
 -- what is over leaves no wait
 over_free : (f : Flush) (wait : Option Wait) → is_final (settle_answer wait) ≡ true → wait_of (settled f 1 (settle_answer wait)) 1 ≡ None
-over_free f None final = unparked_free f.waits
-over_free f (Some CutOff) final = unparked_free f.waits
-over_free f (Some (Until n)) final = over_if f (n == 0) final
+over_free f wait final = ap (λ (z : Flush). wait_of z 1) (flush_settled f wait final) ∙ no_wait f.waits
 
 pub settle_free : (s new : State) (reply : Reply) → Allows s (Settled 1 reply) new → is_final reply ≡ true → is_out_of_memory reply ≡ false → wait_of new.flush 1 ≡ None
 settle_free s new reply (inl may, is) final over =
