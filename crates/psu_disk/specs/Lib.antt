@@ -3,3 +3,5 @@ pub mod Loss
 pub mod Memory
 pub mod Moments
 pub mod Ranges
+pub mod Touched
+pub mod Past

@@ -17,6 +17,7 @@ impl<D: Disk> Fuse<D> {
     pub fn new(inner: D, k: u64) -> Fuse<D>
         ensures inner { result.inner ≡ inner }
         ensures passes { result.passes ≡ k }
+        ensures failed { result.failed ≡ 0 }
     {
         Fuse {
             inner,

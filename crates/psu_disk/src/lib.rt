@@ -9,6 +9,8 @@ mod file_disk;
 mod fuse;
 mod memory;
 mod open_fault;
+mod telling_disk;
+mod touched;
 
 pub use choice::Choice;
 pub use disk::Disk;
@@ -18,3 +20,4 @@ pub use file_disk::FileDisk;
 pub use fuse::Fuse;
 pub use memory::MemDisk;
 pub use open_fault::OpenFault;
+pub use telling_disk::TellingDisk;

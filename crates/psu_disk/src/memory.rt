@@ -1,9 +1,12 @@
 // A disk in memory. It keeps what the last sync made sure of beside what a read gives, and a mark for each unsynced byte.
-ghost use Rattle.std.specs.Prelude.{◌≡◌, ℕ, ◌+◌, ◌≤◌, length, replicate, IsTrue, false, slice_index, slice_index_or, IfOk};
-ghost use Rattle.psu_disk.specs.Disk.{Holds};
+ghost use Rattle.std.specs.Prelude.{◌≡◌, ℕ, ◌+◌, ◌<◌, ◌≤◌, List, length, replicate, IsTrue, true, false, slice_index, slice_index_or, IfOk, IsOk, OnOk, OnErr};
+ghost use Rattle.psu_disk.specs.Disk.{Left, Range, Holds, SameBut, IsSynced, IsFlagged, Touches, Only, Follows, HasCause};
 ghost use Rattle.psu_disk.specs.Loss.{lost};
-ghost use Rattle.psu_disk.specs.Memory.{marked};
+ghost use Rattle.psu_disk.specs.Memory.{memory, marked};
+ghost use Rattle.psu_disk.specs.Touched.{is_in, IsKeptUp};
+ghost use Rattle.std.proofs.Props.{props};
 
+use crate::touched::{Span, Touched};
 use crate::{Choice, Disk, DiskFault};
 use std::alloc::{AllocError, Allocator};
 
@@ -13,8 +16,10 @@ pub struct MemDisk<A: Allocator + Copy> {
     bytes: Vec<u8, A>,
     synced: Vec<u8, A>,
     unsynced: Vec<bool, A>,
+    touched: Touched,
     ghost synced_whole: { length synced.items ≡ length bytes.items },
     ghost marked_whole: { length unsynced.items ≡ length bytes.items },
+    ghost kept_up: { IsKeptUp bytes.items synced.items unsynced.items touched.spans } by { Prim.hlevel props },
 }
 
 impl<A: Allocator + Copy> MemDisk<A> {
@@ -22,18 +27,15 @@ impl<A: Allocator + Copy> MemDisk<A> {
     pub fn new(alloc: A, size: u64) -> Result<MemDisk<A>, AllocError>
         ensures bytes { IfOk result (λ disk. disk.bytes.items ≡ replicate size 0) }
         ensures synced { IfOk result (λ disk. disk.unsynced.items ≡ replicate size false) }
+        ensures made_sure { IfOk result (λ disk. disk.synced.items ≡ replicate size 0) }
     {
         Ok(MemDisk {
             bytes: vec![in alloc; 0; size as usize]?,
             synced: vec![in alloc; 0; size as usize]?,
             unsynced: vec![in alloc; false; size as usize]?,
+            touched: Touched::new(),
         })
     }
-}
-
-impl<A: Allocator + Copy> MemDisk<A> {
-    ghost use Rattle.psu_disk.specs.Disk.{Left, IsSynced};
-    ghost use Rattle.psu_disk.specs.Memory.{memory};
 
     /// Power is lost: the unsynced bytes become as chosen, and none is unsynced any more.
     #[tactic(auto, unfolding(crate::specs::Disk::Left))]
@@ -42,10 +44,12 @@ impl<A: Allocator + Copy> MemDisk<A> {
         ensures left { Left (memory self.old.bytes.items self.old.unsynced.items) self.new.bytes.items }
         ensures synced { IsSynced (memory self.new.bytes.items self.new.unsynced.items) }
         ensures choice { (k : ℕ) → IsTrue (slice_index_or self.old.unsynced.items k false) → slice_index self.new.bytes.items k ≡ lost choice (slice_index self.old.synced.items k) (slice_index self.old.bytes.items k) }
+        ensures made_sure { self.new.synced.items ≡ self.new.bytes.items }
     {
         lose_bytes(&mut self.bytes, &self.synced, &self.unsynced, choice);
         self.synced.copy_from_slice(&self.bytes);
         self.unsynced.fill(false);
+        self.touched = Touched::new();
     }
 }
 
@@ -63,19 +67,48 @@ fn lose_bytes(bytes: &mut [u8], synced: &[u8], unsynced: &[bool], choice: Choice
 }
 
 // Writes over the bytes from `at` on.
-fn put(all: &mut [u8], at: usize, bytes: &[u8])
+pub(crate) fn put(all: &mut [u8], at: usize, bytes: &[u8])
     requires { at + length bytes.now ≤ length all.old }
     ensures { Holds at bytes.now all.old all.new }
 {
     all[at..at + bytes.len()].copy_from_slice(bytes);
 }
 
-// Marks n bytes from `at` on.
-fn mark(unsynced: &mut [bool], at: usize, n: usize)
+// Marks n bytes from `at` on, as unsynced or not.
+pub(crate) fn mark(unsynced: &mut [bool], at: usize, n: usize, with: bool)
     requires { at + n ≤ length unsynced.old }
-    ensures { unsynced.new ≡ marked at n unsynced.old }
+    ensures { unsynced.new ≡ marked with at n unsynced.old }
 {
-    unsynced[at..at + n].fill(true);
+    unsynced[at..at + n].fill(with);
+}
+
+// Makes sure of the bytes of the spans, in which all that is marked lies.
+fn settle(bytes: &[u8], synced: &mut [u8], unsynced: &mut [bool], spans: &[Span])
+    requires synced { length synced.old ≡ length bytes.now }
+    requires unsynced { length unsynced.old ≡ length bytes.now }
+    requires kept_up { IsKeptUp bytes.now synced.old unsynced.old spans.now }
+    ensures synced { synced.new ≡ bytes.now }
+    ensures unsynced { (k : ℕ) → slice_index_or unsynced.new k false ≡ false }
+{
+    for span in spans {
+        settle_span(bytes, synced, unsynced, *span);
+    }
+}
+
+// Makes sure of the bytes of one span.
+fn settle_span(bytes: &[u8], synced: &mut [u8], unsynced: &mut [bool], span: Span)
+    requires synced { length synced.old ≡ length bytes.now }
+    requires unsynced { length unsynced.old ≡ length bytes.now }
+    requires fits { span.low < span.high → span.high ≤ length bytes.now }
+    ensures synced_in { (k : ℕ) → is_in span k ≡ true → slice_index synced.new k ≡ slice_index bytes.now k }
+    ensures synced_out { (k : ℕ) → is_in span k ≡ false → slice_index synced.new k ≡ slice_index synced.old k }
+    ensures unsynced_in { (k : ℕ) → is_in span k ≡ true → slice_index_or unsynced.new k false ≡ false }
+    ensures unsynced_out { (k : ℕ) → is_in span k ≡ false → slice_index_or unsynced.new k false ≡ slice_index_or unsynced.old k false }
+{
+    if span.low < span.high {
+        put(synced, span.low, &bytes[span.low..span.high]);
+        mark(unsynced, span.low, span.high - span.low, false);
+    }
 }
 
 impl<A: Allocator + Copy> Disk for MemDisk<A> {
@@ -110,22 +143,63 @@ impl<A: Allocator + Copy> Disk for MemDisk<A> {
         0
     }
 
-    fn read(&mut self, at: u64, into: &mut [u8]) -> Result<(), DiskFault> {
+    fn read(&mut self, at: u64, into: &mut [u8]) -> Result<(), DiskFault>
+        requires { at + length into.old ≤ length self.old.bytes.items }
+        ensures extent { length self.new.bytes.items ≡ length self.old.bytes.items }
+        ensures cause { HasCause 0 0 result }
+        ensures bytes { Unit {0} → OnOk result (into.new ≡ Range at (length into.old) self.old.bytes.items) }
+        ensures state { Unit {0} → memory self.new.bytes.items self.new.unsynced.items ≡ memory self.old.bytes.items self.old.unsynced.items }
+        ensures seen { Unit {0} → self.new.bytes.items ≡ self.old.bytes.items }
+        ensures left { Unit {0} → (x : List ℕ) → Left (memory self.new.bytes.items self.new.unsynced.items) x → Left (memory self.old.bytes.items self.old.unsynced.items) x }
+        // It works, and what the last sync made sure of stays.
+        ensures works { IsOk result }
+        ensures made_sure { self.new.synced.items ≡ self.old.synced.items }
+    {
         let start = at as usize;
         into.copy_from_slice(&self.bytes[start..start + into.len()]);
         Ok(())
     }
 
-    fn write(&mut self, at: u64, bytes: &[u8]) -> Result<(), DiskFault> {
+    fn write(&mut self, at: u64, bytes: &[u8]) -> Result<(), DiskFault>
+        requires { at + length bytes.now ≤ length self.old.bytes.items }
+        ensures extent { length self.new.bytes.items ≡ length self.old.bytes.items }
+        ensures cause { HasCause 0 0 result }
+        ensures written { Unit {0} → OnOk result (Holds at bytes.now self.old.bytes.items self.new.bytes.items) }
+        ensures flagged { Unit {0} → OnOk result (IsFlagged at (length bytes.now) (memory self.new.bytes.items self.new.unsynced.items)) }
+        ensures state { Unit {0} → Touches at (length bytes.now) (memory self.old.bytes.items self.old.unsynced.items) (memory self.new.bytes.items self.new.unsynced.items) }
+        ensures seen { Unit {0} → SameBut at (length bytes.now) self.old.bytes.items self.new.bytes.items }
+        ensures left { Unit {0} → Follows (SameBut at (length bytes.now)) (Left (memory self.old.bytes.items self.old.unsynced.items)) (Left (memory self.new.bytes.items self.new.unsynced.items)) }
+        // It works, and what the last sync made sure of stays.
+        ensures works { IsOk result }
+        ensures made_sure { self.new.synced.items ≡ self.old.synced.items }
+    {
         put(&mut self.bytes, at as usize, bytes);
-        mark(&mut self.unsynced, at as usize, bytes.len());
+        mark(&mut self.unsynced, at as usize, bytes.len(), true);
+        self.touched.add(at as usize, at as usize + bytes.len());
         Ok(())
     }
 
+    /// Costs what was written since the last sync.
     #[tactic(auto, unfolding(crate::specs::Disk::Left))]
-    fn sync(&mut self) -> Result<(), DiskFault> {
-        self.synced.copy_from_slice(&self.bytes);
-        self.unsynced.fill(false);
+    fn sync(&mut self) -> Result<(), DiskFault>
+        ensures extent { length self.new.bytes.items ≡ length self.old.bytes.items }
+        ensures cause { HasCause 0 0 result }
+        ensures synced { Unit {0} → OnOk result (IsSynced (memory self.new.bytes.items self.new.unsynced.items)) }
+        ensures seen { Unit {0} → self.new.bytes.items ≡ self.old.bytes.items }
+        ensures err { Unit {0} → OnErr result (memory self.new.bytes.items self.new.unsynced.items ≡ memory self.old.bytes.items self.old.unsynced.items) }
+        ensures only { Unit {0} → OnOk result (Only (memory self.new.bytes.items self.new.unsynced.items)) }
+        ensures left { Unit {0} → (x : List ℕ) → Left (memory self.new.bytes.items self.new.unsynced.items) x → Left (memory self.old.bytes.items self.old.unsynced.items) x }
+        // It works, and makes sure of what a read gives.
+        ensures works { IsOk result }
+        ensures made_sure { self.new.synced.items ≡ self.old.bytes.items }
+    {
+        settle(
+            &self.bytes,
+            &mut self.synced,
+            &mut self.unsynced,
+            &self.touched.spans,
+        );
+        self.touched = Touched::new();
         Ok(())
     }
 }

@@ -1,13 +1,21 @@
 -- Jobs and the stores that they hold.
-use Rattle.std.specs.Prelude.{◌≡◌, ℕ, List, Bool, true, false}
+use Rattle.std.specs.Prelude.{◌≡◌, ◌≢◌, ◌⊎◌, ◌≤◌, ℕ, List, Bool, true, false, Result, Ok, Err}
+use Rattle.psu_disk.specs.Disk.{HasFailed}
 use Rattle.psu_disk.specs.declared.disk.Disk.{Ghosts}
 use Rattle.psu_items.specs.Map.{Item}
 use Rattle.psu_items.specs.Batch.{Edit, changed}
 use Rattle.psu_items.specs.Image.{EachStands, EachIsEither}
-use Rattle.psu_items.specs.Outcome.{HasStored, IsUnchanged, HasBroken}
+use Rattle.psu_items.specs.Outcome.{HasStored, IsUnchanged, HasBroken, IsStillBroken}
 use Rattle.psu_items.specs.declared.store.Store.{Store}
 use Rattle.psu_items.specs.declared.commit.UnstartedCause.TheVariants as unstarted
-use Rattle.psu_exec.specs.Calls.{JobEnd}
+use Rattle.psu_exec.specs.Batch.{batch}
+use Rattle.psu_exec.specs.Calls.{JobData, JobEnd, Commit, Reopen, Taken}
+use Rattle.psu_exec.specs.Shown.{none_of}
+use Rattle.psu_exec.specs.declared.job.Job.{Job}
+use Rattle.psu_exec.specs.declared.job.Job.TheVariants as job
+use Rattle.psu_exec.specs.declared.no_job.NoJob.{NoJob}
+use Rattle.psu_items.specs.declared.broken.Broken.{Broken}
+use Rattle.psu_items.specs.declared.broken.BrokenCause.TheVariants as broken_cause
 use Rattle.psu_exec.specs.declared.finished.Finished.{Finished}
 use Rattle.psu_exec.specs.declared.finished.Finished.TheVariants as finished
 use Rattle.psu_exec.specs.declared.home.Home.{Home}
@@ -17,19 +25,22 @@ use Rattle.psu_exec.specs.declared.home.Home.TheVariants as home
 abbrev pub finished_of : {D A : Type 0} {G : Ghosts D} → Finished D A G → JobEnd
 finished_of (finished.Stored store) = JobEnd.Stored store.limit store.items
 finished_of (finished.Unstarted store batch cause) = JobEnd.Unstarted store.limit store.items batch cause
-finished_of (finished.Broken broken) = JobEnd.Broken broken.limit broken.before broken.batch
+finished_of (finished.Broken broken) = JobEnd.Failed broken.limit broken.before broken.batch broken.cause
+finished_of (finished.Reopened store) = JobEnd.Reopened store.limit store.items
 
 -- the disk in it
 abbrev pub finished_disk : {D A : Type 0} {G : Ghosts D} → Finished D A G → D
 finished_disk (finished.Stored store) = store.disk
 finished_disk (finished.Unstarted store batch cause) = store.disk
 finished_disk (finished.Broken broken) = broken.disk
+finished_disk (finished.Reopened store) = store.disk
 
 -- the store at home once a job is given back
 abbrev pub home_of : {D A : Type 0} {G : Ghosts D} → Finished D A G → Home D A G
 home_of (finished.Stored store) = home.Whole store
 home_of (finished.Unstarted store batch cause) = home.Whole store
 home_of (finished.Broken broken) = home.Failed broken
+home_of (finished.Reopened store) = home.Whole store
 
 abbrev pub home_disk : {D A : Type 0} {G : Ghosts D} → Home D A G → D
 home_disk (home.Whole store) = store.disk
@@ -47,20 +58,75 @@ abbrev pub is_home_whole : {D A : Type 0} {G : Ghosts D} → Home D A G → Bool
 is_home_whole (home.Whole store) = true
 is_home_whole (home.Failed broken) = false
 
+-- what a broken store at home was to be changed by, and into which map; of a whole one what is given
+abbrev pub home_edits : {D A : Type 0} {G : Ghosts D} → List Edit → Home D A G → List Edit
+home_edits edits (home.Whole store) = edits
+home_edits edits (home.Failed broken) = broken.batch
+
+abbrev pub home_goal : {D A : Type 0} {G : Ghosts D} → List Item → Home D A G → List Item
+home_goal goal (home.Whole store) = goal
+home_goal goal (home.Failed broken) = changed broken.before broken.batch
+
+-- a job with its maps, without where its parts lie
+abbrev pub job_data : {D A : Type 0} {G : Ghosts D} → Job D A G → JobData
+job_data (job.Commit planned) = record { kind = Commit; limit = planned.store.limit; before = planned.store.items; target = changed planned.store.items planned.batch; edits = planned.batch }
+job_data (job.Reopen alloc broken) = record { kind = Reopen; limit = broken.limit; before = broken.before; target = changed broken.before broken.batch; edits = broken.batch }
+
+abbrev pub job_disk : {D A : Type 0} {G : Ghosts D} → Job D A G → D
+job_disk (job.Commit planned) = planned.store.disk
+job_disk (job.Reopen alloc broken) = broken.disk
+
+-- the store of a job, as it was at home
+abbrev pub job_home : {D A : Type 0} {G : Ghosts D} → Job D A G → Home D A G
+job_home (job.Commit planned) = home.Whole planned.store
+job_home (job.Reopen alloc broken) = home.Failed broken
+
+-- what a take gives
+abbrev pub taken_of : {D A : Type 0} {G : Ghosts D} → Result (Job D A G) NoJob → Taken
+taken_of (Ok job) = Taken.Job (job_data job)
+taken_of (Err e) = none_of e
+
 -- What a commit of the batch to the store may come to: Stored only where the count of failures did not rise, Broken only where it rose or stands at its last value.
-abbrev pub RunsTo : {D A : Type 0} {G : Ghosts D} → Store D A G → List Edit → Finished D A G → Type 0
-RunsTo old batch (finished.Stored store) = HasStored old batch store
-RunsTo old batch (finished.Unstarted store back cause) = IsUnchanged old batch store back cause
-RunsTo old batch (finished.Broken broken) = HasBroken old batch broken
+abbrev pub CommitsTo : {D A : Type 0} {G : Ghosts D} → Store D A G → List Edit → Finished D A G → Type 0
+CommitsTo old batch (finished.Stored store) = HasStored old batch store
+CommitsTo old batch (finished.Unstarted store back cause) = IsUnchanged old batch store back cause
+CommitsTo old batch (finished.Broken broken) = HasBroken old batch broken
+CommitsTo old batch (finished.Reopened store) = ⊥
+
+-- The store of the map before or of the target, and no call of the disk failed.
+pub record HasReopened {D A : Type 0} {G : Ghosts D} (old : Broken D A G) (store : Store D A G) : Type 0 where
+  pub items : (store.items ≡ old.before) ⊎ (store.items ≡ changed old.before old.batch)
+  pub limit : store.limit ≡ old.limit
+  pub failures : Ghosts.failures G store.disk ≡ Ghosts.failures G old.disk
+
+-- It is still broken: where a call of the disk failed the count tells.
+pub record HasNotReopened {D A : Type 0} {G : Ghosts D} (old broken : Broken D A G) : Type 0 where
+  pub same : IsStillBroken old broken
+  pub later : Ghosts.failures G old.disk ≤ Ghosts.failures G broken.disk
+  pub device : broken.cause ≡ broken_cause.Device → HasFailed (Ghosts.failures G old.disk) (Ghosts.failures G broken.disk)
+  pub strange : Ghosts.honest G → broken.cause ≢ broken_cause.Strange
+
+-- What a reopening may come to: a store of the map before or of the target, or one that is still broken.
+abbrev pub ReopensTo : {D A : Type 0} {G : Ghosts D} → Broken D A G → Finished D A G → Type 0
+ReopensTo old (finished.Stored store) = ⊥
+ReopensTo old (finished.Unstarted store back cause) = ⊥
+ReopensTo old (finished.Broken broken) = HasNotReopened old broken
+ReopensTo old (finished.Reopened store) = HasReopened old store
+
+abbrev pub RunsTo : {D A : Type 0} {G : Ghosts D} → Job D A G → Finished D A G → Type 0
+RunsTo (job.Commit planned) finished = CommitsTo planned.store planned.batch finished
+RunsTo (job.Reopen alloc broken) finished = ReopensTo broken finished
 
 -- not begun, since the root's number is the last
 abbrev pub IsLastNumber : {D A : Type 0} {G : Ghosts D} → Finished D A G → Type 0
 IsLastNumber (finished.Stored store) = ⊥
 IsLastNumber (finished.Unstarted store back cause) = cause ≡ unstarted.Worn
 IsLastNumber (finished.Broken broken) = ⊥
+IsLastNumber (finished.Reopened store) = ⊥
 
 -- whatever a power loss leaves of the disk stands for the map that the store holds; of a broken one for the map before, or for the map after the batch
 abbrev pub EndStands : {D A : Type 0} {G : Ghosts D} → Finished D A G → Type 0
 EndStands {D} {A} {G} (finished.Stored store) = EachStands (Ghosts.state G store.disk) store.limit store.items
 EndStands {D} {A} {G} (finished.Unstarted store batch cause) = EachStands (Ghosts.state G store.disk) store.limit store.items
 EndStands {D} {A} {G} (finished.Broken broken) = EachIsEither (Ghosts.state G broken.disk) broken.limit broken.before (changed broken.before broken.batch)
+EndStands {D} {A} {G} (finished.Reopened store) = EachStands (Ghosts.state G store.disk) store.limit store.items

@@ -1,16 +1,17 @@
 // The one state, without its store.
-ghost use Rattle.std.specs.Prelude.{◌≡◌, true, IfOk, OnErr};
+ghost use Rattle.std.specs.Prelude.{◌≡◌, ◌==◌, true, IfOk, OnErr};
 ghost use Rattle.psu_exec.specs.Contents.{IsContents};
 ghost use Rattle.psu_exec.specs.Device.{State, is_open, power_on};
 ghost use Rattle.psu_exec.specs.Registers.{first_request};
-ghost use Rattle.psu_exec.specs.Calls.{Allows};
-ghost use Rattle.psu_exec.specs.Calls.Entry.{Opened};
+ghost use Rattle.psu_exec.specs.Calls.{Allows, unparked, with_session};
+ghost use Rattle.psu_exec.specs.Calls.Entry.{Opened, Closed, Cleared};
 ghost use Rattle.psu_exec.specs.Consistent.{IsConsistent};
 
 mod flushing;
 mod units;
 
-use crate::{Change, Condition, Contents, Crowded, Registers, SESSIONS, Session, Wait};
+use crate::waits::least_free;
+use crate::{Condition, Contents, Crowded, Registers, SESSIONS, Session, Wait};
 use psu_items::{Batch, Items};
 use std::alloc::{AllocError, Allocator};
 use std::marker::Model;
@@ -23,11 +24,11 @@ pub struct Device<A: Allocator + Copy> {
     contents: Contents,
     // The map that the store holds, or held before its job.
     before: Items<A>,
-    // Of the job that is out: its target, the batch to it, and how many changes of the tail are in it.
+    // Of the job that is out or of the store that broke: its target, the batch to it, and how many changes are in it.
     target: Items<A>,
     edits: Batch<A>,
     held: Option<usize>,
-    tail: Vec<Change, A>,
+    unflushed: usize,
     store: Condition,
     out: bool,
     waits: [Option<Wait>; SESSIONS],
@@ -42,12 +43,12 @@ impl<A: Allocator + Copy> Model for Device<A> {
 
     ghost view = { λ d. record {
       volatile = record { registers = d.registers; open_now = d.open_now };
-      flush = record { limit = d.limit; contents = d.contents; before = d.before; tail = d.tail.items; held = held_of d.held d.target; store = d.store; out = d.out; waits = d.waits };
+      flush = record { limit = d.limit; contents = d.contents; before = d.before; unflushed = d.unflushed; held = held_of d.held d.target; store = d.store; out = d.out; waits = d.waits };
     } };
 
     ghost use Rattle.psu_exec.specs.Consistent.{IsConsistent, HasEdits};
 
-    ghost invariant = { λ d. HasEdits d.held d.before d.target d.edits × IsConsistent (record { limit = d.limit; contents = d.contents; before = d.before; tail = d.tail.items; held = held_of d.held d.target; store = d.store; out = d.out; waits = d.waits }) };
+    ghost invariant = { λ d. HasEdits d.held d.before d.target d.edits × IsConsistent (record { limit = d.limit; contents = d.contents; before = d.before; unflushed = d.unflushed; held = held_of d.held d.target; store = d.store; out = d.out; waits = d.waits }) };
 }
 
 impl<A: Allocator + Copy> Device<A> {
@@ -68,7 +69,7 @@ impl<A: Allocator + Copy> Device<A> {
             before,
             target: Items::new(alloc),
             edits: Batch::new(alloc),
-            tail: Vec::new(alloc),
+            unflushed: 0,
             held: None,
             store: Condition::Whole,
             out: false,
@@ -78,20 +79,49 @@ impl<A: Allocator + Copy> Device<A> {
         })
     }
 
-    /// Opens a session; there is one.
+    /// Opens the session of the least free number.
     pub(crate) fn open_session(&mut self) -> Result<Session, Crowded>
-        ensures opened { IfOk result (λ session. Allows self.old (Opened session) self.new) }
-        ensures open { IfOk result (λ session. is_open self.new session ≡ true) }
-        ensures crowded { OnErr result (is_open self.old 1 ≡ true) }
-        ensures same { OnErr result (self.new ≡ self.old) }
+        ensures opened { IfOk result (λ session. Allows self.old (Opened (Some session)) self.new) }
+        ensures crowded { OnErr result (Allows self.old (Opened None) self.new) }
     {
-        let session = Session::of(1);
-        if self.is_open(session) {
-            return Err(Crowded);
+        match least_free(&self.open_now) {
+            None => Err(Crowded),
+            Some(session) => {
+                self.set_session(session, true);
+                Ok(session)
+            }
         }
-        self.open_now[session.place()] = true;
+    }
+
+    /// Closes a session that is open; its wait is dropped.
+    pub(crate) fn close_session(&mut self, session: Session)
+        requires { is_open self.old session ≡ true }
+        ensures { Allows self.old (Closed session) self.new }
+    {
+        self.set_session(session, false);
+    }
+
+    /// Drops the wait of a session that is open.
+    pub(crate) fn clear(&mut self, session: Session)
+        requires { is_open self.old session ≡ true }
+        ensures { Allows self.old (Cleared session) self.new }
+    {
+        self.unpark(session);
+    }
+
+    // Whether a session is open from now on; its wait is dropped.
+    fn set_session(&mut self, session: Session, opens: bool)
+        ensures { self.new ≡ with_session self.old session opens }
+    {
+        self.open_now[session.place()] = opens;
+        self.unpark(session);
+    }
+
+    // The wait of a session is dropped.
+    fn unpark(&mut self, session: Session)
+        ensures { self.new ≡ record self.old { flush = unparked self.old.flush session } }
+    {
         self.waits[session.place()] = None;
-        Ok(session)
     }
 
     /// Whether a session is open.
@@ -102,11 +132,25 @@ impl<A: Allocator + Copy> Device<A> {
     }
 
     /// What is kept without power.
-    pub(crate) fn contents(&self) -> Contents
-        ensures value { result ≡ self.now.flush.contents }
+    pub(crate) fn contents(&self) -> &Contents
+        ensures value { result.now ≡ self.now.flush.contents }
         ensures consistent { IsConsistent self.now.flush }
     {
-        self.contents
+        &self.contents
+    }
+
+    /// Whether the store can take a commit.
+    pub(crate) fn condition(&self) -> Condition
+        ensures { result ≡ self.now.flush.store }
+    {
+        self.store
+    }
+
+    /// Whether all that is accepted is flushed.
+    pub(crate) fn is_flushed(&self) -> bool
+        ensures { result ≡ (self.now.flush.unflushed == 0) }
+    {
+        self.unflushed == 0
     }
 
     /// The service request that the registers make as they are.

@@ -1,24 +1,24 @@
-// The one state with its store, and its jobs.
-ghost use Rattle.std.specs.Prelude.{◌≡◌, ◌<◌, ◌≤◌, IfOk, IfErr, OnOk, OnErr, true, false, Some, None, is_none, is_ok, length, List, ℕ};
+//! The one state with its store, and its jobs.
+ghost use Rattle.std.specs.Prelude.{◌≡◌, ◌<◌, ◌≤◌, ◌==◌, IfOk, IfErr, OnOk, OnErr, true, false, Some, None, is_none, not, List, ℕ};
 ghost use Rattle.std.specs.Option.{ForSome};
 ghost use Rattle.psu_items.specs.Batch.{changed};
 ghost use Rattle.psu_exec.specs.Batch.{batch};
 ghost use Rattle.psu_exec.specs.Contents.{items_of, IsContents};
-ghost use Rattle.psu_exec.specs.Device.{power_on, is_open, State, Answer, Error, Later, refused};
+ghost use Rattle.psu_exec.specs.Device.{power_on, is_open, is_broken, target, wait_of, State, Answer, Error, Later, refused};
 ghost use Rattle.psu_exec.specs.Registers.{first_request, prescribed};
-ghost use Rattle.psu_exec.specs.Calls.{Allows, sessions_over};
-ghost use Rattle.psu_exec.specs.Calls.Entry.{Executed, Settled, Took, GaveBack, Opened};
+ghost use Rattle.psu_exec.specs.Calls.{Allows};
+ghost use Rattle.psu_exec.specs.Calls.Entry.{Executed, Settled, Took, GaveBack, Opened, Closed, Cleared};
 ghost use Rattle.psu_exec.specs.Consistent.{IsConsistent};
-ghost use Rattle.psu_exec.specs.Shown.{outcome_of, taken_of};
-ghost use Rattle.psu_exec.specs.Jobs.{home_map, home_limit, is_home_whole};
-ghost use Rattle.psu_exec.specs.declared.condition.Condition.TheVariants.{Whole};
+ghost use Rattle.psu_exec.specs.Shown.{outcome_of, over_of};
+ghost use Rattle.psu_exec.specs.Jobs.{home_edits, home_goal, home_map, home_limit, is_home_whole};
 ghost use Rattle.psu_exec.specs.declared.contents.Contents.{Contents as Kept};
 ghost use Rattle.psu_lex.specs.declared.scpi_error.ScpiError.{ScpiError as AnyError};
 ghost use Rattle.psu_exec.specs.declared.command.Command.TheVariants.{OpcQuery};
+ghost use Rattle.psu_exec.specs.declared.wait.Wait.TheVariants.{Until};
 
 use crate::{
-    Contents, Crowded, Device, Ended, Finished, Home, Job, NoJob, Outcome, PowerCause, PowerFault,
-    Request, Session, Sessions, Stranger,
+    Condition, Contents, Crowded, Device, Ended, Finished, Home, Job, NoJob, Outcome, Planned,
+    PowerCause, PowerFault, Request, Session, Sessions, Stranger,
 };
 use psu_disk::Disk;
 use psu_items::{Batch, Store, UnstartedCause};
@@ -34,11 +34,14 @@ pub struct Exec<D: Disk, A: Allocator + Copy> {
     ghost away: { device.flush.out ≡ is_none home },
     pub ghost holds: { ForSome home (λ h. home_map h ≡ device.flush.before) },
     pub ghost sized: { ForSome home (λ h. home_limit h ≡ device.flush.limit) },
-    ghost whole: { ForSome home (λ h. device.flush.store ≡ Whole → is_home_whole h ≡ true) },
+    ghost kind: { ForSome home (λ h. is_home_whole h ≡ not (is_broken device.flush.store)) },
+    ghost edits: { ForSome home (λ h. home_edits (batch device.flush.before (target device.flush)) h ≡ batch device.flush.before (target device.flush)) },
+    ghost goal: { ForSome home (λ h. home_goal (target device.flush) h ≡ target device.flush) },
 }
 
 impl<D: Disk, A: Allocator + Copy> Exec<D, A> {
-    ghost use Rattle.psu_exec.specs.Jobs.{finished_of, home_of};
+    ghost use Rattle.psu_exec.specs.Jobs.{finished_disk, finished_of, home_of, job_home, taken_of};
+    ghost use Rattle.psu_exec.specs.World.{IsTrueOf};
     ghost use Rattle.psu_exec.specs.declared.home.Home.TheVariants as at_home;
     ghost use Rattle.psu_exec.specs.Ends.{IsEnd};
 
@@ -77,51 +80,70 @@ impl<D: Disk, A: Allocator + Copy> Exec<D, A> {
         }
     }
 
-    /// One unit of a session that is open, while no job is out.
+    /// One unit of a session that is open.
     pub fn execute(&mut self, session: Session, request: &Request) -> Outcome<A>
         requires open { is_open self.old.device session ≡ true }
-        requires no_job { self.old.device.flush.out ≡ false }
         ensures step { Allows self.old.device (Executed session request.now (outcome_of result)) self.new.device }
         ensures home { self.new.home ≡ self.old.home }
 
-        // What follows from the step: `*OPC?` is answered only where no change is in the tail; an error sets its bit in the
-        // event status register and changes nothing else; a unit that is to come later changes nothing.
-        ensures complete { request.now ≡ record { reading = Ok OpcQuery } → (text : List ℕ) → outcome_of result ≡ Answer text → length self.old.device.flush.tail ≡ 0 }
+        // What follows from the step: `*OPC?` is answered only where no change is left that is not flushed; an error sets its bit in
+        // the event status register and changes nothing else; a unit that is to come later changes nothing.
+        ensures complete { request.now ≡ record { reading = Ok OpcQuery } → (text : List ℕ) → outcome_of result ≡ Answer text → self.old.device.flush.unflushed ≡ 0 }
         ensures refused { (e : AnyError) → outcome_of result ≡ Error e → self.new.device ≡ refused self.old.device e }
         ensures later { outcome_of result ≡ Later → self.new.device ≡ self.old.device }
 
-        // What follows from the step: the conditions still hold.
+        // What follows from the step: the condition still holds.
         ensures still_open { is_open self.new.device session ≡ true }
-        ensures still_home { self.new.device.flush.out ≡ false }
     {
         self.device.execute(session, request)
     }
 
-    /// What the wait of a session that is open came to, while no job is out: Done where it isn't parked, Parked only while what it
-    /// waits for is in the tail.
+    /// What the wait of a session that is open came to: Done where it isn't parked, Parked only while a change is left that is not
+    /// flushed.
     pub fn settle(&mut self, session: Session) -> Outcome<A>
         requires open { is_open self.old.device session ≡ true }
-        requires no_job { self.old.device.flush.out ≡ false }
         ensures step { Allows self.old.device (Settled session (outcome_of result)) self.new.device }
-        ensures parked { result ≡ Outcome.Parked → 0 < length self.old.device.flush.tail }
         ensures home { self.new.home ≡ self.old.home }
 
-        // What follows from the step: the conditions still hold.
+        // What follows from the step: the session waits on only while a change is left that is not flushed, its wait ends with 1
+        // only where none before it is left, and an error sets its bit in the event status register.
+        ensures parked { result ≡ Outcome.Parked → 0 < self.old.device.flush.unflushed }
+        ensures complete { (text : List ℕ) → outcome_of result ≡ Answer text → wait_of self.old.device.flush session ≡ Some (Until 0) }
+        ensures refused { (e : AnyError) → outcome_of result ≡ Error e → self.new.device.volatile ≡ (refused self.old.device e).volatile }
+        ensures kept { self.new.device.flush.contents ≡ self.old.device.flush.contents }
+
+        // What follows from the step: the condition still holds.
         ensures still_open { is_open self.new.device session ≡ true }
-        ensures still_home { self.new.device.flush.out ≡ false }
     {
         self.device.settle(session)
     }
 
-    /// Opens the session of the least free number. There is one session.
+    /// Opens the session of the least free number; `Crowded` where there are sixteen.
     pub fn open_session(&mut self) -> Result<Session, Crowded>
-        ensures opened { IfOk result (λ session. Allows self.old.device (Opened session) self.new.device) }
+        ensures opened { IfOk result (λ session. Allows self.old.device (Opened (Some session)) self.new.device) }
         ensures open { IfOk result (λ session. is_open self.new.device session ≡ true) }
-        ensures crowded { OnErr result (is_open self.old.device 1 ≡ true) }
-        ensures same { OnErr result (self.new.device ≡ self.old.device) }
+        ensures crowded { OnErr result (Allows self.old.device (Opened None) self.new.device) }
         ensures home { self.new.home ≡ self.old.home }
     {
         self.device.open_session()
+    }
+
+    /// Closes a session that is open.
+    pub fn close_session(&mut self, session: Session)
+        requires { is_open self.old.device session ≡ true }
+        ensures step { Allows self.old.device (Closed session) self.new.device }
+        ensures home { self.new.home ≡ self.old.home }
+    {
+        self.device.close_session(session);
+    }
+
+    /// Drops the wait of a session that is open.
+    pub fn clear(&mut self, session: Session)
+        requires { is_open self.old.device session ≡ true }
+        ensures step { Allows self.old.device (Cleared session) self.new.device }
+        ensures home { self.new.home ≡ self.old.home }
+    {
+        self.device.clear(session);
     }
 
     /// Whether a session is open.
@@ -132,11 +154,25 @@ impl<D: Disk, A: Allocator + Copy> Exec<D, A> {
     }
 
     /// What is kept without power, all that is accepted included: what the store's map stands for, changed by the tail.
-    pub fn contents(&self) -> Contents
-        ensures value { result ≡ self.now.device.flush.contents }
+    pub fn contents(&self) -> &Contents
+        ensures value { result.now ≡ self.now.device.flush.contents }
         ensures consistent { IsConsistent self.now.device.flush }
     {
         self.device.contents()
+    }
+
+    /// Whether the store can take a commit.
+    pub fn condition(&self) -> Condition
+        ensures { result ≡ self.now.device.flush.store }
+    {
+        self.device.condition()
+    }
+
+    /// Whether all that is accepted is flushed.
+    pub fn is_flushed(&self) -> bool
+        ensures { result ≡ (self.now.device.flush.unflushed == 0) }
+    {
+        self.device.is_flushed()
     }
 
     /// The service request that the registers make as they are.
@@ -146,20 +182,24 @@ impl<D: Disk, A: Allocator + Copy> Exec<D, A> {
         self.device.first_request()
     }
 
-    /// A job for what is not flushed. The target of a whole store is the map of the present contents.
+    /// A job. Of a whole store it commits the present contents; a broken one it opens again.
     pub fn take(&mut self) -> Result<Job<D, A>, NoJob>
         ensures step { Allows self.old.device (Took (taken_of result)) self.new.device }
-        ensures job { IfOk result (λ job. self.old.home ≡ Some (at_home.Whole job.store)) }
-        ensures edits { IfOk result (λ job. job.batch ≡ batch self.old.device.flush.before (items_of self.old.device.flush.contents)) }
-        ensures leads { IfOk result (λ job. changed job.store.items job.batch ≡ items_of self.old.device.flush.contents) }
+        ensures job { IfOk result (λ job. self.old.home ≡ Some (job_home job)) }
         ensures away { OnOk result (self.new.home ≡ None) }
         ensures same { OnErr result (self.new.device ≡ self.old.device) }
         ensures home { OnErr result (self.new.home ≡ self.old.home) }
     {
         let batch = self.device.take()?;
         match self.home.take() {
-            Some(Home::Whole(store)) => Ok(job_of(self.alloc, store, batch)),
-            Some(Home::Failed(_)) => unreachable!(),
+            Some(Home::Whole(store)) => match batch {
+                Some(batch) => {
+                    let planned = planned_of(self.alloc, store, batch);
+                    return Ok(Job::Commit(planned));
+                }
+                None => unreachable!(),
+            },
+            Some(Home::Failed(broken)) => return Ok(Job::Reopen(self.alloc, broken)),
             None => unreachable!(),
         }
     }
@@ -167,11 +207,12 @@ impl<D: Disk, A: Allocator + Copy> Exec<D, A> {
     /// The job's end: what it came to counts where a job is out and the limit, the maps and the batch are the expected ones.
     /// Then it gives the sessions whose wait is over. Else it is handed back, and nothing has changed.
     pub fn give_back(&mut self, finished: Finished<D, A>) -> Result<Sessions, Stranger<D, A>>
-        ensures step { Allows self.old.device (GaveBack (finished_of finished) (is_ok result)) self.new.device }
-        ensures over { IfOk result (λ sessions. sessions ≡ sessions_over self.new.device.flush) }
+        ensures step { Allows self.old.device (GaveBack (finished_of finished) (over_of result)) self.new.device }
+        // Whatever a power loss leaves of the disk that comes with it stands for the map that it says; of a broken store's for the map
+        // before, or the target.
+        ensures stands { D.honest → OnOk result (IsTrueOf (target self.old.device.flush) (finished_of finished) (D.state (finished_disk finished))) }
         ensures home { OnOk result (self.new.home ≡ Some (home_of finished)) }
         ensures free { OnOk result (self.new.device.flush.out ≡ false) }
-        ensures sessions { self.new.device.volatile ≡ self.old.device.volatile }
         ensures stranger { IfErr result (λ s. s.finished ≡ finished) }
         ensures same { OnErr result (self.new.home ≡ self.old.home) }
     {
@@ -193,11 +234,17 @@ impl<D: Disk, A: Allocator + Copy> Exec<D, A> {
                     });
                 }
                 match cause {
-                    UnstartedCause::Memory => self.device.keep(),
-                    UnstartedCause::Worn => self.device.wear_out(),
+                    UnstartedCause::Memory => {
+                        self.device.keep();
+                        bring_home(&mut self.home, Home::Whole(store));
+                        return Ok(self.device.sessions_over());
+                    }
+                    UnstartedCause::Worn => {
+                        self.device.wear_out();
+                        bring_home(&mut self.home, Home::Whole(store));
+                        return Ok(self.device.sessions_over());
+                    }
                 }
-                bring_home(&mut self.home, Home::Whole(store));
-                return Ok(self.device.sessions_over());
             }
             Finished::Broken(broken) => {
                 if !self
@@ -208,9 +255,24 @@ impl<D: Disk, A: Allocator + Copy> Exec<D, A> {
                         finished: Finished::Broken(broken),
                     });
                 }
-                self.device.wear_out();
+                self.device.break_off();
                 bring_home(&mut self.home, Home::Failed(broken));
                 return Ok(self.device.sessions_over());
+            }
+            Finished::Reopened(store) => {
+                if self.device.is_target(store.limit(), store.items()) {
+                    self.device.flush_target();
+                    bring_home(&mut self.home, Home::Whole(store));
+                    return Ok(self.device.sessions_over());
+                }
+                if self.device.is_before(store.limit(), store.items()) {
+                    self.device.keep();
+                    bring_home(&mut self.home, Home::Whole(store));
+                    return Ok(self.device.sessions_over());
+                }
+                return Err(Stranger {
+                    finished: Finished::Reopened(store),
+                });
             }
         }
     }
@@ -239,13 +301,17 @@ impl<D: Disk, A: Allocator + Copy> Exec<D, A> {
 }
 
 // A job whose batch leads to the map of contents, which the store can hold.
-fn job_of<D: Disk, A: Allocator + Copy>(alloc: A, store: Store<D, A>, batch: Batch<A>) -> Job<D, A>
+fn planned_of<D: Disk, A: Allocator + Copy>(
+    alloc: A,
+    store: Store<D, A>,
+    batch: Batch<A>,
+) -> Planned<D, A>
     requires { (c : Kept) × (changed store.items batch ≡ items_of c) }
     ensures store { result.store ≡ store }
     ensures batch { result.batch ≡ batch }
 {
     let _limit = store.limit();
-    Job::new(alloc, store, batch)
+    Planned::new(alloc, store, batch)
 }
 
 // The store is at home again.

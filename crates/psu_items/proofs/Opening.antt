@@ -1,14 +1,14 @@
 -- The steps of an opening, one after another.
-use Rattle.std.proofs.Common.{◌≡◌, inl, inr, ⊎_elim, ℕ, Bool, List, sym, ◌∙◌, subst}
+use Rattle.std.proofs.Common.{◌≡◌, inl, inr, ⊎_elim, ℕ, Bool, List, sym, ◌∙◌, ap, subst}
 use Rattle.psu_disk.specs.Disk.{DiskState, Left, Only, LeavesOnly}
 use Rattle.psu_disk.specs.Moments.{and_then, weaken}
 use Rattle.psu_disk.specs.Ranges.{reads_left}
 use Rattle.psu_items.specs.declared.root.Root.{Root}
 use Rattle.psu_items.specs.Map.{Item}
-use Rattle.psu_items.specs.Image.{RootHolds, Stands, EachStands, IsEither, EachIsEither}
+use Rattle.psu_items.specs.Image.{Counts, counting, number_in, RootHolds, HasGoodWords, HasReadableRoot, Stands, EachStands, IsEither, EachIsEither}
 use Rattle.psu_items.specs.Finding.{IsPickedIn, SameRoots, IsOldOrSame}
-use Rattle.psu_items.proofs.Resting.{stands}
-use Rattle.psu_items.proofs.Settling.{picked_counts, same_stands}
+use Rattle.psu_items.proofs.Resting.{counting_is, stands}
+use Rattle.psu_items.proofs.Settling.{picked_counts, picked_number, same_stands}
 use Rattle.psu_items.proofs.Loading.{quiet_runs}
 
 -- old is the disk before it, found when the root that counts is found, loaded when its map is read
@@ -42,3 +42,18 @@ still_stands old limit map all x either = ⊎_elim (all x) (λ same. same_stands
 pub still_either : (old : DiskState) (limit : ℕ) (before target : List Item) → EachIsEither old limit before target → (x : List ℕ) → IsOldOrSame old x → IsEither limit before target x
 still_either old limit before target all x either =
     ⊎_elim (all x) (λ same. ⊎_elim (λ st. inl (same_stands old.bytes x limit before same st)) (λ st. inr (same_stands old.bytes x limit target same st)) (all old.bytes (reads_left old))) either
+
+-- the number of the root that is picked is that of the root that counts
+pub picked_own : (x : List ℕ) (root : Root) (number : ℕ) (both : Bool) → IsPickedIn x root number both → number ≡ number_in (counting x) x
+picked_own x root number both picked =
+    sym (picked_number root number both x picked) ∙ ap (λ (r : Root). number_in r x) (sym (counting_is root x (picked_counts root number both x picked)))
+
+-- a root that is picked and says good words can be read
+pub readable : (x y : List ℕ) (root : Root) (number : ℕ) (both : Bool) → y ≡ x → IsPickedIn x root number both → HasGoodWords root y → HasReadableRoot x
+readable x y root number both same picked words =
+    let counts = picked_counts root number both x picked in
+    let is = sym (counting_is root x counts) in
+    record {
+      counts = subst (λ (r : Root). Counts r x) is counts;
+      words = subst (λ (r : Root). HasGoodWords r x) is (subst (HasGoodWords root) same words);
+    }

@@ -1,12 +1,12 @@
 -- What each moment of a commit leaves.
-use Rattle.std.proofs.Common.{◌≡◌, inl, inr, ℕ, ◌+◌, ◌*◌, ◌^◌, ◌<◌, ◌≤◌, List, [], ◌∷◌, length, sym, ◌∙◌, subst, arith}
+use Rattle.std.proofs.Common.{◌≡◌, inl, inr, ℕ, ◌+◌, ◌*◌, ◌^◌, ◌<◌, ◌≤◌, List, [], ◌∷◌, length, refl, sym, ◌∙◌, subst, arith}
 use Rattle.psu_disk.specs.Disk.{DiskState, Left, Holds, SameBut, Only, LeavesOnly}
 use Rattle.psu_disk.specs.Moments.{started, and_then, weaken}
 use Rattle.psu_items.specs.Map.{Item}
 use Rattle.psu_items.specs.declared.root.Root.{Root}
 use Rattle.psu_items.specs.Image.{other, gate_at, gate, number_in, IsEither}
 use Rattle.psu_items.specs.Resting.{AtRest, IsKept}
-use Rattle.psu_items.specs.Writing.{IsStaged, Spares, Spells}
+use Rattle.psu_items.specs.Writing.{IsStaged, Spares, Spells, SameBehind}
 use Rattle.psu_items.proofs.Places.{number_same, holds_same, other_spared, gate_spared}
 use Rattle.psu_items.proofs.Resting.{at_rest_stands, kept_stands}
 use Rattle.psu_items.proofs.Staging.{staged_number, staged_holds}
@@ -101,3 +101,14 @@ module _ {D : Type 0} (state : D → DiskState) (moment : D → ℕ) (left_since
 pub run_kept : {D : Type 0} (state : D → DiskState) (moment : D → ℕ) (left_since : D → ℕ → List ℕ → Type 0) (disk : D) (root : Root) (limit n : ℕ) (before target : List Item) → IsKept (state disk) root limit n before
     → ((x : List ℕ) → left_since disk (moment disk) x → Left (state disk) x) → LeavesOnly moment left_since disk disk (IsEither limit before target)
 run_kept state moment left_since disk root limit n before target kept only_now = started moment left_since disk (IsEither limit before target) (λ x l. inl (kept_stands (state disk) root limit n before kept x (only_now x l)))
+
+same_behind : (limit : ℕ) (x : List ℕ) → SameBehind limit x x
+same_behind limit x = record { size = refl; same = λ k le. refl }
+
+-- a disk that reads as it is left keeps what is behind the areas
+pub kept_behind : (disk : DiskState) (limit : ℕ) → Only disk → (x : List ℕ) → Left disk x → SameBehind limit disk.bytes x
+kept_behind disk limit only x l = subst (SameBehind limit disk.bytes) (sym (only x l)) (same_behind limit disk.bytes)
+
+pub run_behind : {D : Type 0} (state : D → DiskState) (moment : D → ℕ) (left_since : D → ℕ → List ℕ → Type 0) (disk : D) (limit : ℕ) → Only (state disk)
+    → ((x : List ℕ) → left_since disk (moment disk) x → Left (state disk) x) → LeavesOnly moment left_since disk disk (SameBehind limit (state disk).bytes)
+run_behind state moment left_since disk limit only only_now = started moment left_since disk (SameBehind limit (state disk).bytes) (λ x l. kept_behind (state disk) limit only x (only_now x l))

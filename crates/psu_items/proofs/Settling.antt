@@ -5,6 +5,7 @@ use Rattle.std.proofs.lemmas.Bool.Decides.{nat_tests}
 use Rattle.std.specs.Prelude.{IfSome, is_some}
 use Rattle.psu_disk.specs.Disk.{DiskState, Left, Holds, SameBut, Only, LeavesOnly}
 use Rattle.psu_disk.specs.Moments.{started, weaken}
+use Rattle.psu_disk.specs.Ranges.{same_but_refl}
 use Rattle.psu_items.specs.declared.root.Root.{Root}
 use Rattle.psu_items.specs.declared.root.Root.TheVariants.{First, Second}
 use Rattle.psu_items.specs.declared.open_cause.OpenCause.{OpenCause}
@@ -63,7 +64,7 @@ module _ (root : Root) (n : ℕ) (both : Bool) (x : List ℕ) (picked : IsPicked
   ]
 
 pub same_roots_refl : (x : List ℕ) → SameRoots x x
-same_roots_refl x = record { counts = λ root counts. counts; numbers = λ root counts. refl; holds = λ root counts limit map holds. holds }
+same_roots_refl x = record { counts = λ root counts. counts; numbers = λ root counts. refl; holds = λ root counts limit map holds. holds; but = same_but_refl (gate_at (other (counting x))) 1 x }
 
 -- what stands in y stands in x
 pub same_stands : (y x : List ℕ) (limit : ℕ) (map : List Item) → SameRoots y x → Stands y limit map → Stands x limit map
@@ -88,6 +89,7 @@ module _ (root : Root) (s x : List ℕ) (size : 1024 ≤ length s) (counts : Cou
     counts = λ r counts_r. subst (λ (q : Root). Counts q x) (is_root r counts_r) counts_still;
     numbers = λ r counts_r. number_same r;
     holds = λ r counts_r limit map holds. holds_kept (other root) limit s x holds.room but r map holds;
+    but = subst (λ (r : Root). SameBut (gate_at (other r)) 1 s x) (sym (counting_is root s counts)) but;
   }
 
 -- The disk reads as s, and nothing is unsynced, when the older gate is to be closed.

@@ -1,5 +1,5 @@
 -- What stands at the place of a key, and what a change there does to the map.
-use Rattle.std.proofs.Common.{◌≡◌, ℕ, zero, suc, List, [], ◌∷◌, get_or, set, Some, None, refl, sym, ◌∙◌, ap, subst, arith}
+use Rattle.std.proofs.Common.{◌≡◌, ℕ, zero, suc, List, [], ◌∷◌, get_or, set, Some, None, refl, sym, ◌∙◌, ap, subst, arith, ◌++◌}
 use Rattle.std.specs.List.{insert, remove, AllByRecursion}
 use Rattle.psu_items.specs.Map.{Item, item_of, get, put, without, Before, IsSorted, Sets}
 use Rattle.psu_items.specs.Place.{IsPlace, IsAt, IsGap}
@@ -89,3 +89,16 @@ remove-is_without fields items key at seen sorted is = rw seen (remove-without i
 
 pub without_sorted : (fields items after : List Item) (key : List ℕ) → fields ≡ items → IsSorted fields → after ≡ without items key → IsSorted after
 without_sorted fields items after key seen sorted is = subst IsSorted (sym is) (sorted-without items key (subst IsSorted seen sorted))
+
+all_push : (P : Item → Type 0) (items : List Item) (new : Item) → AllByRecursion P items → P new → AllByRecursion P (items ++ new ∷ [])
+all_push P [] new all here = (here, tt)
+all_push P (i ∷ items) new all here = (all.0, all_push P items new all.1 here)
+
+-- an item whose key comes after all others
+sorted_push : (items : List Item) (new : Item) → IsSorted items → AllByRecursion (λ (i : Item). Before i.key new.key) items → IsSorted (items ++ new ∷ [])
+sorted_push [] new sorted above = (tt, tt)
+sorted_push (i ∷ items) new sorted above = (all_push (λ (j : Item). Before i.key j.key) items new sorted.0 above.0, sorted_push items new sorted.1 above.1)
+
+pub append_sorted : (fields items after : List Item) (new made : Item) → fields ≡ items → IsSorted fields → after ≡ fields ++ made ∷ [] → made ≡ new → AllByRecursion (λ (i : Item). Before i.key new.key) items → IsSorted after
+append_sorted fields items after new made seen sorted is as_made above =
+    subst IsSorted (sym (is ∙ ap (λ (i : Item). fields ++ i ∷ []) as_made)) (sorted_push fields new sorted (subst (AllByRecursion (λ (i : Item). Before i.key new.key)) (sym seen) above))

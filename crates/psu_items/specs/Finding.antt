@@ -1,8 +1,8 @@
 -- What is found at an opening, step by step.
 use Rattle.std.specs.Prelude.{◌≡◌, ◌≢◌, ℕ, ◌+◌, ◌*◌, ◌<◌, ◌≤◌, ◌==◌, ◌⊎◌, List, Bool, if◌then◌else◌, Option, Some, None, IfSome, is_some, ⊤}
-use Rattle.psu_disk.specs.Disk.{DiskState, Left}
+use Rattle.psu_disk.specs.Disk.{DiskState, Left, SameBut}
 use Rattle.psu_items.specs.Map.{Item}
-use Rattle.psu_items.specs.Image.{other, gate, mark, mark_in, version_in, limit_in, number_in, length_in, Counts, RootHolds}
+use Rattle.psu_items.specs.Image.{other, gate_at, gate, counting, mark, mark_in, version_in, limit_in, number_in, length_in, Counts, RootHolds}
 use Rattle.psu_items.specs.declared.codec.DecodeFault.{DecodeFault}
 use Rattle.psu_items.specs.declared.codec.DecodeFault.TheVariants as Unread
 use Rattle.psu_items.specs.declared.head.Head.{Head}
@@ -69,11 +69,12 @@ HoldsNone root image BadRoot = (mark_in root image ≡ mark → version_in root 
 HoldsNone root image BadVersion = (mark_in root image ≡ mark) × (version_in root image ≢ 0)
 HoldsNone root image Memory = ⊤
 
--- the root that counts in y counts in x, and says and holds there what it does in y
+-- the root that counts in y counts in x, and says and holds there what it does in y; of all bytes only the other gate may differ
 pub record SameRoots (y x : List ℕ) : Type 0 where
   pub counts : (root : Root) → Counts root y → Counts root x
   pub numbers : (root : Root) → Counts root y → number_in root x ≡ number_in root y
   pub holds : (root : Root) → Counts root y → (limit : ℕ) (map : List Item) → RootHolds root y limit map → RootHolds root x limit map
+  pub but : SameBut (gate_at (other (counting y))) 1 y x
 
 -- an image is one from before, or the root that counted when it was read counts in it
 abbrev pub IsOldOrSame : DiskState → List ℕ → Type 0

@@ -72,6 +72,20 @@ pub record RootHolds (root : Root) (image : List ℕ) (limit : ℕ) (map : List 
   pub count : length map ≤ 240
   pub cost_fits : cost map ≤ limit
 
+-- A root says what one of ours says, of this version, on a disk that has the room. What its area holds is another matter.
+pub record HasGoodWords (root : Root) (image : List ℕ) : Type 0 where
+  pub marked : mark_in root image ≡ mark
+  pub version : version_in root image ≡ 0
+  pub limit_least : 4 ≤ limit_in root image
+  pub limit_most : limit_in root image ≤ 480
+  pub room : 512 * (2 + 2 * limit_in root image) ≤ length image
+  pub used_fits : length_in root image ≤ 512 * limit_in root image
+
+-- A root counts, and its words are good. So far no memory is asked for; its area is read next.
+pub record HasReadableRoot (image : List ℕ) : Type 0 where
+  pub counts : Counts (counting image) image
+  pub words : HasGoodWords (counting image) image
+
 -- The root that counts holds the map.
 pub record Stands (image : List ℕ) (limit : ℕ) (map : List Item) : Type 0 where
   pub counts : Counts (counting image) image

@@ -25,6 +25,11 @@ pub record Spares (root : Root) (limit : ℕ) (x y : List ℕ) : Type 0 where
   pub size : length y ≡ length x
   pub same : (k : ℕ) → (k ≤ gate_at root) ⊎ (gate_at root + 512 ≤ k) → (k < area_at root limit) ⊎ (area_at root limit + 512 * limit ≤ k) → slice_index y k ≡ slice_index x k
 
+-- y is x behind the two roots and the two areas
+pub record SameBehind (limit : ℕ) (x y : List ℕ) : Type 0 where
+  pub size : length y ≡ length x
+  pub same : (k : ℕ) → 512 * (2 + 2 * limit) ≤ k → slice_index y k ≡ slice_index x k
+
 -- the bytes are those of a map that a store of this limit can hold
 pub record Spells (limit : ℕ) (bytes : List ℕ) (map : List Item) : Type 0 where
   pub bytes_are : bytes ≡ area map

@@ -1,7 +1,8 @@
 //! A store whose disk failed in a commit.
 ghost use Rattle.std.specs.Prelude.{◌≡◌, ◌≢◌, ◌⊎◌, ◌↔◌, ◌*◌, ◌+◌, ◌≤◌, List, ℕ, IsTrue, OnOk, IfOk, IfErr, IsErrOf};
 ghost use Rattle.psu_disk.specs.Disk.{HasFailed, Left, LeavesOnly};
-ghost use Rattle.psu_items.specs.Image.{EachIsEither, IsEither};
+ghost use Rattle.psu_items.specs.Image.{EachIsEither, IsEither, counting, number_in};
+ghost use Rattle.psu_items.specs.Finding.{IsOldOrSame};
 ghost use Rattle.psu_items.specs.Batch.{changed};
 ghost use Rattle.psu_items.specs.Resting.{IsKept};
 ghost use Rattle.psu_items.specs.Recovering.{broken_cause};
@@ -100,9 +101,15 @@ impl<D: Disk, A: Allocator + Copy> Broken<D, A> {
         ensures later { D.failures self.disk ≤ D.failures (reopened_disk result) }
         ensures device { IfErr result (λ broken. broken.cause ≡ Device → HasFailed (D.failures self.disk) (D.failures broken.disk)) }
         ensures strange { D.honest → IfErr result (λ broken. broken.cause ≢ Strange) }
+        ensures quiet { IfErr result (λ broken. broken.cause ≢ Device → D.failures broken.disk ≡ D.failures self.disk) }
+        ensures number { D.honest → IfOk result (λ store. store.number ≡ number_in (counting (D.state self.disk).bytes) (D.state self.disk).bytes) }
         ensures extent { D.extent (reopened_disk result) ≡ D.extent self.disk }
         ensures time { D.honest → D.tells
             → LeavesOnly D.moment D.left_since self.disk (reopened_disk result) (IsEither self.limit self.before (changed self.before self.batch)) }
+
+        // Nothing but the older root's gate is written.
+        ensures images { D.honest → (image : List ℕ) → Left (D.state (reopened_disk result)) image → IsOldOrSame (D.state self.disk) image }
+        ensures moments { D.honest → D.tells → LeavesOnly D.moment D.left_since self.disk (reopened_disk result) (IsOldOrSame (D.state self.disk)) }
     {
         let Broken {
             mut disk,
@@ -160,6 +167,10 @@ fn recover<D: Disk, A: Allocator + Copy>(
     ensures works { OnOk result (D.failures disk.new ≡ D.failures disk.old) }
     ensures later { D.failures disk.old ≤ D.failures disk.new }
     ensures device { IsErrOf result Device → HasFailed (D.failures disk.old) (D.failures disk.new) }
+    ensures quiet { IfErr result (λ cause. cause ≢ Device → D.failures disk.new ≡ D.failures disk.old) }
+    ensures number { D.honest → IfOk result (λ o. o.number ≡ number_in (counting (D.state disk.old).bytes) (D.state disk.old).bytes) }
+    ensures images { D.honest → (image : List ℕ) → Left (D.state disk.new) image → IsOldOrSame (D.state disk.old) image }
+    ensures moments { D.honest → D.tells → LeavesOnly D.moment D.left_since disk.old disk.new (IsOldOrSame (D.state disk.old)) }
     ensures kept { D.honest → IfOk result (λ o. IsKept (D.state disk.new) o.root o.limit o.number o.items) }
     ensures strange { D.honest → EachIsEither (D.state disk.old) limit before.now (changed before.now batch.now) → IsErrOf result Strange → ⊥ }
     ensures left { D.honest → EachIsEither (D.state disk.old) limit before.now (changed before.now batch.now)

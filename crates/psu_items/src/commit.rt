@@ -1,8 +1,8 @@
 //! One step of a store: from a map to the map after a batch.
-ghost use Rattle.std.specs.Prelude.{◌≡◌, ◌+◌, ◌≤◌, ◌^◌, ◌↔◌, IsTrue, IfOk};
-ghost use Rattle.psu_disk.specs.Disk.{LeavesOnly};
+ghost use Rattle.std.specs.Prelude.{◌≡◌, ◌+◌, ◌≤◌, ◌^◌, ◌↔◌, List, ℕ, IsTrue, IfOk};
+ghost use Rattle.psu_disk.specs.Disk.{Left, LeavesOnly};
 ghost use Rattle.psu_items.specs.Image.{EachStands, EachIsEither, IsEither};
-ghost use Rattle.psu_items.specs.Writing.{Spells};
+ghost use Rattle.psu_items.specs.Writing.{Spells, SameBehind};
 ghost use Rattle.psu_items.specs.Area.{CanHold};
 ghost use Rattle.psu_items.specs.Batch.{changed};
 
@@ -54,6 +54,10 @@ impl<D: Disk, A: Allocator + Copy> Store<D, A> {
         ensures left_broken { D.honest → IfBroken result (λ broken. EachIsEither (D.state broken.disk) self.limit self.items (changed self.items batch)) }
         ensures time { D.honest → D.tells
             → LeavesOnly D.moment D.left_since self.disk (disk_of result) (IsEither self.limit self.items (changed self.items batch)) }
+
+        // Behind the roots and the areas each byte stays.
+        ensures behind { D.honest → (image : List ℕ) → Left (D.state (disk_of result)) image → SameBehind self.limit (D.state self.disk).bytes image }
+        ensures behind_time { D.honest → D.tells → LeavesOnly D.moment D.left_since self.disk (disk_of result) (SameBehind self.limit (D.state self.disk).bytes) }
     {
         if self.is_worn() {
             return Commit::Unstarted(self, batch, UnstartedCause::Worn);

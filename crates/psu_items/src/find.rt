@@ -1,5 +1,5 @@
 //! Which of the two roots counts.
-ghost use Rattle.std.specs.Prelude.{◌≡◌, ◌≤◌, List, ℕ, OnOk, IfOk, IfErr, IsErrOf};
+ghost use Rattle.std.specs.Prelude.{◌≡◌, ◌≢◌, ◌≤◌, List, ℕ, OnOk, IfOk, IfErr, IsErrOf};
 ghost use Rattle.psu_disk.specs.Disk.{Left, Only, LeavesOnly, HasCause, HasFailed};
 ghost use Rattle.psu_items.specs.Finding.{standing, IsPicked, IsPickedIn, IsNonePicked};
 ghost use Rattle.psu_items.specs.declared.root.Root.TheVariants.{First, Second};
@@ -23,6 +23,7 @@ pub fn find<D: Disk>(disk: &mut D) -> Result<Picked, OpenCause>
     ensures works { OnOk result (D.failures disk.new ≡ D.failures disk.old) }
     ensures later { D.failures disk.old ≤ D.failures disk.new }
     ensures device { IsErrOf result OpenCause.Device → HasFailed (D.failures disk.old) (D.failures disk.new) }
+    ensures quiet { IfErr result (λ cause. cause ≢ OpenCause.Device → D.failures disk.new ≡ D.failures disk.old) }
     ensures found { D.honest → IfOk result (λ p. IsPickedIn (D.state disk.old).bytes p.root p.number p.both) }
     ensures none { D.honest → IfErr result (IsNonePicked (standing First (D.state disk.old).bytes) (standing Second (D.state disk.old).bytes)) }
     ensures synced { D.honest → OnOk result (Only (D.state disk.new)) }

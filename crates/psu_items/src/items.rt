@@ -1,8 +1,9 @@
 //! The map: pairs in the order of their keys.
-ghost use Rattle.std.specs.Prelude.{◌≡◌, ◌<◌, [], length, IfOk, IfErr, OnOk, OnErr, option_map};
+ghost use Rattle.std.specs.Prelude.{◌≡◌, ◌<◌, ◌^◌, [], ◌∷◌, ◌++◌, length, IfOk, IfErr, OnOk, OnErr, option_map};
 ghost use Rattle.std.specs.Ordering.{nat_cmp};
 ghost use Rattle.std.specs.Cmp.Lexicographic.{slice_cmp};
-ghost use Rattle.psu_items.specs.Map.{get, put, without, cost, IsSorted, Sets};
+ghost use Rattle.std.specs.List.{AllByRecursion};
+ghost use Rattle.psu_items.specs.Map.{Item, item_of, Before, get, put, without, cost, IsSorted, Sets};
 ghost use Rattle.psu_items.specs.Batch.{edited, changed, Assigns};
 ghost use Rattle.psu_items.specs.Place.{key_at, IsPlace, IsAt, IsGap};
 
@@ -66,6 +67,36 @@ impl<A: Allocator + Copy> Items<A> {
         }
     }
 
+    /// Adds an item behind all others: its key comes after theirs. The only error is a want of memory.
+    pub fn append(&mut self, key: Vec<u8, A>, value: Vec<u8, A>) -> Result<(), AllocError>
+        requires { AllByRecursion (λ (i : Item). Before i.key key.items) self.old }
+        ensures ok { OnOk result (self.new ≡ self.old ++ item_of key.items value.items ∷ []) }
+        ensures err { OnErr result (self.new ≡ self.old) }
+    {
+        self.pairs.push(Pair::new(key, value))?;
+        Ok(())
+    }
+
+    /// Removes the item of a key, if there is one.
+    pub fn remove(&mut self, key: &[u8])
+        ensures { self.new ≡ without self.old key.now }
+    {
+        if let Ok(at) = self.search(key) {
+            self.pairs.remove(at);
+        }
+    }
+
+    /// The same map in memory of its own.
+    pub fn copy(&self, alloc: A) -> Result<Self, AllocError>
+        ensures { IfOk result (λ copy. copy ≡ self.now) }
+    {
+        let mut pairs = Vec::new(alloc);
+        for pair in &self.pairs {
+            pairs.push(pair.copy(alloc)?)?;
+        }
+        Ok(Items { pairs })
+    }
+
     /// The pairs in the order of their keys.
     pub fn pairs(&self) -> &[Pair<A>]
         ensures all { result.now ≡ self.now }
@@ -77,7 +108,8 @@ impl<A: Allocator + Copy> Items<A> {
     /// The pages that the map costs: one for each item, and one for each 512 bytes begun of its
     /// value.
     pub fn cost(&self) -> u128
-        ensures { result ≡ cost self.now }
+        ensures value { result ≡ cost self.now }
+        ensures most { result < 2 ^ 124 }
     {
         let mut pages = 0;
         for pair in &self.pairs {
@@ -100,17 +132,6 @@ impl<A: Allocator + Copy> Items<A> {
         Ok(map)
     }
 
-    // The same map in memory of its own.
-    fn copy(&self, alloc: A) -> Result<Self, AllocError>
-        ensures { IfOk result (λ copy. copy ≡ self.now) }
-    {
-        let mut pairs = Vec::new(alloc);
-        for pair in &self.pairs {
-            pairs.push(pair.copy(alloc)?)?;
-        }
-        Ok(Items { pairs })
-    }
-
     // Makes one edit.
     fn apply(&mut self, alloc: A, edit: &Edit<A>) -> Result<(), AllocError>
         ensures { OnOk result (self.new ≡ edited self.old edit.now.key edit.now.value) }
@@ -120,15 +141,6 @@ impl<A: Allocator + Copy> Items<A> {
             None => self.remove(edit.key()),
         }
         Ok(())
-    }
-
-    // Removes the item of a key, if there is one.
-    fn remove(&mut self, key: &[u8])
-        ensures { self.new ≡ without self.old key.now }
-    {
-        if let Ok(at) = self.search(key) {
-            self.pairs.remove(at);
-        }
     }
 
     // Where the key is, or where it would go.
@@ -164,58 +176,4 @@ fn place<A: Allocator + Copy>(pairs: &[Pair<A>], key: &[u8]) -> usize
         }
     }
     pairs.len()
-}
-
-#[cfg(test)]
-mod tests {
-    use super::*;
-    use std::test::Fail;
-
-    #[test]
-    fn is_in_the_order_of_keys(rt: HostRuntime) -> Result<(), Fail> {
-        let alloc = rt.alloc();
-        let mut items = Items::new(alloc);
-        for (key, value) in [(5, 10), (1, 20), (3, 30), (1, 40)] {
-            items.insert([key].to_vec(alloc)?, [value].to_vec(alloc)?)?;
-        }
-        assert_eq!(rt; items.pairs().len(), 3);
-        assert_eq!(rt; items.pairs()[0].key(), [1].as_slice());
-        assert_eq!(rt; items.pairs()[0].value(), [40].as_slice());
-        assert_eq!(rt; items.get(&[3]).ok_or("no 3")?, [30].as_slice());
-        assert!(rt; items.get(&[3, 0]).is_none());
-        Ok(())
-    }
-
-    // A file of 32,768 bytes has a value of one byte more, and costs 66; one of 29,183 costs 58.
-    #[test]
-    fn costs_pages(rt: HostRuntime) -> Result<(), Fail> {
-        let alloc = rt.alloc();
-        for (length, pages) in [(1, 2), (512, 2), (513, 3), (29184, 58), (32769, 66)] {
-            let mut items = Items::new(alloc);
-            items.insert([5].to_vec(alloc)?, vec![in alloc; 0; length]?)?;
-            assert_eq!(rt; items.cost(), pages, "at {length}");
-        }
-        Ok(())
-    }
-
-    #[test]
-    fn changes_by_a_batch(rt: HostRuntime) -> Result<(), Fail> {
-        let alloc = rt.alloc();
-        let mut items = Items::new(alloc);
-        items.insert([1].to_vec(alloc)?, [10].to_vec(alloc)?)?;
-        items.insert([2].to_vec(alloc)?, [20].to_vec(alloc)?)?;
-        let mut batch = Batch::new(alloc);
-        batch.assign([3].to_vec(alloc)?, [30].to_vec(alloc)?)?;
-        batch.remove([2].to_vec(alloc)?)?;
-        batch.assign([3].to_vec(alloc)?, [31].to_vec(alloc)?)?;
-        assert_eq!(rt; batch.edits().len(), 3);
-        assert_eq!(rt; batch.edits()[1].key(), [2].as_slice());
-        assert!(rt; batch.edits()[1].value().is_none());
-        let after = items.changed(alloc, &batch)?;
-        assert_eq!(rt; after.pairs().len(), 2);
-        assert_eq!(rt; after.get(&[3]).ok_or("no 3")?, [31].as_slice());
-        assert!(rt; after.get(&[2]).is_none());
-        assert!(rt; items.get(&[2]).is_some());
-        Ok(())
-    }
 }

@@ -1,7 +1,7 @@
 //! The map that a root and its area hold.
-ghost use Rattle.std.specs.Prelude.{◌≡◌, ◌⊎◌, ◌+◌, ◌*◌, ◌≤◌, List, ℕ, OnOk, IfOk, IfErr, IsErrOf};
+ghost use Rattle.std.specs.Prelude.{◌≡◌, ◌≢◌, ◌⊎◌, ◌+◌, ◌*◌, ◌≤◌, List, ℕ, OnOk, IfOk, IfErr, IsErrOf};
 ghost use Rattle.psu_disk.specs.Disk.{Left, Range, LeavesOnly, HasCause, HasFailed};
-ghost use Rattle.psu_items.specs.Image.{area_at, RootHolds};
+ghost use Rattle.psu_items.specs.Image.{area_at, RootHolds, HasGoodWords};
 ghost use Rattle.psu_items.specs.Finding.{HoldsNone, cause_of};
 
 use crate::codec::{DecodeFault, decode};
@@ -39,6 +39,8 @@ pub fn load<D: Disk, A: Allocator + Copy>(
     ensures works { OnOk result (D.failures disk.new ≡ D.failures disk.old) }
     ensures later { D.failures disk.old ≤ D.failures disk.new }
     ensures device { IsErrOf result OpenCause.Device → HasFailed (D.failures disk.old) (D.failures disk.new) }
+    ensures quiet { IfErr result (λ cause. cause ≢ OpenCause.Device → D.failures disk.new ≡ D.failures disk.old) }
+    ensures memory { D.honest → IfErr result (λ cause. cause ≡ OpenCause.Memory → HasGoodWords root (D.state disk.old).bytes) }
     ensures limit { IfOk result (λ held. (4 ≤ held.limit) × (held.limit ≤ 480) × (512 * (2 + 2 * held.limit) ≤ D.extent disk.old)) }
     ensures found { D.honest → IfOk result (λ held. RootHolds root (D.state disk.old).bytes held.limit held.items) }
     ensures none { D.honest → IfErr result (HoldsNone root (D.state disk.old).bytes) }
@@ -73,6 +75,7 @@ fn read_area<D: Disk, A: Allocator + Copy>(
     ensures works { OnOk result (D.failures disk.new ≡ D.failures disk.old) }
     ensures later { D.failures disk.old ≤ D.failures disk.new }
     ensures device { IsErrOf result OpenCause.Device → HasFailed (D.failures disk.old) (D.failures disk.new) }
+    ensures quiet { IfErr result (λ cause. cause ≢ OpenCause.Device → D.failures disk.new ≡ D.failures disk.old) }
     ensures found { D.honest → IfOk result (λ bytes. bytes.items ≡ Range (area_at root limit) used (D.state disk.old).bytes) }
     ensures refused { IfErr result (λ cause. (cause ≡ OpenCause.Device) ⊎ (cause ≡ OpenCause.Memory)) }
     ensures seen { D.honest → (D.state disk.new).bytes ≡ (D.state disk.old).bytes }

@@ -2,7 +2,7 @@
 ghost use Rattle.std.specs.Prelude.{◌≡◌, ◌≢◌, ◌+◌, ◌*◌, ◌≤◌, List, ℕ, OnOk, IfOk, IfErr, IsErrOf};
 ghost use Rattle.psu_disk.specs.Disk.{Left, Only, LeavesOnly, HasCause, HasFailed};
 ghost use Rattle.psu_items.specs.Map.{Item};
-ghost use Rattle.psu_items.specs.Image.{RootHolds, Stands, IsRefusal};
+ghost use Rattle.psu_items.specs.Image.{RootHolds, Stands, IsRefusal, HasReadableRoot, counting, number_in};
 ghost use Rattle.psu_items.specs.Resting.{IsKept};
 ghost use Rattle.psu_items.specs.Finding.{IsPickedIn, SameRoots, IsOldOrSame};
 
@@ -32,8 +32,11 @@ pub fn read_back<D: Disk, A: Allocator + Copy>(
     ensures works { OnOk result (D.failures disk.new ≡ D.failures disk.old) }
     ensures later { D.failures disk.old ≤ D.failures disk.new }
     ensures device { IsErrOf result OpenCause.Device → HasFailed (D.failures disk.old) (D.failures disk.new) }
+    ensures quiet { IfErr result (λ cause. cause ≢ OpenCause.Device → D.failures disk.new ≡ D.failures disk.old) }
+    ensures memory { D.honest → IfErr result (λ cause. cause ≡ OpenCause.Memory → HasReadableRoot (D.state disk.old).bytes) }
     ensures limit { IfOk result (λ o. (4 ≤ o.limit) × (o.limit ≤ 480) × (512 * (2 + 2 * o.limit) ≤ D.extent disk.old)) }
     ensures stood { D.honest → IfOk result (λ o. Stands (D.state disk.old).bytes o.limit o.items) }
+    ensures number { D.honest → IfOk result (λ o. o.number ≡ number_in (counting (D.state disk.old).bytes) (D.state disk.old).bytes) }
     ensures refused { D.honest → IfErr result (IsRefusal (D.state disk.old).bytes) }
     ensures untouched { D.honest → IfErr result (λ cause. cause ≢ OpenCause.Device → (D.state disk.new).bytes ≡ (D.state disk.old).bytes) }
     ensures kept { D.honest → IfOk result (λ o. IsKept (D.state disk.new) o.root o.limit o.number o.items) }

@@ -1,10 +1,10 @@
 //! The commit rule: the root and the area that don't count are written, and then the gates move.
 ghost use Rattle.std.specs.Prelude.{◌≡◌, ◌+◌, ◌*◌, ◌<◌, ◌≤◌, ◌^◌, List, ℕ, length, OnOk};
-ghost use Rattle.psu_disk.specs.Disk.{Left, LeavesOnly, HasCause};
+ghost use Rattle.psu_disk.specs.Disk.{Left, Only, LeavesOnly, HasCause};
 ghost use Rattle.psu_items.specs.Map.{Item};
 ghost use Rattle.psu_items.specs.Image.{other, IsEither};
 ghost use Rattle.psu_items.specs.Resting.{IsKept};
-ghost use Rattle.psu_items.specs.Writing.{Spells};
+ghost use Rattle.psu_items.specs.Writing.{Spells, SameBehind};
 
 use crate::Root;
 use crate::gates::{CLOSED, OPEN, set_gate, stage};
@@ -30,6 +30,8 @@ pub fn replace<D: Disk>(
         → (x : List ℕ) → Left (D.state disk.new) x → IsEither limit before target x }
     ensures time { D.honest → D.tells → (before target : List Item) → IsKept (D.state disk.old) root limit number before → Spells limit area.now target
         → LeavesOnly D.moment D.left_since disk.old disk.new (IsEither limit before target) }
+    ensures behind { D.honest → Only (D.state disk.old) → (x : List ℕ) → Left (D.state disk.new) x → SameBehind limit (D.state disk.old).bytes x }
+    ensures behind_time { D.honest → D.tells → Only (D.state disk.old) → LeavesOnly D.moment D.left_since disk.old disk.new (SameBehind limit (D.state disk.old).bytes) }
 {
     let next = root.other();
     stage(disk, next, limit, number + 1, area)?;

@@ -1,13 +1,14 @@
 //! The store at rest: a map on a disk.
 ghost use Rattle.std.specs.Prelude.{◌≡◌, ◌≢◌, ◌+◌, ◌*◌, ◌≤◌, [], List, ℕ, OnOk, IfOk, IfErr};
 ghost use Rattle.psu_disk.specs.Disk.{Left, LeavesOnly, HasCause, HasFailed};
-ghost use Rattle.psu_items.specs.Image.{counting, number_in, version_in, EachStands, Stands, IsRefusal};
+ghost use Rattle.psu_items.specs.Image.{counting, number_in, version_in, EachStands, Stands, IsRefusal, HasReadableRoot};
+ghost use Rattle.psu_items.specs.Finding.{IsOldOrSame};
 ghost use Rattle.psu_items.specs.Map.{Item};
 ghost use Rattle.psu_items.specs.Resting.{IsKept};
 ghost use Rattle.psu_items.specs.Single.{IsKept-IsProp};
 ghost use Rattle.std.proofs.Props.{props};
 ghost use Rattle.psu_items.specs.declared.format_fault.FormatCause.TheVariants.{Device as NotWritten};
-ghost use Rattle.psu_items.specs.declared.open_cause.OpenCause.TheVariants.{Device};
+ghost use Rattle.psu_items.specs.declared.open_cause.OpenCause.TheVariants.{Device, Memory};
 ghost use Rattle.psu_items.specs.declared.root.Root.TheVariants.{First};
 
 use crate::gates::{CLOSED, OPEN, set_gate, stage};
@@ -44,6 +45,8 @@ impl<D: Disk, A: Allocator + Copy> Store<D, A> {
         ensures works { IfOk result (λ store. D.failures store.disk ≡ D.failures disk) }
         ensures later { D.failures disk ≤ D.failures (formatted_disk result) }
         ensures device { IfErr result (λ e. e.cause ≡ NotWritten → HasFailed (D.failures disk) (D.failures e.disk)) }
+        // It takes no memory.
+        ensures only_device { IfErr result (λ e. e.cause ≡ NotWritten) }
     {
         match lay_out(&mut disk, limit) {
             Ok(()) => Ok(Store {
@@ -64,12 +67,20 @@ impl<D: Disk, A: Allocator + Copy> Store<D, A> {
     /// stands open.
     pub fn open(alloc: A, mut disk: D) -> Result<Store<D, A>, Refused<D>>
         ensures stood { D.honest → IfOk result (λ store. Stands (D.state disk).bytes store.limit store.items) }
+        ensures number { D.honest → IfOk result (λ store. store.number ≡ number_in (counting (D.state disk).bytes) (D.state disk).bytes) }
         ensures refused { D.honest → IfErr result (λ e. IsRefusal (D.state disk).bytes e.cause) }
         ensures untouched { D.honest → IfErr result (λ e. e.cause ≢ Device → (D.state e.disk).bytes ≡ (D.state disk).bytes) }
         ensures extent { D.extent (opened_disk result) ≡ D.extent disk }
         ensures works { IfOk result (λ store. D.failures store.disk ≡ D.failures disk) }
         ensures later { D.failures disk ≤ D.failures (opened_disk result) }
         ensures device { IfErr result (λ e. e.cause ≡ Device → HasFailed (D.failures disk) (D.failures e.disk)) }
+        ensures quiet { IfErr result (λ e. e.cause ≢ Device → D.failures e.disk ≡ D.failures disk) }
+        ensures memory { D.honest → IfErr result (λ e. e.cause ≡ Memory → HasReadableRoot (D.state disk).bytes) }
+
+        // Nothing but the older root's gate is written: each image is one from before, or has the root that counted as it was
+        // read and every other byte too, also of a disk refused.
+        ensures images { D.honest → (image : List ℕ) → Left (D.state (opened_disk result)) image → IsOldOrSame (D.state disk) image }
+        ensures moments { D.honest → D.tells → LeavesOnly D.moment D.left_since disk (opened_disk result) (IsOldOrSame (D.state disk)) }
 
         // Where each image stands for one map, it is found, and each image at any moment stands for it, also of a disk refused.
         ensures finds { D.honest → (limit : ℕ) (map : List Item) → EachStands (D.state disk) limit map

@@ -1,13 +1,15 @@
 -- Lists of data: one datum after another.
-use Rattle.std.proofs.Common.{◌≡◌, ℕ, ◌≤◌, ◌==◌, Bool, true, false, List, [], ◌∷◌, ◌++◌, length, drop, refl, sym, ap, ◌∙◌, subst, arith, inl, inr}
+use Rattle.std.proofs.Common.{◌≡◌, ℕ, ◌≤◌, ◌==◌, Bool, true, false, List, [], ◌∷◌, ◌++◌, length, drop, refl, sym, ap, ◌∙◌, subst, arith, inl, inr, Option, Some, None, IfSome, IfNone}
 use Rattle.std.proofs.lemmas.Bool.{cases_Bool}
 use Rattle.std.proofs.lemmas.List.{append-nil}
 use Rattle.psu_lex.specs.Bytes.{is_white, all_white}
 use Rattle.psu_lex.specs.NumberScan.{run, left}
-use Rattle.psu_lex.specs.Syntax.{Datum, IsBefore, Lists}
+use Rattle.psu_lex.specs.Syntax.{Datum, IsBefore, Lists, datum_of}
+use Rattle.psu_lex.specs.Shown.{TailLists, HoldsFound}
 use Rattle.psu_lex.specs.SyntaxScan.{is_parted, Begins}
+use Rattle.psu_lex.specs.declared.found.Found.{Found}
 use Rattle.psu_lex.specs.declared.datum_class.DatumClass.{DatumClass}
-use Rattle.psu_lex.proofs.Quotes.{same_byte, both}
+use Rattle.psu_lex.proofs.Quotes.{same_byte, same_tail, both}
 use Rattle.psu_lex.proofs.Runs.{leads, white_every, run_left, run_every, left_at, left_none}
 use Rattle.psu_lex.proofs.FirstBytes.{IsFirst, first_of}
 use Rattle.psu_lex.proofs.DataScans.{one_datum}
@@ -71,29 +73,12 @@ begun_some text d next s h =
 pub record Rest (d : Datum) (tail : List ℕ) (list : List Datum) : Type 0 where
   pub others : List Datum
   pub is : list ≡ d ∷ others
-  pub text : Lists (drop 1 tail) others
-  pub last : tail ≡ [] → others ≡ []
-  pub not_last : (tail ≡ [] → ⊥) → (e : Datum) × (more : List Datum) × (others ≡ e ∷ more)
+  pub listed : TailLists tail others
 
 rest_at : (d : Datum) (next rest tail : List ℕ) (others : List Datum) → tail ≡ left is_white next → IsBefore next rest others → Lists rest others → Rest d tail (d ∷ others)
-rest_at d next rest tail [] t b l =
-    let none : tail ≡ [] = t ∙ ap (left is_white) b ∙ left_white rest l in
-    record {
-      others = [];
-      is = refl;
-      text = ap (λ (z : List ℕ). all_white (drop 1 z)) none;
-      last = λ e. refl;
-      not_last = λ some. absurd (some none);
-    }
+rest_at d next rest tail [] t b l = record { others = []; is = refl; listed = t ∙ ap (left is_white) b ∙ left_white rest l }
 rest_at d next rest tail (e ∷ more) t (space, w, f) l =
-    let some : tail ≡ 44 ∷ rest = t ∙ ap (left is_white) f ∙ left_over space (44 ∷ rest) w refl in
-    record {
-      others = e ∷ more;
-      is = refl;
-      text = subst (λ (z : List ℕ). Lists (drop 1 z) (e ∷ more)) (sym some) l;
-      last = λ none. absurd (cc (sym some ∙ none));
-      not_last = λ given. (e, more, refl);
-    }
+    record { others = e ∷ more; is = refl; listed = (rest, t ∙ ap (left is_white) f ∙ left_over space (44 ∷ rest) w refl, l) }
 
 pub rest_of : (text : List ℕ) (d : Datum) (next tail : List ℕ) (list : List Datum) → Begins text d next → tail ≡ left is_white next → Lists text list → Rest d tail list
 rest_of text d next tail [] s t l = absurd (begun_some text d next s l)
@@ -112,15 +97,23 @@ none_begins text (d ∷ more) none l = let found = lists_begin text d more l in 
 same_items : (d e : Datum) (xs ys : List Datum) → d ∷ xs ≡ e ∷ ys → xs ≡ ys
 same_items d e xs ys h = cc (h)
 
+tails_same : (list others : List Datum) (tail : List ℕ) → ((text : List ℕ) → Lists text list → Lists text others → list ≡ others) → TailLists tail list → TailLists tail others → list ≡ others
+tails_same [] [] tail again l k = refl
+tails_same [] (e ∷ more) tail again l (rest, is, k) = absurd (cc (l, is))
+tails_same (d ∷ list) [] tail again (rest, is, l) k = absurd (cc (k, is))
+tails_same (d ∷ list) (e ∷ more) tail again (rest, is, l) (text, e', k) =
+    again text (subst (λ (z : List ℕ). Lists z (d ∷ list)) (same_tail 44 44 _ _ (sym is ∙ e')) l) k
+
 pub one_list : (list others : List Datum) (text : List ℕ) → Lists text list → Lists text others → list ≡ others
 one_list [] [] text l k = refl
 one_list [] (e ∷ more) text l k = let found = lists_begin text e more k in absurd (begun_some text e found.0 found.2 l)
 one_list (d ∷ list) others text l k =
     let found = lists_begin text d list l in
-    let r = rest_of text d found.0 (left is_white found.0) others found.2 refl k in
-    let s = rest_of text d found.0 (left is_white found.0) (d ∷ list) found.2 refl l in
+    let tail = left is_white found.0 in
+    let r = rest_of text d found.0 tail others found.2 refl k in
+    let s = rest_of text d found.0 tail (d ∷ list) found.2 refl l in
     let same : s.others ≡ list = sym (same_items d d list s.others s.is) in
-    let later : list ≡ r.others = one_list list r.others (drop 1 (left is_white found.0)) (subst (Lists (drop 1 (left is_white found.0))) same s.text) r.text in
+    let later : list ≡ r.others = tails_same list r.others tail (λ (z : List ℕ). one_list list r.others z) (subst (TailLists tail) same s.listed) r.listed in
     ap (λ (z : List Datum). d ∷ z) later ∙ sym r.is
 
 -- ---- the same, as the code goes
@@ -132,3 +125,35 @@ some_listed text (d ∷ more) f l = (d, more, l)
 pub parted_cons : (tail : List ℕ) (empty : Bool) → is_parted tail ≡ true → empty ≡ (length tail == 0) → empty ≡ false → tail ≡ 44 ∷ drop 1 tail
 parted_cons [] empty p e f = absurd (cc (e, f))
 parted_cons (x ∷ tail) empty p e f = ap (λ (z : ℕ). z ∷ tail) (same_byte x 44 p)
+
+-- a tail that goes on with a `,`
+pub tail_more : (tail rest : List ℕ) (others : List Datum) → tail ≡ 44 ∷ rest → TailLists tail others → (d : Datum) × (more : List Datum) × Lists rest (d ∷ more) × (others ≡ d ∷ more)
+tail_more tail rest [] e l = absurd (cc (e, l))
+tail_more tail rest (d ∷ more) e (text, is, l) = (d, more, subst (λ (z : List ℕ). Lists z (d ∷ more)) (same_tail 44 44 _ _ (sym is ∙ e)) l, refl)
+
+-- a first datum and the others make a list
+pub lists_of : (text tail : List ℕ) (d : Datum) (next : List ℕ) (others : List Datum) → Begins text d next → tail ≡ left is_white next → TailLists tail others → Lists text (d ∷ others)
+lists_of text tail d next [] s t l = lists_last text d next s (sym t ∙ l)
+lists_of text tail d next (e ∷ more) s t (rest, is, l) = lists_more text d e next rest more s (sym t ∙ is) l
+
+-- no list begins where no datum does
+pub no_list : (text : List ℕ) (list : List Datum) → all_white text ≡ false → ((d : Datum) (next : List ℕ) → Begins text d next → ⊥) → Lists text list → ⊥
+no_list text list f none l =
+    let some = some_listed text list f l in
+    let found = lists_begin text some.0 some.1 some.2 in
+    none some.0 found.0 found.2
+
+-- the next datum that is found behind a tail
+pub next_holds : (tail text : List ℕ) (r : Option Found) (empty : Bool) (others : List Datum) → empty ≡ (length tail == 0) → empty ≡ false → text ≡ drop 1 tail
+    → IfSome r (λ found. (next : List ℕ) × Begins text (datum_of found.datum) next × (found.tail.now ≡ left is_white next))
+    → IfNone r ((d : Datum) (next : List ℕ) → Begins text d next → ⊥) → TailLists tail others → HoldsFound r others
+next_holds tail text r empty [] e f is some none l = absurd (cc (e, f))
+next_holds tail text None empty (d ∷ more) e f is some none (rest, c, l) =
+    none_begins text (d ∷ more) none (subst (λ (z : List ℕ). Lists z (d ∷ more)) (sym (is ∙ ap (drop 1) c)) l)
+next_holds tail text (Some found) empty (d ∷ more) e f is (next, s, t) none (rest, c, l) =
+    let k = rest_of text (datum_of found.datum) next found.tail.now (d ∷ more) s t (subst (λ (z : List ℕ). Lists z (d ∷ more)) (sym (is ∙ ap (drop 1) c)) l) in
+    (k.others, k.is, (next, s.1), k.listed)
+
+pub nothing_next : (tail : List ℕ) (others : List Datum) → tail ≡ [] → TailLists tail others → others ≡ []
+nothing_next tail [] e l = refl
+nothing_next tail (d ∷ more) e (rest, is, l) = absurd (cc (e, is))

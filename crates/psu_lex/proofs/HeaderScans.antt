@@ -1,11 +1,12 @@
 -- Headers: what their scan accepts is a header, and every header is accepted.
-use Rattle.std.proofs.Common.{◌≡◌, ℕ, ◌==◌, ◌&&◌, Bool, true, false, List, [], ◌∷◌, ◌++◌, refl, sym, ap, ◌∙◌, if◌then◌else◌, arith, append_assoc, inl, inr}
+use Rattle.std.proofs.Common.{◌≡◌, ℕ, ◌==◌, ◌&&◌, Bool, true, false, List, [], ◌∷◌, ◌++◌, refl, sym, ap, ◌∙◌, arith, append_assoc, inl, inr}
 use Rattle.std.proofs.lemmas.Bool.{cases_Bool}
 use Rattle.std.proofs.lemmas.Bool.Decides.{nat_tests}
 use Rattle.psu_lex.specs.Bytes.{is_letter}
-use Rattle.psu_lex.specs.Syntax.{is_name_byte, all_name, is_node, all_nodes, behind, ask_text, Mark, mark_text, Header, IsHeader, SpellsHeader, header_text}
-use Rattle.psu_lex.specs.Syntax.Mark.{Star, Colon, Bare}
-use Rattle.psu_lex.specs.SyntaxScan.{is_empty, joins, is_part, is_path, is_header}
+use Rattle.psu_lex.specs.Syntax.{is_name_byte, all_name, is_node, all_nodes, behind, ask_text, mark_text, Header, IsHeader, SpellsHeader, header_text}
+use Rattle.psu_lex.specs.declared.mark.Mark.{Mark}
+use Rattle.psu_lex.specs.declared.mark.Mark.TheVariants.{Star, Colon, Bare}
+use Rattle.psu_lex.specs.SyntaxScan.{is_empty, joins, is_part, is_path, is_header, mark_of}
 use Rattle.psu_lex.specs.NumberScan.{run, left}
 use Rattle.psu_lex.proofs.Quotes.{same_byte, same_head, same_tail, both}
 use Rattle.psu_lex.proofs.Runs.{every, leads, run_at, left_at}
@@ -185,15 +186,7 @@ same_behind (n ∷ ns) (m ∷ ms) a b h k e =
     let later = same_behind ns ms a b p.1 q.1 front.1 in
     (cc (front.0, later.0), later.1)
 
--- a mark by the first byte
-abbrev mark_at : ℕ → Mark
-mark_at x = if x == 42 then Star else (if x == 58 then Colon else Bare)
-
-abbrev mark_of : List ℕ → Mark
-mark_of [] = Bare
-mark_of (x ∷ xs) = mark_at x
-
-mark_is : (mark : Mark) (node rest : List ℕ) → is_node node ≡ true → mark_of (mark_text mark ++ (node ++ rest)) ≡ mark
+pub mark_is : (mark : Mark) (node rest : List ℕ) → is_node node ≡ true → mark_of (mark_text mark ++ (node ++ rest)) ≡ mark
 mark_is Star node rest h = refl
 mark_is Colon node rest h = refl
 mark_is Bare [] rest h = absurd (cc (h))

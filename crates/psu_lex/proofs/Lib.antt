@@ -24,3 +24,5 @@ pub mod DataLists
 pub mod HighBytes
 pub mod UnitParts
 pub mod UnitDecides
+pub mod HeaderParts
+pub mod DatumContents

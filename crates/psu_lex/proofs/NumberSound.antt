@@ -4,7 +4,8 @@ use Rattle.std.proofs.lemmas.Bool.{cases_Bool}
 use Rattle.std.proofs.lemmas.List.{append-nil}
 use Rattle.psu_lex.specs.Bytes.{starts, is_digit, is_letter, is_white, all_digits, all_white}
 use Rattle.psu_lex.specs.Number.{Sign, IsNumber, ExponentHolds, sign_text, fraction_text, fraction_digits, exponent_text, number_text, mantissa}
-use Rattle.psu_lex.specs.NumberScan.{run, left, sign_of, after_sign, fraction_of, after_fraction, exponent_with, exponent_from, exponent_of, after_exponent, is_nonempty, suffix_of, gap_of, end_of, excess_of, is_minus, at_fraction, at_exponent, at_tail, scanned}
+use Rattle.psu_lex.specs.Shown.{is_minus}
+use Rattle.psu_lex.specs.NumberScan.{run, left, sign_of, after_sign, fraction_of, after_fraction, exponent_with, exponent_from, exponent_of, after_exponent, is_nonempty, suffix_of, gap_of, end_of, excess_of, at_fraction, at_exponent, at_tail, scanned}
 use Rattle.psu_lex.proofs.Quotes.{same_byte}
 use Rattle.psu_lex.proofs.Runs.{every, leads, digits_every, white_every, letters_every, run_left, run_every, left_at, every_append}
 

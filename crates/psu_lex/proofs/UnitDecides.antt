@@ -25,7 +25,7 @@ use Rattle.psu_lex.proofs.WrittenData.{number_ends, no_number, node_ends, no_nod
 use Rattle.psu_lex.proofs.DataPieces.{quoted_ends, no_quoted, unquoted, open_ends, counted_ends, no_counted, unmarked}
 use Rattle.psu_lex.proofs.DataScans.{none_at, unparted_at, trims_at}
 use Rattle.psu_lex.proofs.StringScans.{suffix}
-use Rattle.psu_lex.proofs.DataLists.{left_shorter, lists_begin, lists_last, lists_more, rest_of, some_listed}
+use Rattle.psu_lex.proofs.DataLists.{left_shorter, lists_begin, lists_last, lists_more, rest_of, some_listed, tail_more}
 use Rattle.psu_lex.proofs.UnitParts.{parts_of, unit_reads}
 
 -- ---- numbers
@@ -159,8 +159,8 @@ listed_at text next (x ∷ rest) d again s e =
       | inl l ↦ inl (d, l.0 ∷ l.1, lists_more text d l.0 next rest l.1 s comma l.2)
       | inr none ↦ inr (λ f more l.
           let k = rest_of text d next (left is_white next) (f ∷ more) s refl l in
-          let later = k.not_last (λ empty. absurd (cc (sym comma ∙ empty))) in
-          none later.0 later.1 (subst (λ (z : List ℕ). Lists (drop 1 z) (later.0 ∷ later.1)) comma (subst (Lists (drop 1 (left is_white next))) later.2 k.text)))
+          let later = tail_more (left is_white next) rest k.others comma k.listed in
+          none later.0 later.1 later.2)
     ]
 
 listed_from : (text : List ℕ) → ((rest : List ℕ) → length rest < length text → Listed rest) → Listed text

@@ -6,9 +6,10 @@ use Rattle.std.specs.Option.{ok_or}
 use Rattle.psu_lex.specs.Bytes.{is_white, is_dark, is_closed}
 use Rattle.psu_lex.specs.NumberScan.{run, left}
 use Rattle.psu_lex.specs.Message.{Token, Reads}
-use Rattle.psu_lex.specs.Syntax.{is_name_byte, is_node, all_nodes, behind, ask_text, Mark, mark_text, Header, IsHeader, header_text, SpellsHeader, Lists, Syntax, is_apart, UnitReads, has_high, TextGives, FaultGives}
-use Rattle.psu_lex.specs.Syntax.Mark.{Star, Colon, Bare}
-use Rattle.psu_lex.specs.SyntaxScan.{Shows, ShowsSyntax}
+use Rattle.psu_lex.specs.Syntax.{is_name_byte, is_node, all_nodes, behind, ask_text, mark_text, Header, IsHeader, header_text, SpellsHeader, Lists, Syntax, is_apart, UnitReads, has_high, TextGives, FaultGives}
+use Rattle.psu_lex.specs.declared.mark.Mark.{Mark}
+use Rattle.psu_lex.specs.declared.mark.Mark.TheVariants.{Star, Colon, Bare}
+use Rattle.psu_lex.specs.Shown.{Shows, ShowsSyntax}
 use Rattle.psu_lex.specs.declared.unit_syntax.Syntax as rust
 use Rattle.psu_lex.specs.declared.scpi_error.ScpiError.{ScpiError}
 use Rattle.psu_lex.specs.declared.scpi_error.ScpiError.TheVariants.{InvalidCharacter, SyntaxError}

@@ -16,6 +16,11 @@ IsBlockOf text bytes =
     ((digits : List ℕ) × (text ≡ spelling (Counted digits bytes)) × IsWhole (Counted digits bytes) [])
     ⊎ ((more : List ℕ) × (text ≡ spelling (Open bytes) ++ more) × IsWhole (Open bytes) more)
 
+-- a datum is one block, which stands for these bytes: with their number, or all that stands behind `#0`
+abbrev pub IsDatumOf : List ℕ → List ℕ → Type 0
+IsDatumOf text bytes =
+    ((digits : List ℕ) × (text ≡ spelling (Counted digits bytes)) × IsWhole (Counted digits bytes) []) ⊎ (text ≡ spelling (Open bytes))
+
 -- memory was refused, or there are no such bytes and this is the fault
 abbrev pub Refuses : ScpiError → (List ℕ → Type 0) → ScpiError → Type 0
 Refuses fault IsOf error = (error ≡ OutOfMemory) ⊎ ((error ≡ fault) × ((bytes : List ℕ) → IsOf bytes → ⊥))

@@ -9,4 +9,5 @@ pub mod Macros
 pub mod MacroScan
 pub mod Decimals
 pub mod Syntax
+pub mod Shown
 pub mod SyntaxScan

@@ -119,7 +119,13 @@ abbrev pub without_zeros : List ℕ → List ℕ
 without_zeros [] = []
 without_zeros (d ∷ ds) = if d == 48 then without_zeros ds else d ∷ ds
 
--- what a written number gives
+-- the value times 10^places, or the fault in its place; the suffix is not looked at
+abbrev pub valued : Number → ℕ → Result ℤ ScpiError
+valued n places =
+    if nat_lt 32000 (power n.exponent) then Err ExponentTooLarge
+    else (if nat_lt 255 (length (without_zeros (mantissa n))) then Err TooManyDigits else Ok (value_of n places))
+
+-- what a written number gives where no suffix is asked
 abbrev pub reading_of : Number → ℕ → Result ℤ ScpiError
 reading_of n places =
     if nat_lt 32000 (power n.exponent) then Err ExponentTooLarge

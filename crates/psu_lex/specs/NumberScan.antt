@@ -1,12 +1,12 @@
 -- Words of the contracts inside this crate: what a scan of a number takes, from the left, as long as it can.
 use Rattle.std.specs.Prelude.{◌≡◌, ℕ, ◌==◌, ◌||◌, Bool, true, false, List, [], ◌∷◌, drop, Option, Some, None, is_none, ℤ, pos, neg_ℤ, if◌then◌else◌}
 use Rattle.psu_lex.specs.Bytes.{is_dark, is_digit, is_letter, is_white}
-use Rattle.psu_lex.specs.Number.{Sign, Exponent, Number, fraction_digits}
+use Rattle.psu_lex.specs.Number.{Sign, Exponent, Number}
 use Rattle.psu_lex.specs.Number.Sign.{Plus, Minus, Unsigned}
 use Rattle.psu_lex.specs.declared.class.Class.{Class}
 use Rattle.psu_lex.specs.declared.class.Class.TheVariants.{Digit, White, Dark, Letter}
 use Rattle.psu_lex.specs.declared.written.Power as code_power
-use Rattle.psu_lex.specs.declared.written.Written as code
+use Rattle.psu_lex.specs.Shown.{divides, power_digits}
 
 abbrev pub belongs : Class → ℕ → Bool
 belongs Digit = is_digit
@@ -99,34 +99,12 @@ scanned text = record {
   rest = end_of (at_tail text);
 }
 
-abbrev pub is_minus : Sign → Bool
-is_minus Plus = false
-is_minus Minus = true
-is_minus Unsigned = false
-
 abbrev pub with_minus : Bool → ℕ → ℤ
 with_minus false n = pos n
 with_minus true n = neg_ℤ (pos n)
-
-abbrev pub divides : Option Exponent → Bool
-divides None = false
-divides (Some e) = is_minus e.sign
-
-abbrev pub power_digits : Option Exponent → List ℕ
-power_digits None = []
-power_digits (Some e) = e.digits
 
 -- the code's exponent is this one
 pub record ShowsPower (shown : code_power.Power) (exponent : Option Exponent) (later : List ℕ) : Type 0 where
   pub divides : shown.divides ≡ divides exponent
   pub digits : shown.digits.now ≡ power_digits exponent
   pub rest : shown.rest.now ≡ later
-
--- the code's number is this one
-pub record Shows (shown : code.Written) (n : Number) : Type 0 where
-  pub negative : shown.negative ≡ is_minus n.sign
-  pub whole : shown.whole.now ≡ n.whole
-  pub fraction : shown.fraction.now ≡ fraction_digits n.fraction
-  pub divides : shown.power.divides ≡ divides n.exponent
-  pub digits : shown.power.digits.now ≡ power_digits n.exponent
-  pub suffix : shown.has_suffix ≡ is_nonempty n.suffix

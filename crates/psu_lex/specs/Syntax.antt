@@ -9,6 +9,8 @@ use Rattle.psu_lex.specs.Message.Token.{Byte}
 use Rattle.psu_lex.specs.declared.datum_class.DatumClass.{DatumClass}
 use Rattle.psu_lex.specs.declared.datum_class.DatumClass.TheVariants.{Numeric, Character, String, Block}
 use Rattle.psu_lex.specs.declared.datum.Datum as rust
+use Rattle.psu_lex.specs.declared.mark.Mark.{Mark}
+use Rattle.psu_lex.specs.declared.mark.Mark.TheVariants.{Star, Colon, Bare}
 use Rattle.psu_lex.specs.declared.scpi_error.ScpiError.{ScpiError}
 use Rattle.psu_lex.specs.declared.scpi_error.ScpiError.TheVariants.{InvalidCharacter, SyntaxError}
 
@@ -30,12 +32,6 @@ is_node (x ∷ xs) = is_letter x && all_name xs
 abbrev pub all_nodes : List (List ℕ) → Bool
 all_nodes [] = true
 all_nodes (n ∷ ns) = is_node n && all_nodes ns
-
--- `*`, `:` or nothing
-pub data Mark : Type 0 where
-  Star : Mark
-  Colon : Mark
-  Bare : Mark
 
 abbrev pub mark_text : Mark → List ℕ
 mark_text Star = 42 ∷ []
@@ -59,6 +55,10 @@ ask_text asks = if asks then 63 ∷ [] else []
 
 abbrev pub header_text : Header → List ℕ
 header_text h = mark_text h.mark ++ (h.node ++ (behind h.nodes ++ ask_text h.asks))
+
+-- its nodes, with `:` between them
+abbrev pub path_text : Header → List ℕ
+path_text h = h.node ++ behind h.nodes
 
 -- only one node stands behind a `*`
 pub record IsHeader (h : Header) : Type 0 where

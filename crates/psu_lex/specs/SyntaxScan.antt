@@ -1,14 +1,12 @@
 -- Words of the contracts inside this crate: what the scan of a unit's header and data has found.
-use Rattle.std.specs.Prelude.{◌≡◌, ℕ, ◌==◌, ◌&&◌, not, nat_lt, Bool, true, false, List, [], ◌∷◌, ◌++◌, take, drop, Option, Some, None, Result, Ok, Err, if◌then◌else◌}
+use Rattle.std.specs.Prelude.{◌≡◌, ℕ, ◌-◌, ◌==◌, ◌&&◌, not, nat_lt, Bool, true, false, List, [], ◌∷◌, ◌++◌, length, take, drop, if◌then◌else◌}
 use Rattle.psu_lex.specs.Bytes.{is_white, is_letter, is_quote, all_white}
 use Rattle.psu_lex.specs.NumberScan.{run, left}
-use Rattle.psu_lex.specs.Syntax.{is_name_byte, ends_in_white, Datum, IsDatum, Lists, Syntax, datum_of}
+use Rattle.psu_lex.specs.Syntax.{is_name_byte, ends_in_white, Datum, IsDatum}
 use Rattle.psu_lex.specs.declared.datum_class.DatumClass.{DatumClass}
 use Rattle.psu_lex.specs.declared.datum_class.DatumClass.TheVariants.{Numeric, Character, String, Block}
-use Rattle.psu_lex.specs.declared.datum.Datum as rust_datum
-use Rattle.psu_lex.specs.declared.data.Data as rust_data
-use Rattle.psu_lex.specs.declared.unit_syntax.Syntax as rust
-use Rattle.psu_lex.specs.declared.scpi_error.ScpiError.{ScpiError}
+use Rattle.psu_lex.specs.declared.mark.Mark.{Mark}
+use Rattle.psu_lex.specs.declared.mark.Mark.TheVariants.{Star, Colon, Bare}
 
 -- ---- headers
 
@@ -34,6 +32,31 @@ is_path several begun (x ∷ xs) =
 abbrev pub is_header : List ℕ → Bool
 is_header [] = false
 is_header (x ∷ xs) = if x == 42 then is_path false false xs else (if x == 58 then is_path true false xs else is_path true false (x ∷ xs))
+
+-- a mark by the first byte
+abbrev pub mark_at : ℕ → Mark
+mark_at b = if b == 42 then Star else (if b == 58 then Colon else Bare)
+
+abbrev pub mark_of : List ℕ → Mark
+mark_of [] = Bare
+mark_of (x ∷ xs) = mark_at x
+
+-- the text behind a mark
+abbrev pub behind_mark : Mark → List ℕ → List ℕ
+behind_mark Star text = drop 1 text
+behind_mark Colon text = drop 1 text
+behind_mark Bare text = text
+
+-- the last byte is `?`
+abbrev pub ends_asking : List ℕ → Bool
+ends_asking [] = false
+ends_asking (x ∷ []) = x == 63
+ends_asking (x ∷ y ∷ more) = ends_asking (y ∷ more)
+
+-- the text without it
+abbrev pub without_ask : Bool → List ℕ → List ℕ
+without_ask true text = take (length text - 1) text
+without_ask false text = text
 
 -- ---- data
 
@@ -68,22 +91,6 @@ HasNone class body = (text next : List ℕ) → Splits class body text next → 
 -- a datum at the front, after white space, and what follows it
 abbrev pub Begins : List ℕ → Datum → List ℕ → Type 0
 Begins text datum next = Splits datum.class (left is_white text) datum.text next
-
--- the first datum of a list, and the text of the others
-abbrev pub FirstIs : Option (rust_datum.Datum × rust_data.Data) → List Datum → Type 0
-FirstIs None list = list ≡ []
-FirstIs (Some first) list = (others : List Datum) × (list ≡ datum_of first.0 ∷ others) × Lists first.1 others
-
--- the code's syntax is this one
-abbrev pub ShowsSyntax : rust.Syntax → Syntax → Type 0
-ShowsSyntax shown syntax = (shown.header.now ≡ syntax.header) × Lists shown.parameters syntax.parameters
-
--- the code's result is this one
-abbrev pub Shows : Result rust.Syntax ScpiError → Result Syntax ScpiError → Type 0
-Shows (Ok shown) (Ok syntax) = ShowsSyntax shown syntax
-Shows (Err shown) (Err error) = shown ≡ error
-Shows (Ok shown) (Err error) = ⊥
-Shows (Err shown) (Ok syntax) = ⊥
 
 -- ---- bytes
 

@@ -1,35 +1,28 @@
 // The data of a unit.
-ghost use Rattle.std.specs.Prelude.{List, ℕ};
-
 use crate::Datum;
-use crate::data_scan::{datum_at, others};
-use std::marker::Model;
+use crate::data_scan::next_of;
+use crate::found::Found;
 
-/// The data of a unit, in order. Contracts see their text.
-#[derive(Drop)]
+/// The data of a unit, in order: the first is known, those behind it are found as they are asked for.
+#[derive(Clone, Copy, Debug, PartialEq, Eq)]
 pub struct Data<'a> {
-    pub(crate) text: &'a [u8],
-}
-
-impl<'a> Model for Data<'a> {
-    ghost Value = { List ℕ };
-
-    ghost view = { λ d. d.text.now };
+    pub(crate) found: Option<Found<'a>>,
 }
 
 impl<'a> Data<'a> {
-    ghost use Rattle.psu_lex.specs.Syntax.{Datum as DatumData, Lists};
-    ghost use Rattle.psu_lex.specs.SyntaxScan.{FirstIs};
+    ghost use Rattle.std.specs.Prelude.{List};
+    ghost use Rattle.psu_lex.specs.Syntax.{Datum as DatumData};
+    ghost use Rattle.psu_lex.specs.Shown.{FirstIs, HoldsData};
 
     /// The first datum and those behind it; nothing where there is none.
     pub fn first(&self) -> Option<(Datum<'a>, Data<'a>)>
-        ensures { (list : List DatumData) → Lists self.now list → FirstIs result list }
+        ensures { (list : List DatumData) → HoldsData self.now list → FirstIs result list }
     {
-        let Some(found) = datum_at(self.text) else {
+        let Some(found) = self.found else {
             return None;
         };
         let rest = Data {
-            text: others(found.tail),
+            found: next_of(found.tail),
         };
         Some((found.datum, rest))
     }

@@ -3,6 +3,7 @@ ghost use Rattle.std.specs.Prelude.{ℕ, List, ◌≡◌, ◌≤◌, true, false
 ghost use Rattle.psu_lex.specs.Bytes.{all_white, is_white};
 ghost use Rattle.psu_lex.specs.NumberScan.{left};
 ghost use Rattle.psu_lex.specs.Syntax.{Datum as DatumData, Lists, datum_of, ends_in_white};
+ghost use Rattle.psu_lex.specs.Shown.{HoldsData, HoldsFound, TailLists};
 ghost use Rattle.psu_lex.specs.SyntaxScan.{Begins, Ends, HasNone, Trims, class_at, is_parted};
 ghost use Rattle.psu_lex.specs.declared.datum_class.DatumClass.TheVariants.{Numeric, Character, String, Block};
 
@@ -12,7 +13,7 @@ use crate::headers::is_node;
 use crate::message::is_blank;
 use crate::number_scan::{run_of, scan};
 use crate::pieces::{after, begins, front, is_quote_byte, whole_end};
-use crate::{Datum, DatumClass};
+use crate::{Data, Datum, DatumClass};
 use memchr::memchr;
 
 /// Where the white space at the end begins.
@@ -153,32 +154,45 @@ pub fn datum_at(text: &[u8]) -> Option<Found<'_>>
     })
 }
 
-/// What stands behind the `,`, or nothing where there is none.
-pub fn others(tail: &[u8]) -> &[u8]
-    ensures { result.now ≡ drop 1 tail.now }
+/// The next datum of a list, behind the `,`; nothing where there is none.
+pub fn next_of(tail: &[u8]) -> Option<Found<'_>>
+    ensures { (others : List DatumData) → TailLists tail.now others → HoldsFound result others }
 {
     if tail.is_empty() {
-        return tail;
+        return None;
     }
-    after(tail, 1)
+    datum_at(after(tail, 1))
 }
 
-/// Whether the text is white space alone, or data separated by `,`.
-pub fn is_list(text: &[u8]) -> bool
-    ensures yes { result ≡ true → (list : List DatumData) × Lists text.now list }
-    ensures no { result ≡ false → (list : List DatumData) → Lists text.now list → ⊥ }
+/// Whether a list may go on like this behind a datum: it ends, or a `,` and data separated by `,` follow.
+fn goes_on(tail: &[u8]) -> bool
+    requires { is_parted tail.now ≡ true }
+    ensures yes { result ≡ true → (others : List DatumData) × TailLists tail.now others }
+    ensures no { result ≡ false → (others : List DatumData) → TailLists tail.now others → ⊥ }
 {
-    if is_blank(text) {
-        return true;
-    }
-    let mut rest = text;
-    'next: loop {
-        let Some(found) = datum_at(rest) else {
+    let mut rest = tail;
+    'next: while !rest.is_empty() {
+        let Some(found) = datum_at(after(rest, 1)) else {
             return false;
         };
-        if found.tail.is_empty() {
-            return true;
-        }
-        rest = after(found.tail, 1);
+        rest = found.tail;
     }
+    true
+}
+
+/// The data that a text is, if it is white space alone, or data separated by `,`.
+pub fn list_at(text: &[u8]) -> Option<Data<'_>>
+    ensures some { IfSome result (λ shown. (list : List DatumData) × Lists text.now list × HoldsData shown list) }
+    ensures none { IfNone result ((list : List DatumData) → Lists text.now list → ⊥) }
+{
+    if is_blank(text) {
+        return Some(Data { found: None });
+    }
+    let Some(found) = datum_at(text) else {
+        return None;
+    };
+    if !goes_on(found.tail) {
+        return None;
+    }
+    Some(Data { found: Some(found) })
 }

@@ -1,5 +1,6 @@
 // A datum of a unit.
 use crate::DatumClass;
+use crate::pieces::{after, front};
 
 /// A datum of a unit (IEEE 488.2, 7.7).
 #[derive(Clone, Copy, Debug, PartialEq, Eq)]
@@ -8,4 +9,42 @@ pub struct Datum<'a> {
     pub class: DatumClass,
     /// The datum as written: with its quotes, `#` and suffix, without the white space round it.
     pub text: &'a [u8],
+}
+
+impl<'a> Datum<'a> {
+    ghost use Rattle.std.specs.Prelude.{◌≡◌, List, ℕ};
+    ghost use Rattle.psu_lex.specs.Data.{IsDatumOf};
+    ghost use Rattle.psu_lex.specs.Message.{doubled, spelling};
+    ghost use Rattle.psu_lex.specs.Message.Piece.{Quoted};
+
+    /// What stands between the quotes of a string (IEEE 488.2, 7.7.5), as written: a quote in it stands
+    /// there twice.
+    pub fn quoted(&self) -> &'a [u8]
+        ensures { (quote : ℕ) (bytes : List ℕ) → self.now.text.now ≡ spelling (Quoted quote bytes) → result.now ≡ doubled quote bytes }
+    {
+        let Some((_, rest)) = self.text.split_first() else {
+            return self.text;
+        };
+        if rest.is_empty() {
+            return rest;
+        }
+        front(rest, rest.len() - 1)
+    }
+
+    /// The bytes of a block (IEEE 488.2, 7.7.6): those behind its length, or all that stands behind `#0`.
+    pub fn bytes(&self) -> &'a [u8]
+        ensures { (bytes : List ℕ) → IsDatumOf self.now.text.now bytes → result.now ≡ bytes }
+    {
+        let Some((_, rest)) = self.text.split_first() else {
+            return self.text;
+        };
+        let Some((count, rest)) = rest.split_first() else {
+            return self.text;
+        };
+        let digits = count.saturating_sub(b'0') as usize;
+        if digits > rest.len() {
+            return self.text;
+        }
+        after(rest, digits)
+    }
 }

@@ -1,9 +1,11 @@
 // Headers.
-ghost use Rattle.std.specs.Prelude.{◌≡◌, false};
-ghost use Rattle.psu_lex.specs.SyntaxScan.{is_header, is_part, is_path, joins};
-ghost use Rattle.psu_lex.specs.Syntax.{is_node, is_name_byte};
+ghost use Rattle.std.specs.Prelude.{◌≡◌, false, IfSome, IfNone};
+ghost use Rattle.psu_lex.specs.SyntaxScan.{behind_mark, ends_asking, is_header, is_part, is_path, joins, mark_of, without_ask};
+ghost use Rattle.psu_lex.specs.Shown.{ShowsHeader};
+ghost use Rattle.psu_lex.specs.Syntax.{Header as Parts, IsHeader, SpellsHeader, header_text, is_node, is_name_byte};
 
-use crate::pieces::{after, begins};
+use crate::pieces::{after, begins, front};
+use crate::{Header, Mark};
 
 /// Whether another node comes.
 fn joins(begun: bool, several: bool, byte: u8) -> bool
@@ -67,7 +69,7 @@ fn is_path(text: &[u8], several: bool) -> bool
 }
 
 /// Whether the text is a header.
-pub fn is_header(text: &[u8]) -> bool
+fn is_header(text: &[u8]) -> bool
     ensures { result ≡ is_header text.now }
 {
     if begins(text, b'*') {
@@ -77,4 +79,66 @@ pub fn is_header(text: &[u8]) -> bool
         return is_path(after(text, 1), true);
     }
     is_path(text, true)
+}
+
+/// What the text begins with.
+fn mark_of(text: &[u8]) -> Mark
+    ensures { result ≡ mark_of text.now }
+{
+    if begins(text, b'*') {
+        return Mark::Star;
+    }
+    if begins(text, b':') {
+        return Mark::Colon;
+    }
+    Mark::Bare
+}
+
+/// The text behind its mark.
+fn behind_mark(text: &[u8], mark: Mark) -> &[u8]
+    requires { mark ≡ mark_of text.now }
+    ensures { result.now ≡ behind_mark mark text.now }
+{
+    match mark {
+        Mark::Star | Mark::Colon => after(text, 1),
+        Mark::Bare => text,
+    }
+}
+
+/// Whether a `?` is the last byte.
+fn ends_asking(text: &[u8]) -> bool
+    ensures { result ≡ ends_asking text.now }
+{
+    !text.is_empty() && text[text.len() - 1] == b'?'
+}
+
+/// The text without its `?`.
+fn without_ask(text: &[u8], asks: bool) -> &[u8]
+    requires { asks ≡ ends_asking text.now }
+    ensures { result.now ≡ without_ask asks text.now }
+{
+    if asks {
+        front(text, text.len() - 1)
+    } else {
+        text
+    }
+}
+
+/// The parts of the header that a text is, if it is one.
+pub fn header_of(text: &[u8]) -> Option<Header<'_>>
+    ensures some { IfSome result (λ shown. (h : Parts) × IsHeader h × (text.now ≡ header_text h) × ShowsHeader shown h) }
+    ensures none { IfNone result (SpellsHeader text.now → ⊥) }
+{
+    if !is_header(text) {
+        return None;
+    }
+    let mark = mark_of(text);
+    let body = behind_mark(text, mark);
+    let asks = ends_asking(body);
+    Some(Header {
+        text,
+        mark,
+        nodes: without_ask(body, asks),
+        asks,
+    })
 }

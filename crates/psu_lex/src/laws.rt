@@ -1,6 +1,7 @@
 // Laws of the definitions.
 ghost use Rattle.std.specs.Prelude.{ℕ, List, Result, ℤ, ◌≡◌};
-ghost use Rattle.psu_lex.specs.Data.{IsStringOf, IsBlockOf};
+ghost use Rattle.psu_lex.specs.Data.{IsBlockOf, IsDatumOf, IsStringOf};
+ghost use Rattle.psu_lex.specs.Macros.{ExpandsTo};
 ghost use Rattle.psu_lex.specs.Number.{Number, IsNumber, NumberGives, number_text};
 ghost use Rattle.psu_lex.specs.Message.{Part, IsMessage};
 ghost use Rattle.psu_lex.specs.Syntax.{Header, IsHeader, Syntax, SyntaxGives, UnitReads, header_text};
@@ -24,6 +25,11 @@ pub fn one_content_of_a_string()
 /// No text is a block of two contents.
 pub fn one_content_of_a_block()
     ensures { (text bytes others : List ℕ) → IsBlockOf text bytes → IsBlockOf text others → bytes ≡ others }
+{}
+
+/// No datum is a block of two contents.
+pub fn one_content_of_a_datum()
+    ensures { (text bytes others : List ℕ) → IsDatumOf text bytes → IsDatumOf text others → bytes ≡ others }
 {}
 
 /// No text is written as two numbers.
@@ -59,4 +65,14 @@ pub fn one_syntax_of_a_unit()
 /// Every unit gives a result.
 pub fn every_unit_has_a_syntax()
     ensures { (unit : Part) → (result : Result Syntax ScpiError) × SyntaxGives unit result }
+{}
+
+/// No body has two expansions with the same parameters.
+pub fn one_expansion_of_a_body()
+    ensures { (body : List ℕ) (args : List (List ℕ)) (result other : Result (List ℕ) ScpiError) → ExpandsTo body args result → ExpandsTo body args other → result ≡ other }
+{}
+
+/// Every body has an expansion, or an error in its place.
+pub fn every_body_has_an_expansion()
+    ensures { (body : List ℕ) (args : List (List ℕ)) → (result : Result (List ℕ) ScpiError) × ExpandsTo body args result }
 {}

@@ -1,7 +1,8 @@
 // The parts of a number in a text.
 ghost use Rattle.std.specs.Prelude.{ℕ, List, [], ◌≡◌, ◌==◌, ◌||◌, ◌++◌, length, IfSome, IfNone};
 ghost use Rattle.psu_lex.specs.Number.{Number, IsNumber, fraction_digits, number_text};
-ghost use Rattle.psu_lex.specs.NumberScan.{Shows, ShowsPower, after_exponent, after_fraction, after_sign, belongs, excess_of, exponent_of, fraction_of, is_nonempty, left, run, scanned, suffix_of};
+ghost use Rattle.psu_lex.specs.Shown.{ShowsNumber};
+ghost use Rattle.psu_lex.specs.NumberScan.{ShowsPower, after_exponent, after_fraction, after_sign, belongs, excess_of, exponent_of, fraction_of, is_nonempty, left, run, scanned, suffix_of};
 
 use crate::class::Class;
 use crate::pieces::{after, begins, front};
@@ -66,15 +67,15 @@ fn exponent_at(text: &[u8]) -> Power<'_>
     }
 }
 
-/// Whether a suffix stands at the front, after white space, and whether more than white space follows.
-fn tail_at(text: &[u8]) -> (bool, bool)
-    ensures suffix { result.0 ≡ is_nonempty (suffix_of text.now) }
+/// The suffix that stands at the front, after white space, and whether more than white space follows.
+fn tail_at(text: &[u8]) -> (&[u8], bool)
+    ensures suffix { result.0.now ≡ suffix_of text.now }
     ensures more { result.1 ≡ is_nonempty (excess_of text.now) }
 {
     let (_, marked) = run_of(text, Class::White);
     let (suffix, rest) = run_of(marked, Class::Letter);
     let (_, more) = run_of(rest, Class::White);
-    (!suffix.is_empty(), !more.is_empty())
+    (suffix, !more.is_empty())
 }
 
 /// Whether there is a digit before or after the point.
@@ -86,7 +87,7 @@ fn has_digit(whole: &[u8], fraction: &[u8]) -> bool
 
 /// The number that the text is, if it is one.
 pub fn scan(text: &[u8]) -> Option<Written<'_>>
-    ensures some { IfSome result (λ shown. Shows shown (scanned text.now) × IsNumber (scanned text.now) × (text.now ≡ number_text (scanned text.now))) }
+    ensures some { IfSome result (λ shown. ShowsNumber shown (scanned text.now) × IsNumber (scanned text.now) × (text.now ≡ number_text (scanned text.now))) }
     ensures none { IfNone result ((n : Number) → IsNumber n → text.now ≡ number_text n → ⊥) }
 {
     let (whole, rest) = run_of(behind_sign(text), Class::Digit);
@@ -95,7 +96,7 @@ pub fn scan(text: &[u8]) -> Option<Written<'_>>
         return None;
     }
     let power = exponent_at(rest);
-    let (has_suffix, has_more) = tail_at(power.rest);
+    let (suffix, has_more) = tail_at(power.rest);
     if has_more {
         return None;
     }
@@ -104,6 +105,6 @@ pub fn scan(text: &[u8]) -> Option<Written<'_>>
         whole,
         fraction,
         power,
-        has_suffix,
+        suffix,
     })
 }

@@ -1,8 +1,9 @@
 // Numbers: their value as a whole number.
 ghost use Rattle.std.specs.Prelude.{ℕ, ◌≡◌, ◌+◌, ◌*◌, ◌^◌, ◌≤◌, ◌<◌, ◌++◌, min, true, length, take, slice_index, if◌then◌else◌, ℤ, pos};
 ghost use Rattle.psu_lex.specs.Bytes.{all_digits, value_after};
-ghost use Rattle.psu_lex.specs.Number.{Number, IsNumber, NumberGives, magnitude, reading_of, without_zeros};
-ghost use Rattle.psu_lex.specs.NumberScan.{Shows, with_minus};
+ghost use Rattle.psu_lex.specs.Number.{Number, IsNumber, NumberGives, magnitude, reading_of, valued, without_zeros};
+ghost use Rattle.psu_lex.specs.NumberScan.{with_minus};
+ghost use Rattle.psu_lex.specs.Shown.{ShowsNumber};
 
 use crate::ScpiError;
 use crate::number_scan::scan;
@@ -106,10 +107,10 @@ fn signed(negative: bool, value: u64) -> i64
     }
 }
 
-/// What a number gives that was found in a text.
-fn reading(shown: Written<'_>, places: u8) -> Result<i64, ScpiError>
-    requires { (n : Number) × IsNumber n × Shows shown n }
-    ensures { (n : Number) → IsNumber n → Shows shown.entry n → result ≡ reading_of n places }
+/// The value of a number that was found in a text, or its fault; its suffix is not looked at.
+pub fn valued(shown: &Written<'_>, places: u8) -> Result<i64, ScpiError>
+    requires { (n : Number) × IsNumber n × ShowsNumber shown.now n }
+    ensures { (n : Number) → IsNumber n → ShowsNumber shown.now n → result ≡ valued n places }
 {
     let digits = shown.power.digits;
     let power = held(digits, front(digits, 0), digits.len());
@@ -119,15 +120,24 @@ fn reading(shown: Written<'_>, places: u8) -> Result<i64, ScpiError>
     if significant(shown.whole, shown.fraction) > 255 {
         return Err(ScpiError::TooManyDigits);
     }
-    if shown.has_suffix {
-        return Err(ScpiError::InvalidSuffix);
-    }
     let up = places as usize + unless(shown.power.divides, power);
     let down = shown.fraction.len() + unless(!shown.power.divides, power);
     Ok(signed(
         shown.negative,
         scaled(shown.whole, shown.fraction, up, down),
     ))
+}
+
+/// What a number gives that was found in a text.
+fn reading(shown: &Written<'_>, places: u8) -> Result<i64, ScpiError>
+    requires { (n : Number) × IsNumber n × ShowsNumber shown.now n }
+    ensures { (n : Number) → IsNumber n → ShowsNumber shown.now n → result ≡ reading_of n places }
+{
+    let value = valued(shown, places)?;
+    if !shown.suffix.is_empty() {
+        return Err(ScpiError::InvalidSuffix);
+    }
+    Ok(value)
 }
 
 /// The value of a text as decimal numeric data (IEEE 488.2, 7.7.2) times `10^places`, rounded half away
@@ -141,5 +151,5 @@ pub fn number(text: &[u8], places: u8) -> Result<i64, ScpiError>
     let Some(shown) = scan(text) else {
         return Err(ScpiError::SyntaxError);
     };
-    reading(shown, places)
+    reading(&shown, places)
 }

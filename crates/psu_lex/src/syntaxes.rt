@@ -2,15 +2,15 @@
 ghost use Rattle.std.specs.Prelude.{◌≡◌, Result, IfSome, IfNone};
 ghost use Rattle.psu_lex.specs.Message.{part};
 ghost use Rattle.psu_lex.specs.Syntax.{Syntax as Parts, SyntaxGives, UnitReads};
-ghost use Rattle.psu_lex.specs.SyntaxScan.{Shows, ShowsSyntax};
+ghost use Rattle.psu_lex.specs.Shown.{Shows, ShowsSyntax};
 ghost use Rattle.psu_lex.specs.declared.scpi_error.ScpiError.{ScpiError as Error};
 
 use crate::class::Class;
-use crate::data_scan::is_list;
-use crate::headers::is_header;
+use crate::data_scan::list_at;
+use crate::headers::header_of;
 use crate::high_bytes::has_high;
 use crate::number_scan::run_of;
-use crate::{Data, ScpiError, Syntax, Unit};
+use crate::{ScpiError, Syntax, Unit};
 
 /// The header and the data of a text.
 fn cut(text: &[u8]) -> Option<Syntax<'_>>
@@ -18,17 +18,14 @@ fn cut(text: &[u8]) -> Option<Syntax<'_>>
     ensures none { IfNone result ((syntax : Parts) → UnitReads text.now syntax → ⊥) }
 {
     let (_, body) = run_of(text, Class::White);
-    let (header, rest) = run_of(body, Class::Dark);
-    if !is_header(header) {
+    let (head, rest) = run_of(body, Class::Dark);
+    let Some(header) = header_of(head) else {
         return None;
-    }
-    if !is_list(rest) {
+    };
+    let Some(parameters) = list_at(rest) else {
         return None;
-    }
-    Some(Syntax {
-        header,
-        parameters: Data { text: rest },
-    })
+    };
+    Some(Syntax { header, parameters })
 }
 
 /// The header and the data of a unit (IEEE 488.2, 7.3.2). Nothing is copied.

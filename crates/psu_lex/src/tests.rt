@@ -197,7 +197,7 @@ fn reads(text: &[u8], header: &[u8], expected: &[(DatumClass, &[u8])]) -> bool {
     let Ok(parts) = syntax(&unit_of(text)) else {
         return false;
     };
-    if parts.header != header {
+    if parts.header.text != header {
         return false;
     }
     let mut rest = parts.parameters;

@@ -1,11 +1,11 @@
 // A unit by its parts.
-use crate::Data;
+use crate::{Data, Header};
 
 /// A unit by its parts (IEEE 488.2, 7.3.2): a header, and data.
-#[derive(Drop)]
+#[derive(Clone, Copy, Debug, PartialEq, Eq)]
 pub struct Syntax<'a> {
-    /// The header as written, with its `*` or `:` and its `?`.
-    pub header: &'a [u8],
+    /// Its header.
+    pub header: Header<'a>,
     /// Its data, in order.
     pub parameters: Data<'a>,
 }

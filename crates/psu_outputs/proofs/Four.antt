@@ -4,7 +4,7 @@ use Rattle.std.specs.Prelude.{◌&&◌, ◌||◌}
 use Rattle.std.specs.List.{list_all}
 use Rattle.psu_outputs.specs.declared.output_settings.OutputSettings.{OutputSettings}
 use Rattle.psu_outputs.specs.declared.supply.Supply.{Supply}
-use Rattle.psu_outputs.specs.Outputs.{AreSupplies, is_sound, conflicts, any_conflicts, with_settings, with_all}
+use Rattle.psu_outputs.specs.Outputs.{AreSupplies, is_sound, conflicts, any_conflicts, with_settings, with_all, without_trip, restored}
 use Rattle.psu_outputs.proofs.Ranges.{each_passes, settings_sound}
 use Rattle.psu_outputs.specs.Settings.{AreSettings, is_allowed, output_bytes, bytes_of}
 
@@ -80,3 +80,10 @@ module _ (supplies : List Supply) (outputs : List OutputSettings) (x : Supply) (
   no_conflict a b c d =
       sym (ap (λ (l : List Supply). any_conflicts l (settings 0 ∷ settings 1 ∷ settings 2 ∷ settings 3 ∷ [])) (four supplies x are.0) ∙ ap (any_conflicts supplies) (four outputs y allowed.0))
       ∙ none (conflicts (supply 0) (settings 0)) (conflicts (supply 1) (settings 1)) (conflicts (supply 2) (settings 2)) (conflicts (supply 3) (settings 3)) a b c d
+
+  pub sound_restored : (k : ℕ) → k < 4 → is_sound (with_settings (without_trip (get_or supplies k x)) (get_or outputs k y)) ≡ true
+  sound_restored k lt = settings_sound (without_trip (supply k)) (settings k) (each_passes is_sound supplies k x are.1 (omega (arith, are.0))) (each_passes is_allowed outputs k y allowed.1 (omega (arith, allowed.0)))
+
+  pub all_restored : with_settings (without_trip (get_or supplies 0 x)) (get_or outputs 0 y) ∷ with_settings (without_trip (get_or supplies 1 x)) (get_or outputs 1 y) ∷ with_settings (without_trip (get_or supplies 2 x)) (get_or outputs 2 y) ∷ with_settings (without_trip (get_or supplies 3 x)) (get_or outputs 3 y) ∷ []
+      ≡ restored supplies outputs
+  all_restored = ap (λ (l : List Supply). restored l (settings 0 ∷ settings 1 ∷ settings 2 ∷ settings 3 ∷ [])) (four supplies x are.0) ∙ ap (restored supplies) (four outputs y allowed.0)

@@ -1,3 +1,4 @@
 mod Bytes
 mod Four
 mod Ranges
+pub mod Apart

@@ -63,6 +63,10 @@ with_load s load = checked (record { settings = s.settings; load = record { 0 = 
 abbrev pub without_trip : Supply → Supply
 without_trip s = record { settings = s.settings; load = s.load; tripped = false }
 
+-- each output with its settings, whatever had tripped
+abbrev pub restored : List Supply → List OutputSettings → List Supply
+restored supplies outputs = with_all (map without_trip supplies) outputs
+
 -- what is set of each output
 abbrev pub all_settings : List Supply → List OutputSettings
 all_settings supplies = map (λ (s : Supply). s.settings) supplies

@@ -3,6 +3,7 @@
 //! Settings are those of SCPI-1999 (volume 2, SOURce and OUTPut); the electrical rules are this project's profile.
 #![tactic(auto)]
 
+mod laws;
 mod measured;
 mod output;
 mod output_settings;
@@ -12,6 +13,7 @@ mod setting;
 mod settings;
 mod supply;
 
+pub use laws::bytes_tell_settings;
 pub use measured::Measured;
 pub use output::Output;
 pub use output_settings::OutputSettings;

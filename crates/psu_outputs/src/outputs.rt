@@ -3,7 +3,7 @@ ghost use Rattle.std.specs.Prelude.{◌≡◌, OnOk, IfErr, false, true, replica
 ghost use Rattle.std.specs.List.{list_any};
 ghost use Rattle.psu_outputs.specs.declared.supply.Supply.{Supply as Each};
 ghost use Rattle.psu_outputs.specs.Settings.{measured};
-ghost use Rattle.psu_outputs.specs.Outputs.{reset_supply, supply_of, with_supply, all_settings, any_conflicts, with_all, with_load, without_trip, is_load, is_in_limit, conditions};
+ghost use Rattle.psu_outputs.specs.Outputs.{reset_supply, supply_of, with_supply, all_settings, any_conflicts, with_all, with_load, without_trip, restored, is_load, is_in_limit, conditions};
 ghost use Rattle.psu_lex.specs.declared.scpi_error.ScpiError.TheVariants.{DataOutOfRange, SettingsConflict};
 
 use crate::supply::Supply;
@@ -70,6 +70,15 @@ impl Outputs {
         Ok(())
     }
 
+    /// Clears all trips and sets all that is set of the outputs; each may then trip. Nothing refuses it.
+    pub fn restore(&mut self, settings: Settings)
+        ensures { self.new ≡ restored self.old settings }
+    {
+        let [a, b, c, d] = self.supplies;
+        let [p, q, r, s] = settings.outputs();
+        self.supplies = [a.restored(p), b.restored(q), c.restored(r), d.restored(s)];
+    }
+
     /// What is measured at an output.
     pub fn measure(&self, output: Output) -> Measured
         ensures { let s = supply_of self.now output in result ≡ measured s.settings s.load.0 }
@@ -88,7 +97,8 @@ impl Outputs {
     pub fn clear(&mut self, output: Output)
         ensures { self.new ≡ with_supply self.old output (without_trip (supply_of self.old output)) }
     {
-        self.supplies[output.place()].tripped = false;
+        let place = output.place();
+        self.supplies[place].tripped = false;
     }
 
     /// The load of an output.

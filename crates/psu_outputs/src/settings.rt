@@ -80,6 +80,8 @@ impl Settings {
     /// The settings that 28 bytes are those of, each within its range; none for other bytes.
     pub fn of_bytes(bytes: &[u8]) -> Option<Settings>
         ensures found { IfSome result (λ settings. bytes_of settings ≡ bytes.now) }
+        ensures allowed { IfSome result AreSettings }
+        ensures again { (outputs : List Each) → AreSettings outputs → bytes_of outputs ≡ bytes.now → IfSome result (λ settings. settings ≡ outputs) }
         ensures none { IfNone result ((outputs : List Each) → AreSettings outputs → bytes_of outputs ≡ bytes.now → ⊥) }
     {
         if bytes.len() != 28 {
@@ -115,8 +117,8 @@ impl Settings {
         Settings { outputs }
     }
 
-    // What is set of each output.
-    pub(crate) fn outputs(self) -> [OutputSettings; 4]
+    /// What is set of each output, within its ranges.
+    pub fn outputs(self) -> [OutputSettings; 4]
         ensures value { result ≡ self }
         ensures allowed { AreSettings result }
     {

@@ -1,7 +1,7 @@
 // One output with what is connected to it.
 ghost use Rattle.std.specs.Prelude.{◌≡◌, ◌≤◌};
 ghost use Rattle.psu_outputs.specs.Settings.{measured};
-ghost use Rattle.psu_outputs.specs.Outputs.{checked, conflicts, with_load, with_settings};
+ghost use Rattle.psu_outputs.specs.Outputs.{checked, conflicts, with_load, with_settings, without_trip};
 
 use crate::{Measured, Milliohms, OutputSettings, Setting};
 
@@ -59,6 +59,18 @@ impl Supply {
         ensures { result ≡ conflicts self.now settings }
     {
         self.tripped && settings.on
+    }
+
+    /// With other settings, which may trip it, and no longer tripped by what was.
+    pub fn restored(self, settings: OutputSettings) -> Supply
+        requires { 1 ≤ self.load.0 }
+        ensures { result ≡ with_settings (without_trip self) settings }
+    {
+        Supply {
+            tripped: false,
+            ..self
+        }
+        .with_settings(settings)
     }
 
     /// With other settings, which may trip it.

@@ -155,33 +155,63 @@ fn an_image_that_is_none_is_not_opened(rt: HostRuntime) {
     }
 }
 
+const SAVES: &[u8] = b"*PSC 0;*OPC?\n*ESR?\n*OPC?\n!POWER\n*PSC?\n";
+
+// A commit that fails answers its `*OPC?` with -320, which sets DDE (8) beside PON (128); the store is opened again, and the next
+// `*OPC?` is answered: what it confirmed is there when power returns. An opening that fails ends the run.
 #[test]
-fn a_disk_that_fails_is_answered_by_a_storage_fault(rt: HostRuntime) {
-    let mut seen = [false; 3];
-    for call in 0..40 {
-        let mut reader: &[u8] = b"*PSC 0;*OPC?;*ESR?;*OPC?;*ESR?";
+fn a_disk_that_fails_once_is_opened_again(rt: HostRuntime) {
+    let mut seen = [false; 4];
+    for call in 0..60 {
+        let mut reader: &[u8] = SAVES;
         let mut output = Vec::new(rt.alloc());
         let disk = formatted(rt.alloc()).expect(&rt, "an image");
-        // A failed opening ends the run at once. After a failed commit `*OPC?` is -320, which sets DDE (8); PON (128) was there.
-        let (end, want) = match run(
+        let ended = match run(
             rt.alloc(),
             &mut reader,
             &mut output,
             FailOnce::new(disk, call),
         ) {
-            Ok(_) => (0, "1;128;1;0\n"),
-            Err(fault) => match fault.cause {
-                RunCause::Device => (1, "136;8\n"),
-                cause => {
-                    assert_eq!(rt; cause, RunCause::Open(StartCause::Device));
-                    (2, "")
-                }
-            },
+            Ok(_) => None,
+            Err(fault) => Some(fault.cause),
         };
-        assert_eq!(rt; output.as_slice(), want.as_bytes(), "at call {call}");
-        seen[end] = true;
+        let opening = Some(RunCause::Open(StartCause::Device));
+        let ways = [
+            (None, "1\n128\n1\n0\n"),
+            (None, "136\n1\n0\n"),
+            (opening, ""),
+            (opening, "1\n128\n1\n"),
+        ];
+        let mut found = false;
+        for (way, (cause, text)) in ways.iter().enumerate() {
+            if ended == *cause && output.as_slice() == text.as_bytes() {
+                seen[way] = true;
+                found = true;
+            }
+        }
+        assert!(rt; found, "at call {call}");
     }
-    assert!(rt; seen[0] && seen[1] && seen[2]);
+    assert!(rt; seen[0] && seen[1] && seen[2] && seen[3]);
+}
+
+// Two calls that fail: one of the commit, and one of the reopening after it.
+#[test]
+fn a_reopening_that_fails_is_tried_again(rt: HostRuntime) {
+    for first in 10..17 {
+        for second in 0..4 {
+            let mut reader: &[u8] = b"*PSC 0;*OPC?\n*OPC?\n!POWER\n*PSC?\n";
+            let mut output = Vec::new(rt.alloc());
+            let disk = formatted(rt.alloc()).expect(&rt, "an image");
+            let failing = FailOnce::new(FailOnce::new(disk, first + second), first);
+            let ended = run(rt.alloc(), &mut reader, &mut output, failing).is_ok();
+            // Where power comes back what was answered is there; where an opening failed no more was written.
+            if ended {
+                assert!(rt; output.ends_with(b"1\n0\n"), "at {first}, {second}");
+            } else {
+                assert!(rt; !output.ends_with(b"0\n"), "at {first}, {second}");
+            }
+        }
+    }
 }
 
 #[test]

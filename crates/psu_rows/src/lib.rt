@@ -2,6 +2,8 @@
 #![tactic(auto)]
 
 #[cfg(test)]
+mod devices;
+#[cfg(test)]
 mod faults;
 #[cfg(test)]
 mod files;
@@ -11,6 +13,10 @@ mod hislip;
 mod images;
 #[cfg(test)]
 mod locks;
+#[cfg(test)]
+mod losses;
+#[cfg(test)]
+mod maps;
 #[cfg(test)]
 mod memory;
 #[cfg(test)]
@@ -23,3 +29,7 @@ mod reports;
 mod rows;
 #[cfg(test)]
 mod status;
+#[cfg(test)]
+mod stores;
+#[cfg(test)]
+mod tree;

@@ -1,178 +1,234 @@
 -- Where nothing goes wrong, there is one text.
-use Rattle.std.proofs.Common.{◌≡◌, ◌⊎◌, ℕ, suc, zero, ◌≤◌, ◌==◌, Bool, true, false, if◌then◌else◌, List, [], ◌∷◌, ◌++◌, length, drop, map, slice_index_or, slice_set, refl, sym, ap, ◌∙◌, subst, inl, inr, arith, Option, Some, None, option_map, decimal}
-use Rattle.std.proofs.lemmas.Grind.{common_steps}
+use Rattle.std.proofs.Common.{◌≡◌, ◌⊎◌, ℕ, suc, zero, ◌-◌, ◌≤◌, ◌==◌, Bool, true, false, if◌then◌else◌, List, [], ◌∷◌, ◌++◌, refl, sym, ap, ◌∙◌, subst, subst₂, inl, inr, arith, Some, None}
+use Rattle.std.proofs.lemmas.Bool.{cases_Bool}
+use Rattle.std.proofs.lemmas.Bool.Decides.{nat_tests}
+use Rattle.psu_disk.specs.Disk.{DiskState}
+use Rattle.psu_disk.specs.Ranges.{reads_left}
 use Rattle.psu_items.specs.Map.{Item}
-use Rattle.psu_items.specs.declared.commit.UnstartedCause.TheVariants as memory
+use Rattle.psu_items.specs.Image.{EachStands}
+use Rattle.psu_items.proofs.Single.{one_stands}
 use Rattle.psu_exec.specs.declared.contents.Contents.{Contents}
-use Rattle.psu_exec.specs.declared.change.Change.{Change}
 use Rattle.psu_exec.specs.declared.request.Request.{Request}
 use Rattle.psu_exec.specs.declared.condition.Condition.TheVariants.{Whole}
-use Rattle.psu_lex.specs.declared.scpi_error.ScpiError.TheVariants.{OutOfMemory}
-use Rattle.psu_exec.specs.declared.wait.Wait.{Wait}
-use Rattle.psu_exec.specs.declared.wait.Wait.TheVariants.{Until, CutOff}
-use Rattle.psu_exec.specs.Contents.{items_of, enables_items}
-use Rattle.psu_exec.specs.Device.{Reply, Done, Answer, Error, Parked, Later, State, Flush, answer, after_unit, wait_of, wants_memory, change_of}
-use Rattle.psu_exec.specs.Calls.{JobEnd, Stored, Unstarted, Broken, Job, Nothing, Allows, Took, GaveBack, job_out, stored, settle_answer, after_settle, settled, unparked, wait_less}
+use Rattle.psu_exec.specs.Contents.{items_of}
+use Rattle.psu_exec.specs.Device.{Reply, Done, Answer, Error, Parked, Later, State, Volatile, Flush, MayAnswer, answer, after_unit, count_held, is_broken, target, wait_of}
+use Rattle.psu_exec.specs.Calls.{JobData, JobEnd, JobKind, Commit, Stored, Unstarted, Failed, Reopened, Job, Executed, Settled, Took, GaveBack, HasNone, HasWork, MaySettle, ends_wait, job_out, kind_for, opened, stored, settle_answer, after_settle, settled, unparked, wait_less}
+use Rattle.psu_exec.specs.World.{World}
+use Rattle.psu_exec.proofs.Keeping.{one_contents}
 use Rattle.psu_server.specs.Lines.{Message, Asks, messages}
-use Rattle.psu_server.specs.Script.{started, at_start, Rest, Went, Told, flushed_by, flushed, waited, after_reply, after_first, unit, units, message, Scripted, with_answer, line_text}
-use Rattle.psu_server.specs.Runs.{none, JobDone, Jobs, Flushes, IsMeant, IsSound, is_later, is_out_of_memory, ScriptAlone, Acts, UnitRuns, UnitsRun, MessageRuns, Restarts, Runs, is_final}
+use Rattle.psu_server.specs.Lives.{Calls, PowersOn}
+use Rattle.psu_server.specs.Script.{at_start, Rest, Went, Told, flushed_by, flushed, waited, after_reply, after_first, unit, units, message, Scripted, with_answer, line_text}
+use Rattle.psu_server.specs.Runs.{none, JobDone, Jobs, Flushes, IsMeant, IsSound, EndsJob, Reopens, is_later, is_out_of_memory, ScriptAlone, Acts, UnitRuns, UnitsRun, MessageRuns, Runs, is_final}
+use Rattle.psu_server.proofs.JobEnds.{no_wait_after}
+use Rattle.psu_server.proofs.SessionOne.{over_free}
 
-no_tail : (l : List Change) → 1 ≤ length l → l ≡ [] → ⊥
-no_tail l some none = let e = ap length none in absurd (omega (arith, some, e))
+-- A device at rest, as the script and as the world have it: the store is whole and holds these contents' map, which each image of the
+-- disk stands for.
+pub record Still (r : Rest) (w : World) : Type 0 where
+  pub state : w.state ≡ r.state
+  pub whole : r.state.flush.store ≡ Whole
+  pub holds : items_of r.stored ≡ r.state.flush.before
+  pub disk : EachStands w.disk r.state.flush.limit (items_of r.stored)
 
-pub all_dropped : (l : List Change) → drop (length l) l ≡ []
-all_dropped l = grind (arith, common_steps)
+-- and no unit waits
+pub record Quiet (r : Rest) (w : World) : Type 0 where
+  pub still : Still r w
+  pub wait : wait_of r.state.flush 1 ≡ None
 
-job_state : (finished : JobEnd) (s new taken : State) → IsSound none finished → Allows s (Took Job) taken → Allows taken (GaveBack finished true) new
-    → new ≡ record s { flush = stored (job_out s.flush) }
-job_state (Stored limit map) s new taken sound t g = g.2 ∙ ap (λ (z : State). record z { flush = stored z.flush }) t.1
-job_state (Unstarted limit before edits memory.Memory) s new taken sound t g = absurd sound
-job_state (Unstarted limit before edits memory.Worn) s new taken sound t g = cc
-job_state (Broken limit before edits) s new taken sound t g = cc
+-- ---- flushes
+
+abbrev committed : Rest → Rest
+committed r = flushed_by false r
+
+committing : (f : Flush) → f.store ≡ Whole → job_out f ≡ record f { out = true; held = Some (record { count = f.unflushed; map = items_of f.contents }) }
+committing f w = rw w refl
+
+target_of : State → List Item
+target_of s = target s.flush
+
+whole_state : (new old : State) (f : Flush) → new.volatile ≡ old.volatile → new.flush ≡ f → new ≡ record old { flush = f }
+whole_state new old f v e = ap (λ (z : Volatile). record new { volatile = z }) v ∙ ap (λ (z : Flush). record old { flush = z }) e
+
+-- what a job that is stored leaves
+stored_is : (r : Rest) (w taken new : World) (job : JobData) (limit : ℕ) (map : List Item) (over : List ℕ) → Still r w → Calls w (Took (Job job)) taken → Calls taken (GaveBack (Stored limit map) (Some over)) new
+    → Still (committed r) new
+unfolding target_of
+stored_is r w taken new job limit map over q take give =
+    let f : Flush = r.state.flush in
+    let commit : job_out f ≡ record f { out = true; held = Some (record { count = f.unflushed; map = items_of f.contents }) } = committing f q.whole in
+    let out : taken.state ≡ record r.state { flush = job_out f }
+    = ap (λ (z : World). z.state) take.1.4 ∙ take.1.2.1 ∙ ap (λ (s : State). record s { flush = job_out s.flush }) q.state in
+    let done : new.state ≡ (committed r).state
+    = ap (λ (z : World). z.state) give.1.4 ∙ whole_state give.1.0 taken.state (stored taken.state.flush) give.1.2.volatile give.1.2.flush
+    ∙ ap (λ (s : State). record s { flush = stored s.flush }) out in
+    let aim : target_of taken.state ≡ items_of f.contents = ap target_of out ∙ ap (λ (z : Flush). target z) commit in
+    let same_limit : limit ≡ f.limit = give.1.2.expected.0 ∙ ap (λ (s : State). s.flush.limit) out ∙ ap (λ (z : Flush). z.limit) commit in
+    let same_map : map ≡ items_of f.contents = give.1.2.expected.1 ∙ aim in
+    let there : new.disk ≡ give.0 = ap (λ (z : World). z.disk) give.1.4 in
+    let limit_out : (committed r).state.flush.limit ≡ f.limit = ap (λ (z : Flush). z.limit) commit in
+    record {
+      state = done;
+      whole = refl;
+      holds = sym (ap (λ (z : Flush). target z) commit);
+      disk = subst (λ (d : DiskState). EachStands d (committed r).state.flush.limit (items_of f.contents)) (sym there)
+          (subst (λ (n : ℕ). EachStands give.0 n (items_of f.contents)) (same_limit ∙ sym limit_out)
+          (subst (λ (m : List Item). EachStands give.0 limit m) same_map give.1.3));
+    }
 
 -- a job that does not fail
-job_only : (s new : State) → JobDone none s new → (1 ≤ length s.flush.tail) × (new ≡ record s { flush = stored (job_out s.flush) })
-job_only s new j = (j.take.0.1.1, job_state j.finished s new j.taken j.sound j.take j.give)
+job_alone : (r : Rest) (w new : World) → Still r w → JobDone none w new → (1 ≤ r.state.flush.unflushed) × Still (committed r) new
+job_alone r w new q j = (some (subst (λ (s : State). HasWork s.flush) q.state j.take.1.2.0.1), by j.finished j.own j.sound j.give) where
+  some : HasWork r.state.flush → 1 ≤ r.state.flush.unflushed
+  some (inl broken) = let bad = sym broken ∙ q.whole in cc
+  some (inr whole) = whole.1
+
+  kind_is : j.job.kind ≡ kind_for r.state.flush.store
+  kind_is = ap (λ (d : JobData). d.kind) j.take.1.2.0.2 ∙ ap (λ (s : State). kind_for (job_out s.flush).store) q.state ∙ ap (λ (f : Flush). kind_for f.store) (committing r.state.flush q.whole)
+
+  by : (end : JobEnd) → EndsJob j.job.kind end → IsSound none end → Calls j.taken (GaveBack end (Some j.over)) new → Still (committed r) new
+  by (Stored limit map) own sound give = stored_is r w j.taken new j.job limit map j.over q j.take give
+  by (Unstarted limit before edits cause) own sound give = cc
+  by (Failed limit before edits cause) own sound give = cc
+  by (Reopened limit map) own sound give =
+      let commit : EndsJob Commit (Reopened limit map) = subst (λ (k : JobKind). EndsJob k (Reopened limit map)) (kind_is ∙ ap kind_for q.whole) own in absurd commit
+
+nothing_left : (n : ℕ) → n - n ≡ 0
+nothing_left n = omega arith
 
 -- no job or one
-jobs_two : (n : ℕ) (s new : State) → Jobs n none s new
-    → ((n ≡ 0) × (new ≡ s)) ⊎ ((n ≡ 1) × (1 ≤ length s.flush.tail) × (new ≡ record s { flush = stored (job_out s.flush) }))
-jobs_two zero s new j = inl (refl, j)
-jobs_two (suc n) s new j =
-    let last = job_only j.0 new j.2 in
-    elim (jobs_two n s j.0 j.1) [
-      | inl e ↦ inr (ap suc e.0, subst (λ (z : State). 1 ≤ length z.flush.tail) e.1 last.0, last.1 ∙ ap (λ (z : State). record z { flush = stored (job_out z.flush) }) e.1)
-      | inr e ↦ absurd (no_tail j.0.flush.tail last.0 (ap (λ (z : State). z.flush.tail) e.2 ∙ all_dropped s.flush.tail))
-    ]
-
-abbrev flushed_tail : List Change → State → State
-flushed_tail [] s = s
-flushed_tail (c ∷ cs) s = record s { flush = stored (job_out s.flush) }
-
-ends_at : (s : State) (l : List Change) → s.flush.tail ≡ l → s.flush.store ≡ Whole → Allows s (Took Nothing) s → s ≡ flushed_tail l s
-ends_at s [] is whole t = refl
-ends_at s (x ∷ xs) is whole t = elim t.0.1 [
-  | inl worn ↦ cc
-  | inr none ↦ let e = none.1 in let l = ap length is in absurd (omega (arith, e, l))
+jobs_two : (n : ℕ) (r : Rest) (w new : World) → Still r w → Jobs n none w new → ((n ≡ 0) × Still r new) ⊎ ((n ≡ 1) × (1 ≤ r.state.flush.unflushed) × Still (committed r) new)
+jobs_two zero r w new q j = inl (refl, subst (λ (z : World). Still r z) (sym j) q)
+jobs_two (suc n) r w new q j = elim (jobs_two n r w j.0 q j.1) [
+  | inl e ↦ let one = job_alone r j.0 new e.1 j.2 in inr (ap suc e.0, one.0, one.1)
+  | inr e ↦
+      let one = (job_alone (committed r) j.0 new e.2 j.2).0 in
+      let none_is : (committed r).state.flush.unflushed ≡ 0
+      = ap (λ (f : Flush). f.unflushed - count_held f.held) (committing r.state.flush q.whole) ∙ nothing_left r.state.flush.unflushed in
+      absurd (omega (arith, one, none_is))
 ]
 
-one_at : (s new : State) (l : List Change) → s.flush.tail ≡ l → 1 ≤ length s.flush.tail → new ≡ record s { flush = stored (job_out s.flush) } → new ≡ flushed_tail l s
-one_at s new [] is some e = absurd (no_tail s.flush.tail some is)
-one_at s new (x ∷ xs) is some e = e
+flushed_some : (r : Rest) → 1 ≤ r.state.flush.unflushed → flushed r ≡ committed r
+flushed_some r some = elim (cases_Bool (r.state.flush.unflushed == 0)) [
+  | inl none ↦ absurd (grind (arith, nat_tests, some, none))
+  | inr shut ↦ ap (λ (b : Bool). flushed_by b r) shut
+]
+
+flushed_none : (r : Rest) → r.state.flush.unflushed ≡ 0 → flushed r ≡ r
+flushed_none r none = ap (λ (n : ℕ). flushed_by (n == 0) r) none
 
 -- a flush where no disk call fails
-pub flush_alone : (s new : State) → s.flush.store ≡ Whole → Flushes none s new → new ≡ flushed_tail s.flush.tail s
-flush_alone s new whole f = elim (jobs_two f.0 s new f.1) [
+pub flush_alone : (r : Rest) (w new : World) → Still r w → Flushes none w new → Still (flushed r) new
+flush_alone r w new q f = elim (jobs_two f.0 r w new q f.1) [
   | inl e ↦ elim f.2 [
     | inl full ↦ let zero_is = e.0 in absurd (omega (arith, full, zero_is))
-    | inr done ↦ e.1 ∙ ends_at s s.flush.tail refl whole (subst (λ (z : State). Allows z (Took Nothing) z) e.1 done.1)
+    | inr done ↦ subst (λ (z : Rest). Still z new) (sym (flushed_none r (ended r new e.1 (subst (λ (s : State). HasNone s.flush) e.1.state done.1.1.2.0.1)))) e.1
   ]
-  | inr e ↦ one_at s new s.flush.tail refl e.1 e.2
+  | inr e ↦ subst (λ (z : Rest). Still z new) (sym (flushed_some r e.1)) e.2
 ]
+  where
+    ended : (r : Rest) (v : World) → Still r v → HasNone r.state.flush → r.state.flush.unflushed ≡ 0
+    ended r v still (inl worn) = let bad = sym worn ∙ still.whole in cc
+    ended r v still (inr whole) = whole.1
 
--- a device at rest: its store is whole and holds these contents' map, and no unit waits
-pub record Quiet (r : Rest) : Type 0 where
-  pub whole : r.state.flush.store ≡ Whole
-  pub wait : wait_of r.state.flush 1 ≡ None
-  pub holds : items_of r.stored ≡ r.state.flush.before
+wait_by : (b : Bool) (r : Rest) → r.state.flush.store ≡ Whole → wait_of r.state.flush 1 ≡ None → wait_of (flushed_by b r).state.flush 1 ≡ None
+wait_by true r whole e = e
+wait_by false r whole e =
+    ap (λ (f : Flush). wait_of (stored f) 1) (committing r.state.flush whole) ∙ no_wait_after (wait_less r.state.flush.unflushed) r.state.flush.waits e
 
-by_state : (l : List Change) (r : Rest) → (flushed_by l r).state ≡ flushed_tail l r.state
-by_state [] r = refl
-by_state (c ∷ cs) r = refl
-
-whole_after : (l : List Change) (r : Rest) → r.state.flush.store ≡ Whole → (flushed_by l r).state.flush.store ≡ Whole
-whole_after [] r w = w
-whole_after (c ∷ cs) r w = refl
-
-holds_after : (l : List Change) (r : Rest) → items_of r.stored ≡ r.state.flush.before → items_of (flushed_by l r).stored ≡ (flushed_by l r).state.flush.before
-holds_after [] r h = h
-holds_after (c ∷ cs) r h = refl
+-- ---- units
 
 -- what goes on from a unit is what was seen
-pub record Same (w : Went) (o : Reply) (new : State) : Type 0 where
-  pub state : w.rest.state ≡ new
-  pub reply : w.reply ≡ o
-  pub quiet : Quiet w.rest
+pub record Same (went : Went) (o : Reply) (new : World) : Type 0 where
+  pub reply : went.reply ≡ o
+  pub quiet : Quiet went.rest new
 
-pub calm_answer : (s : State) (c : Request) (o : Reply) → (o ≡ answer s 1 c) ⊎ ((o ≡ Error OutOfMemory) × (wants_memory (answer s 1 c) (change_of s c) ≡ true)) → IsMeant none o → o ≡ answer s 1 c
+calm_answer : (s : State) (c : Request) (o : Reply) → MayAnswer s 1 c o → IsMeant none o → o ≡ answer s 1 c
 calm_answer s c o (inl e) m = e
 calm_answer s c o (inr e) m = let bad = m e.0 in cc
 
-pub at_once : (r : Rest) (c : Request) (o : Reply) → Quiet r → is_final o ≡ true → Same (after_reply r c o) o (after_unit r.state 1 c o)
-at_once r c Done q f = record { state = refl; reply = refl; quiet = record { whole = q.whole; wait = q.wait; holds = q.holds } }
-at_once r c (Answer a) q f = record { state = refl; reply = refl; quiet = record { whole = q.whole; wait = q.wait; holds = q.holds } }
-at_once r c (Error e) q f = record { state = refl; reply = refl; quiet = record { whole = q.whole; wait = q.wait; holds = q.holds } }
-at_once r c Parked q f = cc
-at_once r c Later q f = cc
+-- a call that leaves the disk, told of the script's state
+abbrev Answers : World → Request → Reply → World → Type 0
+Answers w c o new = Calls w (Executed 1 c o) new
 
-by_test : (f : Flush) (b : Bool) → is_final (if b then Answer (decimal 1) else Parked) ≡ true
-    → settled f 1 (if b then Answer (decimal 1) else Parked) ≡ unparked f 1
-by_test f true h = refl
-by_test f false h = cc
+after_call : (r : Rest) (w new : World) (c : Request) (o : Reply) → w.state ≡ r.state → Answers w c o new → new.state ≡ after_unit r.state 1 c o
+after_call r w new c o same call = ap (λ (z : World). z.state) call.1.4 ∙ call.1.2.1.is ∙ ap (λ (s : State). after_unit s 1 c o) same
 
-pub flush_settled : (f : Flush) (w : Option Wait) → is_final (settle_answer w) ≡ true → settled f 1 (settle_answer w) ≡ unparked f 1
-flush_settled f None h = refl
-flush_settled f (Some CutOff) h = refl
-flush_settled f (Some (Until n)) h = by_test f (n == 0) h
+disk_call : (w new : World) (c : Request) (o : Reply) → Answers w c o new → new.disk ≡ w.disk
+disk_call w new c o call = ap (λ (z : World). z.disk) call.1.4 ∙ call.1.3
 
--- no session waits any more
-pub no_wait : (waits : List (Option Wait)) → slice_index_or (slice_set waits 0 None) 0 None ≡ None
-no_wait [] = refl
-no_wait (w ∷ ws) = refl
+still_on : (r : Rest) (w new : World) (c : Request) (o : Reply) → Still r w → Answers w c o new → Still (record r { state = after_unit r.state 1 c o }) new
+still_on r w new c o q call = record {
+  state = after_call r w new c o q.state call;
+  whole = q.whole;
+  holds = q.holds;
+  disk = subst (λ (d : DiskState). EachStands d r.state.flush.limit (items_of r.stored)) (sym (disk_call w new c o call)) q.disk;
+}
 
--- what a job's end turns each wait into is none where there was none
-pub no_wait_after : (turn : Wait → Wait) (waits : List (Option Wait)) → slice_index_or waits 0 None ≡ None → slice_index_or (map (option_map turn) waits) 0 None ≡ None
-no_wait_after turn [] h = refl
-no_wait_after turn (w ∷ ws) h = ap (option_map turn) h
+at_once : (r : Rest) (w new : World) (c : Request) (o : Reply) → Quiet r w → is_final o ≡ true → Answers w c o new → Same (after_reply r c o) o new
+at_once r w new c Done q final call = record { reply = refl; quiet = record { still = still_on r w new c Done q.still call; wait = q.wait } }
+at_once r w new c (Answer a) q final call = record { reply = refl; quiet = record { still = still_on r w new c (Answer a) q.still call; wait = q.wait } }
+at_once r w new c (Error e) q final call = record { reply = refl; quiet = record { still = still_on r w new c (Error e) q.still call; wait = q.wait } }
+at_once r w new c Parked q final call = cc
+at_once r w new c Later q final call = cc
 
-settle_at : (r : Rest) (o : Reply) (new : State) → r.state.flush.store ≡ Whole → items_of r.stored ≡ r.state.flush.before → o ≡ settle_answer (wait_of r.state.flush 1)
-    → new ≡ after_settle r.state 1 o → is_final o ≡ true → Same (waited r) o new
-settle_at r o new whole holds e n final =
-    let flush : (waited r).rest.state.flush ≡ unparked r.state.flush 1
-    = flush_settled r.state.flush (wait_of r.state.flush 1) (subst (λ (x : Reply). is_final x ≡ true) e final) in
+-- the end of a wait
+settle_reply : (s : State) (o : Reply) → MaySettle s 1 o → is_out_of_memory o ≡ false → o ≡ settle_answer (wait_of s.flush 1)
+settle_reply s o (inl e) long = e
+settle_reply s o (inr e) long = let bad = ap is_out_of_memory (sym e.0) ∙ long in cc
+
+settle_limit : (f : Flush) (o : Reply) → (settled f 1 o).limit ≡ f.limit
+settle_limit f o = by (ends_wait o) where
+  by : (b : Bool) → (if b then unparked f 1 else f).limit ≡ f.limit
+  by true = refl
+  by false = refl
+
+settle_keeps : (f : Flush) (o : Reply) → ((settled f 1 o).store ≡ f.store) × ((settled f 1 o).before ≡ f.before)
+settle_keeps f o = by (ends_wait o) where
+  by : (b : Bool) → ((if b then unparked f 1 else f).store ≡ f.store) × ((if b then unparked f 1 else f).before ≡ f.before)
+  by true = (refl, refl)
+  by false = (refl, refl)
+
+settle_at : (r : Rest) (w new : World) (o : Reply) → Still r w → Calls w (Settled 1 o) new → is_final o ≡ true → is_out_of_memory o ≡ false → Same (waited r) o new
+settle_at r w new o q call final long =
+    let reply : o ≡ settle_answer (wait_of r.state.flush 1) = settle_reply w.state o call.1.2.1 long ∙ ap (λ (s : State). settle_answer (wait_of s.flush 1)) q.state in
+    let there : new.disk ≡ w.disk = ap (λ (z : World). z.disk) call.1.4 ∙ call.1.3 in
+    let a : Reply = settle_answer (wait_of r.state.flush 1) in
     record {
-      state = ap (after_settle r.state 1) (sym e) ∙ sym n;
-      reply = sym e;
+      reply = sym reply;
       quiet = record {
-        whole = ap (λ (f : Flush). f.store) flush ∙ whole;
-        wait = ap (λ (f : Flush). wait_of f 1) flush ∙ no_wait r.state.flush.waits;
-        holds = holds ∙ sym (ap (λ (f : Flush). f.before) flush);
+        still = record {
+          state = ap (λ (z : World). z.state) call.1.4 ∙ call.1.2.2 ∙ ap (λ (s : State). after_settle s 1 o) q.state ∙ ap (λ (x : Reply). after_settle r.state 1 x) reply;
+          whole = (settle_keeps r.state.flush a).0 ∙ q.whole;
+          holds = q.holds ∙ sym (settle_keeps r.state.flush a).1;
+          disk = subst (λ (n : ℕ). EachStands new.disk n (items_of r.stored)) (sym (settle_limit r.state.flush a))
+              (subst (λ (d : DiskState). EachStands d r.state.flush.limit (items_of r.stored)) (sym there) q.disk);
+        };
+        wait = over_free r.state.flush (wait_of r.state.flush 1) (ap is_final (sym reply) ∙ final);
       };
     }
 
-waited_alone : (r : Rest) (c : Request) (parked over new : State) (o : Reply) → Quiet r → parked ≡ after_unit r.state 1 c Parked → Flushes none parked over
-    → o ≡ settle_answer (wait_of over.flush 1) → new ≡ after_settle over 1 o → is_final o ≡ true → Same (after_reply r c Parked) o new
-waited_alone r c parked over new o q is f e n final =
-    let r1 : Rest = record r { state = after_unit r.state 1 c Parked } in
-    let r2 : Rest = flushed r1 in
-    let there : over ≡ r2.state
-    = flush_alone r1.state over q.whole (subst (λ (z : State). Flushes none z over) is f) ∙ sym (by_state r1.state.flush.tail r1) in
-    settle_at r2 o new (whole_after r1.state.flush.tail r1 q.whole) (holds_after r1.state.flush.tail r1 q.holds)
-    (e ∙ ap (λ (z : State). settle_answer (wait_of z.flush 1)) there) (n ∙ ap (λ (z : State). after_settle z 1 o) there) final
-
-calm_settle : (over : State) (o : Reply) → (o ≡ settle_answer (wait_of over.flush 1)) ⊎ ((o ≡ Error OutOfMemory) × (settle_answer (wait_of over.flush 1) ≡ Answer (decimal 1)))
-    → is_out_of_memory o ≡ false → o ≡ settle_answer (wait_of over.flush 1)
-calm_settle over o (inl e) m = e
-calm_settle over o (inr e) m = let bad = sym (ap is_out_of_memory e.0) ∙ m in cc
+acts_alone : (r : Rest) (w new : World) (c : Request) (o : Reply) → Quiet r w → Acts none w c o new → Same (after_reply r c (answer r.state 1 c)) o new
+acts_alone r w new c o q (final, inl (meant, call)) =
+    let is : o ≡ answer r.state 1 c = calm_answer w.state c o call.1.2.1.may meant ∙ ap (λ (s : State). answer s 1 c) q.still.state in
+    subst (λ (x : Reply). Same (after_reply r c x) o new) is (at_once r w new c o q final call)
+acts_alone r w new c o q (final, inr (long, parked, over, call, f, settle)) =
+    let is : Parked ≡ answer r.state 1 c = calm_answer w.state c Parked call.1.2.1.may (λ e. cc) ∙ ap (λ (s : State). answer s 1 c) q.still.state in
+    subst (λ (x : Reply). Same (after_reply r c x) o new) is
+    (settle_at (flushed (record r { state = after_unit r.state 1 c Parked })) over new o
+    (flush_alone (record r { state = after_unit r.state 1 c Parked }) parked over (still_on r w parked c Parked q.still call) f) settle final long)
 
 final_now : (o : Reply) → is_final o ≡ true → is_later o ≡ false
-final_now Done f = refl
-final_now (Answer a) f = refl
-final_now (Error e) f = refl
-final_now Parked f = cc
-final_now Later f = cc
+final_now Done e = refl
+final_now (Answer a) e = refl
+final_now (Error x) e = refl
+final_now Parked e = refl
+final_now Later e = cc
 
-acts_alone : (r : Rest) (c : Request) (o : Reply) (new : State) → Quiet r → Acts none r.state c o new → Same (after_reply r c (answer r.state 1 c)) o new
-acts_alone r c o new q (final, inl (meant, t)) =
-    subst (λ (x : Reply). Same (after_reply r c x) o new) (calm_answer r.state c o t.may meant)
-    (subst (λ (n : State). Same (after_reply r c o) o n) (sym t.is) (at_once r c o q final))
-acts_alone r c o new q (final, inr (meant, parked, over, t, f, u)) =
-    subst (λ (x : Reply). Same (after_reply r c x) o new) (calm_answer r.state c Parked t.may (λ e. cc))
-    (waited_alone r c parked over new o q t.is f (calm_settle over o u.0 meant) u.1 final)
-
-not_late : (s : State) (c : Request) (o : Reply) (new : State) → Acts none s c o new → is_later (answer s 1 c) ≡ false
-not_late s c o new (final, inl (meant, t)) = subst (λ (x : Reply). is_later x ≡ false) (calm_answer s c o t.may meant) (final_now o final)
-not_late s c o new (final, inr (meant, parked, over, t, f, u)) = subst (λ (x : Reply). is_later x ≡ false) (calm_answer s c Parked t.may (λ e. cc)) refl
+not_late : (r : Rest) (w new : World) (c : Request) (o : Reply) → w.state ≡ r.state → Acts none w c o new → is_later (answer r.state 1 c) ≡ false
+not_late r w new c o same (final, inl (meant, call)) =
+    subst (λ (x : Reply). is_later x ≡ false) (calm_answer w.state c o call.1.2.1.may meant ∙ ap (λ (s : State). answer s 1 c) same) (final_now o final)
+not_late r w new c o same (final, inr (long, parked, over, call, f, settle)) =
+    subst (λ (x : Reply). is_later x ≡ false) (calm_answer w.state c Parked call.1.2.1.may (λ e. cc) ∙ ap (λ (s : State). answer s 1 c) same) refl
 
 first_is : (r : Rest) (c : Request) (x : Reply) → is_later x ≡ false → after_first r c x ≡ after_reply r c x
 first_is r c Done h = refl
@@ -181,98 +237,85 @@ first_is r c (Error e) h = refl
 first_is r c Parked h = refl
 first_is r c Later h = cc
 
-wait_after_flush : (l : List Change) (r : Rest) → wait_of r.state.flush 1 ≡ None → wait_of (flushed_by l r).state.flush 1 ≡ None
-wait_after_flush [] r w = w
-wait_after_flush (c ∷ cs) r w = no_wait_after (wait_less (length r.state.flush.tail)) r.state.flush.waits w
-
 -- a unit goes on in one way
-pub unit_alone : (r : Rest) (c : Request) (o : Reply) (new : State) → Quiet r → UnitRuns none r.state c o new → Same (unit r c) o new
-unit_alone r c o new q (inl a) =
-    subst (λ (w : Went). Same w o new) (sym (first_is r c (answer r.state 1 c) (not_late r.state c o new a))) (acts_alone r c o new q a)
-unit_alone r c o new q (inr (over, t, f, a)) =
-    let r2 : Rest = flushed r in
-    let there : over ≡ r2.state = flush_alone r.state over q.whole f ∙ sym (by_state r.state.flush.tail r) in
-    let rests : Quiet r2 = record {
-      whole = whole_after r.state.flush.tail r q.whole;
-      wait = wait_after_flush r.state.flush.tail r q.wait;
-      holds = holds_after r.state.flush.tail r q.holds;
+unit_alone : (r : Rest) (w new : World) (c : Request) (o : Reply) → Quiet r w → UnitRuns none w c o new → Same (unit r c) o new
+unit_alone r w new c o q (inl a) =
+    subst (λ (z : Went). Same z o new) (sym (first_is r c (answer r.state 1 c) (not_late r w new c o q.still.state a))) (acts_alone r w new c o q a)
+unit_alone r w new c o q (inr (late, over, call, f, a)) =
+    let is : Later ≡ answer r.state 1 c = calm_answer w.state c Later call.1.2.1.may (λ e. cc) ∙ ap (λ (s : State). answer s 1 c) q.still.state in
+    let rests : Quiet (flushed r) over = record {
+      still = flush_alone r late over (still_on r w late c Later q.still call) f;
+      wait = wait_by (r.state.flush.unflushed == 0) r q.still.whole q.wait;
     } in
-    subst (λ (x : Reply). Same (after_first r c x) o new) (calm_answer r.state c Later t.may (λ e. cc))
-    (acts_alone r2 c o new rests (subst (λ (z : State). Acts none z c o new) there a))
+    subst (λ (x : Reply). Same (after_first r c x) o new) is (acts_alone (flushed r) over new c o rests a)
 
-pub record SameTold (t : Told) (all : List ℕ) (new : State) : Type 0 where
-  pub state : t.rest.state ≡ new
+-- ---- messages
+
+pub record SameTold (t : Told) (all : List ℕ) (new : World) : Type 0 where
   pub text : t.text ≡ all
-  pub quiet : Quiet t.rest
+  pub quiet : Quiet t.rest new
 
-pub units_alone : (cs : List Request) (r : Rest) (text all : List ℕ) (new : State) → Quiet r → UnitsRun none r.state text cs all new → SameTold (units r text cs) all new
-units_alone [] r text all new q u = record { state = sym u.0; text = sym u.1; quiet = q }
-units_alone (c ∷ cs) r text all new q (o, mid, u, more) =
-    let one = unit_alone r c o mid q u in
-    units_alone cs (unit r c).rest (with_answer text (unit r c).reply) all new one.quiet
-    (subst (λ (z : State). UnitsRun none z (with_answer text (unit r c).reply) cs all new) (sym one.state)
-    (subst (λ (x : Reply). UnitsRun none mid (with_answer text x) cs all new) (sym one.reply) more))
+units_alone : (cs : List Request) (r : Rest) (w new : World) (text all : List ℕ) → Quiet r w → UnitsRun none w text cs all new → SameTold (units r text cs) all new
+units_alone [] r w new text all q u = record { text = sym u.1; quiet = subst (λ (z : World). Quiet r z) (sym u.0) q }
+units_alone (c ∷ cs) r w new text all q (o, mid, u, more) =
+    let one = unit_alone r w mid c o q u in
+    units_alone cs (unit r c).rest mid new (with_answer text (unit r c).reply) all one.quiet
+    (subst (λ (x : Reply). UnitsRun none mid (with_answer text x) cs all new) (sym one.reply) more)
 
-abbrev the_contents : Option (ℕ × ℕ) → Contents
-the_contents z = record { enables = z }
-
-abbrev first_value : List Item → List ℕ
-first_value [] = []
-first_value (i ∷ is) = i.value
-
-same_enables : (x y : Option (ℕ × ℕ)) → enables_items x ≡ enables_items y → x ≡ y
-same_enables None None e = refl
-same_enables None (Some y) e = cc
-same_enables (Some x) None e = cc
-same_enables (Some (a, b)) (Some (c, d)) e = let values : a ∷ b ∷ [] ≡ c ∷ d ∷ [] = ap first_value e in cc
-
-one_contents : (a b : Contents) → items_of a ≡ items_of b → a ≡ b
-unfolding items_of
-one_contents a b e = ap (λ (z : Option (ℕ × ℕ)). the_contents z) (same_enables a.enables b.enables e)
-
-start_quiet : (limit : ℕ) (c : Contents) → Quiet (at_start limit c)
-start_quiet limit c = record { whole = refl; wait = refl; holds = refl }
-
-restart_alone : (r : Rest) (new : State) → Quiet r → Restarts r.state new → SameTold (message r Message.Power []) [] new
-restart_alone r new q again = record {
-  state = ap (started r.state.flush.limit) (sym (one_contents again.contents r.stored (again.same_map q.whole ∙ sym q.holds)))
-      ∙ ap (λ (n : ℕ). started n again.contents) (sym (again.same_limit q.whole)) ∙ sym again.is;
-  text = refl;
-  quiet = start_quiet r.state.flush.limit r.stored;
+-- a device that has just been powered on
+start_quiet : (image : List ℕ) (new : World) → (p : PowersOn image new) → Quiet (at_start p.on.limit p.on.start) new
+start_quiet image new p = record {
+  still = record {
+    state = ap (λ (z : World). z.state) p.opens.1.4 ∙ p.opens.1.2.1 ∙ ap (λ (s : State). opened s (Some 1)) p.start.state;
+    whole = refl;
+    holds = refl;
+    disk = subst (λ (d : DiskState). EachStands d p.on.limit (items_of p.on.start)) (sym (ap (λ (z : World). z.disk) p.opens.1.4 ∙ p.opens.1.3)) p.start.disk;
+  };
+  wait = refl;
 }
 
-pub record SameMessage (r : Rest) (m : Message) (text : List ℕ) (new : State) : Type 0 where
+restart_alone : (r : Rest) (w new : World) → Quiet r w → PowersOn w.disk.bytes new → SameTold (message r Message.Power []) [] new
+restart_alone r w new q p =
+    let same = one_stands w.disk.bytes p.on.limit r.state.flush.limit (items_of p.on.start) (items_of r.stored) p.found (q.still.disk w.disk.bytes (reads_left w.disk)) in
+    let contents : p.on.start ≡ r.stored = one_contents p.on.start r.stored same.1 in
+    record {
+      text = refl;
+      quiet = subst (λ (n : ℕ). Quiet (at_start n r.stored) new) same.0 (subst (λ (c : Contents). Quiet (at_start p.on.limit c) new) contents (start_quiet w.disk.bytes new p));
+    }
+
+pub record SameMessage (r : Rest) (m : Message) (text : List ℕ) (new : World) : Type 0 where
   pub requests : List Request
   pub asks : Asks m requests
   pub told : SameTold (message r m requests) text new
 
-units_told : (r : Rest) (requests : List Request) (all text : List ℕ) (new : State) → Quiet r → UnitsRun none r.state [] requests all new → text ≡ line_text all
+units_told : (r : Rest) (w new : World) (requests : List Request) (all text : List ℕ) → Quiet r w → UnitsRun none w [] requests all new → text ≡ line_text all
     → SameTold (record { rest = (units r [] requests).rest; text = line_text (units r [] requests).text }) text new
-units_told r requests all text new q u is =
-    let t = units_alone requests r [] all new q u in
-    record { state = t.state; text = ap line_text t.text ∙ sym is; quiet = t.quiet }
+units_told r w new requests all text q u is =
+    let t = units_alone requests r w new [] all q u in
+    record { text = ap line_text t.text ∙ sym is; quiet = t.quiet }
 
-message_alone : (m : Message) (r : Rest) (text : List ℕ) (new : State) → Quiet r → MessageRuns none r.state m text new → SameMessage r m text new
-message_alone Message.Power r text new q (again, none) = record {
+reopened_same : (r : Rest) (w over : World) → Quiet r w → Reopens none w over → over ≡ w
+reopened_same r w over q (inl e) = e.1
+reopened_same r w over q (inr e) = let bad = sym (ap (λ (s : State). is_broken s.flush.store) q.still.state ∙ ap is_broken q.still.whole) ∙ e.0 in cc
+
+message_alone : (m : Message) (r : Rest) (w new : World) (text : List ℕ) → Quiet r w → MessageRuns none w m text new → SameMessage r m text new
+message_alone Message.Power r w new text q (none_is, over, reopens, p) = record {
   requests = [];
   asks = refl;
-  told = subst (λ (z : List ℕ). SameTold (message r Message.Power []) z new) (sym none) (restart_alone r new q again);
+  told = subst (λ (z : List ℕ). SameTold (message r Message.Power []) z new) (sym none_is)
+      (restart_alone r w new q (subst (λ (z : World). PowersOn z.disk.bytes new) (reopened_same r w over q reopens) p));
 }
-message_alone Message.Overlong r text new q (requests, asks, all, u, is) = record { requests = requests; asks = asks; told = units_told r requests all text new q u is }
-message_alone (Message.Units bytes) r text new q (requests, asks, all, u, is) = record { requests = requests; asks = asks; told = units_told r requests all text new q u is }
+message_alone Message.Overlong r w new text q (requests, asks, all, u, is) = record { requests = requests; asks = asks; told = units_told r w new requests all text q u is }
+message_alone (Message.Units bytes) r w new text q (requests, asks, all, u, is) = record { requests = requests; asks = asks; told = units_told r w new requests all text q u is }
 
-runs_alone : (ms : List Message) (r : Rest) (text : List ℕ) (last : State) → Quiet r → Runs none r.state ms text last → Scripted r ms text
-runs_alone [] r text last q u = u.1
-runs_alone (m ∷ ms) r text last q (first, more, mid, u, us, is) =
-    let a = message_alone m r first mid q u in
-    let t = a.told in (
-      a.requests,
-      more,
-      a.asks,
-      runs_alone ms (message r m a.requests).rest more last t.quiet (subst (λ (z : State). Runs none z ms more last) (sym t.state) us),
-      is ∙ ap (λ (z : List ℕ). z ++ more) (sym t.text),
-    )
+runs_alone : (ms : List Message) (r : Rest) (w last : World) (text : List ℕ) → Quiet r w → Runs none w ms text last → Scripted r ms text
+runs_alone [] r w last text q u = u.1
+runs_alone (m ∷ ms) r w last text q (first, more, mid, u, us, is) =
+    let a = message_alone m r w mid first q u in
+    let t = a.told in
+    (a.requests, more, a.asks, runs_alone ms (message r m a.requests).rest mid last more t.quiet us, is ∙ ap (λ (z : List ℕ). z ++ more) (sym t.text))
 
 pub script_is_alone : ScriptAlone
-script_is_alone contents limit input text (last, runs) =
-    runs_alone (messages input) (at_start limit contents) text last (start_quiet limit contents) runs
+script_is_alone image input text first last p runs =
+    subst₂ (λ (n : ℕ) (c : Contents). Scripted (at_start n c) (messages input) text) (sym (ap (λ (w : World). w.limit) p.opens.1.4)) (sym (ap (λ (w : World). w.start) p.opens.1.4))
+    (runs_alone (messages input) (at_start p.on.limit p.on.start) first last text (start_quiet image first p) runs)

@@ -7,6 +7,7 @@ use Rattle.psu_lex.specs.declared.unit.Unit as rust
 use Rattle.psu_exec.specs.Reading.{ReadsAs}
 use Rattle.psu_exec.specs.declared.request.Request.{Request}
 use Rattle.psu_server.specs.Lines.{Message, AreRequests, Asks}
+use Rattle.psu_server.proofs.Scripts.{SomeReading, some_requests}
 
 asked_one : (all : List Part) (unit : Part) (rest : List Part) (done more : List Request) (request : Request) → ReadsAs unit request.reading
     → ((next : List Request) → AreRequests (unit ∷ rest) next → AreRequests all (done ++ next)) → AreRequests rest more → AreRequests all ((done ++ request ∷ []) ++ more)
@@ -34,3 +35,12 @@ asked_all bytes units list i done is same all go =
           (subst (λ (z : List Request). AreRequests (parts list) z) (append-nil done)
           (go [] (subst (λ (z : List rust.Unit). AreRequests (parts z) []) (sym none) refl))),
     )
+
+-- the requests of a message of which one more has been read
+pub asked_more : SomeReading → (bytes : List ℕ) (units : List Part) (list : List rust.Unit) (i : ℕ) (filler : rust.Unit) (done : List Request) (request : Request) → IsMessage bytes units
+    → parts list ≡ units → i < length list → ReadsAs (part (slice_index_or list i filler)) request.reading
+    → ((next : List Request) → AreRequests (parts (drop i list)) next → AreRequests (parts list) (done ++ next))
+    → (more : List Request) × Asks (Message.Units bytes) ((done ++ request ∷ []) ++ more)
+asked_more some bytes units list i filler done request is same within reads go =
+    let rest = some_requests some (parts (drop (i + 1) list)) in
+    (rest.0, (units, is, subst (λ (z : List Part). AreRequests z ((done ++ request ∷ []) ++ rest.0)) same (asked_at list i filler done rest.0 request within reads go rest.1)))

@@ -30,7 +30,7 @@ one_requests one (unit ∷ units) requests others (r, more, reads, asks, is) (s,
     is ∙ ap (λ (z : Result Command ScpiError). the_request z ∷ more) (one unit r.reading s.reading reads reads_too)
     ∙ ap (λ (z : List Request). s ∷ z) (one_requests one units more rest asks asks_too) ∙ sym is_too
 
-some_requests : SomeReading → (units : List Part) → (requests : List Request) × AreRequests units requests
+pub some_requests : SomeReading → (units : List Part) → (requests : List Request) × AreRequests units requests
 some_requests some [] = ([], refl)
 some_requests some (unit ∷ units) =
     let here = some unit in
@@ -44,7 +44,7 @@ one_asking cut one (Message.Units bytes) requests others (units, is, asks) (list
     one_requests one units requests others asks
     (subst (λ (z : List Part). AreRequests z others) (cut bytes list units is_too is) asks_too)
 
-some_asking : SomeUnits → SomeReading → (m : Message) → (requests : List Request) × Asks m requests
+pub some_asking : SomeUnits → SomeReading → (m : Message) → (requests : List Request) × Asks m requests
 some_asking cut some Message.Power = ([], refl)
 some_asking cut some Message.Overlong = (too_much ∷ [], refl)
 some_asking cut some (Message.Units bytes) =

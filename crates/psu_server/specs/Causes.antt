@@ -1,8 +1,8 @@
 -- The cause of a run's end where the disk does not power on.
-use Rattle.std.specs.Prelude.{◌≡◌, ℕ, List, ⊤}
+use Rattle.std.specs.Prelude.{◌≡◌, ℕ, List}
 use Rattle.psu_disk.specs.Disk.{HasFailed}
 use Rattle.psu_items.specs.Map.{Item}
-use Rattle.psu_items.specs.Image.{Stands, HasNoRoot, HasBadRoot, HasOtherVersion}
+use Rattle.psu_items.specs.Image.{Stands, HasNoRoot, HasBadRoot, HasOtherVersion, HasReadableRoot}
 use Rattle.psu_exec.specs.Contents.{items_of, IsContents}
 use Rattle.psu_exec.specs.declared.contents.Contents.{Contents}
 use Rattle.psu_items.specs.declared.open_cause.OpenCause.{OpenCause}
@@ -31,7 +31,8 @@ pub record HasBadItems (image : List ℕ) : Type 0 where
   pub stands : Stands image limit map
   pub none : (contents : Contents) → IsContents contents → items_of contents ≡ map → ⊥
 
--- A disk with this image does not power on for this cause. A failed call and a want of memory say nothing of the image.
+-- A disk with this image does not power on for this cause. A failed call says nothing of the image. Memory is wanted only where
+-- no call failed and a root can be read.
 abbrev pub NotStarted : List ℕ → ℕ → ℕ → RunCause → Type 0
 NotStarted image before now (Open start.Device) = HasFailed before now
 NotStarted image before now (Open start.NoRoot) = HasNoRoot image
@@ -42,4 +43,4 @@ NotStarted image before now Read = ⊥
 NotStarted image before now Write = ⊥
 NotStarted image before now Device = ⊥
 NotStarted image before now TooLong = ⊥
-NotStarted image before now Memory = ⊤
+NotStarted image before now Memory = (now ≡ before) × HasReadableRoot image

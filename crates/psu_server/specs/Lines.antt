@@ -1,5 +1,5 @@
 -- The lines of an input, and the requests of a line.
-use Rattle.std.specs.Prelude.{◌≡◌, ℕ, ◌==◌, ◌||◌, ◌&&◌, not, nat_lt, Bool, false, List, [], ◌∷◌, ◌++◌, length, Err, if◌then◌else◌, codes, map}
+use Rattle.std.specs.Prelude.{◌≡◌, ℕ, ◌==◌, ◌||◌, ◌&&◌, not, nat_lt, Bool, true, false, List, [], ◌∷◌, ◌++◌, length, Err, if◌then◌else◌, codes, map}
 use Rattle.std.specs.Str.{bytes_eq}
 use Rattle.psu_lex.specs.Message.{Part, IsMessage}
 use Rattle.psu_exec.specs.Reading.{ReadsAs}
@@ -55,6 +55,10 @@ coming over line input = if over then Message.Overlong ∷ messages (after_part 
 -- the message of the line that has begun, once it ends
 abbrev pub message_now : Bool → List ℕ → Message
 message_now over line = if over then Message.Overlong else message_of line
+
+abbrev pub is_power : Message → Bool
+is_power Message.Power = true
+is_power m = false
 
 -- no line has begun
 abbrev pub is_none_begun : Bool → List ℕ → Bool

@@ -1,7 +1,6 @@
 -- What a run writes where nothing goes wrong: over the step, and the one reading of each message.
-use Rattle.std.specs.Prelude.{◌≡◌, ℕ, List, [], ◌∷◌, ◌++◌}
+use Rattle.std.specs.Prelude.{◌≡◌, ℕ, ◌==◌, Bool, true, false, Some, List, [], ◌∷◌, ◌++◌}
 use Rattle.psu_exec.specs.declared.contents.Contents.{Contents}
-use Rattle.psu_exec.specs.declared.change.Change.{Change}
 use Rattle.psu_exec.specs.declared.request.Request.{Request}
 use Rattle.psu_exec.specs.Device.{Reply, Answer, Parked, Later, State, answer, after_unit, power_on, wait_of}
 use Rattle.psu_exec.specs.Calls.{job_out, stored, settle_answer, after_settle, opened}
@@ -23,7 +22,7 @@ line_text (x ∷ xs) = (x ∷ xs) ++ 10 ∷ []
 
 -- the device after power-on, with its one session, 1, open
 abbrev pub started : ℕ → Contents → State
-started limit contents = opened (power_on limit contents) 1
+started limit contents = opened (power_on limit contents) (Some 1)
 
 -- the device, and the contents that its store holds
 pub record Rest : Type 0 where
@@ -33,13 +32,13 @@ pub record Rest : Type 0 where
 abbrev pub at_start : ℕ → Contents → Rest
 at_start limit contents = record { state = started limit contents; stored = contents }
 
--- once a job for the tail is given back as stored; with no tail there is no job
-abbrev pub flushed_by : List Change → Rest → Rest
-flushed_by [] r = r
-flushed_by (c ∷ cs) r = record { state = record r.state { flush = stored (job_out r.state.flush) }; stored = r.state.flush.contents }
+-- once a job for the changes that are not flushed is given back as stored; with none of them there is no job
+abbrev pub flushed_by : Bool → Rest → Rest
+flushed_by true r = r
+flushed_by false r = record { state = record r.state { flush = stored (job_out r.state.flush) }; stored = r.state.flush.contents }
 
 abbrev pub flushed : Rest → Rest
-flushed r = flushed_by r.state.flush.tail r
+flushed r = flushed_by (r.state.flush.unflushed == 0) r
 
 -- how a unit goes on
 pub record Went : Type 0 where

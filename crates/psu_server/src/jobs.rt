@@ -1,18 +1,19 @@
 // The flush: jobs until there is none.
-ghost use Rattle.std.specs.Prelude.{◌≡◌, ℕ, IfOk, IfErr, true, false};
-ghost use Rattle.psu_exec.specs.Device.{is_open, is_whole};
-ghost use Rattle.psu_exec.specs.Jobs.{finished_of};
+ghost use Rattle.std.specs.Prelude.{◌≡◌, ◌≢◌, ◌⊎◌, ℕ, [], OnOk, IfErr, true, false, Some, None};
+ghost use Rattle.psu_disk.specs.Disk.{HasFailed};
+ghost use Rattle.psu_exec.specs.Calls.{job_of};
+ghost use Rattle.psu_exec.specs.Device.{is_broken, is_open, wait_of};
+ghost use Rattle.psu_exec.specs.Jobs.{finished_of, job_data, job_home};
+ghost use Rattle.psu_exec.specs.declared.condition.Condition.TheVariants.{Worn};
 ghost use Rattle.psu_server.specs.Failures.{failures_of};
-ghost use Rattle.psu_server.specs.Jobs.{is_short, is_stored, Ends, IsOwn};
-ghost use Rattle.psu_server.specs.Reasons.{IsExplained};
-ghost use Rattle.psu_server.specs.Runs.{Flushes};
-ghost use Rattle.psu_server.specs.Within.{IsLater, Within};
+ghost use Rattle.psu_server.specs.Jobs.{HasReasons, HasRun, IsExplained};
+ghost use Rattle.psu_server.specs.Progress.{GoesOn, Halts};
+ghost use Rattle.psu_server.specs.Runs.{Flushes, Reopens, is_short};
 
-use crate::powered::{Powered, fault_of};
-use crate::{RunCause, RunFault};
+use crate::RunCause;
 use psu_disk::Disk;
-use psu_exec::{Exec, Finished, Job, NoJob};
-use psu_items::UnstartedCause;
+use psu_exec::{Condition, Exec, Finished, Job, NoJob};
+use psu_items::{BrokenCause, UnstartedCause};
 use std::alloc::Allocator;
 
 const JOBS: u32 = 4;
@@ -21,90 +22,88 @@ const JOBS: u32 = 4;
 fn is_short<D: Disk, A: Allocator + Copy>(finished: &Finished<D, A>) -> bool
     ensures { result ≡ is_short (finished_of finished.now) }
 {
-    matches!(finished, Finished::Unstarted(_, _, UnstartedCause::Memory))
+    match finished {
+        Finished::Unstarted(_, _, cause) => matches!(cause, UnstartedCause::Memory),
+        Finished::Broken(broken) => matches!(broken.cause(), BrokenCause::Memory),
+        _ => false,
+    }
 }
 
-// Whether a job stored its target.
-fn is_stored<D: Disk, A: Allocator + Copy>(finished: &Finished<D, A>) -> bool
-    ensures { result ≡ is_stored (finished_of finished.now) }
+// Whether a commit has failed.
+fn is_broken(condition: Condition) -> bool
+    ensures { result ≡ is_broken condition }
 {
-    matches!(finished, Finished::Stored(_))
+    matches!(condition, Condition::Broken)
 }
 
-// Runs the job that is out and gives it back, and tells whether it stored its target. One that ends for want of memory ends the run.
-fn run_job<D: Disk, A: Allocator + Copy>(
-    exec: Exec<D, A>,
-    job: Job<D, A>,
-) -> Result<(Exec<D, A>, bool), RunFault<D>>
-    requires out { exec.device.flush.out ≡ true }
-    requires own { IsOwn exec.device.flush job.store.limit job.store.items job.batch }
-    ensures ends { IfOk result (λ r. Ends exec.device r.0.device (D.failures job.store.disk) (failures_of r.0) r.1) }
-    ensures explained { IfOk result (λ r. (start : ℕ) → IsLater start (D.failures job.store.disk) → IsExplained start r.0) }
-    ensures memory { IfErr result (λ f. f.cause ≡ RunCause.Memory) }
+// Runs the job that is out and gives it back, and tells whether it ended for want of memory.
+fn run_job<D: Disk, A: Allocator + Copy>(exec: &mut Exec<D, A>, job: Job<D, A>) -> bool
+    requires out { exec.old.device.flush.out ≡ true }
+    requires own { job_data job ≡ job_of exec.old.device.flush }
+    requires fit { exec.old.device.flush.store ≢ Worn }
+    ensures run { HasRun exec.old job exec.new result }
+    ensures explained { (since : ℕ) → HasReasons since exec.old.device.flush.store (Some (job_home job)) → IsExplained since exec.new }
 {
-    let mut exec = exec;
     let finished = job.run();
     let short = is_short(&finished);
-    let stored = is_stored(&finished);
     match exec.give_back(finished) {
-        Ok(_) => {}
+        Ok(_) => short,
         Err(_) => unreachable!(),
     }
-    if short {
-        return Err(fault_of(exec, RunCause::Memory));
-    }
-    Ok((exec, stored))
 }
 
-/// Takes, runs and gives back until there is nothing to take, at most 4 jobs, and tells whether the store can take a commit.
-pub fn flush_jobs<D: Disk, A: Allocator + Copy>(
-    exec: Exec<D, A>,
-    whole: bool,
-) -> Result<(Exec<D, A>, bool), RunFault<D>>
-    requires idle { exec.device.flush.out ≡ false }
-    requires open { is_open exec.device 1 ≡ true }
-    requires tells { whole ≡ is_whole exec.device.flush.store }
-    ensures flushes { IfOk result (λ r. Within (failures_of exec) (failures_of r.0) (λ can. Flushes can exec.device r.0.device)) }
-    ensures idle { IfOk result (λ r. r.0.device.flush.out ≡ false) }
-    ensures open { IfOk result (λ r. is_open r.0.device 1 ≡ true) }
-    ensures tells { IfOk result (λ r. r.1 ≡ is_whole r.0.device.flush.store) }
-    ensures explained { IfOk result (λ r. (start : ℕ) → IsExplained start exec → IsExplained start r.0) }
-    ensures memory { IfErr result (λ f. f.cause ≡ RunCause.Memory) }
+/// Takes, runs and gives back until there is nothing to take, at most 4 jobs. A job that ends for want of memory ends the run.
+pub fn flush<D: Disk, A: Allocator + Copy>(exec: &mut Exec<D, A>) -> Result<(), RunCause>
+    requires idle { exec.old.device.flush.out ≡ false }
+    ensures flushes { OnOk result (GoesOn exec.old exec.new Flushes) }
+    ensures halts { IfErr result (Halts exec.old exec.new []) }
+    ensures idle { exec.new.device.flush.out ≡ false }
+    ensures open { is_open exec.new.device 1 ≡ is_open exec.old.device 1 }
+    ensures free { wait_of exec.old.device.flush 1 ≡ None → wait_of exec.new.device.flush 1 ≡ None }
+
+    // What is left then is left for a reason.
+    ensures clean { OnOk result ((since : ℕ) → IsExplained since exec.old
+        → HasFailed since (failures_of exec.new) ⊎ (exec.new.device.flush.store ≡ Worn) ⊎ (exec.new.device.flush.unflushed ≡ 0)) }
 {
-    let mut exec = exec;
-    let mut still_whole = whole;
     for _ in 0..JOBS {
         match exec.take() {
             Ok(job) => {
-                let (next, stored) = run_job(exec, job)?;
-                exec = next;
-                still_whole = stored;
+                if run_job(exec, job) {
+                    return Err(RunCause::Memory);
+                }
             }
-            Err(NoJob::Nothing) => return Ok((exec, still_whole)),
-            Err(NoJob::Memory) => return Err(fault_of(exec, RunCause::Memory)),
+            Err(NoJob::Nothing) => return Ok(()),
+            Err(NoJob::Memory) => return Err(RunCause::Memory),
             Err(NoJob::Out) => unreachable!(),
         }
     }
-    Ok((exec, still_whole))
+    Ok(())
 }
 
-/// The same for a device whose session waits for nothing.
-pub fn flush<D: Disk, A: Allocator + Copy>(
-    powered: Powered<D, A>,
-) -> Result<Powered<D, A>, RunFault<D>>
-    ensures flushes { IfOk result (λ p. Within (failures_of powered.exec) (failures_of p.exec) (λ can. Flushes can powered.exec.device p.exec.device)) }
-    ensures explained { IfOk result (λ p. (start : ℕ) → IsExplained start powered.exec → IsExplained start p.exec) }
-    ensures memory { IfErr result (λ f. f.cause ≡ RunCause.Memory) }
+/// Opens a broken store again. One that stays broken ends the run.
+pub fn reopen<D: Disk, A: Allocator + Copy>(exec: &mut Exec<D, A>) -> Result<(), RunCause>
+    requires idle { exec.old.device.flush.out ≡ false }
+    ensures reopens { OnOk result (GoesOn exec.old exec.new Reopens) }
+    ensures halts { IfErr result (Halts exec.old exec.new []) }
+    ensures idle { exec.new.device.flush.out ≡ false }
+    ensures open { is_open exec.new.device 1 ≡ is_open exec.old.device 1 }
+    ensures free { wait_of exec.old.device.flush 1 ≡ None → wait_of exec.new.device.flush 1 ≡ None }
+    ensures mended { OnOk result (is_broken exec.new.device.flush.store ≡ false) }
 {
-    let Powered {
-        exec,
-        session,
-        whole,
-    } = powered;
-    let (exec, whole) = flush_jobs(exec, whole)?;
-    Ok(Powered {
-        exec,
-        session,
-        whole,
-    })
+    if !is_broken(exec.condition()) {
+        return Ok(());
+    }
+    match exec.take() {
+        Ok(job) => {
+            if run_job(exec, job) {
+                return Err(RunCause::Memory);
+            }
+        }
+        Err(NoJob::Memory) => return Err(RunCause::Memory),
+        Err(NoJob::Nothing | NoJob::Out) => unreachable!(),
+    }
+    if is_broken(exec.condition()) {
+        return Err(RunCause::Device);
+    }
+    Ok(())
 }

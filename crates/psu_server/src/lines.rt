@@ -1,6 +1,6 @@
 // The line that has begun.
 ghost use Rattle.std.specs.Prelude.{◌≡◌, ◌≤◌, ◌++◌, [], List, ℕ, OnOk, true, false, length};
-ghost use Rattle.psu_server.specs.Lines.{has, coming, is_none_begun};
+ghost use Rattle.psu_server.specs.Lines.{has, coming, is_none_begun, is_power, message_now};
 
 use std::alloc::{AllocError, Allocator};
 
@@ -50,6 +50,13 @@ impl<A: Allocator> Lines<A> {
         ensures { result ≡ is_none_begun self.now.is_over self.now.line.items }
     {
         !self.is_over && self.line.is_empty()
+    }
+
+    /// Whether the line is that of a power loss.
+    pub fn is_power(&self) -> bool
+        ensures { result ≡ is_power (message_now self.now.is_over self.now.line.items) }
+    {
+        !self.is_over && self.line.as_slice() == b"!POWER".as_slice()
     }
 
     /// The next line begins.

@@ -1,22 +1,19 @@
 // The units of a message, with the flushes that they wait for.
-ghost use Rattle.std.specs.Prelude.{◌≡◌, ◌∷◌, [], ℕ, List, IfOk, IfErr, true, false};
-ghost use Rattle.psu_exec.specs.Device.{Reply, is_open, is_whole};
+ghost use Rattle.std.specs.Prelude.{◌≡◌, ◌∷◌, [], List, IfOk, IfErr, OnOk, true, false};
+ghost use Rattle.psu_exec.specs.Device.{Reply, is_open, wait_of};
 ghost use Rattle.psu_exec.specs.declared.request.Request.{Request};
 ghost use Rattle.psu_exec.specs.Shown.{outcome_of};
-ghost use Rattle.psu_server.specs.Failures.{failures_of};
 ghost use Rattle.psu_server.specs.Lines.{Message, Asks};
+ghost use Rattle.psu_server.specs.Progress.{Acted, GoesOn, Halts, WaitEnds};
 ghost use Rattle.psu_server.specs.Runs.{is_final, is_later, is_out_of_memory, is_parked, UnitRuns, UnitsRun};
-ghost use Rattle.psu_server.specs.Within.{Within};
-ghost use Rattle.psu_server.specs.Progress.{Acted, Waited};
-ghost use Rattle.psu_server.specs.Reasons.{IsExplained, Stops, is_of_device};
 
+use crate::RunCause;
 use crate::answers::put_answer;
-use crate::jobs::{flush, flush_jobs};
-use crate::powered::{Powered, fault_of};
-use crate::{RunCause, RunFault};
+use crate::jobs::flush;
+use crate::powered::Powered;
 use psu_disk::Disk;
-use psu_exec::{Exec, Outcome, Request, ScpiError, Session, plain};
-use psu_lex::split;
+use psu_exec::{Exec, Outcome, Request, ScpiError, Session, every_unit_reads, plain};
+use psu_lex::{every_list_has_units, split};
 use std::alloc::Allocator;
 
 fn is_parked<A: Allocator + Copy>(outcome: &Outcome<A>) -> bool
@@ -43,135 +40,131 @@ fn is_out_of_memory<A: Allocator + Copy>(outcome: &Outcome<A>) -> bool
     matches!(outcome, Outcome::Error(ScpiError::OutOfMemory))
 }
 
-// A parked unit waits for a flush.
-fn wait<D: Disk, A: Allocator + Copy>(
-    exec: Exec<D, A>,
+// Flushes, and gives what the session's wait came to.
+fn wait_end<D: Disk, A: Allocator + Copy>(
+    exec: &mut Exec<D, A>,
     session: Session,
-    whole: bool,
-) -> Result<(Powered<D, A>, Outcome<A>), RunFault<D>>
+) -> Result<Outcome<A>, RunCause>
     requires first { session ≡ 1 }
-    requires idle { exec.device.flush.out ≡ false }
-    requires open { is_open exec.device 1 ≡ true }
-    requires tells { whole ≡ is_whole exec.device.flush.store }
-    ensures waited { IfOk result (λ r. Waited exec r.0.exec (outcome_of r.1)) }
-    ensures explained { IfOk result (λ r. (start : ℕ) → IsExplained start exec → IsExplained start r.0.exec) }
-    ensures caused { D.honest → IfErr result (λ f. (start : ℕ) → IsExplained start exec → Stops start (D.failures f.disk) (D.state f.disk).bytes f.cause) }
-    ensures device { IfErr result (λ f. is_of_device f.cause ≡ true) }
+    requires idle { exec.old.device.flush.out ≡ false }
+    requires open { is_open exec.old.device 1 ≡ true }
+    ensures ends { IfOk result (λ o. GoesOn exec.old exec.new (WaitEnds (outcome_of o))) }
+    ensures ended { IfOk result (λ o. is_final (outcome_of o) ≡ true) }
+    ensures long { IfOk result (λ o. is_out_of_memory (outcome_of o) ≡ false) }
+    ensures free { IfOk result (λ o. wait_of exec.new.device.flush 1 ≡ None) }
+    ensures halts { IfErr result (Halts exec.old exec.new []) }
+    ensures idle { exec.new.device.flush.out ≡ false }
+    ensures open { is_open exec.new.device 1 ≡ true }
 {
-    let (exec, whole) = flush_jobs(exec, whole)?;
-    let mut exec = exec;
+    flush(exec)?;
     let outcome = exec.settle(session);
     if !is_final(&outcome) {
-        return Err(fault_of(exec, RunCause::Device));
+        return Err(RunCause::Device);
     }
     if is_out_of_memory(&outcome) {
-        return Err(fault_of(exec, RunCause::Memory));
+        return Err(RunCause::Memory);
     }
-    Ok((
-        Powered {
-            exec,
-            session,
-            whole,
-        },
-        outcome,
-    ))
+    Ok(outcome)
+}
+
+// The same; the session waits no more, whatever its wait came to.
+fn wait<D: Disk, A: Allocator + Copy>(
+    exec: &mut Exec<D, A>,
+    session: Session,
+) -> Result<Outcome<A>, RunCause>
+    requires first { session ≡ 1 }
+    requires idle { exec.old.device.flush.out ≡ false }
+    requires open { is_open exec.old.device 1 ≡ true }
+    ensures ends { IfOk result (λ o. GoesOn exec.old exec.new (WaitEnds (outcome_of o))) }
+    ensures ended { IfOk result (λ o. is_final (outcome_of o) ≡ true) }
+    ensures long { IfOk result (λ o. is_out_of_memory (outcome_of o) ≡ false) }
+    ensures free { wait_of exec.new.device.flush 1 ≡ None }
+    ensures halts { IfErr result (Halts exec.old exec.new []) }
+    ensures idle { exec.new.device.flush.out ≡ false }
+    ensures open { is_open exec.new.device 1 ≡ true }
+{
+    match wait_end(exec, session) {
+        Ok(outcome) => Ok(outcome),
+        Err(cause) => {
+            exec.clear(session);
+            Err(cause)
+        }
+    }
 }
 
 /// Executes a unit; parked, it waits for a flush. It may still come later.
 pub fn act<D: Disk, A: Allocator + Copy>(
-    powered: Powered<D, A>,
+    powered: &mut Powered<D, A>,
     request: &Request,
-) -> Result<(Powered<D, A>, Outcome<A>), RunFault<D>>
-    ensures acted { IfOk result (λ r. Within (failures_of powered.exec) (failures_of r.0.exec)
-        (λ can. Acted can powered.exec.device request.now (outcome_of r.1) r.0.exec.device)) }
-    ensures explained { IfOk result (λ r. (start : ℕ) → IsExplained start powered.exec → IsExplained start r.0.exec) }
-    ensures caused { D.honest → IfErr result (λ f. (start : ℕ) → IsExplained start powered.exec → Stops start (D.failures f.disk) (D.state f.disk).bytes f.cause) }
-    ensures device { IfErr result (λ f. is_of_device f.cause ≡ true) }
+) -> Result<Outcome<A>, RunCause>
+    ensures acted { IfOk result (λ o. GoesOn powered.old.exec powered.new.exec (Acted request.now (outcome_of o))) }
+    ensures halts { IfErr result (Halts powered.old.exec powered.new.exec (request.now ∷ [])) }
 {
-    let Powered {
-        exec,
-        session,
-        whole,
-    } = powered;
-    let mut exec = exec;
-    let outcome = exec.execute(session, request);
+    let outcome = powered.exec.execute(powered.session, request);
     if !is_parked(&outcome) {
-        return Ok((
-            Powered {
-                exec,
-                session,
-                whole,
-            },
-            outcome,
-        ));
+        return Ok(outcome);
     }
-    let (powered, outcome) = wait(exec, session, whole)?;
-    Ok((powered, outcome))
+    let outcome = wait(&mut powered.exec, powered.session)?;
+    Ok(outcome)
 }
 
 /// Executes a unit; where it comes later, after a flush.
 pub fn unit<D: Disk, A: Allocator + Copy>(
-    powered: Powered<D, A>,
+    powered: &mut Powered<D, A>,
     request: &Request,
-) -> Result<(Powered<D, A>, Outcome<A>), RunFault<D>>
-    ensures runs { IfOk result (λ r. Within (failures_of powered.exec) (failures_of r.0.exec)
-        (λ can. UnitRuns can powered.exec.device request.now (outcome_of r.1) r.0.exec.device)) }
-    ensures explained { IfOk result (λ r. (start : ℕ) → IsExplained start powered.exec → IsExplained start r.0.exec) }
-    ensures caused { D.honest → IfErr result (λ f. (start : ℕ) → IsExplained start powered.exec → Stops start (D.failures f.disk) (D.state f.disk).bytes f.cause) }
-    ensures device { IfErr result (λ f. is_of_device f.cause ≡ true) }
+) -> Result<Outcome<A>, RunCause>
+    ensures runs { IfOk result (λ o. GoesOn powered.old.exec powered.new.exec (λ can w v. UnitRuns can w request.now (outcome_of o) v)) }
+    ensures halts { IfErr result (Halts powered.old.exec powered.new.exec (request.now ∷ [])) }
 {
-    let (powered, outcome) = act(powered, request)?;
+    let outcome = act(powered, request)?;
     if !is_later(&outcome) {
-        return Ok((powered, outcome));
+        return Ok(outcome);
     }
-    let powered = flush(powered)?;
-    let (powered, outcome) = act(powered, request)?;
+    flush(&mut powered.exec)?;
+    let outcome = act(powered, request)?;
     if is_later(&outcome) {
-        return Err(powered.fault(RunCause::Device));
+        return Err(RunCause::Device);
     }
-    Ok((powered, outcome))
+    Ok(outcome)
 }
 
 /// Executes a request, and puts its answer to those of its message.
 pub fn perform<D: Disk, A: Allocator + Copy>(
-    powered: Powered<D, A>,
+    powered: &mut Powered<D, A>,
     request: &Request,
     answers: &mut Vec<u8, A>,
-) -> Result<Powered<D, A>, RunFault<D>>
-    ensures runs { IfOk result (λ p. Within (failures_of powered.exec) (failures_of p.exec)
-        (λ can. UnitsRun can powered.exec.device answers.old.items (request.now ∷ []) answers.new.items p.exec.device)) }
-    ensures explained { IfOk result (λ p. (start : ℕ) → IsExplained start powered.exec → IsExplained start p.exec) }
-    ensures caused { D.honest → IfErr result (λ f. (start : ℕ) → IsExplained start powered.exec → Stops start (D.failures f.disk) (D.state f.disk).bytes f.cause) }
-    ensures device { IfErr result (λ f. is_of_device f.cause ≡ true) }
+) -> Result<(), RunCause>
+    ensures runs { OnOk result (GoesOn powered.old.exec powered.new.exec
+        (λ can w v. UnitsRun can w answers.old.items (request.now ∷ []) answers.new.items v)) }
+    ensures halts { IfErr result (Halts powered.old.exec powered.new.exec (request.now ∷ [])) }
 {
-    let (powered, outcome) = unit(powered, request)?;
+    let outcome = unit(powered, request)?;
     let Ok(()) = put_answer(answers, &outcome) else {
-        return Err(powered.fault(RunCause::Memory));
+        return Err(RunCause::Memory);
     };
-    Ok(powered)
+    Ok(())
 }
 
 /// Executes the units of a message.
 pub fn message<D: Disk, A: Allocator + Copy>(
     alloc: A,
-    powered: Powered<D, A>,
+    powered: &mut Powered<D, A>,
     bytes: &[u8],
     answers: &mut Vec<u8, A>,
-) -> Result<Powered<D, A>, RunFault<D>>
-    ensures runs { IfOk result (λ p. (requests : List Request) × Asks (Message.Units bytes.now) requests
-        × Within (failures_of powered.exec) (failures_of p.exec)
-        (λ can. UnitsRun can powered.exec.device answers.old.items requests answers.new.items p.exec.device)) }
-    ensures explained { IfOk result (λ p. (start : ℕ) → IsExplained start powered.exec → IsExplained start p.exec) }
-    ensures caused { D.honest → IfErr result (λ f. (start : ℕ) → IsExplained start powered.exec → Stops start (D.failures f.disk) (D.state f.disk).bytes f.cause) }
-    ensures device { IfErr result (λ f. is_of_device f.cause ≡ true) }
+) -> Result<(), RunCause>
+    ensures runs { OnOk result ((requests : List Request) × Asks (Message.Units bytes.now) requests
+        × GoesOn powered.old.exec powered.new.exec (λ can w v. UnitsRun can w answers.old.items requests answers.new.items v)) }
+    ensures halts { IfErr result (λ cause. (requests : List Request) × Asks (Message.Units bytes.now) requests
+        × Halts powered.old.exec powered.new.exec requests cause) }
 {
+    every_list_has_units();
+    every_unit_reads();
     let Ok(units) = split(alloc, bytes) else {
-        return Err(powered.fault(RunCause::Memory));
+        return Err(RunCause::Memory);
     };
     let list = units.as_slice();
-    let mut powered = powered;
     for unit in list {
-        powered = perform(powered, &plain(unit), answers)?;
+        perform(powered, &plain(unit), answers)?;
     }
-    Ok(powered)
+    Ok(())
 }

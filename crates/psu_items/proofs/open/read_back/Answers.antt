@@ -2,7 +2,7 @@ use Rattle.std.proofs.Common.{◌≤◌, List, ℕ, length, arith, subst}
 use Rattle.std.proofs.lemmas.Result.{err_from_is_err_and}
 use Rattle.psu_items.specs.Finding.{HoldsNone}
 use Rattle.psu_items.proofs.Settling.{picked_counts, unpicked, unheld}
-use Rattle.psu_items.proofs.Opening.{only_loaded, picked_loaded, holds_loaded, same_old, run_settled, stood}
+use Rattle.psu_items.proofs.Opening.{only_loaded, picked_loaded, holds_loaded, same_old, run_settled, stood, picked_own, readable}
 use Rattle.psu_items.proofs.open.read_back.Goals as goal
 
 pub returns-in_err-picked-clause-refused : goal.returns-in_err-picked-clause-refused
@@ -57,6 +57,27 @@ returns-clause-kept g c = λ h.
 
 pub returns-clause-left : goal.returns-clause-left
 returns-clause-left g c = λ h x l.
+    let d = g.D.Disk in
+    let old = c.args.disk.now in
+    let p = c.in_ok-picked.picked in
+    let only = only_loaded d.state old c.find.new.disk c.load.new.disk (c.find.ensures.seen h) (c.find.ensures.left h) (c.load.ensures.seen h) (c.load.ensures.left h) (c.in_ok-picked.ensures.synced h) in
+    let picked = picked_loaded d.state old c.find.new.disk c.load.new.disk (c.find.ensures.seen h) (c.find.ensures.left h) (c.load.ensures.seen h) (c.load.ensures.left h) p.root p.number p.both (c.in_ok-picked.ensures.found h) in
+    same_old d.state old c.find.new.disk c.load.new.disk (c.find.ensures.seen h) (c.find.ensures.left h) (c.load.ensures.seen h) (c.load.ensures.left h) x (c.settle.ensures.left h only picked x l)
+
+pub returns-in_err-limit-clause-memory : goal.returns-in_err-limit-clause-memory
+returns-in_err-limit-clause-memory g c = λ h.
+    let p = err_from_is_err_and c.from_residual-in_err-limit.result c.from_residual-in_err-limit.ensures.1 in
+    let d = g.D.Disk in
+    let q = c.in_ok-picked.picked in
+    rw (p.1, p.2) (λ is. readable (d.state c.args.disk.now).bytes (d.state c.find.new.disk).bytes q.root q.number q.both (c.find.ensures.seen h) (c.in_ok-picked.ensures.found h) (c.in_err-limit.ensures.memory h is))
+
+pub returns-clause-number : goal.returns-clause-number
+returns-clause-number g c = λ h.
+    let q = c.in_ok-picked.picked in
+    picked_own (g.D.Disk.state c.args.disk.now).bytes q.root q.number q.both (c.in_ok-picked.ensures.found h)
+
+pub returns-in_err-settle-clause-left : goal.returns-in_err-settle-clause-left
+returns-in_err-settle-clause-left g c = λ h x l.
     let d = g.D.Disk in
     let old = c.args.disk.now in
     let p = c.in_ok-picked.picked in

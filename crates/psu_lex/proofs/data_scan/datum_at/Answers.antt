@@ -1,7 +1,7 @@
 use Rattle.std.proofs.Common.{sym, ◌∙◌, ap, List, ℕ, subst, length, arith, length-drop}
 use Rattle.psu_lex.specs.Bytes.{is_white}
 use Rattle.psu_lex.specs.NumberScan.{left}
-use Rattle.psu_lex.specs.SyntaxScan.{Splits, is_parted}
+use Rattle.psu_lex.specs.SyntaxScan.{Splits}
 use Rattle.psu_lex.proofs.PieceScans.{not_zero}
 use Rattle.psu_lex.proofs.DataScans.{none_at, unparted_at}
 use Rattle.psu_lex.proofs.DataLists.{left_shorter}

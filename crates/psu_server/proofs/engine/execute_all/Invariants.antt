@@ -1,9 +1,7 @@
-use Rattle.std.proofs.Common.{◌≡◌, [], false, ℕ, List, length, ◌-◌, ◌≤◌}
+use Rattle.std.proofs.Common.{◌≡◌, [], false, List, ℕ, length, ◌-◌, ◌≤◌}
 use Rattle.std.specs.Io.KnownBytes.{Consumes}
-use Rattle.psu_server.specs.Failures.{failures_of}
-use Rattle.psu_server.specs.Reasons.{IsExplained}
 use Rattle.psu_server.specs.Lines.{coming}
-use Rattle.psu_server.proofs.Readings.{Ran}
+use Rattle.psu_server.proofs.Reading.{Ran}
 use Rattle.psu_server.proofs.engine.execute_all.Given as goal
 
 abbrev pub invariant-reading : goal.invariant-reading
@@ -12,9 +10,7 @@ invariant-reading g l = record {
   consumed : Consumes (g.R.Read.remaining l.initial.reader) (g.R.Read.remaining l.reader) seen;
   taken : length seen ≡ l.intake.bytes;
   reads : l.intake.reads ≤ l.intake.bytes;
-  explained : (start : ℕ) → IsExplained start l.initial.powered.exec → IsExplained start l.powered.exec;
-  ran : g.D.Disk.honest → Ran (coming false []) (coming l.lines.is_over l.lines.line.items) l.initial.powered.exec.device l.powered.exec.device
-      (failures_of l.initial.powered.exec) (failures_of l.powered.exec)
+  ran : Ran (coming false []) (coming l.lines.is_over l.lines.line.items) l.initial.powered.exec l.powered.exec
       (g.R.Read.remaining l.initial.reader) (g.R.Read.remaining l.reader) (g.W.Write.contents l.initial.writer) (g.W.Write.contents l.writer);
 }
 

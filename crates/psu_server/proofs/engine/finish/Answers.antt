@@ -1,42 +1,74 @@
-use Rattle.std.proofs.Common.{◌≡◌, ℕ, [], sym, subst, ◌∙◌}
-use Rattle.psu_exec.specs.declared.condition.Condition.TheVariants.{Whole}
-use Rattle.psu_server.specs.Failures.{failures_of}
-use Rattle.psu_server.specs.Progress.{Answers}
-use Rattle.psu_server.specs.Runs.{any}
-use Rattle.psu_server.proofs.Within.{within_any, is_whole_false, is_whole_true}
-use Rattle.psu_server.proofs.Flushed.{flushed_stands}
+use Rattle.std.proofs.Common.{◌≡◌, ◌∙◌, ◌==◌, ℕ, [], arith, false, sym, true}
+use Rattle.std.proofs.lemmas.Bool.Decides.{nat_tests}
 use Rattle.psu_server.specs.Lines.{coming}
+use Rattle.psu_server.proofs.Causes.{or_writes}
+use Rattle.psu_server.proofs.Feeding.{flushed_stops, halts_idle}
 use Rattle.psu_server.proofs.Fronts.{passed}
-use Rattle.psu_server.proofs.Readings.{answers_begin, answers_later}
-use Rattle.psu_server.proofs.Reasons.{or_writes, stops_device}
+use Rattle.psu_server.proofs.Reading.{answers_early, answers_flushed}
+use Rattle.psu_server.proofs.Starting.{halted_stops, left_stops}
 use Rattle.psu_server.proofs.engine.finish.Goals as goal
 
-pub returns-in_err-powered-2-clause-front : goal.returns-in_err-powered-2-clause-front
-returns-in_err-powered-2-clause-front g c = λ h.
-    passed c.from_residual-in_err-powered-2.result c.in_err-powered-2.field-0.0 _ c.from_residual-in_err-powered-2.ensures.1
-    (answers_begin c.in_err-powered-2.field-0.0.cause (coming c.args.lines.now.is_over c.args.lines.now.line.items []) c.args.powered.exec.device _ _ _ _ _
-    (c.in_ok-powered.ensures.whole h) (λ w. let bad = sym c.in_err-powered-2.ensures.memory ∙ w in cc))
+some_left : (n : ℕ) → (n == 0) ≡ false → n ≡ 0 → ⊥
+some_left n some none = grind (arith, nat_tests, some, none)
 
-pub returns-then-not-powered-clause-front : goal.returns-then-not-powered-clause-front
-returns-then-not-powered-clause-front g c = λ h.
-    answers_begin c.fault.result.cause (coming c.args.lines.now.is_over c.args.lines.now.line.items []) c.args.powered.exec.device _ _ _ _ _
-    (c.in_ok-powered.ensures.whole h) (λ w. let bad = sym c.fault.ensures.cause ∙ w in cc)
+none_left : (n : ℕ) → (n == 0) ≡ true → n ≡ 0
+none_left n none = grind (arith, nat_tests, none)
+
+pub returns-in_err-powered-clause-early : goal.returns-in_err-powered-clause-early
+returns-in_err-powered-clause-early g c = λ h.
+    passed c.from_residual.result c.in_err-powered.field-0.0 _ c.from_residual.ensures.1 (c.in_err-powered.ensures.early h)
+
+pub returns-in_err-powered-clause-caused : goal.returns-in_err-powered-clause-caused
+returns-in_err-powered-clause-caused g c = λ h.
+    passed c.from_residual.result c.in_err-powered.field-0.0 _ c.from_residual.ensures.1 (c.in_err-powered.ensures.caused h)
+
+pub invariant_of-powered : goal.invariant_of-powered
+invariant_of-powered g c = record {
+  first = c.in_ok-powered.powered.first;
+  «open» = c.flush.ensures.open ∙ c.in_ok-powered.powered.open;
+  idle = c.flush.ensures.idle;
+  free = c.flush.ensures.free c.in_ok-powered.powered.free;
+}
+
+pub invariant_of-powered-2 : goal.invariant_of-powered-2
+invariant_of-powered-2 g c = record {
+  first = c.in_ok-powered.powered.first;
+  «open» = c.flush.ensures.open ∙ c.in_ok-powered.powered.open;
+  idle = c.flush.ensures.idle;
+  free = c.flush.ensures.free c.in_ok-powered.powered.free;
+}
+
+pub returns-in-Err-clause-early : goal.returns-in-Err-clause-early
+returns-in-Err-clause-early g c = λ h.
+    answers_early (coming c.args.lines.now.is_over c.args.lines.now.line.items []) c.args.powered.exec c.in_ok-powered.powered.exec c.fault.result _ _ h c.in_ok-powered.ensures.whole
+    (λ e. c.in-Err.ensures.halts.own (sym c.fault.ensures.cause ∙ e))
+    (halts_idle c.in_ok-powered.powered.exec c.flush.new.exec c.fault.result [] c.in-Err.cause h c.in-Err.ensures.halts c.fault.ensures.failures c.fault.ensures.state)
+
+pub returns-in-Err-clause-caused : goal.returns-in-Err-clause-caused
+returns-in-Err-clause-caused g c = λ h since why.
+    let halts = c.in-Err.ensures.halts in
+    let now = c.in_ok-powered.ensures.whole.2.explained since why in
+    or_writes since (g.D.Disk.failures c.fault.result.disk) (g.D.Disk.state c.fault.result.disk).bytes c.fault.result.cause
+    (halted_stops since (g.D.Disk.failures c.fault.result.disk) c.flush.new.exec (g.D.Disk.state c.fault.result.disk).bytes c.in-Err.cause c.fault.result.cause c.fault.ensures.cause
+    c.fault.ensures.failures (halts.why h since now) (c.fault.ensures.reason h since (halts.explained since now)))
+
+pub returns-then-not-is_flushed-clause-early : goal.returns-then-not-is_flushed-clause-early
+returns-then-not-is_flushed-clause-early g c = λ h.
+    let fault = c.fault-then-not-is_flushed.result in
+    answers_early (coming c.args.lines.now.is_over c.args.lines.now.line.items []) c.args.powered.exec c.in_ok-powered.powered.exec fault _ _ h c.in_ok-powered.ensures.whole
+    (λ e. let bad = sym c.fault-then-not-is_flushed.ensures.cause ∙ e in cc)
+    (flushed_stops c.in_ok-powered.powered.exec c.flush.new.exec fault h c.in-Ok.ensures.flushes c.fault-then-not-is_flushed.ensures.failures c.fault-then-not-is_flushed.ensures.state)
+
+pub returns-then-not-is_flushed-clause-caused : goal.returns-then-not-is_flushed-clause-caused
+returns-then-not-is_flushed-clause-caused g c = λ h since why.
+    let fault = c.fault-then-not-is_flushed.result in
+    let now = c.in_ok-powered.ensures.whole.2.explained since why in
+    or_writes since (g.D.Disk.failures fault.disk) (g.D.Disk.state fault.disk).bytes fault.cause
+    (left_stops since (g.D.Disk.failures fault.disk) c.flush.new.exec (g.D.Disk.state fault.disk).bytes fault.cause c.fault-then-not-is_flushed.ensures.cause c.fault-then-not-is_flushed.ensures.failures
+    (c.in-Ok.ensures.clean since now) (some_left c.flush.new.exec.device.flush.unflushed (sym c.is_flushed.ensures ∙ c.if-not-is_flushed.true))
+    (c.fault-then-not-is_flushed.ensures.reason h since (c.in-Ok.ensures.flushes.explained since now)))
 
 pub returns-clause-whole : goal.returns-clause-whole
 returns-clause-whole g c = λ h.
-    let due = coming c.args.lines.now.is_over c.args.lines.now.line.items [] in
-    let last = c.in_ok-powered.powered.exec.device in
-    let whole : c.in_ok-powered-2.powered.exec.device.flush.store ≡ Whole = is_whole_true _ (sym c.in_ok-powered-2.powered.tells ∙ c.if-not-powered.false) in (
-      last,
-      subst (λ (n : ℕ). Answers due c.args.powered.exec.device last (failures_of c.args.powered.exec) n (g.W.Write.contents c.args.writer.now) (g.W.Write.contents c.last_line.new.writer))
-          (sym c.into_disk.ensures.failures)
-          (answers_later due c.args.powered.exec.device last _ _ _ _ _ _ (c.in_ok-powered.ensures.whole h) c.in_ok-powered-2.ensures.flushes),
-      flushed_stands any last c.in_ok-powered-2.powered.exec.device _ (within_any _ _ _ c.in_ok-powered-2.ensures.flushes) whole c.contents-kept.ensures.consistent (c.into_disk.ensures.stands h whole),
-    )
-
-pub returns-then-not-powered-clause-caused : goal.returns-then-not-powered-clause-caused
-returns-then-not-powered-clause-caused g c = λ h start e.
-    let worn = is_whole_false c.in_ok-powered-2.powered.exec.device.flush.store (sym c.in_ok-powered-2.powered.tells ∙ c.if-not-powered.true) in
-    or_writes start (g.D.Disk.failures c.fault.result.disk) (g.D.Disk.state c.fault.result.disk).bytes c.fault.result.cause
-    (stops_device start (g.D.Disk.failures c.fault.result.disk) (g.D.Disk.state c.fault.result.disk).bytes c.fault.result.cause c.fault.ensures.cause
-    (c.fault.ensures.reason h start (c.in_ok-powered-2.ensures.explained start (c.in_ok-powered.ensures.explained start e)) worn))
+    answers_flushed (coming c.args.lines.now.is_over c.args.lines.now.line.items []) c.args.powered.exec c.in_ok-powered.powered.exec c.flush.new.exec c.into_disk.result _ _ h
+    c.in_ok-powered.ensures.whole c.in-Ok.ensures.flushes (none_left c.flush.new.exec.device.flush.unflushed (sym c.is_flushed.ensures ∙ c.if-not-is_flushed.false)) c.into_disk.ensures.failures c.into_disk.ensures.state

@@ -1,6 +1,8 @@
 use Rattle.std.proofs.Common.{◌≡◌, ◌∙◌, ℕ, List, refl, sym, ap, subst}
 use Rattle.psu_items.specs.Map.{Item, cost}
-use Rattle.psu_items.specs.Image.{Stands}
+use Rattle.psu_items.specs.Image.{HasReadableRoot, IsRefusal, Stands}
+use Rattle.psu_items.specs.declared.open_cause.OpenCause.{OpenCause}
+use Rattle.psu_items.specs.declared.open_cause.OpenCause.TheVariants as opening
 use Rattle.psu_exec.specs.Contents.{items_of}
 use Rattle.psu_exec.specs.Device.{State}
 use Rattle.psu_exec.specs.Registers.{first_request}
@@ -10,7 +12,9 @@ use Rattle.psu_exec.specs.declared.power_fault.PowerCause.TheVariants as power
 use Rattle.psu_exec.proofs.FirstRequest.{first_request-at_power_on}
 use Rattle.psu_server.specs.declared.report.Report.{Report}
 use Rattle.psu_server.specs.declared.recover_fault.RecoverFault.{RecoverFault}
-use Rattle.psu_server.specs.Recover.{IsReported, IsRecoverRefusal, HasBadItems, recover_power}
+use Rattle.psu_server.specs.Causes.{HasBadItems}
+use Rattle.psu_server.specs.Recover.{IsReported, IsRecoverRefusal, recover_open, recover_power}
+use Rattle.psu_server.proofs.Starting.{readable}
 use Rattle.psu_server.proofs.recovery.recover.Goals as goal
 
 pub returns-in-Ok-power_on-clause-found : goal.returns-in-Ok-power_on-clause-found
@@ -20,7 +24,7 @@ returns-in-Ok-power_on-clause-found g c = λ h.
     let found : items_of contents ≡ c.in-Ok.store.items = c.in-Ok-power_on.ensures.found in
     let stood : Stands bytes c.in-Ok.store.limit c.in-Ok.store.items = c.in-Ok.ensures.stood h in
     let limit : c.limit-limit.result ≡ c.in-Ok.store.limit = c.limit-limit.ensures.value in
-    let pages : c.cost-pages.result ≡ cost (items_of contents) = c.cost-pages.ensures ∙ ap cost (c.items.ensures.value ∙ sym found) in
+    let pages : c.cost-pages.result ≡ cost (items_of contents) = c.cost-pages.ensures.value ∙ ap cost (c.items.ensures.value ∙ sym found) in
     let request = ap (λ (s : State). first_request s.volatile.registers) c.in-Ok-power_on.ensures.state ∙ first_request-at_power_on contents.enables in
     subst (λ (r : Report). IsReported bytes r) (sym c.report_of-report.ensures)
     (record {
@@ -28,6 +32,7 @@ returns-in-Ok-power_on-clause-found g c = λ h.
       sound = c.in-Ok-power_on.ensures.sound;
       stands = subst (λ (m : List Item). Stands bytes c.limit-limit.result m) (sym found) (subst (λ (l : ℕ). Stands bytes l c.in-Ok.store.items) (sym limit) stood);
       version = c.version-version.ensures.value;
+      root = c.number-root.ensures.value ∙ c.in-Ok.ensures.number h;
       pages = pages;
       enables = refl;
       request = request;
@@ -35,14 +40,26 @@ returns-in-Ok-power_on-clause-found g c = λ h.
       macros = refl;
     })
 
--- want of memory says nothing of the image; bad items are those of no contents
-by_cause : (image : List ℕ) (cause : PowerCause) → (cause ≡ power.BadItems → HasBadItems image) → IsRecoverRefusal image (recover_power cause)
-by_cause image power.BadItems bad = bad refl
-by_cause image power.Memory bad = tt
+by_open : (image : List ℕ) (cause : OpenCause) → IsRefusal image cause → (cause ≡ opening.Memory → HasReadableRoot image) → IsRecoverRefusal image (recover_open cause)
+by_open image opening.Device is memory = tt
+by_open image opening.NoRoot is memory = is
+by_open image opening.BadRoot is memory = is
+by_open image opening.BadVersion is memory = is
+by_open image opening.Memory is memory = memory refl
+
+-- bad items are those of no contents
+by_cause : (image : List ℕ) (cause : PowerCause) → HasReadableRoot image → (cause ≡ power.BadItems → HasBadItems image) → IsRecoverRefusal image (recover_power cause)
+by_cause image power.BadItems rooted bad = bad refl
+by_cause image power.Memory rooted bad = rooted
+
+pub returns-in-Err-clause-refused : goal.returns-in-Err-clause-refused
+returns-in-Err-clause-refused g c = λ h.
+    subst (λ (e : RecoverFault). IsRecoverRefusal (g.D.Disk.state c.args.disk).bytes e) (sym c.from.ensures)
+    (by_open (g.D.Disk.state c.args.disk).bytes c.in-Err.refused.cause (c.in-Err.ensures.refused h) (c.in-Err.ensures.memory h))
 
 pub returns-in-Err-power_on-clause-refused : goal.returns-in-Err-power_on-clause-refused
 returns-in-Err-power_on-clause-refused g c = λ h.
     let bytes : List ℕ = (g.D.Disk.state c.args.disk).bytes in
     let cause : PowerCause = c.in-Err-power_on.fault.cause in
-    let bad : cause ≡ power.BadItems → HasBadItems bytes = λ is. record { limit = c.in-Ok.store.limit; items = c.in-Ok.store.items; stands = c.in-Ok.ensures.stood h; none = c.in-Err-power_on.ensures.bad is } in
-    subst (λ (e : RecoverFault). IsRecoverRefusal bytes e) (sym c.from-in-Err-power_on.ensures) (by_cause bytes cause bad)
+    let bad : cause ≡ power.BadItems → HasBadItems bytes = λ is. record { limit = c.in-Ok.store.limit; map = c.in-Ok.store.items; stands = c.in-Ok.ensures.stood h; none = c.in-Err-power_on.ensures.bad is } in
+    subst (λ (e : RecoverFault). IsRecoverRefusal bytes e) (sym c.from-in-Err-power_on.ensures) (by_cause bytes cause (readable bytes c.in-Ok.store.limit c.in-Ok.store.items (c.in-Ok.ensures.stood h)) bad)

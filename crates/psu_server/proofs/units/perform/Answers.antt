@@ -1,6 +1,15 @@
+use Rattle.std.proofs.Common.{[], ◌∷◌}
 use Rattle.psu_exec.specs.Shown.{outcome_of}
-use Rattle.psu_server.proofs.Within.{unit_told}
+use Rattle.psu_server.proofs.UnitEnds.{halts_for_memory}
+use Rattle.psu_server.proofs.MessageEnds.{unit_executed, unit_told}
 use Rattle.psu_server.proofs.units.perform.Goals as goal
 
+pub returns-in_default-clause-halts : goal.returns-in_default-clause-halts
+returns-in_default-clause-halts g c =
+    halts_for_memory c.args.powered.now.exec c.unit.new.powered.exec (c.args.request.now ∷ []) []
+    (unit_executed c.args.powered.now.exec c.unit.new.powered.exec c.args.request.now (outcome_of c.in_ok-outcome.outcome) c.in_ok-outcome.ensures.runs)
+
 pub returns-clause-runs : goal.returns-clause-runs
-returns-clause-runs g c = unit_told (outcome_of c.in_ok-powered.outcome) _ _ _ _ _ _ _ c.in_ok-powered.ensures.runs c.in-Ok.ensures
+returns-clause-runs g c =
+    unit_told c.args.powered.now.exec c.unit.new.powered.exec c.args.request.now (outcome_of c.in_ok-outcome.outcome) c.args.answers.now.items c.put_answer.new.answers.items
+    c.in_ok-outcome.ensures.runs c.in-Ok.ensures

@@ -7,7 +7,7 @@ use Rattle.psu_items.specs.Batch.{changed}
 use Rattle.psu_items.specs.Writing.{Spells}
 use Rattle.psu_items.proofs.Resting.{kept_stands}
 use Rattle.psu_items.proofs.Staging.{spelled_size}
-use Rattle.psu_items.proofs.Replacing.{run_kept}
+use Rattle.psu_items.proofs.Replacing.{run_kept, kept_behind, run_behind}
 use Rattle.psu_items.proofs.store.Store.commit.Goals as goal
 
 pub returns-then-is_worn-clause-time : goal.returns-then-is_worn-clause-time
@@ -93,3 +93,33 @@ returns-in-Err-clause-time g c = λ h t.
     let target = changed s.items c.args.batch in
     let spells : Spells s.limit c.deref.result.now target = subst (λ (l : List ℕ). Spells s.limit l target) (sym c.deref.ensures.value) c.in-Ok.ensures.area in
     c.replace.ensures.time h t s.items target (s.kept h) spells
+
+pub returns-then-is_worn-clause-behind : goal.returns-then-is_worn-clause-behind
+returns-then-is_worn-clause-behind g c = λ h. let s = c.args.self in kept_behind (g.D.Disk.state s.disk) s.limit (s.kept h).only
+
+pub returns-then-is_worn-clause-behind_time : goal.returns-then-is_worn-clause-behind_time
+returns-then-is_worn-clause-behind_time g c = λ h t.
+    let d = g.D.Disk in
+    let s = c.args.self in
+    run_behind d.state d.moment d.left_since s.disk s.limit (s.kept h).only (g.met.D.Disk.only_now t s.disk)
+
+pub returns-in_default-clause-behind : goal.returns-in_default-clause-behind
+returns-in_default-clause-behind g c = λ h. let s = c.args.self in kept_behind (g.D.Disk.state s.disk) s.limit (s.kept h).only
+
+pub returns-in_default-clause-behind_time : goal.returns-in_default-clause-behind_time
+returns-in_default-clause-behind_time g c = λ h t.
+    let d = g.D.Disk in
+    let s = c.args.self in
+    run_behind d.state d.moment d.left_since s.disk s.limit (s.kept h).only (g.met.D.Disk.only_now t s.disk)
+
+pub returns-in-Ok-replace-clause-behind : goal.returns-in-Ok-replace-clause-behind
+returns-in-Ok-replace-clause-behind g c = λ h. c.replace.ensures.behind h (c.args.self.kept h).only
+
+pub returns-in-Ok-replace-clause-behind_time : goal.returns-in-Ok-replace-clause-behind_time
+returns-in-Ok-replace-clause-behind_time g c = λ h t. c.replace.ensures.behind_time h t (c.args.self.kept h).only
+
+pub returns-in-Err-clause-behind : goal.returns-in-Err-clause-behind
+returns-in-Err-clause-behind g c = λ h. c.replace.ensures.behind h (c.args.self.kept h).only
+
+pub returns-in-Err-clause-behind_time : goal.returns-in-Err-clause-behind_time
+returns-in-Err-clause-behind_time g c = λ h t. c.replace.ensures.behind_time h t (c.args.self.kept h).only

@@ -1,7 +1,29 @@
-use Rattle.psu_server.proofs.Starting.{not_powered}
+use Rattle.std.proofs.Common.{ap, ◌∙◌, subst, sym}
+use Rattle.psu_items.specs.Image.{EachStands}
+use Rattle.psu_items.proofs.Resting.{kept_stands}
+use Rattle.psu_server.proofs.Starting.{first_opens, not_opened, not_powered, opened_one, powers_on}
 use Rattle.psu_server.proofs.powered.Powered.on.Goals as goal
+
+pub returns-in-Err-clause-refused : goal.returns-in-Err-clause-refused
+returns-in-Err-clause-refused g c = λ h.
+    not_opened c.in-Err.refused.cause c.from.result _ _ _ (c.in-Err.ensures.refused h) c.in-Err.ensures.device c.in-Err.ensures.quiet (c.in-Err.ensures.memory h) c.from.ensures
 
 pub returns-in-Err-power_on-clause-refused : goal.returns-in-Err-power_on-clause-refused
 returns-in-Err-power_on-clause-refused g c = λ h.
     not_powered c.in-Err-power_on.fault.cause c.from-in-Err-power_on.result _ _ _ c.in-Ok.store.limit c.in-Ok.store.items (c.in-Ok.ensures.stood h)
+    (ap g.D.Disk.failures c.into_disk.ensures.value ∙ ap (λ s. g.D.Disk.failures s.disk) c.in-Err-power_on.ensures.back ∙ c.in-Ok.ensures.works)
     c.in-Err-power_on.ensures.bad c.from-in-Err-power_on.ensures
+
+pub returns-in-Err-power_on-clause-left : goal.returns-in-Err-power_on-clause-left
+returns-in-Err-power_on-clause-left g c = λ h limit map each.
+    subst (λ d. EachStands (g.D.Disk.state d) limit map) (sym c.into_disk.ensures.value)
+    (subst (λ s. EachStands (g.D.Disk.state s.disk) limit map) (sym c.in-Err-power_on.ensures.back) (c.in-Ok.ensures.left h limit map each))
+
+pub returns-clause-starts : goal.returns-clause-starts
+returns-clause-starts g c = λ h.
+    let on = c.in-Ok-power_on.exec in
+    let store = c.in-Ok.store in
+    let one = first_opens on.device c.open_session.new.self.device store.limit on.device.flush.contents c.in-Ok-open_session.session c.in-Ok-power_on.ensures.state c.in-Ok-open_session.ensures.opened in
+    powers_on (g.D.Disk.state c.args.disk).bytes store on c.open_session.new.self (c.in-Ok.ensures.stood h) (kept_stands (g.D.Disk.state store.disk) store.root store.limit store.number store.items (store.kept h))
+    c.in-Ok-power_on.ensures.state c.in-Ok-power_on.ensures.found c.in-Ok-power_on.ensures.sound c.in-Ok-power_on.ensures.home
+    (opened_one on.device c.open_session.new.self.device c.in-Ok-open_session.session one c.in-Ok-open_session.ensures.opened) c.open_session.ensures.home

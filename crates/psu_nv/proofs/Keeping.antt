@@ -1,0 +1,148 @@
+-- What contents may be, kept over each change of a part.
+use Rattle.std.proofs.Common.{◌≡◌, inl, inr, ℕ, suc, ◌<◌, ◌≤◌, Bool, true, false, cond, List, [], ◌∷◌, ◌++◌, length, get_or, drop, take, Option, Some, None, refl, sym, ◌∙◌, ap, subst, bytes_eq, arith, length-append, drop-cons}
+use Rattle.std.specs.Prelude.{◌&&◌, is_some, ◌==◌, bit_and}
+use Rattle.std.specs.Option.{ForSome}
+use Rattle.std.specs.List.{AllByRecursion, remove}
+use Rattle.std.proofs.lemmas.Bool.{cases_eq}
+use Rattle.std.proofs.lemmas.Bool.Decides.{nat_tests}
+use Rattle.std.specs.Ordering.{nat_cmp, is_lt}
+use Rattle.std.specs.Cmp.Lexicographic.{slice_cmp}
+use Rattle.psu_items.specs.Map.{Item, item_of, put, without, IsSorted}
+use Rattle.psu_items.proofs.Maps.{sorted-put, sorted-without}
+use Rattle.psu_nv.specs.Names.{small, same_label, is_label}
+use Rattle.psu_nv.specs.Contents.{Macro, Contents, contents_of, body_at, has_label, HasDistinct, IsMacro, IsFile, IsContents}
+use Rattle.psu_nv.specs.Commands.{without_label, macro_of}
+
+pub all_put : (P : Item → Type 0) (items : List Item) (key value : List ℕ) → AllByRecursion P items → P (item_of key value) → AllByRecursion P (put items key value)
+all_put P [] key value all here = (here, tt)
+all_put P (i ∷ items) key value all here = by_tests (bytes_eq i.key key) (is_lt (slice_cmp nat_cmp i.key key)) (all_put P items key value all.1 here)
+  where
+    by_tests : (same less : Bool) → AllByRecursion P (put items key value) → AllByRecursion P (cond same (item_of key value ∷ items) (cond less (i ∷ put items key value) (item_of key value ∷ i ∷ items)))
+    by_tests true less rest = (here, all.1)
+    by_tests false true rest = (all.0, rest)
+    by_tests false false rest = (here, all)
+
+pub all_without : (P : Item → Type 0) (items : List Item) (key : List ℕ) → AllByRecursion P items → AllByRecursion P (without items key)
+all_without P [] key all = tt
+all_without P (i ∷ items) key all = by_test (bytes_eq i.key key) (all_without P items key all.1)
+  where
+    by_test : (same : Bool) → AllByRecursion P (without items key) → AllByRecursion P (cond same (without items key) (i ∷ without items key))
+    by_test true rest = rest
+    by_test false rest = (all.0, rest)
+
+with_files : (c : Contents) (files : List Item) → IsContents c → AllByRecursion IsFile files → IsSorted files → IsContents (contents_of c.registers c.user c.macros c.enables files)
+with_files c files is all sorted = record { ten = is.ten; settings = is.settings; user = is.user; macros = is.macros; distinct = is.distinct; most_macros = is.most_macros; mss = is.mss; files = all; sorted = sorted }
+
+pub kept_put : (c : Contents) (files : List Item) (key name value : List ℕ) → IsContents c → key ≡ name → files ≡ put c.files key value → IsFile (item_of name value) → IsContents (contents_of c.registers c.user c.macros c.enables files)
+kept_put c files key name value is same is_put file =
+    subst (λ (l : List Item). IsContents (contents_of c.registers c.user c.macros c.enables l)) (sym is_put)
+    (with_files c (put c.files key value) is (all_put IsFile c.files key value is.files (subst (λ (k : List ℕ). IsFile (item_of k value)) (sym same) file)) (sorted-put c.files key value is.sorted))
+
+pub kept_without : (c : Contents) (files : List Item) (name : List ℕ) → IsContents c → files ≡ without c.files name → IsContents (contents_of c.registers c.user c.macros c.enables files)
+kept_without c files name is is_without =
+    subst (λ (l : List Item). IsContents (contents_of c.registers c.user c.macros c.enables l)) (sym is_without)
+    (with_files c (without c.files name) is (all_without IsFile c.files name is.files) (sorted-without c.files name is.sorted))
+
+-- # Macros
+
+with_macros : (c : Contents) (macros : List Macro) → IsContents c → AllByRecursion IsMacro macros → HasDistinct macros → length macros ≤ 32 → IsContents (contents_of c.registers c.user macros c.enables c.files)
+with_macros c macros is all distinct most = record { ten = is.ten; settings = is.settings; user = is.user; macros = all; distinct = distinct; most_macros = most; mss = is.mss; files = is.files; sorted = is.sorted }
+
+same_sym : (m n : ℕ) → (m == n) ≡ (n == m)
+same_sym m n = elim (cases_eq m n) [
+  | inl same ↦ ap (λ (k : ℕ). k == n) same ∙ sym (ap (λ (k : ℕ). n == k) same)
+  | inr other ↦ let a : (m == n) ≡ false = grind (arith, nat_tests) in let b : (n == m) ≡ false = grind (arith, nat_tests) in a ∙ sym b
+]
+
+pub label_sym : (a b : List ℕ) → same_label a b ≡ same_label b a
+label_sym [] [] = refl
+label_sym [] (y ∷ b) = refl
+label_sym (x ∷ a) [] = refl
+label_sym (x ∷ a) (y ∷ b) = ap (λ (t : Bool). t && same_label a b) (same_sym (small x) (small y)) ∙ ap (λ (t : Bool). (small y == small x) && t) (label_sym a b)
+
+label-push : (macros : List Macro) (new : Macro) (label : List ℕ) → has_label macros label ≡ false → same_label new.label label ≡ false → has_label (macros ++ new ∷ []) label ≡ false
+label-push [] new label none other = ap (λ (b : Bool). is_some (cond b (Some new.body) None)) other
+label-push (m ∷ macros) new label none other = by_test (same_label m.label label) none (label-push macros new label)
+  where
+    by_test : (b : Bool) → is_some (cond b (Some m.body) (body_at macros label)) ≡ false → (has_label macros label ≡ false → same_label new.label label ≡ false → has_label (macros ++ new ∷ []) label ≡ false)
+        → is_some (cond b (Some m.body) (body_at (macros ++ new ∷ []) label)) ≡ false
+    by_test true none rest = none
+    by_test false none rest = rest none other
+
+not_first : (m : Macro) (macros : List Macro) (label : List ℕ) → has_label (m ∷ macros) label ≡ false → (same_label m.label label ≡ false) × (has_label macros label ≡ false)
+not_first m macros label none = by_test (same_label m.label label) none
+  where
+    by_test : (b : Bool) → is_some (cond b (Some m.body) (body_at macros label)) ≡ false → (b ≡ false) × (has_label macros label ≡ false)
+    by_test true none = absurd cc
+    by_test false none = (refl, none)
+
+distinct-push : (macros : List Macro) (new : Macro) → HasDistinct macros → has_label macros new.label ≡ false → HasDistinct (macros ++ new ∷ [])
+distinct-push [] new distinct none = (refl, tt)
+distinct-push (m ∷ macros) new distinct none =
+    let parts = not_first m macros new.label none in
+    (label-push macros new m.label distinct.0 (label_sym new.label m.label ∙ parts.0), distinct-push macros new distinct.1 parts.1)
+
+all-push : (P : Macro → Type 0) (macros : List Macro) (new : Macro) → AllByRecursion P macros → P new → AllByRecursion P (macros ++ new ∷ [])
+all-push P [] new all here = (here, tt)
+all-push P (m ∷ macros) new all here = (all.0, all-push P macros new all.1 here)
+
+pub kept_push : (c : Contents) (macros : List Macro) (made : Macro) (label body : List ℕ) → IsContents c → macros ≡ c.macros ++ made ∷ [] → made ≡ macro_of label body → is_label label ≡ true → length body ≤ 1024 → has_label c.macros label ≡ false → length c.macros < 32
+    → IsContents (contents_of c.registers c.user macros c.enables c.files)
+kept_push c macros made label body is is_push is_made good short none room =
+    subst (λ (l : List Macro). IsContents (contents_of c.registers c.user l c.enables c.files)) (sym (is_push ∙ ap (λ (m : Macro). c.macros ++ m ∷ []) is_made))
+    (with_macros c (c.macros ++ macro_of label body ∷ []) is (all-push IsMacro c.macros (macro_of label body) is.macros (record { label = good; body = short })) (distinct-push c.macros (macro_of label body) is.distinct none) (omega (arith, room, length-append c.macros (macro_of label body ∷ []))))
+
+label-without : (macros : List Macro) (label other : List ℕ) → has_label macros other ≡ false → has_label (without_label macros label) other ≡ false
+label-without [] label other none = refl
+label-without (m ∷ macros) label other none = by_test (same_label m.label label) (label-without macros label other)
+  where
+    parts : (same_label m.label other ≡ false) × (has_label macros other ≡ false)
+    parts = not_first m macros other none
+
+    by_test : (b : Bool) → (has_label macros other ≡ false → has_label (without_label macros label) other ≡ false) → has_label (cond b macros (m ∷ without_label macros label)) other ≡ false
+    by_test true rest = parts.1
+    by_test false rest = ap (λ (b : Bool). is_some (cond b (Some m.body) (body_at (without_label macros label) other))) parts.0 ∙ rest parts.1
+
+distinct-without : (macros : List Macro) (label : List ℕ) → HasDistinct macros → HasDistinct (without_label macros label)
+distinct-without [] label distinct = tt
+distinct-without (m ∷ macros) label distinct = by_test (same_label m.label label) (distinct-without macros label distinct.1)
+  where
+    by_test : (b : Bool) → HasDistinct (without_label macros label) → HasDistinct (cond b macros (m ∷ without_label macros label))
+    by_test true rest = distinct.1
+    by_test false rest = (label-without macros label m.label distinct.0, rest)
+
+all-without_label : (macros : List Macro) (label : List ℕ) → AllByRecursion IsMacro macros → AllByRecursion IsMacro (without_label macros label)
+all-without_label [] label all = tt
+all-without_label (m ∷ macros) label all = by_test (same_label m.label label) (all-without_label macros label all.1)
+  where
+    by_test : (b : Bool) → AllByRecursion IsMacro (without_label macros label) → AllByRecursion IsMacro (cond b macros (m ∷ without_label macros label))
+    by_test true rest = all.1
+    by_test false rest = (all.0, rest)
+
+length-without_label : (macros : List Macro) (label : List ℕ) → length (without_label macros label) ≤ length macros
+length-without_label [] label = omega arith
+length-without_label (m ∷ macros) label = by_test (same_label m.label label) (length-without_label macros label)
+  where
+    by_test : (b : Bool) → length (without_label macros label) ≤ length macros → length (cond b macros (m ∷ without_label macros label)) ≤ length (m ∷ macros)
+    by_test true rest = omega arith
+    by_test false rest = omega (arith, rest)
+
+pub kept_without_label : (c : Contents) (macros : List Macro) (label : List ℕ) → IsContents c → macros ≡ without_label c.macros label → IsContents (contents_of c.registers c.user macros c.enables c.files)
+kept_without_label c macros label is is_without =
+    subst (λ (l : List Macro). IsContents (contents_of c.registers c.user l c.enables c.files)) (sym is_without)
+    (with_macros c (without_label c.macros label) is (all-without_label c.macros label is.macros) (distinct-without c.macros label is.distinct) (omega (arith, length-without_label c.macros label, is.most_macros)))
+
+-- the first macro with a label leaves
+pub place_found : (macros : List Macro) (at : ℕ) (d : Macro) (label : List ℕ) → at < length macros → without_label macros label ≡ take at macros ++ without_label (drop at macros) label
+    → (let m = get_or macros at d in same_label m.label label ≡ true) → without_label macros label ≡ remove macros at
+place_found macros at d label lt front same =
+    let here = get_or macros at d in
+    let split : drop at macros ≡ here ∷ drop (suc at) macros = drop-cons macros at d lt in
+    front ∙ ap (λ (l : List Macro). take at macros ++ without_label l label) split ∙ ap (λ (b : Bool). take at macros ++ cond b (drop (suc at) macros) (here ∷ without_label (drop (suc at) macros) label)) same
+
+-- another ESE
+pub kept_event : (c : Contents) (sre ese bits : ℕ) → IsContents c → c.enables ≡ Some (sre, ese) → IsContents (contents_of c.registers c.user c.macros (Some (sre, bits)) c.files)
+kept_event c sre ese bits is here = record { ten = is.ten; settings = is.settings; user = is.user; macros = is.macros; distinct = is.distinct; most_macros = is.most_macros; mss = mss (subst (λ (o : Option (ℕ × ℕ)). ForSome o (λ e. bit_and e.0 64 ≡ 0)) here is.mss); files = is.files; sorted = is.sorted }
+  where
+    mss : ForSome (Some (sre, ese)) (λ (e : ℕ × ℕ). bit_and e.0 64 ≡ 0) → ForSome (Some (sre, bits)) (λ (e : ℕ × ℕ). bit_and e.0 64 ≡ 0)
+    mss has = λ e there. let first : e.0 ≡ sre = cc in ap (λ (n : ℕ). bit_and n 64) first ∙ has (sre, ese) refl

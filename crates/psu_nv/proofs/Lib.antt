@@ -1,0 +1,4 @@
+pub mod Finding
+pub mod States
+pub mod Totals
+pub mod Keeping

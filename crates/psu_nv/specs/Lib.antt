@@ -1,0 +1,5 @@
+pub mod Names
+pub mod Contents
+pub mod Commands
+pub mod Costs
+pub mod Views

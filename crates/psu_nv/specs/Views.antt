@@ -1,0 +1,35 @@
+-- The commands and the types of the code, as data with no borrows.
+use Rattle.std.specs.Prelude.{ℕ, Option, Some, None, if◌then◌else◌, ◌==◌}
+use Rattle.psu_nv.specs.Commands.{Command, ServiceEnable, EventEnable, PowerOnClear, Save, User, DefineMacro, RemoveMacro, PurgeMacros, StoreBytes, Delete, Copy, Move, StoreState, LoadState, StoreMacro, LoadMacro}
+use Rattle.psu_nv.specs.declared.file_kind.FileKind.{FileKind}
+use Rattle.psu_nv.specs.declared.file_kind.FileKind.TheVariants.{Binary, State, Macro}
+use Rattle.psu_nv.specs.declared.command.NvCommand.{NvCommand}
+use Rattle.psu_nv.specs.declared.command.NvCommand.TheVariants as given
+
+-- the byte of a file's type
+abbrev pub code_of : FileKind → ℕ
+code_of Binary = 0
+code_of State = 1
+code_of Macro = 2
+
+abbrev pub kind_of : ℕ → Option FileKind
+kind_of code = if code == 0 then Some Binary else (if code == 1 then Some State else (if code == 2 then Some Macro else None))
+
+-- the command as data
+abbrev pub command_of : NvCommand → Command
+command_of (given.ServiceEnable bits) = ServiceEnable bits
+command_of (given.EventEnable bits) = EventEnable bits
+command_of (given.PowerOnClear enables) = PowerOnClear enables
+command_of (given.Save register settings) = Save register.number settings
+command_of (given.User user) = User user
+command_of (given.DefineMacro label body) = DefineMacro label.now body.now
+command_of (given.RemoveMacro label) = RemoveMacro label.now
+command_of given.PurgeMacros = PurgeMacros
+command_of (given.StoreBytes name file) = StoreBytes name.now file.bytes.now
+command_of (given.Delete name) = Delete name.now
+command_of (given.Copy from to) = Copy from.now to.now
+command_of (given.Move from to) = Move from.now to.now
+command_of (given.StoreState register name) = StoreState register.number name.now
+command_of (given.LoadState register name) = LoadState register.number name.now
+command_of (given.StoreMacro label name) = StoreMacro label.now name.now
+command_of (given.LoadMacro label name) = LoadMacro label.now name.now

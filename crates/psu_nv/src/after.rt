@@ -1,0 +1,232 @@
+// What the parts of contents would cost after a command that is not refused by its names and labels.
+ghost use Rattle.std.specs.Prelude.{◌≡◌, ◌+◌, ◌<◌, ◌≤◌, ◌^◌, None, length, slice_set};
+ghost use Rattle.std.specs.List.{AllByRecursion};
+ghost use Rattle.psu_outputs.specs.Settings.{AreSettings};
+ghost use Rattle.psu_items.specs.Map.{cost};
+ghost use Rattle.psu_nv.specs.Contents.{enables_items, user_items, cost_of, fits};
+ghost use Rattle.psu_nv.specs.Commands.{refused, apply};
+ghost use Rattle.psu_nv.specs.Costs.{macros_cost, registers_cost};
+ghost use Rattle.psu_nv.specs.Views.{command_of};
+
+use crate::pages::{Pages, enables_pages, register_pages, registers_pages, user_pages};
+use crate::state::state_in;
+use crate::{Contents, NvCommand, Register};
+use psu_outputs::Settings;
+use std::alloc::Allocator;
+
+impl<A: Allocator + Copy> Contents<A> {
+    #[tactic(auto, unfolding(crate::specs::Commands::apply))]
+    fn files_after(&self, command: &NvCommand) -> u128
+        requires { refused self.now (command_of command.now) ≡ None }
+        ensures value { result ≡ cost (apply self.now (command_of command.now)).files }
+        ensures most { result < 2 ^ 125 }
+    {
+        match command {
+            NvCommand::ServiceEnable(_)
+            | NvCommand::EventEnable(_)
+            | NvCommand::PowerOnClear(_)
+            | NvCommand::Save(_, _)
+            | NvCommand::User(_)
+            | NvCommand::DefineMacro(_, _)
+            | NvCommand::RemoveMacro(_)
+            | NvCommand::PurgeMacros
+            | NvCommand::LoadState(_, _)
+            | NvCommand::LoadMacro(_, _) => self.files.cost(),
+            NvCommand::Move(from, to) => self.files_moved(from, to),
+            NvCommand::StoreBytes(name, file) => self.files_with(name, 1 + file.bytes().len()),
+            NvCommand::Delete(name) => self.files_without(name),
+            NvCommand::Copy(from, to) => self.files_with(to, self.value_of(from).len()),
+            NvCommand::StoreState(register, name) => self.files_with_state(*register, name),
+            NvCommand::StoreMacro(label, name) => self.files_with(
+                name,
+                1 + self.body_of(label).len(),
+            ),
+        }
+    }
+
+    #[tactic(auto, unfolding(crate::specs::Commands::apply))]
+    fn macros_after(&self, command: &NvCommand) -> u128
+        requires { refused self.now (command_of command.now) ≡ None }
+        ensures value { result ≡ macros_cost (apply self.now (command_of command.now)).macros }
+        ensures most { result < 2 ^ 125 }
+    {
+        match command {
+            NvCommand::ServiceEnable(_)
+            | NvCommand::EventEnable(_)
+            | NvCommand::PowerOnClear(_)
+            | NvCommand::Save(_, _)
+            | NvCommand::User(_)
+            | NvCommand::StoreBytes(_, _)
+            | NvCommand::Delete(_)
+            | NvCommand::Copy(_, _)
+            | NvCommand::Move(_, _)
+            | NvCommand::StoreState(_, _)
+            | NvCommand::LoadState(_, _)
+            | NvCommand::StoreMacro(_, _) => self.macros_now(),
+            NvCommand::DefineMacro(label, body) => self.macros_with(label.len() + body.len()),
+            NvCommand::RemoveMacro(label) => self.macros_without(label),
+            NvCommand::PurgeMacros => 0,
+            NvCommand::LoadMacro(label, name) => {
+                self.macros_with(label.len() + self.bytes_of(name).len())
+            }
+        }
+    }
+
+    // The pages of the registers where one holds these settings.
+    fn registers_with(&self, register: Register, settings: Settings) -> u8
+        ensures value { result ≡ registers_cost (slice_set self.now.registers register.number settings) }
+        ensures are { AllByRecursion AreSettings (slice_set self.now.registers register.number settings) }
+    {
+        // Settings that a call gives out lie within their ranges.
+        let _ = settings.outputs();
+        let mut registers = self.registers;
+        registers[register.number() as usize] = settings;
+        registers_pages(&registers)
+    }
+
+    #[tactic(auto, unfolding(crate::specs::Commands::apply))]
+    fn registers_after(&self, command: &NvCommand) -> u8
+        requires { refused self.now (command_of command.now) ≡ None }
+        ensures value { result ≡ registers_cost (apply self.now (command_of command.now)).registers }
+        ensures are { AllByRecursion AreSettings (apply self.now (command_of command.now)).registers }
+    {
+        match command {
+            NvCommand::ServiceEnable(_)
+            | NvCommand::EventEnable(_)
+            | NvCommand::PowerOnClear(_)
+            | NvCommand::User(_)
+            | NvCommand::DefineMacro(_, _)
+            | NvCommand::RemoveMacro(_)
+            | NvCommand::PurgeMacros
+            | NvCommand::StoreBytes(_, _)
+            | NvCommand::Delete(_)
+            | NvCommand::Copy(_, _)
+            | NvCommand::Move(_, _)
+            | NvCommand::StoreState(_, _)
+            | NvCommand::StoreMacro(_, _)
+            | NvCommand::LoadMacro(_, _) => registers_pages(&self.registers),
+            NvCommand::Save(register, settings) => self.registers_with(*register, *settings),
+            NvCommand::LoadState(register, name) => self.registers_with(
+                *register,
+                self.state_of(name),
+            ),
+        }
+    }
+
+    #[tactic(auto, unfolding(crate::specs::Commands::apply))]
+    fn user_after(&self, command: &NvCommand) -> u8
+        ensures { result ≡ cost (user_items (apply self.now (command_of command.now)).user) }
+    {
+        match command {
+            NvCommand::ServiceEnable(_)
+            | NvCommand::EventEnable(_)
+            | NvCommand::PowerOnClear(_)
+            | NvCommand::Save(_, _)
+            | NvCommand::DefineMacro(_, _)
+            | NvCommand::RemoveMacro(_)
+            | NvCommand::PurgeMacros
+            | NvCommand::StoreBytes(_, _)
+            | NvCommand::Delete(_)
+            | NvCommand::Copy(_, _)
+            | NvCommand::Move(_, _)
+            | NvCommand::StoreState(_, _)
+            | NvCommand::LoadState(_, _)
+            | NvCommand::StoreMacro(_, _)
+            | NvCommand::LoadMacro(_, _) => user_pages(self.user.bytes()),
+            NvCommand::User(user) => user_pages(user.bytes()),
+        }
+    }
+
+    #[tactic(auto, unfolding(crate::specs::Commands::apply))]
+    fn enables_after(&self, command: &NvCommand) -> u8
+        ensures { result ≡ cost (enables_items (apply self.now (command_of command.now)).enables) }
+    {
+        match command {
+            NvCommand::ServiceEnable(_)
+            | NvCommand::EventEnable(_)
+            | NvCommand::Save(_, _)
+            | NvCommand::User(_)
+            | NvCommand::DefineMacro(_, _)
+            | NvCommand::RemoveMacro(_)
+            | NvCommand::PurgeMacros
+            | NvCommand::StoreBytes(_, _)
+            | NvCommand::Delete(_)
+            | NvCommand::Copy(_, _)
+            | NvCommand::Move(_, _)
+            | NvCommand::StoreState(_, _)
+            | NvCommand::LoadState(_, _)
+            | NvCommand::StoreMacro(_, _)
+            | NvCommand::LoadMacro(_, _) => enables_pages(self.enables),
+            NvCommand::PowerOnClear(enables) => enables_pages(*enables),
+        }
+    }
+
+    #[tactic(auto, unfolding(crate::specs::Commands::apply))]
+    fn count_after(&self, command: &NvCommand) -> usize
+        requires { refused self.now (command_of command.now) ≡ None }
+        ensures { result ≡ length (apply self.now (command_of command.now)).macros }
+    {
+        let count = self.macros.len();
+        match command {
+            NvCommand::ServiceEnable(_)
+            | NvCommand::EventEnable(_)
+            | NvCommand::PowerOnClear(_)
+            | NvCommand::Save(_, _)
+            | NvCommand::User(_)
+            | NvCommand::StoreBytes(_, _)
+            | NvCommand::Delete(_)
+            | NvCommand::Copy(_, _)
+            | NvCommand::Move(_, _)
+            | NvCommand::StoreState(_, _)
+            | NvCommand::LoadState(_, _)
+            | NvCommand::StoreMacro(_, _) => count,
+            NvCommand::PurgeMacros => 0,
+            NvCommand::DefineMacro(_, _) | NvCommand::LoadMacro(_, _) => count + 1,
+            NvCommand::RemoveMacro(label) => self.count_without(label),
+        }
+    }
+
+    // What the contents cost after a command.
+    fn cost_after(&self, command: &NvCommand) -> u128
+        requires { refused self.now (command_of command.now) ≡ None }
+        ensures { result ≡ cost_of (apply self.now (command_of command.now)) }
+    {
+        let pages = Pages {
+            enables: self.enables_after(command),
+            registers: self.registers_after(command),
+            user: self.user_after(command),
+            macros: self.macros_after(command),
+            files: self.files_after(command),
+        };
+        pages.total()
+    }
+
+    // Whether the contents after a command fit.
+    pub(crate) fn fits_after(&self, limit: u16, command: &NvCommand) -> bool
+        requires { refused self.now (command_of command.now) ≡ None }
+        ensures { result ≡ fits limit (apply self.now (command_of command.now)) }
+    {
+        self.cost_after(command) <= limit as u128 && self.count_after(command) <= 32
+    }
+
+    /// The pages that the contents cost: one for each item, and one for each 512 bytes begun of its value.
+    pub fn cost(&self) -> u128
+        ensures { result ≡ cost_of self.now }
+    {
+        let pages = Pages {
+            enables: enables_pages(self.enables),
+            registers: registers_pages(&self.registers),
+            user: user_pages(self.user.bytes()),
+            macros: self.macros_now(),
+            files: self.files.cost(),
+        };
+        pages.total()
+    }
+
+    /// Whether the contents fit where so many pages are the limit.
+    pub fn fits(&self, limit: u16) -> bool
+        ensures { result ≡ fits limit self.now }
+    {
+        self.cost() <= limit as u128 && self.macros.len() <= 32
+    }
+}

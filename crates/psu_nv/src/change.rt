@@ -1,0 +1,59 @@
+// One change of the contents.
+ghost use Rattle.std.specs.Prelude.{◌≡◌, ◌⊎◌, ◌≤◌, Some, None, length, IfErr, OnOk, OnErr};
+ghost use Rattle.psu_lex.specs.declared.scpi_error.ScpiError.TheVariants.{OutOfMemory};
+ghost use Rattle.psu_nv.specs.Commands.{answer, apply, refused};
+ghost use Rattle.psu_nv.specs.Views.{command_of};
+
+use crate::{Contents, NvCommand};
+use psu_lex::ScpiError;
+use std::alloc::{AllocError, Allocator};
+
+impl<A: Allocator + Copy> Contents<A> {
+    /// Makes a nonvolatile command's change where its result fits the limit. The errors in their order: those of names and
+    /// labels and what they find, -254 where the result doesn't fit, -225 where memory is refused. After each nothing has changed.
+    pub fn change(&mut self, limit: u16, command: &NvCommand) -> Result<(), ScpiError>
+        ensures ok { OnOk result ((answer limit self.old (command_of command.now) ≡ None) × (self.new ≡ apply self.old (command_of command.now))) }
+        ensures refused { IfErr result (λ e. (answer limit self.old (command_of command.now) ≡ Some e) ⊎ ((answer limit self.old (command_of command.now) ≡ None) × (e ≡ OutOfMemory))) }
+        ensures err { OnErr result (self.new ≡ self.old) }
+    {
+        if let Some(error) = self.refusal(command) {
+            return Err(error);
+        }
+        if !self.fits_after(limit, command) {
+            return Err(ScpiError::MediaFull);
+        }
+        match self.make(command) {
+            Ok(()) => Ok(()),
+            Err(_) => Err(ScpiError::OutOfMemory),
+        }
+    }
+
+    // Makes the change of a command that is not refused.
+    #[tactic(auto, unfolding(crate::specs::Commands::apply))]
+    fn make(&mut self, command: &NvCommand) -> Result<(), AllocError>
+        requires found { refused self.old (command_of command.now) ≡ None }
+        requires room { length (apply self.old (command_of command.now)).macros ≤ 32 }
+        ensures ok { OnOk result (self.new ≡ apply self.old (command_of command.now)) }
+        ensures err { OnErr result (self.new ≡ self.old) }
+    {
+        match command {
+            NvCommand::ServiceEnable(bits) => self.set_service(*bits),
+            NvCommand::EventEnable(bits) => self.set_event(*bits),
+            NvCommand::PowerOnClear(enables) => self.set_enables(*enables),
+            NvCommand::Save(register, settings) => self.set_register(*register, *settings),
+            NvCommand::User(user) => self.set_user(user),
+            NvCommand::RemoveMacro(label) => self.remove_macro(label),
+            NvCommand::PurgeMacros => self.purge(),
+            NvCommand::Delete(name) => self.drop_file(name),
+            NvCommand::LoadState(register, name) => self.load_state(*register, name),
+            NvCommand::DefineMacro(label, body) => return self.define(label, body),
+            NvCommand::StoreBytes(name, file) => return self.store_bytes(name, file.bytes()),
+            NvCommand::Copy(from, to) => return self.copy_file(from, to),
+            NvCommand::Move(from, to) => return self.move_file(from, to),
+            NvCommand::StoreState(register, name) => return self.store_state(*register, name),
+            NvCommand::StoreMacro(label, name) => return self.store_macro(label, name),
+            NvCommand::LoadMacro(label, name) => return self.load_macro(label, name),
+        }
+        Ok(())
+    }
+}

@@ -1,0 +1,117 @@
+// What is kept without power, as one value.
+ghost use Rattle.std.specs.Prelude.{◌≡◌, ◌≤◌, length, IfOk, option_map, Option, Some, None};
+ghost use Rattle.psu_items.specs.Map.{get};
+ghost use Rattle.psu_nv.specs.Contents.{fresh};
+ghost use Rattle.psu_nv.specs.Commands.{settings_at};
+
+use crate::names::same_label;
+use crate::{Definition, File, FileKind, Register, UserData};
+use psu_items::{Items, Pair};
+use psu_outputs::Settings;
+use std::alloc::{AllocError, Allocator};
+use std::marker::Model;
+
+/// What is kept without power: ten registers of settings, user data, macros, the enables where the power-on status clear flag is
+/// false, and files. Contracts see the `Contents` of `specs/`.
+#[derive(Drop)]
+pub struct Contents<A: Allocator + Copy> {
+    pub(crate) alloc: A,
+    pub(crate) registers: [Settings; 10],
+    pub(crate) user: UserData,
+    pub(crate) macros: Vec<Definition<A>, A>,
+    pub(crate) enables: Option<(u8, u8)>,
+    pub(crate) files: Items<A>,
+}
+
+impl<A: Allocator + Copy> Model for Contents<A> {
+    ghost use Rattle.psu_nv.specs.Contents.{Contents, contents_of, IsContents};
+
+    ghost Value = { Contents };
+
+    ghost view = { λ c. contents_of c.registers c.user c.macros.items c.enables c.files };
+
+    ghost invariant = { λ c. IsContents (contents_of c.registers c.user c.macros.items c.enables c.files) };
+}
+
+impl<A: Allocator + Copy> Contents<A> {
+    /// Freshly formatted: reset settings in each register, the power-on status clear flag true, and nothing else.
+    pub fn fresh(alloc: A) -> Contents<A>
+        ensures { result ≡ fresh }
+    {
+        Contents {
+            alloc,
+            registers: [Settings::reset(); 10],
+            user: UserData::none(),
+            macros: Vec::new(alloc),
+            enables: None,
+            files: Items::new(alloc),
+        }
+    }
+
+    /// The settings of a register.
+    pub fn register(&self, register: Register) -> Settings
+        ensures { result ≡ settings_at self.now.registers register.number }
+    {
+        self.registers[register.number() as usize]
+    }
+
+    /// The user data.
+    pub fn user(&self) -> &[u8]
+        ensures value { result.now ≡ self.now.user }
+        ensures most { length result.now ≤ 63 }
+    {
+        self.user.bytes()
+    }
+
+    /// SRE and ESE where the power-on status clear flag is false; none where it is true.
+    pub fn enables(&self) -> Option<(u8, u8)>
+        ensures { result ≡ self.now.enables }
+    {
+        self.enables
+    }
+
+    /// The macros in order of definition.
+    pub fn labels(&self) -> &[Definition<A>]
+        ensures { result.now ≡ self.now.macros }
+    {
+        &self.macros
+    }
+}
+
+impl<A: Allocator + Copy> Contents<A> {
+    ghost use Rattle.std.specs.Prelude.{◌∷◌, MatchOption};
+    ghost use Rattle.psu_nv.specs.Contents.{body_at};
+    ghost use Rattle.psu_nv.specs.Views.{code_of};
+
+    /// The body of the macro with a label, without regard to case; none where no macro has it.
+    pub fn body(&self, label: &[u8]) -> Option<&[u8]>
+        ensures { option_map (λ body. body.now) result ≡ body_at self.now.macros label.now }
+    {
+        for definition in &self.macros {
+            if same_label(definition.label(), label) {
+                return Some(definition.body());
+            }
+        }
+        None
+    }
+
+    /// The file of a name; none where there is none.
+    pub fn file(&self, name: &[u8]) -> Option<File<'_>>
+        ensures { MatchOption result (get self.now.files name.now ≡ None) (λ file. get self.now.files name.now ≡ Some (code_of file.kind ∷ file.bytes.now)) }
+    {
+        match self.files.get(name)? {
+            [] => None,
+            [code, bytes @ ..] => match FileKind::of_code(*code) {
+                Some(kind) => Some(File { kind, bytes }),
+                None => None,
+            },
+        }
+    }
+
+    /// The files in byte order of their names: each pair has the name, and the byte of its type followed by its bytes.
+    pub fn names(&self) -> &[Pair<A>]
+        ensures { result.now ≡ self.now.files }
+    {
+        self.files.pairs()
+    }
+}

@@ -1,0 +1,33 @@
+// What a file may hold.
+ghost use Rattle.std.specs.Prelude.{◌≡◌, ◌<◌, ◌≤◌, length, IfSome, IfNone};
+
+/// The most bytes of a file.
+pub const FILE_MOST: usize = 32_768;
+
+/// At most 32,768 bytes, as a file may hold.
+#[derive(Clone, Copy)]
+pub struct FileBytes<'a> {
+    bytes: &'a [u8],
+    ghost most: { length bytes.now ≤ 32768 },
+}
+
+impl<'a> FileBytes<'a> {
+    /// These bytes; none where there are more than 32,768.
+    pub fn of(bytes: &'a [u8]) -> Option<FileBytes<'a>>
+        ensures found { IfSome result (λ file. file.bytes.now ≡ bytes.now) }
+        ensures none { IfNone result (32768 < length bytes.now) }
+    {
+        if bytes.len() > FILE_MOST {
+            return None;
+        }
+        Some(FileBytes { bytes })
+    }
+
+    /// Its bytes.
+    pub fn bytes(self) -> &'a [u8]
+        ensures value { result.now ≡ self.entry.bytes.now }
+        ensures most { length result.now ≤ 32768 }
+    {
+        self.bytes
+    }
+}

@@ -1,0 +1,30 @@
+//! What the instrument keeps without power: its changes, its cost, and the map that it is kept as, both ways.
+#![tactic(auto)]
+
+mod after;
+mod change;
+mod command;
+mod contents;
+mod definition;
+mod file;
+mod file_bytes;
+mod file_kind;
+mod found;
+mod making;
+mod names;
+mod pages;
+mod refusal;
+mod register;
+mod room;
+mod state;
+mod steps;
+mod user_data;
+
+pub use command::NvCommand;
+pub use contents::Contents;
+pub use definition::Definition;
+pub use file::File;
+pub use file_bytes::{FILE_MOST, FileBytes};
+pub use file_kind::FileKind;
+pub use register::Register;
+pub use user_data::{USER_MOST, UserData};

@@ -1,0 +1,129 @@
+// The changes of the parts of contents. Each takes its memory first.
+ghost use Rattle.std.specs.Prelude.{◌≡◌, ◌<◌, ◌≤◌, ◌++◌, ◌∷◌, [], length, remove, slice_set, true, false, OnOk, OnErr, IfOk, bit_and};
+ghost use Rattle.std.specs.Option.{ForSome};
+ghost use Rattle.psu_items.specs.Map.{put, without};
+ghost use Rattle.psu_nv.specs.Names.{is_label, is_name};
+ghost use Rattle.psu_nv.specs.Contents.{has_label, begins_with_kind};
+ghost use Rattle.psu_nv.specs.Commands.{without_label, without_mss, kept, with_service, with_event};
+
+use crate::names::same_label;
+use crate::{Contents, Definition, Register, UserData};
+use psu_outputs::Settings;
+use std::alloc::{AllocError, Allocator};
+
+impl<A: Allocator + Copy> Contents<A> {
+    pub(crate) fn set_register(&mut self, register: Register, settings: Settings)
+        ensures { self.new ≡ record self.old { registers = slice_set self.old.registers register.number settings } }
+    {
+        // Settings that a call gives out lie within their ranges.
+        let _ = settings.outputs();
+        self.registers[register.number() as usize] = settings;
+    }
+
+    pub(crate) fn set_user(&mut self, user: &UserData)
+        ensures { self.new ≡ record self.old { user = user.now } }
+    {
+        let _ = user.bytes();
+        self.user = user.copy();
+    }
+
+    pub(crate) fn purge(&mut self)
+        ensures { self.new ≡ record self.old { macros = [] } }
+    {
+        self.macros.clear();
+    }
+
+    pub(crate) fn set_enables(&mut self, enables: Option<(u8, u8)>)
+        ensures { self.new ≡ record self.old { enables = kept enables } }
+    {
+        self.enables = match enables {
+            Some((sre, ese)) => Some((without_mss(sre), ese)),
+            None => None,
+        };
+    }
+
+    pub(crate) fn set_service(&mut self, bits: u8)
+        ensures { self.new ≡ record self.old { enables = with_service self.old.enables bits } }
+    {
+        if let Some((_, ese)) = self.enables {
+            self.enables = Some((without_mss(bits), ese));
+        }
+    }
+
+    pub(crate) fn set_event(&mut self, bits: u8)
+        ensures { self.new ≡ record self.old { enables = with_event self.old.enables bits } }
+    {
+        if let Some((sre, _)) = self.enables {
+            self.enables = Some((sre, bits));
+        }
+    }
+
+    // The type byte and the bytes of a file, as they are kept.
+    pub(crate) fn value_with(&self, code: u8, bytes: &[u8]) -> Result<Vec<u8, A>, AllocError>
+        ensures { IfOk result (λ value. value.items ≡ code ∷ bytes.now) }
+    {
+        let mut value = Vec::new(self.alloc);
+        value.push(code)?;
+        value.extend_from_slice(bytes)?;
+        Ok(value)
+    }
+
+    pub(crate) fn put_file(&mut self, name: &[u8], value: Vec<u8, A>) -> Result<(), AllocError>
+        requires name { is_name name.now ≡ true }
+        requires kind { begins_with_kind value.items ≡ true }
+        requires most { length value.items ≤ 32769 }
+        ensures ok { OnOk result (self.new ≡ record self.old { files = put self.old.files name.now value.items }) }
+        ensures err { OnErr result (self.new ≡ self.old) }
+    {
+        self.files.insert(name.to_vec(self.alloc)?, value)?;
+        Ok(())
+    }
+
+    pub(crate) fn drop_file(&mut self, name: &[u8])
+        ensures { self.new ≡ record self.old { files = without self.old.files name.now } }
+    {
+        self.files.remove(name);
+    }
+
+    pub(crate) fn push_macro(&mut self, definition: Definition<A>) -> Result<(), AllocError>
+        requires label { is_label definition.label ≡ true }
+        requires body { length definition.body ≤ 1024 }
+        requires free { has_label self.old.macros definition.label ≡ false }
+        requires room { length self.old.macros < 32 }
+        ensures ok { OnOk result (self.new ≡ record self.old { macros = self.old.macros ++ definition ∷ [] }) }
+        ensures err { OnErr result (self.new ≡ self.old) }
+    {
+        self.macros.push(definition)?;
+        Ok(())
+    }
+
+    pub(crate) fn remove_macro(&mut self, label: &[u8])
+        ensures { self.new ≡ record self.old { macros = without_label self.old.macros label.now } }
+    {
+        let at = place_of(&self.macros, label);
+        if at < self.macros.len() {
+            self.macros.remove(at);
+        }
+    }
+}
+
+// Bit 6 of the service request enable register is ignored and reads 0.
+fn without_mss(bits: u8) -> u8
+    ensures value { result ≡ without_mss bits }
+    ensures mss { bit_and result 64 ≡ 0 }
+{
+    bits & 191
+}
+
+// The place of the first macro with a label, or their number.
+fn place_of<A: Allocator + Copy>(macros: &[Definition<A>], label: &[u8]) -> usize
+    ensures within { result ≤ length macros.now }
+    ensures found { without_label macros.now label.now ≡ remove macros.now result }
+{
+    for at in 0..macros.len() {
+        if same_label(macros[at].label(), label) {
+            return at;
+        }
+    }
+    macros.len()
+}

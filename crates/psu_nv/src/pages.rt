@@ -1,0 +1,91 @@
+// The pages that the parts of contents cost.
+ghost use Rattle.std.specs.Prelude.{◌≡◌, ◌+◌, ◌^◌, ◌<◌, ◌≤◌, length, if◌then◌else◌, ◌==◌};
+ghost use Rattle.psu_items.specs.Map.{cost};
+ghost use Rattle.psu_nv.specs.Contents.{enables_items, user_items};
+ghost use Rattle.psu_nv.specs.Costs.{page_count, is_reset, registers_cost, macros_length};
+
+use crate::{Contents, Definition};
+use psu_outputs::Settings;
+use std::alloc::Allocator;
+
+// The pages of each part.
+#[derive(Clone, Copy)]
+pub(crate) struct Pages {
+    pub(crate) enables: u8,
+    pub(crate) registers: u8,
+    pub(crate) user: u8,
+    pub(crate) macros: u128,
+    pub(crate) files: u128,
+    ghost few_macros: { macros < 2 ^ 125 },
+    ghost few_files: { files < 2 ^ 125 },
+}
+
+impl Pages {
+    // All of them.
+    pub(crate) fn total(&self) -> u128
+        ensures { result ≡ self.now.enables + (self.now.registers + (self.now.user + (self.now.macros + self.now.files))) }
+    {
+        let small = self.enables as u128 + (self.registers as u128 + self.user as u128);
+        small + (self.macros + self.files)
+    }
+}
+
+// The pages of an item whose value has so many bytes.
+pub(crate) fn page_count(size: u128) -> u128
+    requires { size < 2 ^ 120 }
+    ensures value { result ≡ page_count size }
+    ensures most { result < 2 ^ 121 }
+{
+    1 + (size + 511) / 512
+}
+
+pub(crate) fn enables_pages(enables: Option<(u8, u8)>) -> u8
+    ensures { result ≡ cost (enables_items enables) }
+{
+    match enables {
+        Some(_) => 2,
+        None => 0,
+    }
+}
+
+// The same of a register, whatever its number.
+pub(crate) fn register_pages(settings: Settings) -> u8
+    ensures value { result ≡ (if is_reset settings then 0 else 2) }
+    ensures most { result ≤ 2 }
+{
+    if settings.to_bytes() == Settings::reset().to_bytes() {
+        0
+    } else {
+        2
+    }
+}
+
+pub(crate) fn registers_pages(registers: &[Settings]) -> u8
+    requires { length registers.now ≤ 10 }
+    ensures { result ≡ registers_cost registers.now }
+{
+    let mut pages = 0;
+    for settings in registers {
+        pages += register_pages(*settings);
+    }
+    pages
+}
+
+pub(crate) fn user_pages(user: &[u8]) -> u8
+    requires { length user.now ≤ 63 }
+    ensures { result ≡ cost (user_items user.now) }
+{
+    if user.is_empty() { 0 } else { 2 }
+}
+
+// The bytes that macros have in their item.
+pub(crate) fn macros_length<A: Allocator + Copy>(macros: &[Definition<A>]) -> u128
+    requires { macros_length macros.now < 2 ^ 100 }
+    ensures { result ≡ macros_length macros.now }
+{
+    let mut size: u128 = 0;
+    for definition in macros {
+        size += 3 + (definition.label().len() as u128 + definition.body().len() as u128);
+    }
+    size
+}

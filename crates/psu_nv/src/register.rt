@@ -1,0 +1,31 @@
+// The registers by number.
+ghost use Rattle.std.specs.Prelude.{◌≡◌, ◌<◌, ◌≤◌, IfSome, IfNone};
+
+/// One of the ten registers of settings, 0 to 9.
+#[derive(Clone, Copy, Debug, PartialEq, Eq)]
+pub struct Register {
+    number: u8,
+    ghost low: { number < 10 },
+}
+
+impl Register {
+    /// The register of a number; none above 9.
+    pub fn of(number: u8) -> Option<Register>
+        ensures found { IfSome result (λ register. register.number ≡ number) }
+        ensures none { IfNone result (10 ≤ number) }
+    {
+        if number < 10 {
+            Some(Register { number })
+        } else {
+            None
+        }
+    }
+
+    /// Its number, 0 to 9.
+    pub fn number(self) -> u8
+        ensures value { result ≡ self.number }
+        ensures low { result < 10 }
+    {
+        self.number
+    }
+}

@@ -1,0 +1,212 @@
+-- Calls on the device as events of the theorem on power loss, one after another.
+use Rattle.std.proofs.Common.{◌≡◌, ℕ, zero, suc, true, Option, Some, List, [], ◌∷◌, ◌++◌, refl, sym, ap, ◌∙◌, subst, append_assoc, append-nil, arith, inl, inr, length, take, ⊎_elim}
+use Rattle.psu_disk.specs.Disk.{DiskState, Left}
+use Rattle.psu_disk.specs.Ranges.{reads_left}
+use Rattle.psu_disk.specs.declared.disk.Disk.{Ghosts}
+use Rattle.psu_items.specs.Map.{Item}
+use Rattle.psu_items.specs.Image.{Stands, EachStands}
+use Rattle.psu_items.proofs.Single.{one_stands}
+use Rattle.psu_exec.specs.Contents.{applied, items_of}
+use Rattle.psu_exec.specs.Device.{Reply, Done, Answer, Error, Parked, Later, count_held, target}
+use Rattle.psu_exec.specs.Calls.{Entry, Executed, Settled, Took, GaveBack, Opened, Job, Allows}
+use Rattle.psu_exec.specs.Headline.{IsPrefix}
+use Rattle.psu_exec.specs.World.{World, Running, Event, Call, Happens, Run, IsStart, DiskAfter, after}
+use Rattle.psu_exec.specs.declared.exec.Exec.{Exec}
+use Rattle.psu_exec.specs.declared.home.Home.{Home}
+use Rattle.psu_exec.specs.declared.request.Request.{Request}
+use Rattle.psu_exec.specs.declared.change.Change.{Change}
+use Rattle.psu_exec.proofs.Events.{prefix_is_left, run_keeps, while_running}
+use Rattle.psu_exec.proofs.Invariant.{kept_at_start}
+use Rattle.psu_server.specs.Lines.{Message}
+use Rattle.psu_server.specs.Lives.{Life, disk_at, world_of, lived, Calls, CallsAll, unit_in, units_in, PowersOn, IsLeftBy, LeavesPrefix}
+use Rattle.psu_server.specs.Progress.{Begins}
+use Rattle.psu_server.specs.Runs.{Mishaps, JobDone, Jobs, Flushes, Acts, UnitRuns, UnitsRun, MessageRuns, Runs, is_final}
+
+-- ---- one call of the code
+
+-- a call that leaves the disk where it is
+pub called : {D A : Type 0} {G : Ghosts D} (old new : Exec D A G) (life : Life) (entry : Entry) → Allows old.device entry new.device → new.home ≡ old.home
+    → ((d : DiskState) → d ≡ disk_at old.home → DiskAfter (world_of life old) entry d) → Calls (world_of life old) entry (world_of (lived life old.device entry) new)
+called {D} {A} {G} old new life entry allows home stays = (disk_at new.home, (new.device, refl, allows, stays (disk_at new.home) (ap (λ (z : Option (Home D A G)). disk_at z) home), refl))
+
+-- ---- lists of calls
+
+pub calls_join : (xs ys : List Entry) (w mid new : World) → CallsAll w xs mid → CallsAll mid ys new → CallsAll w (xs ++ ys) new
+calls_join [] ys w mid new p q = subst (λ (z : World). CallsAll z ys new) p q
+calls_join (x ∷ xs) ys w mid new p q = (p.0, p.1, calls_join xs ys p.0 mid new p.2 q)
+
+pub units_in-append : (xs ys : List Entry) → units_in (xs ++ ys) ≡ units_in xs ++ units_in ys
+units_in-append [] ys = refl
+units_in-append (x ∷ xs) ys = ap (λ (z : List Request). unit_in x ++ z) (units_in-append xs ys) ∙ sym (append_assoc (unit_in x) (units_in xs) (units_in ys))
+
+-- calls that execute these requests
+pub record Executes (w : World) (requests : List Request) (new : World) : Type 0 where
+  pub entries : List Entry
+  pub calls : CallsAll w entries new
+  pub are : units_in entries ≡ requests
+
+pub executes_none : (w : World) → Executes w [] w
+executes_none w = record { entries = []; calls = refl; are = refl }
+
+pub executes_one : (w : World) (entry : Entry) (new : World) → Calls w entry new → Executes w (unit_in entry) new
+executes_one w entry new c = record { entries = entry ∷ []; calls = (new, c, refl); are = cat (unit_in entry) } where
+  cat : (l : List Request) → l ++ [] ≡ l
+  cat [] = refl
+  cat (x ∷ l) = ap (λ (z : List Request). x ∷ z) (cat l)
+
+pub executes_join : (w mid new : World) (xs ys : List Request) → Executes w xs mid → Executes mid ys new → Executes w (xs ++ ys) new
+executes_join w mid new xs ys p q = record {
+  entries = p.entries ++ q.entries;
+  calls = calls_join p.entries q.entries w mid new p.calls q.calls;
+  are = units_in-append p.entries q.entries ∙ ap (λ (z : List Request). z ++ units_in q.entries) p.are ∙ ap (λ (z : List Request). xs ++ z) q.are;
+}
+
+pub executes_as : (w new : World) (xs ys : List Request) → xs ≡ ys → Executes w xs new → Executes w ys new
+executes_as w new xs ys e p = subst (λ (z : List Request). Executes w z new) e p
+
+-- ---- what was executed, as calls
+
+pub job_calls : (can : Mishaps) (w new : World) → JobDone can w new → Executes w [] new
+job_calls can w new j =
+    executes_join w j.taken new [] [] (executes_one w (Took (Job j.job)) j.taken j.take) (executes_one j.taken (GaveBack j.finished (Some j.over)) new j.give)
+
+pub jobs_calls : (n : ℕ) (can : Mishaps) (w new : World) → Jobs n can w new → Executes w [] new
+jobs_calls zero can w new j = subst (λ (z : World). Executes w [] z) (sym j) (executes_none w)
+jobs_calls (suc n) can w new j = executes_join w j.0 new [] [] (jobs_calls n can w j.0 j.1) (job_calls can j.0 new j.2)
+
+pub flush_calls : (can : Mishaps) (w new : World) → Flushes can w new → Executes w [] new
+flush_calls can w new f = jobs_calls f.0 can w new f.1
+
+-- a unit that is done with is executed
+final_unit : (request : Request) (reply : Reply) → is_final reply ≡ true → unit_in (Executed 1 request reply) ≡ request ∷ []
+final_unit request Done e = refl
+final_unit request (Answer text) e = refl
+final_unit request (Error error) e = refl
+final_unit request Parked e = cc
+final_unit request Later e = cc
+
+pub acts_calls : (can : Mishaps) (w new : World) (request : Request) (reply : Reply) → Acts can w request reply new → Executes w (request ∷ []) new
+acts_calls can w new request reply (final, inl (meant, c)) = executes_as w new _ _ (final_unit request reply final) (executes_one w (Executed 1 request reply) new c)
+acts_calls can w new request reply (final, inr (long, parked, over, c, f, s)) =
+    executes_join w over new (request ∷ []) [] (executes_join w parked over (request ∷ []) [] (executes_one w (Executed 1 request Parked) parked c) (flush_calls can parked over f))
+    (executes_one over (Settled 1 reply) new s)
+
+pub unit_calls : (can : Mishaps) (w new : World) (request : Request) (reply : Reply) → UnitRuns can w request reply new → Executes w (request ∷ []) new
+unit_calls can w new request reply (inl a) = acts_calls can w new request reply a
+unit_calls can w new request reply (inr (late, over, c, f, a)) =
+    executes_join w over new [] (request ∷ []) (executes_join w late over [] [] (executes_one w (Executed 1 request Later) late c) (flush_calls can late over f))
+    (acts_calls can over new request reply a)
+
+pub units_calls : (requests : List Request) (can : Mishaps) (w new : World) (text all : List ℕ) → UnitsRun can w text requests all new → Executes w requests new
+units_calls [] can w new text all u = subst (λ (z : World). Executes w [] z) (sym u.0) (executes_none w)
+units_calls (request ∷ requests) can w new text all (reply, mid, u, more) =
+    executes_join w mid new (request ∷ []) requests (unit_calls can w mid request reply u) (units_calls requests can mid new _ all more)
+
+-- ---- some first requests
+
+pub begins_all : (w new : World) (requests : List Request) → Executes w requests new → Begins w requests new
+begins_all w new requests e = (e.entries, e.calls, [], sym e.are ∙ sym (cat (units_in e.entries))) where
+  cat : (l : List Request) → l ++ [] ≡ l
+  cat [] = refl
+  cat (x ∷ l) = ap (λ (z : List Request). x ∷ z) (cat l)
+
+pub begins_none : (w new : World) (requests : List Request) → Executes w [] new → Begins w requests new
+begins_none w new requests e = (e.entries, e.calls, requests, ap (λ (z : List Request). z ++ requests) (sym e.are))
+
+pub begins_then : (w mid new : World) (done rest : List Request) → Executes w done mid → Begins mid rest new → Begins w (done ++ rest) new
+begins_then w mid new done rest e b = (
+  e.entries ++ b.0,
+  calls_join e.entries b.0 w mid new e.calls b.1,
+  b.2,
+  ap (λ (z : List Request). done ++ z) b.3 ∙ sym (append_assoc done (units_in b.0) b.2)
+      ∙ ap (λ (z : List Request). z ++ b.2) (ap (λ (z : List Request). z ++ units_in b.0) (sym e.are) ∙ sym (units_in-append e.entries b.0)),
+)
+
+-- a call more that executes no unit
+pub begins_idle : (w mid new : World) (entry : Entry) (requests : List Request) → Begins w requests mid → Calls mid entry new → unit_in entry ≡ [] → Begins w requests new
+begins_idle w mid new entry requests b c idle = (
+  b.0 ++ entry ∷ [],
+  calls_join b.0 (entry ∷ []) w mid new b.1 (new, c, refl),
+  b.2,
+  b.3 ∙ ap (λ (z : List Request). z ++ b.2) (sym (units_in-append b.0 (entry ∷ []) ∙ ap (λ (z : List Request). units_in b.0 ++ (z ++ [])) idle ∙ cat (units_in b.0))),
+)
+  where
+    cat : (l : List Request) → l ++ [] ≡ l
+    cat [] = refl
+    cat (x ∷ l) = ap (λ (z : List Request). x ∷ z) (cat l)
+
+pub begins_more : (w new : World) (some more : List Request) → Begins w some new → Begins w (some ++ more) new
+begins_more w new some more b = (b.0, b.1, b.2 ++ more, ap (λ (z : List Request). z ++ more) b.3 ∙ append_assoc (units_in b.0) b.2 more)
+
+-- ---- what power loss may leave
+
+-- a world that events lead to, from a device that has just been powered on
+pub record Reached (w : World) : Type 0 where
+  pub first : World
+  pub events : List Event
+  pub start : IsStart first
+  pub run : Run first events w
+
+run_more : (events : List Event) (first w new : World) (event : Event) → Run first events w → Happens w event new → Run first (events ++ event ∷ []) new
+run_more [] first w new event r h = (new, subst (λ (z : World). Happens z event new) r h, refl)
+run_more (e ∷ events) first w new event r h = (r.0, r.1, run_more events r.0 w new event r.2 h)
+
+pub reached_call : (w new : World) (entry : Entry) → Calls w entry new → Reached w → Reached new
+reached_call w new entry c r = record { first = r.first; events = r.events ++ Call entry c.0 ∷ []; start = r.start; run = run_more r.events r.first w new (Call entry c.0) r.run c.1 }
+
+pub reached_calls : (entries : List Entry) (w new : World) → CallsAll w entries new → Reached w → Reached new
+reached_calls [] w new c r = subst Reached (sym c) r
+reached_calls (entry ∷ entries) w new c r = reached_calls entries c.0 new c.2 (reached_call w c.0 entry c.1 r)
+
+pub reached_on : (image : List ℕ) (new : World) → PowersOn image new → Reached new
+reached_on image new p = reached_call p.on new (Opened (Some 1)) p.opens (record { first = p.on; events = []; start = p.start; run = refl })
+
+pub reached_message : (m : Message) (can : Mishaps) (w new : World) (text : List ℕ) → MessageRuns can w m text new → Reached w → Reached new
+reached_message Message.Power can w new text m r = reached_on m.1.disk.bytes new m.3
+reached_message Message.Overlong can w new text m r = let e = units_calls m.0 can w new [] m.2 m.3 in reached_calls e.entries w new e.calls r
+reached_message (Message.Units bytes) can w new text m r = let e = units_calls m.0 can w new [] m.2 m.3 in reached_calls e.entries w new e.calls r
+
+pub reached_runs : (ms : List Message) (can : Mishaps) (w new : World) (text : List ℕ) → Runs can w ms text new → Reached w → Reached new
+reached_runs [] can w new text q r = subst Reached (sym q.0) r
+reached_runs (m ∷ ms) can w new text q r = reached_runs ms can q.2 new q.1 q.4 (reached_message m can w q.2 q.0 q.3 r)
+
+pub prefix_of_reached : (w : World) (image : List ℕ) → Reached w → Left w.disk image → (k : ℕ) × IsPrefix w k × Stands image w.limit (items_of (after w k))
+prefix_of_reached w image r left = prefix_is_left r.first w r.events image r.start r.run left
+
+-- where each image stands for one map, and did so in a world that was reached
+same_prefix : (w : World) (disk : DiskState) (limit : ℕ) (map : List Item) → Reached w → EachStands w.disk limit map → EachStands disk limit map → LeavesPrefix w disk
+same_prefix w disk limit map r was is image left =
+    let p = prefix_of_reached w w.disk.bytes r (reads_left w.disk) in
+    let one = one_stands w.disk.bytes limit w.limit map (items_of (after w p.0)) (was w.disk.bytes (reads_left w.disk)) p.2 in
+    (p.0, p.1, subst (λ (m : List Item). Stands image w.limit m) one.1 (subst (λ (n : ℕ). Stands image n map) one.0 (is image left)))
+
+pub leaves_prefix : (w : World) (disk : DiskState) → Reached w → IsLeftBy w disk → LeavesPrefix w disk
+leaves_prefix w disk r (inl same) = λ image left. prefix_of_reached w image r (same image left)
+leaves_prefix w disk r (inr (limit, map, was, is)) = same_prefix w disk limit map r was is
+
+-- ---- what is left once all is flushed
+
+pub call_running : (w new : World) (entry : Entry) → Calls w entry new → new.mode ≡ Running
+call_running w new entry c = ap (λ (z : World). z.mode) c.1.4 ∙ c.1.1
+
+pub flush_running : (can : Mishaps) (w new : World) → Flushes can w new → new.mode ≡ Running
+flush_running can w new (n, jobs, inl all) = let last = (subst (λ (k : ℕ). Jobs k can w new) all jobs).2 in call_running last.taken new (GaveBack last.finished (Some last.over)) last.give
+flush_running can w new (n, jobs, inr done) = done.1.1.1
+
+pub flushed_stands : (w : World) → Reached w → w.mode ≡ Running → w.state.flush.unflushed ≡ 0 → EachStands w.disk w.limit (items_of w.state.flush.contents)
+flushed_stands w r running none image left =
+    let l = while_running w running (run_keeps r.first w r.events r.run (kept_at_start r.first r.start)) in
+    let empty : l.rest ≡ [] = no_rest l.rest (sym l.count ∙ none) in
+    let contents : w.state.flush.contents ≡ applied w.start l.gone = l.contents ∙ ap (λ (cs : List Change). applied w.start (l.gone ++ cs)) empty ∙ ap (applied w.start) (append-nil l.gone) in
+    let taken : take (count_held w.state.flush.held) l.rest ≡ [] = ap (λ (cs : List Change). take (count_held w.state.flush.held) cs) empty ∙ take_none (count_held w.state.flush.held) in
+    let aim : target w.state.flush ≡ items_of w.state.flush.contents
+    = l.aim ∙ ap (λ (cs : List Change). items_of (applied w.start (l.gone ++ cs))) taken ∙ ap (λ (cs : List Change). items_of (applied w.start cs)) (append-nil l.gone) ∙ ap items_of (sym contents) in
+    ⊎_elim (λ s. subst (λ (m : List Item). Stands image w.limit m) (l.first_map ∙ ap items_of (sym contents)) s) (λ s. subst (λ (m : List Item). Stands image w.limit m) aim s) (l.disk image left)
+  where
+    no_rest : (rest : List Change) → length rest ≡ 0 → rest ≡ []
+    no_rest [] e = refl
+    no_rest (c ∷ cs) e = absurd (omega (arith, e))
+
+    take_none : (n : ℕ) → take n (let none : List Change = [] in none) ≡ []
+    take_none zero = refl
+    take_none (suc n) = refl

@@ -1,0 +1,239 @@
+-- A flush and a reopening: the jobs one after another, and what they leave unflushed.
+use Rattle.std.proofs.Common.{◌≡◌, ◌⊎◌, ℕ, suc, ◌+◌, ◌-◌, ◌≤◌, if◌then◌else◌, Bool, true, false, Option, Some, None, List, [], refl, sym, ap, ◌∙◌, subst, inl, inr, arith, ⊎_elim, add-one, map}
+use Rattle.psu_disk.specs.Disk.{HasFailed}
+use Rattle.psu_disk.specs.declared.disk.Disk.{Ghosts}
+use Rattle.psu_items.specs.declared.commit.UnstartedCause.TheVariants as unstarted
+use Rattle.psu_items.specs.Map.{Item}
+use Rattle.psu_exec.specs.Calls.{JobKind, Commit, Reopen, JobData, JobEnd, Stored, Unstarted, Failed, Reopened, Job, Nothing, Took, GaveBack, Allows, HasWork, job_out, kind_for, stored, GivesBack}
+use Rattle.psu_exec.specs.Device.{State, Flush, is_whole, is_broken, wait_of}
+use Rattle.psu_exec.specs.Contents.{items_of}
+use Rattle.psu_exec.specs.Jobs.{job_data, job_disk, job_home}
+use Rattle.psu_exec.specs.World.{World}
+use Rattle.psu_exec.specs.declared.condition.Condition.{Condition}
+use Rattle.psu_exec.specs.declared.condition.Condition.TheVariants.{Whole, Broken, Worn}
+use Rattle.psu_exec.specs.declared.exec.Exec.{Exec}
+use Rattle.psu_exec.specs.declared.home.Home.{Home}
+use Rattle.psu_exec.specs.declared.job.Job.{Job as AnyJob}
+use Rattle.psu_exec.specs.declared.job.Job.TheVariants as job
+use Rattle.psu_server.specs.Failures.{failures_at, failures_of}
+use Rattle.psu_server.specs.Jobs.{HasRun, HasReasons, IsExplained}
+use Rattle.psu_server.specs.Lives.{Life, disk_at, world_of, Calls}
+use Rattle.psu_server.specs.Runs.{is_short, EndsJob, JobDone, Jobs, Flushes, Reopens}
+use Rattle.psu_server.specs.Within.{IsLater, Within}
+use Rattle.psu_server.specs.Progress.{GoesOn, Halts}
+use Rattle.psu_server.specs.declared.run_cause.RunCause.TheVariants.{Memory as RunMemory, Device as RunDevice}
+use Rattle.psu_server.proofs.Calls.{Executes, executes_one, executes_join, jobs_calls, begins_none}
+use Rattle.psu_server.proofs.Within.{within_itself, failed_on, later_same, within_as, within_here, within_at, within_then}
+use Rattle.psu_server.proofs.JobEnds.{job_done}
+
+-- ---- a flush
+
+pub jobs_more : {D A : Type 0} {G : Ghosts D} (first old new : Exec D A G) (life : Life) (i : ℕ) → Within (failures_of first) (failures_of old) (λ can. Jobs i can (world_of life first) (world_of life old))
+    → Within (failures_of old) (failures_of new) (λ can. JobDone can (world_of life old) (world_of life new))
+    → Within (failures_of first) (failures_of new) (λ can. Jobs (i + 1) can (world_of life first) (world_of life new))
+jobs_more first old new life i w d =
+    subst (λ (k : ℕ). Within (failures_of first) (failures_of new) (λ can. Jobs k can (world_of life first) (world_of life new))) (sym (add-one i))
+    (within_then _ _ _ (λ can. Jobs i can (world_of life first) (world_of life old)) (λ can. JobDone can (world_of life old) (world_of life new))
+    (λ can. Jobs (suc i) can (world_of life first) (world_of life new)) w d (λ can jobs done. (world_of life old, jobs, done)))
+
+-- the jobs before a take that finds nothing
+pub flush_ends : {D A : Type 0} {G : Ghosts D} (first old new : Exec D A G) (life : Life) (i : ℕ) → i ≤ 4 → Within (failures_of first) (failures_of old) (λ can. Jobs i can (world_of life first) (world_of life old))
+    → Allows old.device (Took Nothing) new.device → new.device ≡ old.device → new.home ≡ old.home
+    → Within (failures_of first) (failures_of new) (λ can. Flushes can (world_of life first) (world_of life new))
+flush_ends {D} {A} {G} first old new life i low w took same there =
+    let world : world_of life new ≡ world_of life old = ap (λ (d : State). record (world_of life old) { state = d; disk = disk_at new.home }) same
+    ∙ ap (λ (z : Option (Home D A G)). record (world_of life old) { disk = disk_at z }) there in
+    within_at _ _ _ (λ can. Flushes can (world_of life first) (world_of life new)) (ap (λ (z : Option (Home D A G)). failures_at z) there)
+    (within_as _ _ (λ can. Jobs i can (world_of life first) (world_of life old)) (λ can. Flushes can (world_of life first) (world_of life new)) w
+    (λ can jobs. (
+      i,
+      subst (λ (z : World). Jobs i can (world_of life first) z) (sym world) jobs,
+      inr (
+        low,
+        subst (λ (z : World). Calls z (Took Nothing) (world_of life new)) (sym world)
+            (disk_at new.home, (new.device, refl, took, ap (λ (z : Option (Home D A G)). disk_at z) there, refl)),
+      ),
+    )))
+
+pub flush_full : {D A : Type 0} {G : Ghosts D} (first new : Exec D A G) (life : Life) (i : ℕ) → i ≡ 4 → Within (failures_of first) (failures_of new) (λ can. Jobs i can (world_of life first) (world_of life new))
+    → Within (failures_of first) (failures_of new) (λ can. Flushes can (world_of life first) (world_of life new))
+flush_full first new life i all w = within_as _ _ (λ can. Jobs i can (world_of life first) (world_of life new)) (λ can. Flushes can (world_of life first) (world_of life new)) w (λ can jobs. (i, jobs, inl all))
+
+-- ---- what a flush leaves unflushed
+
+-- after so many jobs that did not fail, on a store that isn't worn
+abbrev pub IsClean : ℕ → Flush → Type 0
+IsClean i f = (i ≡ 0) ⊎ ((f.store ≡ Whole) × (2 ≤ i → f.unflushed ≡ 0))
+
+abbrev pub IsCalm : {D A : Type 0} {G : Ghosts D} → ℕ → ℕ → Exec D A G → Type 0
+IsCalm since i exec = HasFailed since (failures_of exec) ⊎ (exec.device.flush.store ≡ Worn) ⊎ IsClean i exec.device.flush
+
+nothing_left : (n : ℕ) → n - n ≡ 0
+nothing_left n = omega arith
+
+-- a commit of all that is accepted is stored
+stored_clean : (f taken new : Flush) (limit : ℕ) (map : List Item) → (f.store ≡ Whole) → taken ≡ job_out f → GivesBack taken (Stored limit map) new → new.unflushed ≡ 0
+stored_clean f taken new limit map whole out gave =
+    ap (λ (z : Flush). z.unflushed) (gave ∙ ap stored (out ∙ committing f whole)) ∙ nothing_left f.unflushed
+  where
+    committing : (f : Flush) → f.store ≡ Whole → job_out f ≡ record f { out = true; held = Some (record { count = f.unflushed; map = items_of f.contents }) }
+    committing f w = rw w refl
+
+after_clean : (end : JobEnd) (i : ℕ) (f taken new : Flush) (kind : JobKind) → kind ≡ kind_for f.store → (f.store ≡ Worn → ⊥) → IsClean i f → taken ≡ job_out f → GivesBack taken end new
+    → EndsJob kind end → is_short end ≡ false → (new.store ≡ Broken) ⊎ (new.store ≡ Worn) ⊎ IsClean (i + 1) new
+after_clean (Stored limit map) i f taken new kind is fit clean out gave own long =
+    let whole : f.store ≡ Whole = of_kind f.store kind is fit own in
+    inr (inr (inr (ap (λ (z : Flush). z.store) gave, λ many. stored_clean f taken new limit map whole out gave)))
+  where
+    of_kind : (store : Condition) (kind : JobKind) → kind ≡ kind_for store → (store ≡ Worn → ⊥) → EndsJob kind (Stored limit map) → store ≡ Whole
+    of_kind Whole kind is fit own = refl
+    of_kind Broken Commit is fit own = cc
+    of_kind Broken Reopen is fit own = absurd own
+    of_kind Worn kind is fit own = absurd (fit refl)
+after_clean (Unstarted limit before edits unstarted.Memory) i f taken new kind is fit clean out gave own long = cc
+after_clean (Unstarted limit before edits unstarted.Worn) i f taken new kind is fit clean out gave own long = inr (inl (ap (λ (z : Flush). z.store) gave))
+after_clean (Failed limit before edits cause) i f taken new kind is fit clean out gave own long = inl (ap (λ (z : Flush). z.store) gave)
+after_clean (Reopened limit map) i f taken new kind is fit clean out gave own long =
+    inr (inr (inr (⊎_elim (λ all. ap (λ (z : Flush). z.store) all.1) (λ none. ap (λ (z : Flush). z.store) none.1) gave, λ many. absurd (first i many kind is own clean))))
+  where
+    first : (i : ℕ) → 2 ≤ i + 1 → (kind : JobKind) → kind ≡ kind_for f.store → EndsJob kind (Reopened limit map) → IsClean i f → ⊥
+    first i many kind is own (inl zero_is) = omega (arith, many, zero_is)
+    first i many Commit is own (inr whole) = absurd own
+    first i many Reopen is own (inr whole) = let bad = is ∙ ap kind_for whole.0 in cc
+
+pub calm_after : {D A : Type 0} {G : Ghosts D} (since i : ℕ) (old taken new : Exec D A G) (j : AnyJob D A G) (short : Bool) → Allows old.device (Took (Job (job_data j))) taken.device
+    → old.home ≡ Some (job_home j) → HasRun taken j new short → short ≡ false → IsExplained since new → (new.home ≡ None → ⊥) → IsCalm since i old → IsCalm since (i + 1) new
+calm_after {D} {A} {G} since i old taken new j short took there run long why home_is calm =
+    ⊎_elim
+    (λ failed. inl (failed_on since _ _ (subst (λ (n : ℕ). IsLater n (failures_of new)) (sym (ap (λ (z : Option (Home D A G)). failures_at z) there ∙ job_count j)) run.later) failed))
+    (λ rest. ⊎_elim (λ worn. absurd (not_worn old.device.flush worn took.0.1)) (λ clean. told new.home refl (after_clean run.finished i old.device.flush taken.device.flush new.device.flush (job_data j).kind
+    (ap (λ (d : JobData). d.kind) took.0.2 ∙ kind_out old.device.flush) (λ worn. not_worn old.device.flush worn took.0.1) clean
+    (ap (λ (s : State). s.flush) took.1) run.give.flush run.own (sym run.short_is ∙ long))) rest)
+    calm
+  where
+    job_count : (j : AnyJob D A G) → failures_at (let z : Option (Home D A G) = Some (job_home j) in z) ≡ Ghosts.failures G (job_disk j)
+    job_count (job.Commit planned) = refl
+    job_count (job.Reopen alloc broken) = refl
+
+    not_worn : (f : Flush) → f.store ≡ Worn → HasWork f → ⊥
+    not_worn f worn work = ⊎_elim (λ broken. let bad = sym worn ∙ broken in cc) (λ whole. let bad = sym worn ∙ whole.0 in cc) work
+
+    store_if : (f : Flush) (b : Bool) → (if b then record f { out = true; held = Some (record { count = f.unflushed; map = items_of f.contents }) } else record f { out = true }).store ≡ f.store
+    store_if f true = refl
+    store_if f false = refl
+
+    kind_out : (f : Flush) → kind_for (job_out f).store ≡ kind_for f.store
+    kind_out f = ap kind_for (store_if f (is_whole f.store))
+
+    told : (there : Option (Home D A G)) → new.home ≡ there → (new.device.flush.store ≡ Broken) ⊎ (new.device.flush.store ≡ Worn) ⊎ IsClean (i + 1) new.device.flush → IsCalm since (i + 1) new
+    told None e r = absurd (home_is e)
+    told (Some h) e (inl broken) = inl (subst (λ (z : Option (Home D A G)). HasFailed since (failures_at z)) (sym e) (why.broken h e broken))
+    told (Some h) e (inr rest) = inr rest
+
+-- ---- one turn of a flush, as its loop tells it
+
+count_at : {D A : Type 0} {G : Ghosts D} (old : Exec D A G) (j : AnyJob D A G) → old.home ≡ Some (job_home j) → failures_of old ≡ Ghosts.failures G (job_disk j)
+count_at {D} {A} {G} old j there = ap (λ (z : Option (Home D A G)). failures_at z) there ∙ by j where
+  by : (j : AnyJob D A G) → failures_at (let z : Option (Home D A G) = Some (job_home j) in z) ≡ Ghosts.failures G (job_disk j)
+  by (job.Commit planned) = refl
+  by (job.Reopen alloc broken) = refl
+
+pub run_later : {D A : Type 0} {G : Ghosts D} (old taken new : Exec D A G) (j : AnyJob D A G) (short : Bool) → old.home ≡ Some (job_home j) → HasRun taken j new short
+    → IsLater (failures_of old) (failures_of new)
+run_later old taken new j short there run = subst (λ (n : ℕ). IsLater n (failures_of new)) (sym (count_at old j there)) run.later
+
+store_out : (f : Flush) → (job_out f).store ≡ f.store
+store_out f = by f (is_whole f.store) where
+  by : (f : Flush) (b : Bool) → (if b then record f { out = true; held = Some (record { count = f.unflushed; map = items_of f.contents }) } else record f { out = true }).store ≡ f.store
+  by f true = refl
+  by f false = refl
+
+-- the reasons of a store stay while its job is out
+pub out_reasons : {D A : Type 0} {G : Ghosts D} (since : ℕ) (old taken : Exec D A G) (j : AnyJob D A G) → Allows old.device (Took (Job (job_data j))) taken.device
+    → old.home ≡ Some (job_home j) → IsExplained since old → HasReasons since taken.device.flush.store (Some (job_home j))
+out_reasons {D} {A} {G} since old taken j took there why =
+    subst (λ (c : Condition). HasReasons since c (Some (job_home j))) (sym (ap (λ (s : State). s.flush.store) took.1 ∙ store_out old.device.flush))
+    (subst (λ (z : Option (Home D A G)). HasReasons since old.device.flush.store z) there why)
+
+-- the calls of a job, whatever it came to
+pub job_executes : {D A : Type 0} {G : Ghosts D} (old taken new : Exec D A G) (j : AnyJob D A G) (life : Life) (short : Bool) → Ghosts.honest G
+    → Allows old.device (Took (Job (job_data j))) taken.device → HasRun taken j new short → Executes (world_of life old) [] (world_of life new)
+job_executes old taken new j life short h took run =
+    let mid : World = record (world_of life old) { state = taken.device } in
+    executes_join (world_of life old) mid (world_of life new) [] []
+    (executes_one (world_of life old) (Took (Job (job_data j))) mid (disk_at old.home, (taken.device, refl, took, refl, refl)))
+    (executes_one mid (GaveBack run.finished (Some run.over)) (world_of life new) (disk_at new.home, (new.device, refl, run.give, run.stands h, refl)))
+
+-- after these jobs
+pub jobs_execute : {D A : Type 0} {G : Ghosts D} (first old : Exec D A G) (life : Life) (i : ℕ) → Within (failures_of first) (failures_of old) (λ can. Jobs i can (world_of life first) (world_of life old))
+    → Executes (world_of life first) [] (world_of life old)
+jobs_execute first old life i w = jobs_calls i w.0 (world_of life first) (world_of life old) (within_itself _ _ (λ can. Jobs i can (world_of life first) (world_of life old)) w)
+
+-- a take that changes nothing
+pub same_world : {D A : Type 0} {G : Ghosts D} (old new : Exec D A G) (life : Life) → new.device ≡ old.device → new.home ≡ old.home → world_of life new ≡ world_of life old
+same_world {D} {A} {G} old new life same there = ap (λ (d : State). record (world_of life old) { state = d; disk = disk_at new.home }) same
+    ∙ ap (λ (z : Option (Home D A G)). record (world_of life old) { disk = disk_at z }) there
+
+pub same_explained : {D A : Type 0} {G : Ghosts D} (since : ℕ) (old new : Exec D A G) → new.device.flush.store ≡ old.device.flush.store → new.home ≡ old.home → IsExplained since old → IsExplained since new
+same_explained {D} {A} {G} since old new store there why =
+    subst (λ (c : Condition). HasReasons since c new.home) (sym store) (subst (λ (z : Option (Home D A G)). HasReasons since old.device.flush.store z) (sym there) why)
+
+-- a halt for want of memory
+pub halts_short : {D A : Type 0} {G : Ghosts D} (old new : Exec D A G) → (Ghosts.honest G → (life : Life) → Executes (world_of life old) [] (world_of life new))
+    → ((since : ℕ) → IsExplained since old → IsExplained since new) → IsLater (failures_of old) (failures_of new) → Halts old new [] RunMemory
+halts_short old new calls why later = record {
+  begun = λ h life. (life, begins_none (world_of life old) (world_of life new) [] (calls h life));
+  explained = why;
+  later = later;
+  why = λ h since e. tt;
+  own = λ e. cc;
+}
+
+pub out_free : (s taken : State) (d : JobData) → Allows s (Took (Job d)) taken → wait_of s.flush 1 ≡ None → wait_of taken.flush 1 ≡ None
+out_free s taken d took free = ap (λ (z : State). wait_of z.flush 1) took.1 ∙ by s.flush (is_whole s.flush.store) ∙ free where
+  by : (f : Flush) (b : Bool) → wait_of (if b then record f { out = true; held = Some (record { count = f.unflushed; map = items_of f.contents }) } else record f { out = true }) 1 ≡ wait_of f 1
+  by f true = refl
+  by f false = refl
+
+-- ---- a reopening
+
+pub reopens_none : {D A : Type 0} {G : Ghosts D} (exec : Exec D A G) → is_broken exec.device.flush.store ≡ false → GoesOn exec exec Reopens
+reopens_none exec shut = record {
+  runs = λ h life. (life, within_here _ (λ can. Reopens can (world_of life exec) (world_of life exec)) (λ can. inl (shut, refl)));
+  explained = λ since why. why;
+  later = later_same _;
+}
+
+pub reopens_done : {D A : Type 0} {G : Ghosts D} (old taken new : Exec D A G) (j : AnyJob D A G) (short : Bool) → is_broken old.device.flush.store ≡ true
+    → Allows old.device (Took (Job (job_data j))) taken.device → old.home ≡ Some (job_home j) → HasRun taken j new short → short ≡ false
+    → ((since : ℕ) → HasReasons since taken.device.flush.store (Some (job_home j)) → IsExplained since new) → is_broken new.device.flush.store ≡ false → GoesOn old new Reopens
+reopens_done old taken new j short broke took there run long why mended = record {
+  runs = λ h life. (
+    life,
+    within_as _ _ (λ can. JobDone can (world_of life old) (world_of life new)) (λ can. Reopens can (world_of life old) (world_of life new))
+        (job_done old taken new j life short h took there run long) (λ can done. inr (broke, done, mended)),
+  );
+  explained = λ since e. why since (out_reasons since old taken j took there e);
+  later = run_later old taken new j short there run;
+}
+
+broken_is : (c : Condition) → is_broken c ≡ true → c ≡ Broken
+broken_is Whole e = cc
+broken_is Broken e = refl
+broken_is Worn e = cc
+
+-- the store is still broken
+pub halts_broken : {D A : Type 0} {G : Ghosts D} (old new : Exec D A G) → (Ghosts.honest G → (life : Life) → Executes (world_of life old) [] (world_of life new))
+    → ((since : ℕ) → IsExplained since old → IsExplained since new) → IsLater (failures_of old) (failures_of new) → is_broken new.device.flush.store ≡ true → (new.home ≡ None → ⊥)
+    → Halts old new [] RunDevice
+halts_broken {D} {A} {G} old new calls why later broke home_is = record {
+  begun = λ h life. (life, begins_none (world_of life old) (world_of life new) [] (calls h life));
+  explained = why;
+  later = later;
+  why = λ h since e. inl (told new.home refl (why since e));
+  own = λ e. cc;
+}
+  where
+    told : {since : ℕ} (there : Option (Home D A G)) → new.home ≡ there → IsExplained since new → HasFailed since (failures_of new)
+    told None e r = absurd (home_is e)
+    told {since} (Some h) e r = subst (λ (z : Option (Home D A G)). HasFailed since (failures_at z)) (sym e) (r.broken h e (broken_is new.device.flush.store broke))

@@ -1,0 +1,255 @@
+-- A job that goes out, runs and is given back.
+use Rattle.std.proofs.Common.{◌≡◌, ◌≢◌, ℕ, ◌+◌, ◌≤◌, ◌^◌, Bool, true, false, Option, Some, None, List, [], ◌∷◌, refl, sym, ap, ◌∙◌, subst, inl, inr, arith, ⊎_elim, map, slice_index_or, option_map}
+use Rattle.psu_disk.specs.Disk.{HasFailed}
+use Rattle.psu_disk.specs.declared.disk.Disk.{Ghosts}
+use Rattle.psu_items.specs.declared.commit.UnstartedCause.TheVariants as unstarted
+use Rattle.psu_items.specs.Batch.{Edit}
+use Rattle.psu_items.specs.Map.{Item}
+use Rattle.psu_items.specs.declared.broken.BrokenCause.{BrokenCause}
+use Rattle.psu_items.specs.declared.broken.BrokenCause.TheVariants as broken_cause
+use Rattle.psu_exec.specs.Calls.{JobData, JobEnd, Stored, Unstarted, Failed, Reopened, Job, Took, IsExpected, IsAccepted, Allows, job_of, kind_for, wait_less, wait_cut}
+use Rattle.psu_exec.specs.Device.{State, Flush, count_held, is_open, target, wait_of}
+use Rattle.psu_exec.specs.Jobs.{finished_of, finished_disk, home_of, home_disk, job_data, job_disk, job_home, RunsTo}
+use Rattle.psu_exec.specs.World.{IsTrueOf}
+use Rattle.psu_exec.specs.declared.condition.Condition.{Condition}
+use Rattle.psu_exec.specs.declared.condition.Condition.TheVariants.{Whole, Broken, Worn}
+use Rattle.psu_exec.specs.declared.exec.Exec.{Exec}
+use Rattle.psu_exec.specs.declared.finished.Finished.{Finished}
+use Rattle.psu_exec.specs.declared.finished.Finished.TheVariants as finished
+use Rattle.psu_exec.specs.declared.home.Home.{Home}
+use Rattle.psu_exec.specs.declared.job.Job.{Job as AnyJob}
+use Rattle.psu_exec.specs.declared.job.Job.TheVariants as job
+use Rattle.psu_exec.specs.declared.wait.Wait.{Wait}
+use Rattle.psu_server.specs.Failures.{failures_at, failures_of}
+use Rattle.psu_server.specs.Jobs.{Counts, HasRun, HasReasons, home_number}
+use Rattle.psu_server.specs.Lives.{Life, disk_at, world_of}
+use Rattle.psu_server.specs.Runs.{Mishaps, none, is_short, IsSound, EndsJob, JobDone}
+use Rattle.psu_server.specs.Within.{Covers, IsLater, Within}
+use Rattle.psu_server.proofs.Within.{failed_before, failed_on, later_on, later_failed}
+
+-- ---- what a job's end leaves of the state
+
+-- what the store is once this is given back
+abbrev store_after : JobEnd → Condition
+store_after (Stored limit map) = Whole
+store_after (Unstarted limit before edits unstarted.Memory) = Whole
+store_after (Unstarted limit before edits unstarted.Worn) = Worn
+store_after (Failed limit before edits cause) = Broken
+store_after (Reopened limit map) = Whole
+
+pub gave_store : (end : JobEnd) (s new : State) (over : List ℕ) → IsAccepted s end over new → new.flush.store ≡ store_after end
+gave_store (Stored limit map) s new over a = ap (λ (f : Flush). f.store) a.flush
+gave_store (Unstarted limit before edits unstarted.Memory) s new over a = ap (λ (f : Flush). f.store) a.flush
+gave_store (Unstarted limit before edits unstarted.Worn) s new over a = ap (λ (f : Flush). f.store) a.flush
+gave_store (Failed limit before edits cause) s new over a = ap (λ (f : Flush). f.store) a.flush
+gave_store (Reopened limit map) s new over a = ⊎_elim (λ all. ap (λ (f : Flush). f.store) all.1) (λ none. ap (λ (f : Flush). f.store) none.1) a.flush
+
+pub gave_home : (end : JobEnd) (s new : State) (over : List ℕ) → IsAccepted s end over new → new.flush.out ≡ false
+gave_home (Stored limit map) s new over a = ap (λ (f : Flush). f.out) a.flush
+gave_home (Unstarted limit before edits unstarted.Memory) s new over a = ap (λ (f : Flush). f.out) a.flush
+gave_home (Unstarted limit before edits unstarted.Worn) s new over a = ap (λ (f : Flush). f.out) a.flush
+gave_home (Failed limit before edits cause) s new over a = ap (λ (f : Flush). f.out) a.flush
+gave_home (Reopened limit map) s new over a = ⊎_elim (λ all. ap (λ (f : Flush). f.out) all.1) (λ none. ap (λ (f : Flush). f.out) none.1) a.flush
+
+-- the session stays open
+pub gave_open : (end : JobEnd) (s new : State) (over : List ℕ) → IsAccepted s end over new → is_open new 1 ≡ is_open s 1
+gave_open end s new over a = ap (λ v. slice_index_or v.open_now 0 false) a.volatile
+
+-- what a job's end turns each wait into is none where there was none
+pub no_wait_after : (turn : Wait → Wait) (waits : List (Option Wait)) → slice_index_or waits 0 None ≡ None → slice_index_or (map (option_map turn) waits) 0 None ≡ None
+no_wait_after turn [] h = refl
+no_wait_after turn (None ∷ waits) h = refl
+no_wait_after turn (Some w ∷ waits) h = cc
+
+pub gave_free : (end : JobEnd) (s new : State) (over : List ℕ) → IsAccepted s end over new → wait_of s.flush 1 ≡ None → wait_of new.flush 1 ≡ None
+gave_free (Stored limit map) s new over a e = ap (λ (f : Flush). wait_of f 1) a.flush ∙ no_wait_after (wait_less (count_held s.flush.held)) s.flush.waits e
+gave_free (Unstarted limit before edits unstarted.Memory) s new over a e = ap (λ (f : Flush). wait_of f 1) a.flush ∙ e
+gave_free (Unstarted limit before edits unstarted.Worn) s new over a e = ap (λ (f : Flush). wait_of f 1) a.flush ∙ no_wait_after wait_cut s.flush.waits e
+gave_free (Failed limit before edits cause) s new over a e = ap (λ (f : Flush). wait_of f 1) a.flush ∙ no_wait_after wait_cut s.flush.waits e
+gave_free (Reopened limit map) s new over a e =
+    ⊎_elim (λ all. ap (λ (f : Flush). wait_of f 1) all.1 ∙ no_wait_after (wait_less (count_held s.flush.held)) s.flush.waits e)
+    (λ none. ap (λ (f : Flush). wait_of f 1) none.1 ∙ e) a.flush
+
+-- ---- the job that is out is the one that runs
+
+pub expected : {D A : Type 0} {G : Ghosts D} (f : Flush) (j : AnyJob D A G) (end : Finished D A G) → job_data j ≡ job_of f → RunsTo j end → IsExpected f (finished_of end)
+expected f (job.Commit planned) (finished.Stored store) own runs = (runs.limit ∙ ap (λ (d : JobData). d.limit) own, runs.items ∙ ap (λ (d : JobData). d.target) own)
+expected f (job.Commit planned) (finished.Unstarted store back cause) own runs =
+    (ap (λ s. s.limit) runs.store ∙ ap (λ (d : JobData). d.limit) own, ap (λ s. s.items) runs.store ∙ ap (λ (d : JobData). d.before) own, runs.batch_is ∙ ap (λ (d : JobData). d.edits) own)
+expected f (job.Commit planned) (finished.Broken broken) own runs =
+    (runs.limit ∙ ap (λ (d : JobData). d.limit) own, runs.before ∙ ap (λ (d : JobData). d.before) own, runs.batch_is ∙ ap (λ (d : JobData). d.edits) own)
+expected f (job.Commit planned) (finished.Reopened store) own runs = absurd runs
+expected f (job.Reopen alloc old) (finished.Stored store) own runs = absurd runs
+expected f (job.Reopen alloc old) (finished.Unstarted store back cause) own runs = absurd runs
+expected f (job.Reopen alloc old) (finished.Broken broken) own runs =
+    (runs.same.limit ∙ ap (λ (d : JobData). d.limit) own, runs.same.before ∙ ap (λ (d : JobData). d.before) own, runs.same.batch ∙ ap (λ (d : JobData). d.edits) own)
+expected f (job.Reopen alloc old) (finished.Reopened store) own runs =
+    (runs.limit ∙ ap (λ (d : JobData). d.limit) own, ⊎_elim (λ e. inl (e ∙ ap (λ (d : JobData). d.before) own)) (λ e. inr (e ∙ ap (λ (d : JobData). d.target) own)) runs.items)
+
+pub ends_job : {D A : Type 0} {G : Ghosts D} (j : AnyJob D A G) (end : Finished D A G) → RunsTo j end → EndsJob (job_data j).kind (finished_of end)
+ends_job (job.Commit planned) (finished.Stored store) runs = tt
+ends_job (job.Commit planned) (finished.Unstarted store back cause) runs = tt
+ends_job (job.Commit planned) (finished.Broken broken) runs = tt
+ends_job (job.Commit planned) (finished.Reopened store) runs = absurd runs
+ends_job (job.Reopen alloc old) (finished.Stored store) runs = absurd runs
+ends_job (job.Reopen alloc old) (finished.Unstarted store back cause) runs = absurd runs
+ends_job (job.Reopen alloc old) (finished.Broken broken) runs = tt
+ends_job (job.Reopen alloc old) (finished.Reopened store) runs = tt
+
+-- a reopening that leaves the store broken, by its cause
+still_counts : (limit : ℕ) (before : List Item) (edits : List Edit) (cause : BrokenCause) (a b : ℕ)
+    → (cause ≡ broken_cause.Device → HasFailed a b) → (cause ≢ broken_cause.Strange) → is_short (Failed limit before edits cause) ≡ false → HasFailed a b
+still_counts limit before edits broken_cause.Device a b device strange long = device refl
+still_counts limit before edits broken_cause.Strange a b device strange long = absurd (strange refl)
+still_counts limit before edits broken_cause.Memory a b device strange long = cc
+
+pub counts_of : {D A : Type 0} {G : Ghosts D} (j : AnyJob D A G) (end : Finished D A G) → RunsTo j end → Ghosts.honest G → is_short (finished_of end) ≡ false
+    → Counts (finished_of end) (Ghosts.failures G (job_disk j)) (Ghosts.failures G (home_disk (home_of end)))
+counts_of (job.Commit planned) (finished.Stored store) runs h long = runs.failures
+counts_of {D} {A} {G} (job.Commit planned) (finished.Unstarted store back cause) runs h long = ap (λ s. Ghosts.failures G s.disk) runs.store
+counts_of (job.Commit planned) (finished.Broken broken) runs h long = runs.failures
+counts_of (job.Commit planned) (finished.Reopened store) runs h long = absurd runs
+counts_of (job.Reopen alloc old) (finished.Stored store) runs h long = absurd runs
+counts_of (job.Reopen alloc old) (finished.Unstarted store back cause) runs h long = absurd runs
+counts_of (job.Reopen alloc old) (finished.Broken broken) runs h long =
+    still_counts broken.limit broken.before broken.batch broken.cause _ _ runs.device (runs.strange h) long
+counts_of (job.Reopen alloc old) (finished.Reopened store) runs h long = runs.failures
+
+-- the count of failures is a later one, however the job ended
+pub later_of : {D A : Type 0} {G : Ghosts D} (j : AnyJob D A G) (end : Finished D A G) → RunsTo j end
+    → IsLater (Ghosts.failures G (job_disk j)) (Ghosts.failures G (home_disk (home_of end)))
+later_of (job.Commit planned) (finished.Stored store) runs = let same = runs.failures in inl (omega (arith, same))
+later_of {D} {A} {G} (job.Commit planned) (finished.Unstarted store back cause) runs =
+    let same : Ghosts.failures G store.disk ≡ Ghosts.failures G planned.store.disk = ap (λ s. Ghosts.failures G s.disk) runs.store in inl (omega (arith, same))
+later_of (job.Commit planned) (finished.Broken broken) runs = later_failed _ _ runs.failures
+later_of (job.Commit planned) (finished.Reopened store) runs = absurd runs
+later_of (job.Reopen alloc old) (finished.Stored store) runs = absurd runs
+later_of (job.Reopen alloc old) (finished.Unstarted store back cause) runs = absurd runs
+later_of (job.Reopen alloc old) (finished.Broken broken) runs = inl runs.later
+later_of (job.Reopen alloc old) (finished.Reopened store) runs = let same = runs.failures in inl (omega (arith, same))
+
+-- ---- why a store can't take a commit
+
+-- of a broken store the disk failed, of a worn one the number is the last
+abbrev BrokenFor : {D A : Type 0} {G : Ghosts D} → ℕ → Condition → Finished D A G → Type 0
+BrokenFor {D} {A} {G} since store end = store ≡ Broken → HasFailed since (Ghosts.failures G (home_disk (home_of end)))
+
+abbrev WornFor : {D A : Type 0} {G : Ghosts D} → Condition → Finished D A G → Type 0
+WornFor store end = store ≡ Worn → 2 ^ 64 ≤ home_number (home_of end) + 1
+
+broken_for : {D A : Type 0} {G : Ghosts D} (since : ℕ) (store : Condition) (j : AnyJob D A G) (end : Finished D A G) → (store ≡ Worn → ⊥) → (job_data j).kind ≡ kind_for store
+    → HasReasons since store (Some (job_home j)) → RunsTo j end → BrokenFor since (store_after (finished_of end)) end
+broken_for since store (job.Commit planned) (finished.Stored new) fit kind why runs = λ e. cc
+broken_for since store (job.Commit planned) (finished.Unstarted new back unstarted.Memory) fit kind why runs = λ e. cc
+broken_for since store (job.Commit planned) (finished.Unstarted new back unstarted.Worn) fit kind why runs = λ e. cc
+broken_for since store (job.Commit planned) (finished.Broken broken) fit kind why runs = λ e. failed_before since _ _ (why.later _ refl) runs.failures
+broken_for since store (job.Commit planned) (finished.Reopened new) fit kind why runs = absurd runs
+broken_for since store (job.Reopen alloc old) (finished.Stored new) fit kind why runs = absurd runs
+broken_for since store (job.Reopen alloc old) (finished.Unstarted new back cause) fit kind why runs = absurd runs
+broken_for since Whole (job.Reopen alloc old) (finished.Broken broken) fit kind why runs = λ e. cc
+broken_for since Broken (job.Reopen alloc old) (finished.Broken broken) fit kind why runs = λ e. failed_on since _ _ (inl runs.later) (why.broken _ refl refl)
+broken_for since Worn (job.Reopen alloc old) (finished.Broken broken) fit kind why runs = absurd (fit refl)
+broken_for since store (job.Reopen alloc old) (finished.Reopened new) fit kind why runs = λ e. cc
+
+worn_for : {D A : Type 0} {G : Ghosts D} (j : AnyJob D A G) (end : Finished D A G) → RunsTo j end → WornFor (store_after (finished_of end)) end
+worn_for (job.Commit planned) (finished.Stored new) runs = λ e. cc
+worn_for (job.Commit planned) (finished.Unstarted new back unstarted.Memory) runs = λ e. cc
+worn_for (job.Commit planned) (finished.Unstarted new back unstarted.Worn) runs = λ e. subst (λ s. 2 ^ 64 ≤ s.number + 1) (sym runs.store) (runs.worn refl)
+worn_for (job.Commit planned) (finished.Broken broken) runs = λ e. cc
+worn_for (job.Commit planned) (finished.Reopened new) runs = absurd runs
+worn_for (job.Reopen alloc old) (finished.Stored new) runs = absurd runs
+worn_for (job.Reopen alloc old) (finished.Unstarted new back cause) runs = absurd runs
+worn_for (job.Reopen alloc old) (finished.Broken broken) runs = λ e. cc
+worn_for (job.Reopen alloc old) (finished.Reopened new) runs = λ e. cc
+
+the_home : {D A : Type 0} {G : Ghosts D} (a b : Home D A G) → Some a ≡ Some b → a ≡ b
+the_home a b e = cc
+
+pub gave_reasons : {D A : Type 0} {G : Ghosts D} (since : ℕ) (s new : State) (over : List ℕ) (j : AnyJob D A G) (end : Finished D A G) (there : Option (Home D A G))
+    → (s.flush.store ≡ Worn → ⊥) → job_data j ≡ job_of s.flush → HasReasons since s.flush.store (Some (job_home j)) → RunsTo j end → IsAccepted s (finished_of end) over new
+    → there ≡ Some (home_of end) → HasReasons since new.flush.store there
+gave_reasons {D} {A} {G} since s new over j end there fit own why runs gave is =
+    let store : new.flush.store ≡ store_after (finished_of end) = gave_store (finished_of end) s new over gave in
+    let reasons : HasReasons since (store_after (finished_of end)) (Some (home_of end)) = record {
+      later = λ h e. subst (λ (z : Home D A G). IsLater since (Ghosts.failures G (home_disk z))) (the_home (home_of end) h e) (later_on since _ _ (first j why.later) (later_of j end runs));
+      broken = λ h e. subst (λ (z : Home D A G). store_after (finished_of end) ≡ Broken → HasFailed since (Ghosts.failures G (home_disk z))) (the_home (home_of end) h e)
+          (broken_for since s.flush.store j end fit (ap (λ (d : JobData). d.kind) own) why runs);
+      worn = λ h e. subst (λ (z : Home D A G). store_after (finished_of end) ≡ Worn → 2 ^ 64 ≤ home_number z + 1) (the_home (home_of end) h e) (worn_for j end runs);
+    } in
+    subst (λ (c : Condition). HasReasons since c there) (sym store) (subst (λ (h : Option (Home D A G)). HasReasons since (store_after (finished_of end)) h) (sym is) reasons)
+  where
+    first : (j : AnyJob D A G) → ((h : Home D A G) → Some (job_home j) ≡ Some h → IsLater since (Ghosts.failures G (home_disk h))) → IsLater since (Ghosts.failures G (job_disk j))
+    first (job.Commit planned) later = later _ refl
+    first (job.Reopen alloc old) later = later _ refl
+
+-- ---- the run's own words
+
+same_disk : {D A : Type 0} {G : Ghosts D} (end : Finished D A G) → finished_disk end ≡ home_disk (home_of end)
+same_disk (finished.Stored store) = refl
+same_disk (finished.Unstarted store back cause) = refl
+same_disk (finished.Broken broken) = refl
+same_disk (finished.Reopened store) = refl
+
+pub has_run : {D A : Type 0} {G : Ghosts D} (old : Exec D A G) (j : AnyJob D A G) (new : Exec D A G) (end : Finished D A G) (over : List ℕ) (short : Bool)
+    → RunsTo j end → IsAccepted old.device (finished_of end) over new.device → new.home ≡ Some (home_of end)
+    → (Ghosts.honest G → IsTrueOf (target old.device.flush) (finished_of end) (Ghosts.state G (finished_disk end))) → short ≡ is_short (finished_of end) → HasRun old j new short
+has_run {D} {A} {G} old j new end over short runs gave is true_of short_is = record {
+  finished = finished_of end;
+  over = over;
+  give = gave;
+  short_is = short_is;
+  own = ends_job j end runs;
+  stands = λ h. subst (λ (there : Option (Home D A G)). IsTrueOf (target old.device.flush) (finished_of end) (disk_at there)) (sym is)
+      (subst (λ (d : D). IsTrueOf (target old.device.flush) (finished_of end) (Ghosts.state G d)) (same_disk end) (true_of h));
+  later = subst (λ (there : Option (Home D A G)). IsLater (Ghosts.failures G (job_disk j)) (failures_at there)) (sym is) (later_of j end runs);
+  counts = λ h long. subst (λ (there : Option (Home D A G)). Counts (finished_of end) (Ghosts.failures G (job_disk j)) (failures_at there)) (sym is) (counts_of j end runs h long);
+}
+
+-- ---- a job as events
+
+gone_of : JobEnd → Mishaps
+gone_of (Stored limit map) = none
+gone_of (Unstarted limit before edits cause) = record { refused = false; failed = false; worn = true }
+gone_of (Failed limit before edits cause) = record { refused = false; failed = true; worn = false }
+gone_of (Reopened limit map) = none
+
+sound_of : (end : JobEnd) (can : Mishaps) → Covers can (gone_of end) → IsSound can end
+unfolding gone_of
+sound_of (Stored limit map) can cov = tt
+sound_of (Unstarted limit before edits cause) can cov = cov.worn refl
+sound_of (Failed limit before edits cause) can cov = cov.failed refl
+sound_of (Reopened limit map) can cov = tt
+
+failed_of : (end : JobEnd) (b c : ℕ) → Counts end b c → (gone_of end).failed ≡ true → HasFailed b c
+unfolding gone_of
+failed_of (Stored limit map) b c f e = cc
+failed_of (Unstarted limit before edits cause) b c f e = cc
+failed_of (Failed limit before edits cause) b c f e = f
+failed_of (Reopened limit map) b c f e = cc
+
+pub job_done : {D A : Type 0} {G : Ghosts D} (old taken new : Exec D A G) (j : AnyJob D A G) (life : Life) (short : Bool) → Ghosts.honest G
+    → Allows old.device (Took (Job (job_data j))) taken.device → old.home ≡ Some (job_home j) → HasRun taken j new short → short ≡ false
+    → Within (failures_of old) (failures_of new) (λ can. JobDone can (world_of life old) (world_of life new))
+job_done {D} {A} {G} old taken new j life short h took there run long =
+    let calm : is_short run.finished ≡ false = sym run.short_is ∙ long in
+    let count : failures_of old ≡ Ghosts.failures G (job_disk j) = ap (λ (z : Option (Home D A G)). failures_at z) there ∙ job_count j in
+    subst (λ (n : ℕ). Within n (failures_of new) (λ can. JobDone can (world_of life old) (world_of life new))) (sym count) (
+      gone_of run.finished,
+      run.later,
+      failed_of run.finished _ _ (run.counts h calm),
+      λ can cov. record {
+        job = job_data j;
+        taken = record (world_of life old) { state = taken.device };
+        finished = run.finished;
+        over = run.over;
+        take = (disk_at old.home, (taken.device, refl, took, refl, refl));
+        give = (disk_at new.home, (new.device, refl, run.give, run.stands h, refl));
+        own = run.own;
+        sound = sound_of run.finished can cov;
+        long = calm;
+      },
+    )
+  where
+    job_count : (j : AnyJob D A G) → failures_at (let z : Option (Home D A G) = Some (job_home j) in z) ≡ Ghosts.failures G (job_disk j)
+    job_count (job.Commit planned) = refl
+    job_count (job.Reopen alloc broken) = refl

@@ -1,0 +1,98 @@
+-- What a call on session 1 leaves of its wait and of the store.
+use Rattle.std.proofs.Common.{◌≡◌, ℕ, ◌==◌, if◌then◌else◌, Bool, true, false, Option, Some, None, List, [], ◌∷◌, refl, sym, ap, ◌∙◌, subst, inl, inr, slice_index_or, slice_set, decimal}
+use Rattle.psu_disk.specs.declared.disk.Disk.{Ghosts}
+use Rattle.psu_exec.specs.Calls.{Executed, Settled, Cleared, Allows, settle_answer, settled}
+use Rattle.psu_exec.specs.Device.{Reply, Done, Answer, Error, Parked, Later, State, Flush, with_wait, wait_of}
+use Rattle.psu_exec.specs.declared.exec.Exec.{Exec}
+use Rattle.psu_exec.specs.declared.home.Home.{Home}
+use Rattle.psu_exec.specs.declared.request.Request.{Request}
+use Rattle.psu_exec.specs.declared.wait.Wait.{Wait}
+use Rattle.psu_exec.specs.declared.wait.Wait.TheVariants.{Until, CutOff}
+use Rattle.psu_server.specs.Failures.{failures_at, failures_of}
+use Rattle.psu_server.specs.Lives.{Life, lived, world_of, Calls}
+use Rattle.psu_server.specs.Runs.{is_final, is_out_of_memory, is_parked}
+use Rattle.psu_server.proofs.Calls.{called}
+
+-- ---- the session is the first
+
+pub settled_one : (s new : State) (reply : Reply) (session : ℕ) → session ≡ 1 → Allows s (Settled session reply) new → Allows s (Settled 1 reply) new
+settled_one s new reply session one t = subst (λ (n : ℕ). Allows s (Settled n reply) new) one t
+
+pub executed_one : (s new : State) (request : Request) (reply : Reply) (session : ℕ) → session ≡ 1 → Allows s (Executed session request reply) new → Allows s (Executed 1 request reply) new
+executed_one s new request reply session one t = subst (λ (n : ℕ). Allows s (Executed n request reply) new) one t
+
+pub cleared_one : (s new : State) (session : ℕ) → session ≡ 1 → Allows s (Cleared session) new → Allows s (Cleared 1) new
+cleared_one s new session one t = subst (λ (n : ℕ). Allows s (Cleared n) new) one t
+
+-- ---- what a call on a session leaves of its wait
+
+no_wait : (waits : List (Option Wait)) → slice_index_or (slice_set waits 0 None) 0 None ≡ None
+no_wait [] = refl
+no_wait (w ∷ ws) = refl
+
+-- the reply to a wait for changes
+abbrev pub until : Bool → Reply
+until b = if b then Answer (decimal 1) else Parked
+
+over_if : (f : Flush) (b : Bool) → is_final (until b) ≡ true → wait_of (settled f 1 (until b)) 1 ≡ None
+over_if f true final = no_wait f.waits
+over_if f false final = cc
+
+pub over_free : (f : Flush) (wait : Option Wait) → is_final (settle_answer wait) ≡ true → wait_of (settled f 1 (settle_answer wait)) 1 ≡ None
+over_free f None final = no_wait f.waits
+over_free f (Some CutOff) final = no_wait f.waits
+over_free f (Some (Until n)) final = over_if f (n == 0) final
+
+-- what is over leaves no wait
+pub settle_free : (s new : State) (reply : Reply) → Allows s (Settled 1 reply) new → is_final reply ≡ true → is_out_of_memory reply ≡ false → wait_of new.flush 1 ≡ None
+settle_free s new reply (opened, inl may, is) final long =
+    ap (λ (z : State). wait_of z.flush 1) is ∙ ap (λ (r : Reply). wait_of (settled s.flush 1 r) 1) may ∙ over_free s.flush (wait_of s.flush 1) (ap is_final (sym may) ∙ final)
+settle_free s new reply (opened, inr may, is) final long = let bad = ap is_out_of_memory (sym may.0) ∙ long in cc
+
+pub clear_free : (s new : State) → Allows s (Cleared 1) new → wait_of new.flush 1 ≡ None
+clear_free s new (opened, is) = ap (λ (z : State). wait_of z.flush 1) is ∙ no_wait s.flush.waits
+
+kept_waits : (waits : List (Option Wait)) (n : ℕ) (reply : Reply) → is_parked reply ≡ false → with_wait waits 1 n reply ≡ waits
+kept_waits waits n Done e = refl
+kept_waits waits n (Answer text) e = refl
+kept_waits waits n (Error error) e = refl
+kept_waits waits n Later e = refl
+kept_waits waits n Parked e = cc
+
+pub unit_free : (s new : State) (request : Request) (reply : Reply) → Allows s (Executed 1 request reply) new → is_parked reply ≡ false → wait_of s.flush 1 ≡ None → wait_of new.flush 1 ≡ None
+unit_free s new request reply t shut free =
+    ap (λ (z : State). wait_of z.flush 1) t.1.is ∙ ap (λ (waits : List (Option Wait)). slice_index_or waits 0 None) (kept_waits s.flush.waits s.flush.unflushed reply shut) ∙ free
+
+-- ---- and of the store
+
+store_if : (f : Flush) (b : Bool) → (settled f 1 (until b)).store ≡ f.store
+store_if f true = refl
+store_if f false = refl
+
+answer_store : (f : Flush) (wait : Option Wait) → (settled f 1 (settle_answer wait)).store ≡ f.store
+answer_store f None = refl
+answer_store f (Some CutOff) = refl
+answer_store f (Some (Until n)) = store_if f (n == 0)
+
+pub settle_store : (s new : State) (reply : Reply) → Allows s (Settled 1 reply) new → new.flush.store ≡ s.flush.store
+settle_store s new reply (opened, inl may, is) =
+    ap (λ (z : State). z.flush.store) is ∙ ap (λ (r : Reply). (settled s.flush 1 r).store) may ∙ answer_store s.flush (wait_of s.flush 1)
+settle_store s new reply (opened, inr may, is) = ap (λ (z : State). z.flush.store) is ∙ ap (λ (r : Reply). (settled s.flush 1 r).store) may.0
+
+-- ---- one call more, told by the code
+
+-- the session is settled, cleared, or a unit of it executed: the disk stays
+pub settled_calls : {D A : Type 0} {G : Ghosts D} (old new : Exec D A G) (life : Life) (reply : Reply) → Allows old.device (Settled 1 reply) new.device → new.home ≡ old.home
+    → Calls (world_of life old) (Settled 1 reply) (world_of (lived life old.device (Settled 1 reply)) new)
+settled_calls old new life reply t there = called old new life (Settled 1 reply) t there (λ d e. e)
+
+pub executed_calls : {D A : Type 0} {G : Ghosts D} (old new : Exec D A G) (life : Life) (request : Request) (reply : Reply) → Allows old.device (Executed 1 request reply) new.device → new.home ≡ old.home
+    → Calls (world_of life old) (Executed 1 request reply) (world_of (lived life old.device (Executed 1 request reply)) new)
+executed_calls old new life request reply t there = called old new life (Executed 1 request reply) t there (λ d e. e)
+
+pub cleared_calls : {D A : Type 0} {G : Ghosts D} (old new : Exec D A G) (life : Life) → Allows old.device (Cleared 1) new.device → new.home ≡ old.home
+    → Calls (world_of life old) (Cleared 1) (world_of (lived life old.device (Cleared 1)) new)
+cleared_calls old new life t there = called old new life (Cleared 1) t there (λ d e. e)
+
+pub count_same : {D A : Type 0} {G : Ghosts D} (old new : Exec D A G) → new.home ≡ old.home → failures_of new ≡ failures_of old
+count_same {D} {A} {G} old new there = ap (λ (z : Option (Home D A G)). failures_at z) there

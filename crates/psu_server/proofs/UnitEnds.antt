@@ -1,0 +1,387 @@
+-- Units, their waits, and what they leave.
+use Rattle.std.proofs.Common.{◌≡◌, ◌≢◌, ◌⊎◌, ℕ, ◌<◌, ◌==◌, ◌&&◌, nat_le, if◌then◌else◌, Bool, true, false, Option, Some, None, is_some, Result, Ok, Err, List, [], ◌∷◌, ◌++◌, refl, sym, ap, ◌∙◌, subst, inl, inr, arith, ⊎_elim}
+use Rattle.std.proofs.lemmas.Bool.Decides.{nat_tests}
+use Rattle.psu_disk.specs.Disk.{HasFailed}
+use Rattle.psu_disk.specs.declared.disk.Disk.{Ghosts}
+use Rattle.psu_exec.specs.Calls.{Executed, Settled, Cleared, Allows, settle_answer}
+use Rattle.psu_exec.specs.Device.{Reply, Done, Answer, Error, Parked, Later, State, is_late, is_refused, waits_for, wait_of, answer_read, answer_with, change_of}
+use Rattle.psu_exec.specs.Shown.{outcome_of}
+use Rattle.psu_exec.specs.World.{World}
+use Rattle.psu_exec.specs.declared.change.Change.{Change}
+use Rattle.psu_exec.specs.declared.command.Command.{Command}
+use Rattle.psu_exec.specs.declared.command.Command.TheVariants.{PscOn, PscOff, PscQuery, Sre, SreQuery, Ese, EseQuery, EsrQuery, StbQuery, IdnQuery, OpcQuery}
+use Rattle.psu_exec.specs.declared.condition.Condition.TheVariants.{Worn}
+use Rattle.psu_exec.specs.declared.exec.Exec.{Exec}
+use Rattle.psu_exec.specs.declared.outcome.Outcome.{Outcome}
+use Rattle.psu_exec.specs.declared.outcome.Outcome.TheVariants as outcome
+use Rattle.psu_exec.specs.declared.registers.Registers.{Registers}
+use Rattle.psu_exec.specs.declared.request.Request.{Request}
+use Rattle.psu_exec.specs.declared.wait.Wait.{Wait}
+use Rattle.psu_exec.specs.declared.wait.Wait.TheVariants.{Until, CutOff}
+use Rattle.psu_lex.specs.declared.scpi_error.ScpiError.{ScpiError}
+use Rattle.psu_lex.specs.declared.scpi_error.ScpiError.TheVariants.{StorageFault}
+use Rattle.psu_server.specs.Failures.{failures_of}
+use Rattle.psu_server.specs.Jobs.{IsExplained}
+use Rattle.psu_server.specs.Lives.{Life, lived, world_of, Calls}
+use Rattle.psu_server.specs.Progress.{Acted, GoesOn, Halts, WaitEnds}
+use Rattle.psu_server.specs.Reasons.{IsHaltedBy}
+use Rattle.psu_server.specs.Runs.{Mishaps, Acts, Flushes, IsMeant, UnitRuns, is_final, is_later, is_out_of_memory, is_parked}
+use Rattle.psu_server.specs.Within.{IsLater}
+use Rattle.psu_server.specs.declared.run_cause.RunCause.{RunCause}
+use Rattle.psu_server.specs.declared.run_cause.RunCause.TheVariants.{Read, Write, Open, Device, TooLong, Memory}
+use Rattle.psu_server.proofs.Calls.{Executes, executes_join, executes_one, flush_calls, begins_all, begins_idle, begins_more, begins_then}
+use Rattle.psu_server.proofs.FlushEnds.{same_explained}
+use Rattle.psu_server.proofs.Within.{failed_on, later_on, later_same, within_as, within_at, within_here, within_itself, within_then}
+use Rattle.psu_server.proofs.SessionOne.{cleared_calls, count_same, executed_calls, settle_store, settled_calls, until}
+
+-- ---- what goes on and then stops
+
+-- what went on was executed
+pub record HasExecuted {D A : Type 0} {G : Ghosts D} (old new : Exec D A G) (requests : List Request) : Type 0 where
+  pub calls : Ghosts.honest G → (life : Life) → (next : Life) × Executes (world_of life old) requests (world_of next new)
+  pub explained : (since : ℕ) → IsExplained since old → IsExplained since new
+  pub later : IsLater (failures_of old) (failures_of new)
+
+pub has_executed : {D A : Type 0} {G : Ghosts D} (old new : Exec D A G) (requests : List Request) (P : Mishaps → World → World → Type 0) → GoesOn old new P
+    → ((can : Mishaps) (w v : World) → P can w v → Executes w requests v) → HasExecuted old new requests
+has_executed old new requests P goes turn = record {
+  calls = λ h life. let g = goes.runs h life in (g.0, turn g.1.0 (world_of life old) (world_of g.0 new) (within_itself _ _ (λ can. P can (world_of life old) (world_of g.0 new)) g.1));
+  explained = goes.explained;
+  later = goes.later;
+}
+
+pub executed_join : {D A : Type 0} {G : Ghosts D} (old mid new : Exec D A G) (xs ys : List Request) → HasExecuted old mid xs → HasExecuted mid new ys → HasExecuted old new (xs ++ ys)
+executed_join old mid new xs ys p q = record {
+  calls = λ h life. let g = p.calls h life in let k = q.calls h g.0 in (k.0, executes_join (world_of life old) (world_of g.0 mid) (world_of k.0 new) xs ys g.1 k.1);
+  explained = λ since e. q.explained since (p.explained since e);
+  later = later_on _ _ _ p.later q.later;
+}
+
+-- a stop after what was executed
+pub halts_here : {D A : Type 0} {G : Ghosts D} (old new : Exec D A G) (done more : List Request) (cause : RunCause) → HasExecuted old new done
+    → (Ghosts.honest G → (since : ℕ) → IsExplained since old → IsHaltedBy since new cause) → cause ≢ Write → Halts old new (done ++ more) cause
+halts_here old new done more cause p why own = record {
+  begun = λ h life. let g = p.calls h life in (g.0, begins_more _ _ done more (begins_all _ _ done g.1));
+  explained = p.explained;
+  later = p.later;
+  why = why;
+  own = own;
+}
+
+pub halts_after : {D A : Type 0} {G : Ghosts D} (old mid new : Exec D A G) (done rest : List Request) (cause : RunCause) → HasExecuted old mid done → Halts mid new rest cause
+    → Halts old new (done ++ rest) cause
+halts_after old mid new done rest cause p s = record {
+  begun = λ h life. let g = p.calls h life in let k = s.begun h g.0 in (k.0, begins_then (world_of life old) (world_of g.0 mid) (world_of k.0 new) done rest g.1 k.1);
+  explained = λ since e. s.explained since (p.explained since e);
+  later = later_on _ _ _ p.later s.later;
+  why = λ h since e. s.why h since (p.explained since e);
+  own = s.own;
+}
+
+pub halts_more : {D A : Type 0} {G : Ghosts D} (old new : Exec D A G) (some more : List Request) (cause : RunCause) → Halts old new some cause → Halts old new (some ++ more) cause
+halts_more old new some more cause s = record {
+  begun = λ h life. let k = s.begun h life in (k.0, begins_more _ _ some more k.1);
+  explained = s.explained;
+  later = s.later;
+  why = s.why;
+  own = s.own;
+}
+
+-- a fault for want of memory
+pub halts_for_memory : {D A : Type 0} {G : Ghosts D} (old new : Exec D A G) (done more : List Request) → HasExecuted old new done → Halts old new (done ++ more) Memory
+halts_for_memory old new done more p = halts_here old new done more Memory p (λ h since e. tt) (λ e. cc)
+
+-- ---- calls that go on
+
+pub settled_goes : {D A : Type 0} {G : Ghosts D} (old new : Exec D A G) (reply : Reply) → Allows old.device (Settled 1 reply) new.device → new.home ≡ old.home
+    → GoesOn old new (λ can w v. Calls w (Settled 1 reply) v)
+settled_goes old new reply t there = record {
+  runs = λ h life. (
+    lived life old.device (Settled 1 reply),
+    within_at _ _ _ (λ can. Calls (world_of life old) (Settled 1 reply) (world_of (lived life old.device (Settled 1 reply)) new)) (count_same old new there)
+        (within_here _ (λ can. Calls (world_of life old) (Settled 1 reply) (world_of (lived life old.device (Settled 1 reply)) new)) (λ can. settled_calls old new life reply t there)),
+  );
+  explained = λ since why. same_explained since old new (settle_store old.device new.device reply t) there why;
+  later = subst (λ (n : ℕ). IsLater (failures_of old) n) (sym (count_same old new there)) (later_same (failures_of old));
+}
+
+pub cleared_goes : {D A : Type 0} {G : Ghosts D} (old new : Exec D A G) → Allows old.device (Cleared 1) new.device → new.home ≡ old.home → GoesOn old new (λ can w v. Calls w (Cleared 1) v)
+cleared_goes old new t there = record {
+  runs = λ h life. (
+    lived life old.device (Cleared 1),
+    within_at _ _ _ (λ can. Calls (world_of life old) (Cleared 1) (world_of (lived life old.device (Cleared 1)) new)) (count_same old new there)
+        (within_here _ (λ can. Calls (world_of life old) (Cleared 1) (world_of (lived life old.device (Cleared 1)) new)) (λ can. cleared_calls old new life t there)),
+  );
+  explained = λ since why. same_explained since old new (ap (λ (s : State). s.flush.store) t.1) there why;
+  later = subst (λ (n : ℕ). IsLater (failures_of old) n) (sym (count_same old new there)) (later_same (failures_of old));
+}
+
+-- what was refused for a reply
+abbrev is_refused_for : Reply → Bool
+is_refused_for (Error e) = true
+is_refused_for _ = false
+
+meant : (can : Mishaps) (o : Reply) → (is_refused_for o ≡ true → can.refused ≡ true) → IsMeant can o
+meant can (Error e) h = λ _. h refl
+meant can Done h = λ e. cc
+meant can (Answer r) h = λ e. cc
+meant can Parked h = λ e. cc
+meant can Later h = λ e. cc
+
+-- a unit that is executed, with what was refused for it
+pub executed_goes : {D A : Type 0} {G : Ghosts D} (old new : Exec D A G) (request : Request) (reply : Reply) → Allows old.device (Executed 1 request reply) new.device → new.home ≡ old.home
+    → GoesOn old new (λ can w v. IsMeant can reply × Calls w (Executed 1 request reply) v)
+executed_goes old new request reply t there = record {
+  runs = λ h life. (
+    lived life old.device (Executed 1 request reply),
+    within_at _ _ _ (λ can. IsMeant can reply × Calls (world_of life old) (Executed 1 request reply) (world_of (lived life old.device (Executed 1 request reply)) new)) (count_same old new there)
+        (record { refused = is_refused_for reply; failed = false; worn = false }, later_same _, (λ e. cc), λ can cov. (meant can reply cov.refused, executed_calls old new life request reply t there)),
+  );
+  explained = λ since why. same_explained since old new (ap (λ (s : State). s.flush.store) t.1.is) there why;
+  later = subst (λ (n : ℕ). IsLater (failures_of old) n) (sym (count_same old new there)) (later_same (failures_of old));
+}
+
+pub goes_then : {D A : Type 0} {G : Ghosts D} (old mid new : Exec D A G) (P Q R : Mishaps → World → World → Type 0) → GoesOn old mid P → GoesOn mid new Q
+    → ((can : Mishaps) (w u v : World) → P can w u → Q can u v → R can w v) → GoesOn old new R
+goes_then old mid new P Q R p q join = record {
+  runs = λ h life. let g = p.runs h life in let k = q.runs h g.0 in (
+    k.0,
+    within_then _ _ _ (λ can. P can (world_of life old) (world_of g.0 mid)) (λ can. Q can (world_of g.0 mid) (world_of k.0 new)) (λ can. R can (world_of life old) (world_of k.0 new)) g.1 k.1
+        (λ can x y. join can (world_of life old) (world_of g.0 mid) (world_of k.0 new) x y),
+  );
+  explained = λ since e. q.explained since (p.explained since e);
+  later = later_on _ _ _ p.later q.later;
+}
+
+pub goes_as : {D A : Type 0} {G : Ghosts D} (old new : Exec D A G) (P R : Mishaps → World → World → Type 0) → GoesOn old new P → ((can : Mishaps) (w v : World) → P can w v → R can w v) → GoesOn old new R
+goes_as old new P R p turn = record {
+  runs = λ h life. let g = p.runs h life in (
+    g.0,
+    within_as _ _ (λ can. P can (world_of life old) (world_of g.0 new)) (λ can. R can (world_of life old) (world_of g.0 new)) g.1 (λ can x. turn can (world_of life old) (world_of g.0 new) x),
+  );
+  explained = p.explained;
+  later = p.later;
+}
+
+-- ---- waits
+
+pub wait_ends : {D A : Type 0} {G : Ghosts D} (old mid new : Exec D A G) (reply : Reply) → GoesOn old mid Flushes → Allows mid.device (Settled 1 reply) new.device → new.home ≡ mid.home
+    → GoesOn old new (WaitEnds reply)
+wait_ends old mid new reply f t there =
+    goes_then old mid new Flushes (λ can w v. Calls w (Settled 1 reply) v) (WaitEnds reply) f (settled_goes mid new reply t there) (λ can w u v x y. (u, x, y))
+
+-- a flush, and a settle
+pub flush_settles : {D A : Type 0} {G : Ghosts D} (old mid new : Exec D A G) (reply : Reply) → GoesOn old mid Flushes → Allows mid.device (Settled 1 reply) new.device → new.home ≡ mid.home
+    → HasExecuted old new []
+flush_settles old mid new reply f t there =
+    has_executed old new [] (WaitEnds reply) (wait_ends old mid new reply f t there)
+    (λ can w v x. executes_join w x.0 v [] [] (flush_calls can w x.0 x.1) (executes_one x.0 (Settled 1 reply) v x.2))
+
+-- a wait that is not over after a flush
+is_waiting : (wait : Option Wait) → is_final (settle_answer wait) ≡ false → settle_answer wait ≡ Parked
+is_waiting None e = cc
+is_waiting (Some CutOff) e = cc
+is_waiting (Some (Until n)) e = waiting_if (n == 0) e where
+  waiting_if : (b : Bool) → is_final (until b) ≡ false → until b ≡ Parked
+  waiting_if true e = cc
+  waiting_if false e = refl
+
+still_parked : (s new : State) (reply : Reply) → Allows s (Settled 1 reply) new → is_final reply ≡ false → reply ≡ Parked
+still_parked s new reply (opened, inl may, is) final = may ∙ is_waiting (wait_of s.flush 1) (ap is_final (sym may) ∙ final)
+still_parked s new reply (opened, inr may, is) final = let bad = ap is_final (sym may.0) ∙ final in cc
+
+pub waiting_halted : {D A : Type 0} {G : Ghosts D} (since : ℕ) (mid new : Exec D A G) (reply : Reply) → Allows mid.device (Settled 1 reply) new.device → new.home ≡ mid.home
+    → HasFailed since (failures_of mid) ⊎ (mid.device.flush.store ≡ Worn) ⊎ (mid.device.flush.unflushed ≡ 0) → is_final reply ≡ false → (reply ≡ Parked → 0 < mid.device.flush.unflushed)
+    → IsHaltedBy since new Device
+waiting_halted since mid new reply t there clean final parked =
+    ⊎_elim (λ failed. inl (subst (λ (n : ℕ). HasFailed since n) (sym (count_same mid new there)) failed))
+    (λ rest. ⊎_elim (λ worn. inr (settle_store mid.device new.device reply t ∙ worn))
+    (λ none. let some = parked (still_parked mid.device new.device reply t final) in absurd (omega (arith, some, none))) rest) clean
+
+-- the session waits no more
+pub halts_cleared : {D A : Type 0} {G : Ghosts D} (old mid new : Exec D A G) (cause : RunCause) → Halts old mid [] cause → Allows mid.device (Cleared 1) new.device → new.home ≡ mid.home
+    → Halts old new [] cause
+halts_cleared old mid new cause s t there =
+    let c = cleared_goes mid new t there in record {
+      begun = λ h life. let k = s.begun h life in let n = c.runs h k.0 in
+          (n.0, begins_idle (world_of life old) (world_of k.0 mid) (world_of n.0 new) (Cleared 1) [] k.1 (within_itself _ _ (λ can. Calls (world_of k.0 mid) (Cleared 1) (world_of n.0 new)) n.1) refl);
+      explained = λ since e. c.explained since (s.explained since e);
+      later = later_on _ _ _ s.later c.later;
+      why = λ h since e. still_halted since cause (s.why h since e);
+      own = s.own;
+    }
+  where
+    still_halted : (since : ℕ) (cause : RunCause) → IsHaltedBy since mid cause → IsHaltedBy since new cause
+    still_halted since Device w = ⊎_elim (λ f. inl (subst (λ (n : ℕ). HasFailed since n) (sym (count_same mid new there)) f)) (λ worn. inr (ap (λ (s : State). s.flush.store) t.1 ∙ worn)) w
+    still_halted since Memory w = tt
+    still_halted since (Open cause) w = absurd w
+    still_halted since Read w = absurd w
+    still_halted since Write w = absurd w
+    still_halted since TooLong w = absurd w
+
+-- ---- units
+
+acts_at : (can : Mishaps) (reply : Reply) (w v : World) (request : Request) → is_parked reply ≡ false → IsMeant can reply × Calls w (Executed 1 request reply) v → Acted request reply can w v
+acts_at can Later w v request shut (m, c) = inl (refl, c)
+acts_at can Done w v request shut (m, c) = inr (refl, inl (m, c))
+acts_at can (Answer text) w v request shut (m, c) = inr (refl, inl (m, c))
+acts_at can (Error e) w v request shut (m, c) = inr (refl, inl (m, c))
+acts_at can Parked w v request shut (m, c) = cc
+
+pub acted_now : {D A : Type 0} {G : Ghosts D} (old new : Exec D A G) (request : Request) (reply : Reply) → Allows old.device (Executed 1 request reply) new.device → new.home ≡ old.home
+    → is_parked reply ≡ false → GoesOn old new (Acted request reply)
+acted_now old new request reply t there shut =
+    goes_as old new (λ can w v. IsMeant can reply × Calls w (Executed 1 request reply) v) (Acted request reply) (executed_goes old new request reply t there)
+    (λ can w v x. acts_at can reply w v request shut x)
+
+parked_call : (w v : World) (request : Request) (reply : Reply) → is_parked reply ≡ true → Calls w (Executed 1 request reply) v → Calls w (Executed 1 request Parked) v
+parked_call w v request Parked e c = c
+parked_call w v request Done e c = cc
+parked_call w v request (Answer text) e c = cc
+parked_call w v request (Error error) e c = cc
+parked_call w v request Later e c = cc
+
+pub acted_waited : {D A : Type 0} {G : Ghosts D} (old mid new : Exec D A G) (request : Request) (first reply : Reply) → Allows old.device (Executed 1 request first) mid.device → mid.home ≡ old.home
+    → is_parked first ≡ true → GoesOn mid new (WaitEnds reply) → is_final reply ≡ true → is_out_of_memory reply ≡ false → GoesOn old new (Acted request reply)
+acted_waited old mid new request first reply t there parked ends final long =
+    goes_then old mid new (λ can w v. IsMeant can first × Calls w (Executed 1 request first) v) (WaitEnds reply) (Acted request reply) (executed_goes old mid request first t there) ends
+    (λ can w u v x y. inr (final, inr (long, u, y.0, parked_call w u request first parked x.1, y.1, y.2)))
+
+pub parked_halts : {D A : Type 0} {G : Ghosts D} (old mid new : Exec D A G) (request : Request) (first : Reply) (cause : RunCause) → Allows old.device (Executed 1 request first) mid.device → mid.home ≡ old.home
+    → is_parked first ≡ true → Halts mid new [] cause → Halts old new (request ∷ []) cause
+parked_halts old mid new request first cause t there parked s =
+    halts_after old mid new (request ∷ []) [] cause
+    (has_executed old mid (request ∷ []) (λ can w v. IsMeant can first × Calls w (Executed 1 request first) v) (executed_goes old mid request first t there)
+    (λ can w v x. executes_one w (Executed 1 request Parked) v (parked_call w v request first parked x.1))) s
+
+unit_at : (can : Mishaps) (reply : Reply) (w v : World) (request : Request) → is_later reply ≡ false → Acted request reply can w v → UnitRuns can w request reply v
+unit_at can reply w v request over (inl l) = let is = l.0 in cc
+unit_at can reply w v request over (inr r) = inl r
+
+pub unit_now : {D A : Type 0} {G : Ghosts D} (old new : Exec D A G) (request : Request) (reply : Reply) → GoesOn old new (Acted request reply) → is_later reply ≡ false
+    → GoesOn old new (λ can w v. UnitRuns can w request reply v)
+unit_now old new request reply a over = goes_as old new (Acted request reply) (λ can w v. UnitRuns can w request reply v) a (λ can w v x. unit_at can reply w v request over x)
+
+-- a unit that comes later is that one call
+late_call : (can : Mishaps) (reply : Reply) (w v : World) (request : Request) → is_later reply ≡ true → Acted request reply can w v → Calls w (Executed 1 request Later) v
+late_call can reply w v request late (inl l) = l.1
+late_call can Later w v request late (inr r) = let final = r.0 in cc
+late_call can Done w v request late (inr r) = cc
+late_call can (Answer text) w v request late (inr r) = cc
+late_call can (Error e) w v request late (inr r) = cc
+late_call can Parked w v request late (inr r) = cc
+
+abbrev AfterLate : Request → Mishaps → World → World → Type 0
+AfterLate request can w v = (late : World) × Calls w (Executed 1 request Later) late × Flushes can late v
+
+late_flush : {D A : Type 0} {G : Ghosts D} (old mid over : Exec D A G) (request : Request) (first : Reply) → GoesOn old mid (Acted request first) → is_later first ≡ true
+    → GoesOn mid over Flushes → GoesOn old over (AfterLate request)
+late_flush old mid over request first a late f =
+    goes_then old mid over (Acted request first) Flushes (AfterLate request) a f (λ can w u v x y. (u, late_call can first w u request late x, y))
+
+acts_late : (can : Mishaps) (reply : Reply) (w v : World) (request : Request) → is_later reply ≡ false → Acted request reply can w v → Acts can w request reply v
+acts_late can reply w v request over (inl l) = let is = l.0 in cc
+acts_late can reply w v request over (inr r) = r
+
+pub unit_later : {D A : Type 0} {G : Ghosts D} (old mid over new : Exec D A G) (request : Request) (first reply : Reply) → GoesOn old mid (Acted request first) → is_later first ≡ true
+    → GoesOn mid over Flushes → GoesOn over new (Acted request reply) → is_later reply ≡ false → GoesOn old new (λ can w v. UnitRuns can w request reply v)
+unit_later old mid over new request first reply a late f b done =
+    goes_then old over new (AfterLate request) (Acted request reply) (λ can w v. UnitRuns can w request reply v) (late_flush old mid over request first a late f) b
+    (λ can w u v x y. inr (x.0, u, x.1, x.2, acts_late can reply u v request done y))
+
+-- no unit was executed
+late_executed : {D A : Type 0} {G : Ghosts D} (old mid over : Exec D A G) (request : Request) (first : Reply) → GoesOn old mid (Acted request first) → is_later first ≡ true
+    → GoesOn mid over Flushes → HasExecuted old over []
+late_executed old mid over request first a late f =
+    has_executed old over [] (AfterLate request) (late_flush old mid over request first a late f)
+    (λ can w v x. executes_join w x.0 v [] [] (executes_one w (Executed 1 request Later) x.0 x.1) (flush_calls can x.0 v x.2))
+
+pub late_halts : {D A : Type 0} {G : Ghosts D} (old mid over : Exec D A G) (request : Request) (first : Reply) (cause : RunCause) → GoesOn old mid (Acted request first) → is_later first ≡ true
+    → Halts mid over [] cause → Halts old over (request ∷ []) cause
+late_halts old mid over request first cause a late s =
+    halts_more old over [] (request ∷ []) cause (halts_after old mid over [] [] cause
+    (has_executed old mid [] (Acted request first) a (λ can w v x. executes_one w (Executed 1 request Later) v (late_call can first w v request late x))) s)
+
+pub later_halts : {D A : Type 0} {G : Ghosts D} (old mid over new : Exec D A G) (request : Request) (first : Reply) (cause : RunCause) → GoesOn old mid (Acted request first) → is_later first ≡ true
+    → GoesOn mid over Flushes → Halts over new (request ∷ []) cause → Halts old new (request ∷ []) cause
+later_halts old mid over new request first cause a late f s = halts_after old over new [] (request ∷ []) cause (late_executed old mid over request first a late f) s
+
+-- ---- a unit that comes later still, after a flush
+
+and_first : (a b : Bool) → (a && b) ≡ true → a ≡ true
+and_first true b e = refl
+and_first false b e = cc
+
+some_of : (n : ℕ) (b : Bool) → (nat_le 1024 n && b) ≡ true → 0 < n
+some_of n b e = let most : nat_le 1024 n ≡ true = and_first (nat_le 1024 n) b e in grind (arith, nat_tests, most)
+
+-- none of the replies that a command may have
+abbrev Never : Reply → Type 0
+Never reply = reply ≡ Later → ⊥
+
+never_if : (b : Bool) (one other : Reply) → Never one → Never other → Never (if b then one else other)
+never_if true one other p q = p
+never_if false one other p q = q
+
+never_with : (enables : Option (ℕ × ℕ)) (r : Registers) (command : Command) → Never (answer_with enables r command)
+never_with enables r PscOn e = cc
+never_with enables r PscOff e = cc
+never_with enables r PscQuery e = cc
+never_with enables r (Sre n) e = cc
+never_with enables r SreQuery e = cc
+never_with enables r (Ese n) e = cc
+never_with enables r EseQuery e = cc
+never_with enables r EsrQuery e = cc
+never_with enables r StbQuery e = cc
+never_with enables r IdnQuery e = cc
+never_with enables r OpcQuery e = cc
+
+never_read : (s : State) (change : Option Change) (reading : Result Command ScpiError) → Never (answer_read s change reading)
+never_read s change (Err error) = λ e. cc
+never_read s change (Ok command) =
+    never_if (is_refused s.flush.store command change) (Error StorageFault) _ (λ e. cc)
+    (never_if (waits_for s.flush.unflushed command) Parked _ (λ e. cc) (never_with s.flush.contents.enables s.volatile.registers command))
+
+late_if : (b : Bool) (reply : Reply) → Never reply → Later ≡ (if b then Later else reply) → b ≡ true
+late_if true reply never e = refl
+late_if false reply never e = absurd (never (sym e))
+
+-- the session waits for nothing, so changes are left
+full_tail : (wait : Option Wait) (n : ℕ) (change : Option Change) → wait ≡ None → is_late wait n change ≡ true → 0 < n
+full_tail None n change free e = some_of n (is_some change) e
+full_tail (Some w) n change free e = cc
+
+late_some : (s new : State) (request : Request) → Allows s (Executed 1 request Later) new → wait_of s.flush 1 ≡ None → 0 < s.flush.unflushed
+late_some s new request t free = elim t.1.may [
+  | inl is ↦ full_tail (wait_of s.flush 1) s.flush.unflushed (change_of s request) free
+      (late_if (is_late (wait_of s.flush 1) s.flush.unflushed (change_of s request)) _ (never_read s (change_of s request) request.reading) is)
+  | inr short ↦ let bad = short.0 in cc
+]
+
+late_halted : {D A : Type 0} {G : Ghosts D} (since : ℕ) (mid new : Exec D A G) (request : Request) (reply : Reply) → Ghosts.honest G → GoesOn mid new (Acted request reply) → is_later reply ≡ true
+    → wait_of mid.device.flush 1 ≡ None → HasFailed since (failures_of mid) ⊎ (mid.device.flush.store ≡ Worn) ⊎ (mid.device.flush.unflushed ≡ 0) → IsHaltedBy since new Device
+late_halted since mid new request reply h a late free clean =
+    let life : Life = record { limit = 0; start = mid.device.flush.contents; history = [] } in
+    let g = a.runs h life in
+    let c = late_call g.1.0 reply (world_of life mid) (world_of g.0 new) request late (within_itself _ _ (λ can. Acted request reply can (world_of life mid) (world_of g.0 new)) g.1) in
+    let allows = c.1.2 in
+    let store : new.device.flush.store ≡ mid.device.flush.store = ap (λ (w : World). w.state.flush.store) c.1.4 ∙ ap (λ (s : State). s.flush.store) allows.1.is in
+    ⊎_elim (λ failed. inl (failed_on since _ _ a.later failed))
+    (λ rest. ⊎_elim (λ worn. inr (store ∙ worn)) (λ none. let some = late_some mid.device c.1.0 request allows free in absurd (omega (arith, some, none))) rest) clean
+
+pub still_late_halts : {D A : Type 0} {G : Ghosts D} (old mid over new : Exec D A G) (request : Request) (first reply : Reply) → GoesOn old mid (Acted request first) → is_later first ≡ true
+    → GoesOn mid over Flushes → GoesOn over new (Acted request reply) → is_later reply ≡ true → wait_of over.device.flush 1 ≡ None
+    → ((since : ℕ) → IsExplained since mid → HasFailed since (failures_of over) ⊎ (over.device.flush.store ≡ Worn) ⊎ (over.device.flush.unflushed ≡ 0))
+    → Halts old new (request ∷ []) Device
+still_late_halts old mid over new request first reply a late f b still free clean =
+    halts_here old new [] (request ∷ []) Device
+    (executed_join old over new [] [] (late_executed old mid over request first a late f)
+    (has_executed over new [] (Acted request reply) b (λ can w v x. executes_one w (Executed 1 request Later) v (late_call can reply w v request still x))))
+    (λ h since e. late_halted since over new request reply h b still free (clean since (a.explained since e))) (λ e. cc)
+
+pub parked_of : {A : Type 0} (o : Outcome A) → outcome_of o ≡ Parked → o ≡ outcome.Parked
+parked_of outcome.Done e = cc
+parked_of (outcome.Answer text) e = cc
+parked_of (outcome.Error error) e = cc
+parked_of outcome.Parked e = refl
+parked_of outcome.Later e = cc

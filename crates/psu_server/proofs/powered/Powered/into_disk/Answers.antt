@@ -1,0 +1,27 @@
+use Rattle.std.proofs.Common.{◌∙◌, ℕ, ◌+◌, ◌≤◌, ◌^◌, List, ap, subst, sym, not}
+use Rattle.psu_disk.specs.Ranges.{reads_left}
+use Rattle.psu_items.specs.Map.{Item}
+use Rattle.psu_items.specs.Image.{Stands}
+use Rattle.psu_items.proofs.Resting.{kept_number}
+use Rattle.psu_exec.specs.Device.{is_broken}
+use Rattle.psu_server.specs.Reasons.{IsWornOut}
+use Rattle.psu_server.proofs.Starting.{worn_number}
+use Rattle.psu_server.proofs.powered.Powered.into_disk.Goals as goal
+
+pub returns-in-Whole-clause-stands : goal.returns-in-Whole-clause-stands
+returns-in-Whole-clause-stands g c = λ h whole image left.
+    subst (λ (m : List Item). Stands image c.args.self.exec.device.flush.limit m) c.in-Whole.ensures.1
+    (subst (λ (n : ℕ). Stands image n c.in-Whole.store.items) c.in-Whole.ensures.2 (c.into_disk.ensures.stands h image left))
+
+pub returns-in-Whole-clause-reason : goal.returns-in-Whole-clause-reason
+returns-in-Whole-clause-reason g c = λ h since why worn.
+    let store = c.in-Whole.store in
+    let told = kept_number (g.D.Disk.state store.disk) store.root store.limit store.number store.items (store.kept h) (g.D.Disk.state store.disk).bytes (reads_left (g.D.Disk.state store.disk)) in
+    subst (λ d. IsWornOut (g.D.Disk.state d).bytes) (sym c.into_disk.ensures.value)
+    (subst (λ (n : ℕ). 2 ^ 64 ≤ n + 1) (sym told) (worn_number since c.args.self.exec store c.in-Whole.ensures.0 why worn))
+
+pub returns-in-Failed-clause-stands : goal.returns-in-Failed-clause-stands
+returns-in-Failed-clause-stands g c = λ h whole. let kind = c.args.self.exec.kind _ c.in-Failed.ensures.0 in let bad = kind ∙ ap not whole in cc
+
+pub returns-in-Failed-clause-reason : goal.returns-in-Failed-clause-reason
+returns-in-Failed-clause-reason g c = λ h since why worn. let kind = c.args.self.exec.kind _ c.in-Failed.ensures.0 in let bad = kind ∙ ap (λ s. not (is_broken s)) worn in cc

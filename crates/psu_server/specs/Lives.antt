@@ -1,0 +1,75 @@
+-- The device with its disk, as the theorem on power loss sees it.
+use Rattle.std.specs.Prelude.{◌≡◌, ◌⊎◌, ℕ, ◌++◌, if◌then◌else◌, Option, Some, None, List, [], ◌∷◌}
+use Rattle.psu_disk.specs.Disk.{DiskState, Left}
+use Rattle.psu_disk.specs.declared.disk.Disk.{Ghosts}
+use Rattle.psu_items.specs.Map.{Item}
+use Rattle.psu_items.specs.Image.{Stands, EachStands}
+use Rattle.psu_exec.specs.Contents.{items_of}
+use Rattle.psu_exec.specs.Device.{State}
+use Rattle.psu_exec.specs.Calls.{Entry, Executed, Opened}
+use Rattle.psu_exec.specs.Jobs.{home_disk}
+use Rattle.psu_exec.specs.Headline.{IsPrefix}
+use Rattle.psu_exec.specs.World.{World, Running, Call, PastUnit, Happens, IsStart, after, is_executed, recorded}
+use Rattle.psu_exec.specs.declared.contents.Contents.{Contents}
+use Rattle.psu_exec.specs.declared.exec.Exec.{Exec}
+use Rattle.psu_exec.specs.declared.home.Home.{Home}
+use Rattle.psu_exec.specs.declared.request.Request.{Request}
+
+-- What a device at rest does not hold: the limit and the contents that its power-on found, and the units that were executed since.
+pub record Life : Type 0 where
+  pub limit : ℕ
+  pub start : Contents
+  pub history : List PastUnit
+
+abbrev pub disk_at : {D A : Type 0} {G : Ghosts D} → Option (Home D A G) → DiskState
+disk_at None = record { bytes = []; unsynced = [] }
+disk_at {D} {A} {G} (Some home) = Ghosts.state G (home_disk home)
+
+-- the device in a life, with the disk at home
+abbrev pub world_of : {D A : Type 0} {G : Ghosts D} → Life → Exec D A G → World
+world_of life exec = record { state = exec.device; history = life.history; disk = disk_at exec.home; mode = Running; limit = life.limit; start = life.start }
+
+-- the life of a device that has just been powered on
+abbrev pub born : {D A : Type 0} {G : Ghosts D} → Exec D A G → Life
+born exec = record { limit = exec.device.flush.limit; start = exec.device.flush.contents; history = [] }
+
+-- a life with a call more
+abbrev pub lived : Life → State → Entry → Life
+lived life s entry = record life { history = recorded s entry life.history }
+
+-- A call on the device, which is an event of the theorem on power loss.
+abbrev pub Calls : World → Entry → World → Type 0
+Calls w entry new = (disk : DiskState) × Happens w (Call entry disk) new
+
+-- calls, one after another
+abbrev pub CallsAll : World → List Entry → World → Type 0
+CallsAll w [] new = new ≡ w
+CallsAll w (entry ∷ entries) new = (mid : World) × Calls w entry mid × CallsAll mid entries new
+
+-- the request of a call that executes a unit; a unit that is to come later isn't executed
+abbrev pub unit_in : Entry → List Request
+unit_in (Executed session request reply) = if is_executed reply then request ∷ [] else []
+unit_in entry = []
+
+-- the requests that calls executed, in order
+abbrev pub units_in : List Entry → List Request
+units_in [] = []
+units_in (entry ∷ entries) = unit_in entry ++ units_in entries
+
+-- The image powers on: the contents are those that it stands for, and the one session is opened.
+pub record PowersOn (image : List ℕ) (new : World) : Type 0 where
+  pub on : World
+  pub start : IsStart on
+  pub found : Stands image on.limit (items_of on.start)
+  pub opens : Calls on (Opened (Some 1)) new
+
+-- A disk after the last call, or after a restart that failed behind it: what may be left of it is what may be left in the last
+-- world, or stands for the same.
+abbrev pub IsLeftBy : World → DiskState → Type 0
+IsLeftBy w disk = ((image : List ℕ) → Left disk image → Left w.disk image)
+    ⊎ ((limit : ℕ) × (map : List Item) × EachStands w.disk limit map × EachStands disk limit map)
+
+-- Each image that may be left of a disk stands for the contents after a front of the units executed since power-on, which holds
+-- every unit before a `*OPC?` that was answered.
+abbrev pub LeavesPrefix : World → DiskState → Type 0
+LeavesPrefix w disk = (image : List ℕ) → Left disk image → (k : ℕ) × IsPrefix w k × Stands image w.limit (items_of (after w k))

@@ -1,0 +1,59 @@
+-- What a run came to, where it ends well and where it ends early.
+use Rattle.std.specs.Prelude.{◌≡◌, ◌≢◌, ℕ, ◌<◌, true, List, ◌++◌, length, Option}
+use Rattle.std.specs.Io.KnownBytes.{Appends}
+use Rattle.std.specs.Io.{StartsWith}
+use Rattle.psu_disk.specs.Disk.{DiskState, HasFailed}
+use Rattle.psu_items.specs.Image.{EachStands}
+use Rattle.psu_exec.specs.Calls.{Entry}
+use Rattle.psu_exec.specs.Contents.{items_of}
+use Rattle.psu_exec.specs.World.{World}
+use Rattle.psu_server.specs.Lines.{Message, messages}
+use Rattle.psu_server.specs.Lives.{CallsAll, units_in, PowersOn, LeavesPrefix}
+use Rattle.psu_server.specs.Progress.{AreFirst}
+use Rattle.psu_server.specs.Runs.{Mishaps, none, Flushes, Runs}
+use Rattle.psu_server.specs.Script.{IsScript}
+use Rattle.psu_server.specs.declared.run_cause.RunCause.{RunCause}
+use Rattle.psu_server.specs.declared.run_cause.RunCause.TheVariants.{Write}
+
+-- A whole run on an image: the writer gained a text that may be written for the input with what went wrong. A disk call went wrong
+-- only where the count of failures rose or stands at its last value; where nothing went wrong the text is the script. All that was
+-- accepted is flushed: whatever a power loss leaves of the disk stands for it.
+pub record WritesRun (image input : List ℕ) (old_count new_count : ℕ) (old_written new_written : Option (List ℕ)) (disk : DiskState) : Type 0 where
+  pub gone : Mishaps
+  pub failed : gone.failed ≡ true → HasFailed old_count new_count
+  pub first : World
+  pub starts : PowersOn image first
+  pub text : List ℕ
+  pub written : Appends old_written new_written text
+  pub last : World
+  pub runs : Runs gone first (messages input) text last
+  pub calm : gone ≡ none → IsScript first.start first.limit input text
+  pub over : World
+  pub ends : Flushes gone last over
+  pub flushed : over.state.flush.unflushed ≡ 0
+  pub kept : EachStands disk over.limit (items_of over.state.flush.contents)
+
+-- A run that ended early: some first lines of the input were executed, and their text is written whole, but where the writer
+-- failed: then some of it is missing. Of the next line some first units were executed. Each image that may be left of the disk
+-- stands for the contents after a front of all these units that holds every unit before a `*OPC?` that was answered.
+pub record WritesFirst (cause : RunCause) (image input : List ℕ) (old_count new_count : ℕ) (old_written new_written : Option (List ℕ)) (disk : DiskState) : Type 0 where
+  pub gone : Mishaps
+  pub failed : gone.failed ≡ true → HasFailed old_count new_count
+  pub first : World
+  pub starts : PowersOn image first
+  pub done : List Message
+  pub rest : List Message
+  pub is : messages input ≡ done ++ rest
+  pub text : List ℕ
+  pub mid : World
+  pub runs : Runs gone first done text mid
+  pub front : List ℕ
+  pub written : Appends old_written new_written front
+  pub start_of : StartsWith text front
+  pub whole : cause ≢ Write → front ≡ text
+  pub missing : cause ≡ Write → length front < length text
+  pub last : World
+  pub entries : List Entry
+  pub calls : CallsAll mid entries last
+  pub begun : AreFirst rest (units_in entries)
+  pub kept : LeavesPrefix last disk

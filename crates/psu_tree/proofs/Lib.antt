@@ -1,0 +1,12 @@
+pub mod Stems
+pub mod Sections
+pub mod SuffixNumbers
+pub mod Quoting
+pub mod Taking
+pub mod Nodes
+pub mod SomeTaken
+pub mod TableSize
+pub mod UnitReadings
+pub mod OneReading
+pub mod SomeReading
+pub mod Matching

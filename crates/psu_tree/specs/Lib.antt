@@ -1,0 +1,10 @@
+pub mod Headers
+pub mod Table
+pub mod Shown
+pub mod Scans
+pub mod Path
+pub mod Parameters
+pub mod Taken
+pub mod Commands
+pub mod Reading
+pub mod Nonvolatile

@@ -1,0 +1,41 @@
+-- The table as the code has it.
+use Rattle.std.specs.Prelude.{ℕ, Bool, false, ◌&&◌, ◌||◌, List, [], ◌∷◌, ◌++◌, map, find, Option}
+use Rattle.psu_tree.specs.Headers.{Mnemonic, Entry, fits, names}
+use Rattle.psu_tree.specs.Nonvolatile.{keeping_of}
+use Rattle.psu_tree.specs.declared.node.Node.{Node}
+use Rattle.psu_tree.specs.declared.row.Row.{Row}
+use Rattle.psu_tree.specs.declared.section.Section.{Section}
+
+abbrev pub mnemonic : Node → Mnemonic
+mnemonic node = record { name = node.name.now; kind = node.kind }
+
+-- a row behind its section's node
+abbrev pub entry : Node → Row → Entry
+entry root row = record { nodes = mnemonic root ∷ map mnemonic row.nodes.now; command = row.command; query = row.query; keeping = keeping_of row.command }
+
+abbrev pub entries : List Section → List Entry
+entries [] = []
+entries (section ∷ sections) = map (entry section.root) section.rows.now ++ entries sections
+
+-- the words match the nodes behind a first one, which the first of them names, or which may be left out
+abbrev pub fits_behind : Bool → Bool → List Node → List (List ℕ) → Bool
+fits_behind named missing nodes [] = missing && fits (map mnemonic nodes) []
+fits_behind named missing nodes (word ∷ words) =
+    (named && fits (map mnemonic nodes) words) || (missing && fits (map mnemonic nodes) (word ∷ words))
+
+-- the first of the rows that words match
+abbrev pub row_at : List Row → List (List ℕ) → Option Row
+row_at rows words = find (λ row. fits (map mnemonic row.nodes.now) words) rows
+
+-- the first that either match
+abbrev pub row_either : List Row → List (List ℕ) → List (List ℕ) → Option Row
+row_either rows words later = find (λ row. fits (map mnemonic row.nodes.now) later || fits (map mnemonic row.nodes.now) words) rows
+
+-- the first of a section's rows that they match
+abbrev pub row_behind : Bool → Bool → List Row → List (List ℕ) → Option Row
+row_behind named missing rows words = find (λ row. fits_behind named missing row.nodes.now words) rows
+
+-- the first word names the node
+abbrev pub named_of : Node → List (List ℕ) → Bool
+named_of root [] = false
+named_of root (word ∷ words) = names (mnemonic root) word

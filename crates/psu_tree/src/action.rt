@@ -1,0 +1,12 @@
+// What commands do that take nothing.
+
+/// What a command does that takes nothing.
+#[derive(Clone, Copy, Debug, PartialEq, Eq)]
+pub enum Action {
+    ClearStatus,
+    Reset,
+    OperationComplete,
+    Wait,
+    PurgeMacros,
+    PresetStatus,
+}

@@ -1,0 +1,195 @@
+// The commands of the table's forms, with their data.
+ghost use Rattle.std.specs.Prelude.{List};
+ghost use Rattle.psu_lex.specs.Shown.{HoldsData};
+ghost use Rattle.psu_lex.specs.Syntax.{Datum as DatumData};
+ghost use Rattle.psu_tree.specs.Commands.{CommandReads};
+ghost use Rattle.psu_tree.specs.declared.form.Form.TheVariants as f;
+ghost use Rattle.psu_tree.specs.declared.output.Output.{Output as SomeOutput};
+
+use crate::counts::alone;
+use crate::double::{label_and_body, label_and_name, name_and_bytes, register_and_name, two_names};
+use crate::single::{
+    one_block, one_count, one_flag, one_label, one_level, one_name, one_switch, perhaps_extreme,
+};
+use crate::{
+    Command, Enable, Filter, Flag, Form, Group, Level, OnFile, OnMacro, OnNames, OnRegister,
+    Output, Switch, Transfer,
+};
+use psu_lex::{Data, ScpiError};
+
+// An enable register and its value.
+fn enable<'a>(which: Enable, parameters: &Data<'a>) -> Result<Command<'a>, ScpiError>
+    ensures { (output : SomeOutput) (list : List DatumData) → HoldsData parameters.now list → CommandReads (f.Enable which) output list result }
+{
+    let value = one_count(parameters, 0, 255)?;
+    Ok(Command::Enable(which, value as u8))
+}
+
+// A flag by a number.
+fn flag<'a>(which: Flag, parameters: &Data<'a>) -> Result<Command<'a>, ScpiError>
+    ensures { (output : SomeOutput) (list : List DatumData) → HoldsData parameters.now list → CommandReads (f.Flag which) output list result }
+{
+    let value = one_flag(parameters)?;
+    Ok(Command::Flag(which, value))
+}
+
+// A register of a status group, without bit 15.
+fn filter<'a>(group: Group, which: Filter, parameters: &Data<'a>) -> Result<Command<'a>, ScpiError>
+    ensures { (output : SomeOutput) (list : List DatumData) → HoldsData parameters.now list → CommandReads (f.Filter group which) output list result }
+{
+    let value = one_count(parameters, 0, 65_535)?;
+    Ok(Command::Filter(group, which, (value % 32_768) as u16))
+}
+
+// A register of settings.
+fn register<'a>(what: OnRegister, parameters: &Data<'a>) -> Result<Command<'a>, ScpiError>
+    ensures { (output : SomeOutput) (list : List DatumData) → HoldsData parameters.now list → CommandReads (f.Register what) output list result }
+{
+    let value = one_count(parameters, 0, 9)?;
+    Ok(Command::Register(what, value as u8))
+}
+
+// A load.
+fn load<'a>(output: Output, parameters: &Data<'a>) -> Result<Command<'a>, ScpiError>
+    ensures { (list : List DatumData) → HoldsData parameters.now list → CommandReads f.Load output list result }
+{
+    let value = one_count(parameters, 1, 10_000_000)?;
+    Ok(Command::Load(output, value))
+}
+
+// A level.
+fn level<'a>(which: Level, output: Output, parameters: &Data<'a>) -> Result<Command<'a>, ScpiError>
+    ensures { (list : List DatumData) → HoldsData parameters.now list → CommandReads (f.Level which) output list result }
+{
+    let value = one_level(parameters, which)?;
+    Ok(Command::Level(which, output, value))
+}
+
+// The query of a level.
+fn level_query<'a>(
+    which: Level,
+    output: Output,
+    parameters: &Data<'a>,
+) -> Result<Command<'a>, ScpiError>
+    ensures { (list : List DatumData) → HoldsData parameters.now list → CommandReads (f.LevelQuery which) output list result }
+{
+    let value = perhaps_extreme(parameters)?;
+    Ok(Command::LevelQuery(which, output, value))
+}
+
+// A switch of an output.
+fn switch<'a>(
+    which: Switch,
+    output: Output,
+    parameters: &Data<'a>,
+) -> Result<Command<'a>, ScpiError>
+    ensures { (list : List DatumData) → HoldsData parameters.now list → CommandReads (f.Switch which) output list result }
+{
+    let value = one_switch(parameters)?;
+    Ok(Command::Switch(which, output, value))
+}
+
+// The protection of user data.
+fn protect<'a>(parameters: &Data<'a>) -> Result<Command<'a>, ScpiError>
+    ensures { (output : SomeOutput) (list : List DatumData) → HoldsData parameters.now list → CommandReads f.Protect output list result }
+{
+    let value = one_switch(parameters)?;
+    Ok(Command::Flag(Flag::Protection, value))
+}
+
+// User data.
+fn user_data<'a>(parameters: &Data<'a>) -> Result<Command<'a>, ScpiError>
+    ensures { (output : SomeOutput) (list : List DatumData) → HoldsData parameters.now list → CommandReads f.UserData output list result }
+{
+    let value = one_block(parameters, 63)?;
+    Ok(Command::UserData(value))
+}
+
+// A macro.
+fn define<'a>(parameters: &Data<'a>) -> Result<Command<'a>, ScpiError>
+    ensures { (output : SomeOutput) (list : List DatumData) → HoldsData parameters.now list → CommandReads f.Define output list result }
+{
+    let value = label_and_body(parameters)?;
+    Ok(Command::Define(value.0, value.1))
+}
+
+// What is done with a macro.
+fn on_macro<'a>(what: OnMacro, parameters: &Data<'a>) -> Result<Command<'a>, ScpiError>
+    ensures { (output : SomeOutput) (list : List DatumData) → HoldsData parameters.now list → CommandReads (f.Macro what) output list result }
+{
+    let value = one_label(parameters)?;
+    Ok(Command::Macro(what, value))
+}
+
+// The contents of a file.
+fn contents<'a>(parameters: &Data<'a>) -> Result<Command<'a>, ScpiError>
+    ensures { (output : SomeOutput) (list : List DatumData) → HoldsData parameters.now list → CommandReads f.Contents output list result }
+{
+    let value = name_and_bytes(parameters, 32_768)?;
+    Ok(Command::Contents(value.0, value.1))
+}
+
+// What is done with a file.
+fn on_file<'a>(what: OnFile, parameters: &Data<'a>) -> Result<Command<'a>, ScpiError>
+    ensures { (output : SomeOutput) (list : List DatumData) → HoldsData parameters.now list → CommandReads (f.File what) output list result }
+{
+    let value = one_name(parameters)?;
+    Ok(Command::File(what, value))
+}
+
+// What is done with two files.
+fn on_names<'a>(what: OnNames, parameters: &Data<'a>) -> Result<Command<'a>, ScpiError>
+    ensures { (output : SomeOutput) (list : List DatumData) → HoldsData parameters.now list → CommandReads (f.Names what) output list result }
+{
+    let value = two_names(parameters)?;
+    Ok(Command::Names(what, value.0, value.1))
+}
+
+// A register to or from a file.
+fn state_file<'a>(what: Transfer, parameters: &Data<'a>) -> Result<Command<'a>, ScpiError>
+    ensures { (output : SomeOutput) (list : List DatumData) → HoldsData parameters.now list → CommandReads (f.StateFile what) output list result }
+{
+    let value = register_and_name(parameters)?;
+    Ok(Command::StateFile(what, value.0, value.1))
+}
+
+// A macro to or from a file.
+fn macro_file<'a>(what: Transfer, parameters: &Data<'a>) -> Result<Command<'a>, ScpiError>
+    ensures { (output : SomeOutput) (list : List DatumData) → HoldsData parameters.now list → CommandReads (f.MacroFile what) output list result }
+{
+    let value = label_and_name(parameters)?;
+    Ok(Command::MacroFile(what, value.0, value.1))
+}
+
+/// The command of a form at an output with its data, or their first fault.
+pub fn command_of<'a>(
+    form: Form,
+    output: Output,
+    parameters: &Data<'a>,
+) -> Result<Command<'a>, ScpiError>
+    ensures { (list : List DatumData) → HoldsData parameters.now list → CommandReads form output list result }
+{
+    match form {
+        Form::Action(action) => alone(Command::Action(action), parameters),
+        Form::Query(query) => alone(Command::Query(query), parameters),
+        Form::OutputQuery(query) => alone(Command::OutputQuery(query, output), parameters),
+        Form::ClearTrip => alone(Command::ClearTrip(output), parameters),
+        Form::Enable(which) => enable(which, parameters),
+        Form::Flag(which) => flag(which, parameters),
+        Form::Filter(group, which) => filter(group, which, parameters),
+        Form::Register(what) => register(what, parameters),
+        Form::Load => load(output, parameters),
+        Form::Level(which) => level(which, output, parameters),
+        Form::LevelQuery(which) => level_query(which, output, parameters),
+        Form::Switch(which) => switch(which, output, parameters),
+        Form::Protect => protect(parameters),
+        Form::UserData => user_data(parameters),
+        Form::Define => define(parameters),
+        Form::Macro(what) => on_macro(what, parameters),
+        Form::Contents => contents(parameters),
+        Form::File(what) => on_file(what, parameters),
+        Form::Names(what) => on_names(what, parameters),
+        Form::StateFile(what) => state_file(what, parameters),
+        Form::MacroFile(what) => macro_file(what, parameters),
+    }
+}

@@ -1,0 +1,64 @@
+// Headers with two parameters: the classes of both come before the range of either.
+ghost use Rattle.std.specs.Prelude.{◌≡◌, ◌≤◌, List, Ok, IfOk};
+ghost use Rattle.psu_lex.specs.Shown.{HoldsData};
+ghost use Rattle.psu_lex.specs.Syntax.{Datum as DatumData};
+ghost use Rattle.psu_tree.specs.Parameters.{TakesBlock, TakesString, TakesWhole, Two, at_most, counted, labeled, named};
+
+use crate::Text;
+use crate::counts::two;
+use crate::parameters::{counted, whole};
+use crate::texts::{at_most, block, label, name};
+use psu_lex::{Data, ScpiError};
+
+/// A label, or none where the string is no label, and a body.
+pub fn label_and_body<'a>(parameters: &Data<'a>) -> Result<(Option<Text<'a>>, Text<'a>), ScpiError>
+    ensures { (list : List DatumData) → HoldsData parameters.now list → Two TakesString labeled TakesBlock (λ body. Ok body) list result }
+{
+    let (first, second) = two(parameters)?;
+    let label = label(&first)?;
+    Ok((label, block(&second)?))
+}
+
+/// A name, or none where the string is no name, and bytes that are not too many.
+pub fn name_and_bytes<'a>(
+    parameters: &Data<'a>,
+    most: usize,
+) -> Result<(Option<Text<'a>>, Text<'a>), ScpiError>
+    ensures { (list : List DatumData) → HoldsData parameters.now list → Two TakesString named TakesBlock (at_most most) list result }
+{
+    let (first, second) = two(parameters)?;
+    let name = name(&first)?;
+    Ok((name, at_most(block(&second)?, most)?))
+}
+
+/// Two names, each none where the string is no name.
+pub fn two_names<'a>(
+    parameters: &Data<'a>,
+) -> Result<(Option<Text<'a>>, Option<Text<'a>>), ScpiError>
+    ensures { (list : List DatumData) → HoldsData parameters.now list → Two TakesString named TakesString named list result }
+{
+    let (first, second) = two(parameters)?;
+    let before = name(&first)?;
+    Ok((before, name(&second)?))
+}
+
+/// A register, and a name or none.
+pub fn register_and_name<'a>(parameters: &Data<'a>) -> Result<(u8, Option<Text<'a>>), ScpiError>
+    ensures { (list : List DatumData) → HoldsData parameters.now list → Two TakesWhole (counted 0 9) TakesString named list result }
+{
+    let (first, second) = two(parameters)?;
+    let register = whole(&first)?;
+    let name = name(&second)?;
+    Ok((counted(register, 0, 9)? as u8, name))
+}
+
+/// A label or none, and a name or none.
+pub fn label_and_name<'a>(
+    parameters: &Data<'a>,
+) -> Result<(Option<Text<'a>>, Option<Text<'a>>), ScpiError>
+    ensures { (list : List DatumData) → HoldsData parameters.now list → Two TakesString labeled TakesString named list result }
+{
+    let (first, second) = two(parameters)?;
+    let label = label(&first)?;
+    Ok((label, name(&second)?))
+}

@@ -1,0 +1,9 @@
+// Registers of a status group.
+
+/// The registers of a group that are set.
+#[derive(Clone, Copy, Debug, PartialEq, Eq)]
+pub enum Filter {
+    Enable,
+    Rising,
+    Falling,
+}

@@ -1,0 +1,52 @@
+// What the headers of the table ask for.
+use crate::{
+    Action, Enable, Filter, Flag, Group, Level, OnFile, OnMacro, OnNames, OnRegister, OutputQuery,
+    Query, Switch, Transfer,
+};
+
+/// What a header asks for: its parameters, by their kinds, and what they are for.
+#[derive(Clone, Copy, Debug, PartialEq, Eq)]
+pub enum Form {
+    /// Nothing.
+    Action(Action),
+    /// Nothing.
+    Query(Query),
+    /// Nothing; of the header's output.
+    OutputQuery(OutputQuery),
+    /// Nothing; of the header's output.
+    ClearTrip,
+    /// 0 to 255.
+    Enable(Enable),
+    /// -32767 to 32767.
+    Flag(Flag),
+    /// 0 to 65535.
+    Filter(Group, Filter),
+    /// 0 to 9.
+    Register(OnRegister),
+    /// 1 to 10000000.
+    Load,
+    /// Volts or amperes.
+    Level(Level),
+    /// Perhaps MIN or MAX.
+    LevelQuery(Level),
+    /// ON, OFF or a number.
+    Switch(Switch),
+    /// The same.
+    Protect,
+    /// A block of at most 63 bytes.
+    UserData,
+    /// A string and a block.
+    Define,
+    /// A string.
+    Macro(OnMacro),
+    /// A string, and a block of at most 32768 bytes.
+    Contents,
+    /// A string.
+    File(OnFile),
+    /// Two strings.
+    Names(OnNames),
+    /// 0 to 9, and a string.
+    StateFile(Transfer),
+    /// A label as a string, and a name as a string.
+    MacroFile(Transfer),
+}

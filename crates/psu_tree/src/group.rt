@@ -1,0 +1,8 @@
+// Status groups.
+
+/// The status groups.
+#[derive(Clone, Copy, Debug, PartialEq, Eq)]
+pub enum Group {
+    Operation,
+    Questionable,
+}

@@ -1,0 +1,165 @@
+// The row of a header. A row whose first letter is another than the header's is passed over.
+ghost use Rattle.std.specs.Prelude.{◌≡◌, map, if◌then◌else◌};
+ghost use Rattle.std.specs.Option.{option_copied};
+ghost use Rattle.psu_tree.specs.Headers.{asked, fits, in_brackets};
+ghost use Rattle.psu_tree.specs.Scans.{begins_apart, first_letter, is_apart, rows_apart};
+ghost use Rattle.psu_tree.specs.Shown.{entries, mnemonic, named_of, row_at, row_behind, row_either};
+ghost use Rattle.psu_tree.specs.Table.{table};
+
+use crate::walks::{capital, is_named, is_small, may_miss, patterns, walk};
+use crate::{Form, Node, Row, Section};
+
+// The first letter of the words.
+fn first_letter(words: &[&[u8]]) -> u8
+    ensures { result ≡ first_letter (map (λ word. word.now) words.now) }
+{
+    let Some((word, _)) = words.split_first() else {
+        return 0;
+    };
+    let Some((letter, _)) = word.split_first() else {
+        return 0;
+    };
+    capital(*letter)
+}
+
+// Whether the mnemonic begins with another capital.
+#[inline(always)]
+fn begins_apart(letter: u8, name: &[u8]) -> bool
+    ensures { result ≡ begins_apart letter name.now }
+{
+    let Some((first, _)) = name.split_first() else {
+        return false;
+    };
+    !is_small(*first) && *first != letter
+}
+
+// Whether no word with this first letter names the node, which must stand.
+#[inline(always)]
+fn is_apart(letter: u8, node: &Node) -> bool
+    ensures { result ≡ is_apart letter (mnemonic node.now) }
+{
+    !may_miss(node.kind) && begins_apart(letter, node.name.as_bytes())
+}
+
+// The same of the first of the nodes.
+#[inline(always)]
+fn rows_apart(letter: u8, nodes: &[Node]) -> bool
+    ensures { result ≡ rows_apart letter (map mnemonic nodes.now) }
+{
+    let Some((node, _)) = nodes.split_first() else {
+        return false;
+    };
+    is_apart(letter, node)
+}
+
+// Whether words of this first letter match the nodes.
+#[inline(always)]
+fn fits(letter: u8, nodes: &[Node], words: &[&[u8]]) -> bool
+    requires { letter ≡ first_letter (map (λ word. word.now) words.now) }
+    ensures { result ≡ fits (map mnemonic nodes.now) (map (λ word. word.now) words.now) }
+{
+    if rows_apart(letter, nodes) {
+        return false;
+    }
+    walk(nodes, words)
+}
+
+// The first of the rows that the words match.
+fn row_at<'a>(letter: u8, rows: &'a [Row], words: &[&[u8]]) -> Option<&'a Row>
+    requires { letter ≡ first_letter (map (λ word. word.now) words.now) }
+    ensures { option_copied result ≡ row_at rows.now (map (λ word. word.now) words.now) }
+{
+    for row in rows {
+        if fits(letter, row.nodes, words) {
+            return Some(row);
+        }
+    }
+    None
+}
+
+// The first of the rows that the words match behind a first node that they have, or that is left out.
+fn row_either<'a>(letter: u8, rows: &'a [Row], words: &[&[u8]], later: &[&[u8]]) -> Option<&'a Row>
+    requires { letter ≡ first_letter (map (λ word. word.now) words.now) }
+    ensures { option_copied result ≡ row_either rows.now (map (λ word. word.now) words.now) (map (λ word. word.now) later.now) }
+{
+    let second = first_letter(later);
+    for row in rows {
+        if fits(second, row.nodes, later) {
+            return Some(row);
+        }
+        if fits(letter, row.nodes, words) {
+            return Some(row);
+        }
+    }
+    None
+}
+
+// Whether the first word names the root.
+fn is_named_first(letter: u8, root: &Node, words: &[&[u8]]) -> bool
+    requires { letter ≡ first_letter (map (λ word. word.now) words.now) }
+    ensures { result ≡ named_of root.now (map (λ word. word.now) words.now) }
+{
+    if begins_apart(letter, root.name.as_bytes()) {
+        return false;
+    }
+    let Some((word, _)) = words.split_first() else {
+        return false;
+    };
+    is_named(root, word)
+}
+
+// The first of a section's rows that the words match.
+fn row_in<'a>(letter: u8, section: &'a Section, words: &[&[u8]]) -> Option<&'a Row>
+    requires { letter ≡ first_letter (map (λ word. word.now) words.now) }
+    ensures { option_copied result ≡ row_behind (named_of section.now.root (map (λ word. word.now) words.now)) (in_brackets section.now.root.kind) section.now.rows.now (map (λ word. word.now) words.now) }
+{
+    let missing = may_miss(section.root.kind);
+    if !is_named_first(letter, &section.root, words) {
+        return if missing {
+            row_at(letter, section.rows, words)
+        } else {
+            None
+        };
+    }
+    let Some((_, later)) = words.split_first() else {
+        return None;
+    };
+    if missing {
+        row_either(letter, section.rows, words, later)
+    } else {
+        row_at(first_letter(later), section.rows, later)
+    }
+}
+
+// What a row asks for, with or without a `?`.
+fn asked_by(row: &Row, asks: bool) -> Option<Form>
+    ensures { result ≡ (if asks then row.now.query else row.now.command) }
+{
+    if asks { row.query } else { row.command }
+}
+
+// What the first row asks for that the words match.
+fn form_in(sections: &[Section], words: &[&[u8]], asks: bool) -> Option<Form>
+    ensures { result ≡ asked (entries sections.now) (map (λ word. word.now) words.now) asks }
+{
+    let letter = first_letter(words);
+    let mut rest = sections;
+    'sections: while let Some((section, others)) = rest.split_first() {
+        rest = others;
+        if is_apart(letter, &section.root) {
+            continue;
+        }
+        if let Some(row) = row_in(letter, section, words) {
+            return asked_by(row, asks);
+        }
+    }
+    None
+}
+
+/// What the table asks for where a header has these nodes, with or without a `?`; nothing where no row
+/// has such a header.
+pub fn form_of(words: &[&[u8]], asks: bool) -> Option<Form>
+    ensures { result ≡ asked table (map (λ word. word.now) words.now) asks }
+{
+    form_in(patterns(), words, asks)
+}

@@ -1,0 +1,8 @@
+// What is done with a register.
+
+/// What is done with a register of settings.
+#[derive(Clone, Copy, Debug, PartialEq, Eq)]
+pub enum OnRegister {
+    Save,
+    Recall,
+}

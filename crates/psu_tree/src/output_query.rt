@@ -1,0 +1,12 @@
+// What is asked of an output.
+
+/// What a query asks of one output.
+#[derive(Clone, Copy, Debug, PartialEq, Eq)]
+pub enum OutputQuery {
+    State,
+    Protection,
+    Tripped,
+    Voltage,
+    Current,
+    Load,
+}

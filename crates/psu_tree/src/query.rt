@@ -1,0 +1,23 @@
+// What queries ask that take nothing.
+use crate::{Enable, Filter, Flag, Group};
+
+/// What a query asks that takes nothing.
+#[derive(Clone, Copy, Debug, PartialEq, Eq)]
+pub enum Query {
+    Identification,
+    SelfTest,
+    OperationComplete,
+    EventStatus,
+    StatusByte,
+    Enable(Enable),
+    Flag(Flag),
+    UserData,
+    Labels,
+    NextError,
+    ErrorCount,
+    Version,
+    Event(Group),
+    Condition(Group),
+    Filter(Group, Filter),
+    Catalog,
+}

@@ -1,0 +1,140 @@
+// The command of a unit.
+ghost use Rattle.std.specs.Prelude.{◌≡◌, List, [], OnOk, map};
+ghost use Rattle.psu_lex.specs.Message.{part};
+ghost use Rattle.psu_lex.specs.Shown.{HoldsData, ShowsHeader, ShowsSyntax};
+ghost use Rattle.psu_lex.specs.Syntax.{Datum as DatumData, Header as HeaderParts, IsHeader, Syntax as Parts};
+ghost use Rattle.psu_tree.specs.Path.{moved, words_of};
+ghost use Rattle.psu_tree.specs.Reading.{Calls, FormReads, Moves, Reads, SyntaxCalls, SyntaxReads, header_reads, placed};
+
+use crate::commands::command_of;
+use crate::lookups::form_of;
+use crate::suffixes::header_output;
+use crate::texts::is_label;
+use crate::words::{Words, add_words};
+use crate::{Command, Form, MacroCall, Output, Path, Request};
+use arrayvec::ArrayVec;
+use psu_lex::{Data, Mark, ScpiError, Syntax, Unit, syntax};
+
+// A form at an output; or the fault of its header.
+fn at_output(
+    form: Option<Form>,
+    output: Result<Output, ScpiError>,
+) -> Result<(Form, Output), ScpiError>
+    ensures { result ≡ placed form output }
+{
+    match form {
+        None => Err(ScpiError::UndefinedHeader),
+        Some(form) => match output {
+            Err(fault) => Err(fault),
+            Ok(output) => Ok((form, output)),
+        },
+    }
+}
+
+// What a header of these nodes asks for, and of which output; or its fault.
+fn placed(words: &[&[u8]], asks: bool) -> Result<(Form, Output), ScpiError>
+    ensures { result ≡ header_reads (map (λ word. word.now) words.now) asks }
+{
+    at_output(form_of(words, asks), header_output(words))
+}
+
+// The command of a header's nodes and its data, or their first fault.
+fn reading_of<'a>(
+    words: &[&[u8]],
+    asks: bool,
+    parameters: &Data<'a>,
+) -> Result<Command<'a>, ScpiError>
+    ensures { (list : List DatumData) → HoldsData parameters.now list → FormReads (header_reads (map (λ word. word.now) words.now) asks) list result }
+{
+    match placed(words, asks) {
+        Err(error) => Err(error),
+        Ok((form, output)) => command_of(form, output, parameters),
+    }
+}
+
+// What a unit's parts read as at a path; where they read well, the words are the header's nodes.
+fn read_parts<'a>(
+    words: &mut Words<'a>,
+    path: &Path<'a>,
+    parts: &Syntax<'a>,
+) -> Result<Command<'a>, ScpiError>
+    requires { words.old.items ≡ [] }
+    ensures reads { (given : Parts) → ShowsSyntax parts.now given → SyntaxReads path.now (Ok given) result }
+    ensures words { (h : HeaderParts) → IsHeader h → ShowsHeader parts.now.header h → OnOk result (map (λ word. word.now) words.new.items ≡ words_of path.now h) }
+{
+    if !add_words(words, path, &parts.header) {
+        return Err(ScpiError::UndefinedHeader);
+    }
+    reading_of(words.as_slice(), parts.header.asks, &parts.parameters)
+}
+
+/// The command of a unit that stands at a path, or the first fault of its reading. The order of faults: those
+/// of its syntax; -113, -114; -109, -108; then of each parameter from the left its class, its number's digits
+/// and its suffix (-104, -123, -124, -131); then of each its range (-222, -223, -224).
+pub fn read_unit<'a>(path: &Path<'a>, unit: &Unit<'a>) -> Result<Command<'a>, ScpiError>
+    ensures { Reads path.now (part unit.now) result }
+{
+    match syntax(unit) {
+        Err(error) => Err(error),
+        Ok(parts) => {
+            let mut words = ArrayVec::new();
+            read_parts(&mut words, path, &parts)
+        }
+    }
+}
+
+// The call that a unit may be.
+fn call_of<'a>(parts: &Syntax<'a>) -> Option<MacroCall<'a>>
+    ensures { (given : Parts) → ShowsSyntax parts.now given → SyntaxCalls (Ok given) result }
+{
+    if is_label(parts.header.text) {
+        Some(MacroCall {
+            label: parts.header.text,
+            args: parts.parameters,
+        })
+    } else {
+        None
+    }
+}
+
+// Moves the path to a header's nodes without the last; a common header leaves it.
+fn move_path<'a>(path: &mut Path<'a>, mut words: Words<'a>, mark: Mark)
+    ensures { path.new ≡ moved mark path.old (map (λ word. word.now) words.entry.items) }
+{
+    match mark {
+        Mark::Star => {}
+        Mark::Colon | Mark::Bare => {
+            let _last = words.pop();
+            path.words = words;
+        }
+    }
+}
+
+/// A unit as it reads at a path, which moves behind it: to the nodes of its header without the last, unless
+/// the header is common or the reading a fault. A macro's call is given where the header has the form of a
+/// label, whatever the reading. `inside` says whether the unit stands in an expansion.
+pub fn request<'a>(path: &mut Path<'a>, unit: &Unit<'a>, inside: bool) -> Request<'a>
+    ensures reading { Reads path.old (part unit.now) result.reading }
+    ensures moves { Moves path.old (part unit.now) result.reading path.new }
+    ensures call { Calls (part unit.now) result.call }
+    ensures inside { result.inside ≡ inside }
+{
+    let parts = match syntax(unit) {
+        Ok(parts) => parts,
+        Err(error) => return Request {
+            call: None,
+            reading: Err(error),
+            inside,
+        },
+    };
+    let mut words = ArrayVec::new();
+    let reading = read_parts(&mut words, path, &parts);
+    if reading.is_ok() {
+        move_path(path, words, parts.header.mark);
+    }
+    Request {
+        call: call_of(&parts),
+        reading,
+        inside,
+    }
+}

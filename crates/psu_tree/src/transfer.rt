@@ -1,0 +1,8 @@
+// Directions of a transfer.
+
+/// Into a file, or out of it.
+#[derive(Clone, Copy, Debug, PartialEq, Eq)]
+pub enum Transfer {
+    Store,
+    Load,
+}

@@ -1,0 +1,144 @@
+// Headers against the table.
+ghost use Rattle.std.specs.Prelude.{◌≡◌, ◌≤◌, length, map, IsTrue, ◌↔◌};
+ghost use Rattle.psu_tree.specs.Headers.{Matches, capital, fits, in_brackets, is_form, is_numbered, is_small, names, same_letters, stem};
+ghost use Rattle.psu_tree.specs.Scans.{digit_before};
+ghost use Rattle.psu_tree.specs.Reading.{digits_of};
+ghost use Rattle.psu_tree.specs.Shown.{entries, mnemonic};
+ghost use Rattle.psu_tree.specs.Table.{table};
+
+use crate::table::PATTERNS;
+use crate::{Kind, Node, Section};
+
+/// The table of commands.
+pub fn patterns() -> &'static [Section]
+    ensures { entries result.now ≡ table }
+{
+    &PATTERNS
+}
+
+/// Whether the byte is a small letter.
+pub fn is_small(byte: u8) -> bool
+    ensures { result ≡ is_small byte }
+{
+    byte >= b'a' && byte <= b'z'
+}
+
+/// A letter as a capital.
+pub fn capital(byte: u8) -> u8
+    ensures { result ≡ capital byte }
+{
+    if is_small(byte) { byte - 32 } else { byte }
+}
+
+/// Whether the texts are the same without regard to case.
+pub fn is_same(name: &[u8], word: &[u8]) -> bool
+    ensures { result ≡ same_letters name.now word.now }
+{
+    let Some((letter, letters)) = name.split_first() else {
+        return word.is_empty();
+    };
+    let Some((other, others)) = word.split_first() else {
+        return false;
+    };
+    if capital(*letter) != capital(*other) {
+        return false;
+    }
+    is_same(letters, others)
+}
+
+// Whether a word is the short or the long form of a mnemonic.
+fn is_form(name: &[u8], word: &[u8]) -> bool
+    ensures { result ≡ is_form name.now word.now }
+{
+    let Some((letter, letters)) = name.split_first() else {
+        return word.is_empty();
+    };
+    let Some((other, others)) = word.split_first() else {
+        return is_small(*letter);
+    };
+    if is_small(*letter) {
+        return is_same(name, word);
+    }
+    if *letter != capital(*other) {
+        return false;
+    }
+    is_form(letters, others)
+}
+
+// Whether a digit stands before a place.
+fn has_digit_before(word: &[u8], end: usize) -> bool
+    requires { end ≤ length word.now }
+    ensures { result ≡ digit_before word.now end }
+{
+    if end == 0 {
+        return false;
+    }
+    word[end - 1].is_ascii_digit()
+}
+
+// A word without the digits at its end.
+fn without_number(word: &[u8]) -> &[u8]
+    ensures stem { result.now ≡ stem word.now }
+    ensures within { length result.now ≤ length word.now }
+{
+    let mut end = word.len();
+    while has_digit_before(word, end) {
+        end -= 1;
+    }
+    &word[..end]
+}
+
+/// The digits at the end of a word.
+pub fn number_of(word: &[u8]) -> &[u8]
+    ensures { result.now ≡ digits_of word.now }
+{
+    &word[without_number(word).len()..]
+}
+
+// Whether a number may follow the node.
+fn is_numbered(kind: Kind) -> bool
+    ensures { result ≡ is_numbered kind }
+{
+    match kind {
+        Kind::Must | Kind::Maybe => false,
+        Kind::Numbered | Kind::MaybeNumbered => true,
+    }
+}
+
+// Whether the node stands in brackets.
+pub fn may_miss(kind: Kind) -> bool
+    ensures { result ≡ in_brackets kind }
+{
+    match kind {
+        Kind::Must | Kind::Numbered => false,
+        Kind::Maybe | Kind::MaybeNumbered => true,
+    }
+}
+
+/// Whether a word is a form of the node.
+pub fn is_named(node: &Node, word: &[u8]) -> bool
+    ensures { result ≡ names (mnemonic node.now) word.now }
+{
+    let form = if is_numbered(node.kind) {
+        without_number(word)
+    } else {
+        word
+    };
+    is_form(node.name.as_bytes(), form)
+}
+
+/// Whether leaving out some bracketed nodes makes each node left a form of the word in its place.
+pub fn walk(nodes: &[Node], words: &[&[u8]]) -> bool
+    ensures exact { result ≡ fits (map mnemonic nodes.now) (map (λ word. word.now) words.now) }
+    ensures matches { IsTrue result ↔ Matches (map mnemonic nodes.now) (map (λ word. word.now) words.now) }
+{
+    let Some((node, later)) = nodes.split_first() else {
+        return words.is_empty();
+    };
+    if let Some((word, others)) = words.split_first() {
+        if is_named(node, word) && walk(later, others) {
+            return true;
+        }
+    }
+    may_miss(node.kind) && walk(later, words)
+}

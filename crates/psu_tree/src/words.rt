@@ -1,0 +1,71 @@
+// The nodes of a header.
+ghost use Rattle.std.specs.Prelude.{◌≡◌, ◌≤◌, ◌<◌, [], ◌∷◌, ◌++◌, ℕ, List, length, take, drop, map, true, MatchBool};
+ghost use Rattle.psu_lex.specs.Shown.{ShowsHeader};
+ghost use Rattle.psu_lex.specs.Syntax.{Header as Parts, IsHeader, all_nodes, behind, is_node};
+ghost use Rattle.psu_tree.specs.Path.{words_of};
+ghost use Rattle.psu_tree.specs.Scans.{after_node, node_of};
+
+use crate::Path;
+use arrayvec::ArrayVec;
+use psu_lex::{Header, Mark};
+
+/// The most nodes that a header of the table has.
+pub const MOST: usize = 5;
+
+/// Nodes as written.
+pub type Words<'a> = ArrayVec<&'a [u8], MOST>;
+
+// Where the first node ends.
+fn node_end(text: &[u8]) -> usize
+    ensures within { result ≤ length text.now }
+    ensures node { take result text.now ≡ node_of text.now }
+    ensures rest { drop result text.now ≡ after_node text.now }
+{
+    for at in 0..text.len() {
+        if text[at] == b':' {
+            return at;
+        }
+    }
+    text.len()
+}
+
+// Adds the nodes of a text, with `:` between them; not all of them where they are too many.
+fn add_nodes<'a>(words: &mut Words<'a>, text: &'a [u8]) -> bool
+    ensures { (node : List ℕ) (nodes : List (List ℕ)) → is_node node ≡ true → all_nodes nodes ≡ true → text.now ≡ node ++ behind nodes →
+        MatchBool result (map (λ word. word.now) words.new.items ≡ map (λ word. word.now) words.old.items ++ node ∷ nodes)
+        (5 < length (map (λ word. word.now) words.old.items ++ node ∷ nodes)) }
+{
+    let (node, rest) = text.split_at(node_end(text));
+    if words.try_push(node).is_err() {
+        return false;
+    }
+    let Some((_, others)) = rest.split_first() else {
+        return true;
+    };
+    add_nodes(words, others)
+}
+
+// Adds the nodes of a path.
+fn add_path<'a>(words: &mut Words<'a>, path: &Path<'a>)
+    requires { words.old.items ≡ [] }
+    ensures { map (λ word. word.now) words.new.items ≡ path.now }
+{
+    let _ = words.try_extend_from_slice(path.words.as_slice());
+}
+
+/// Makes the words the nodes that a header has from the root on, `*` a node of its own; false where they are
+/// more than a header of the table has.
+pub fn add_words<'a>(words: &mut Words<'a>, path: &Path<'a>, header: &Header<'a>) -> bool
+    requires { words.old.items ≡ [] }
+    ensures { (h : Parts) → IsHeader h → ShowsHeader header.now h →
+        MatchBool result (map (λ word. word.now) words.new.items ≡ words_of path.now h) (5 < length (words_of path.now h)) }
+{
+    match header.mark {
+        Mark::Star => {
+            words.push(b"*");
+        }
+        Mark::Colon => {}
+        Mark::Bare => add_path(words, path),
+    }
+    add_nodes(words, header.nodes)
+}
