@@ -12,7 +12,7 @@ mod units;
 
 use crate::waits::least_free;
 use crate::{Condition, Contents, Crowded, Registers, SESSIONS, Session, Wait};
-use psu_items::{Batch, Items};
+use psu_items::Plan;
 use std::alloc::{AllocError, Allocator};
 use std::marker::Model;
 
@@ -22,11 +22,9 @@ pub struct Device<A: Allocator + Copy> {
     alloc: A,
     limit: u16,
     contents: Contents,
-    // The map that the store holds, or held before its job.
-    before: Items<A>,
-    // Of the job that is out or of the store that broke: its target, the batch to it, and how many changes are in it.
-    target: Items<A>,
-    edits: Batch<A>,
+    // The map that the store holds, or held before its job, with the batch of the job that is out or of the store that broke.
+    map: Plan<A>,
+    // How many changes are in that batch.
     held: Option<usize>,
     unflushed: usize,
     store: Condition,
@@ -37,18 +35,19 @@ pub struct Device<A: Allocator + Copy> {
 }
 
 impl<A: Allocator + Copy> Model for Device<A> {
+    ghost use Rattle.psu_items.specs.Batch.{changed};
     ghost use Rattle.psu_exec.specs.Device.{State, held_of};
 
     ghost Value = { State };
 
     ghost view = { λ d. record {
       volatile = record { registers = d.registers; open_now = d.open_now };
-      flush = record { limit = d.limit; contents = d.contents; before = d.before; unflushed = d.unflushed; held = held_of d.held d.target; store = d.store; out = d.out; waits = d.waits };
+      flush = record { limit = d.limit; contents = d.contents; before = d.map.map; unflushed = d.unflushed; held = held_of d.held (changed d.map.map d.map.edits); store = d.store; out = d.out; waits = d.waits };
     } };
 
     ghost use Rattle.psu_exec.specs.Consistent.{IsConsistent, HasEdits};
 
-    ghost invariant = { λ d. HasEdits d.held d.before d.target d.edits × IsConsistent (record { limit = d.limit; contents = d.contents; before = d.before; unflushed = d.unflushed; held = held_of d.held d.target; store = d.store; out = d.out; waits = d.waits }) };
+    ghost invariant = { λ d. HasEdits d.held d.map × IsConsistent (record { limit = d.limit; contents = d.contents; before = d.map.map; unflushed = d.unflushed; held = held_of d.held (changed d.map.map d.map.edits); store = d.store; out = d.out; waits = d.waits }) };
 }
 
 impl<A: Allocator + Copy> Device<A> {
@@ -61,14 +60,12 @@ impl<A: Allocator + Copy> Device<A> {
         requires { IsContents contents }
         ensures { IfOk result (λ d. d ≡ power_on limit contents) }
     {
-        let before = contents.items(alloc)?;
+        let map = Plan::of(alloc, contents.items(alloc)?);
         Ok(Device {
             alloc,
             limit,
             contents,
-            before,
-            target: Items::new(alloc),
-            edits: Batch::new(alloc),
+            map,
             unflushed: 0,
             held: None,
             store: Condition::Whole,

@@ -10,7 +10,7 @@ ghost use Rattle.psu_exec.specs.Calls.{Allows};
 ghost use Rattle.psu_exec.specs.Calls.Entry.{Executed, Settled, Took, GaveBack, Opened, Closed, Cleared};
 ghost use Rattle.psu_exec.specs.Consistent.{IsConsistent};
 ghost use Rattle.psu_exec.specs.Shown.{outcome_of, over_of};
-ghost use Rattle.psu_exec.specs.Jobs.{home_edits, home_goal, home_map, home_limit, is_home_whole};
+ghost use Rattle.psu_exec.specs.Jobs.{home_edits, home_goal, home_map, home_limit, home_of, is_home_whole};
 ghost use Rattle.psu_exec.specs.declared.contents.Contents.{Contents as Kept};
 ghost use Rattle.psu_lex.specs.declared.scpi_error.ScpiError.{ScpiError as AnyError};
 ghost use Rattle.psu_exec.specs.declared.command.Command.TheVariants.{OpcQuery};
@@ -21,7 +21,7 @@ use crate::{
     PowerCause, PowerFault, Request, Session, Sessions, Stranger,
 };
 use psu_disk::Disk;
-use psu_items::{Batch, Store, UnstartedCause};
+use psu_items::{Batch, Store};
 use std::alloc::{AllocError, Allocator};
 use std::mem;
 
@@ -216,65 +216,12 @@ impl<D: Disk, A: Allocator + Copy> Exec<D, A> {
         ensures stranger { IfErr result (λ s. s.finished ≡ finished) }
         ensures same { OnErr result (self.new.home ≡ self.old.home) }
     {
-        match finished {
-            Finished::Stored(store) => {
-                if !self.device.is_target(store.limit(), store.items()) {
-                    return Err(Stranger {
-                        finished: Finished::Stored(store),
-                    });
-                }
-                self.device.flush_target();
-                bring_home(&mut self.home, Home::Whole(store));
-                return Ok(self.device.sessions_over());
-            }
-            Finished::Unstarted(store, batch, cause) => {
-                if !self.device.is_job(store.limit(), store.items(), &batch) {
-                    return Err(Stranger {
-                        finished: Finished::Unstarted(store, batch, cause),
-                    });
-                }
-                match cause {
-                    UnstartedCause::Memory => {
-                        self.device.keep();
-                        bring_home(&mut self.home, Home::Whole(store));
-                        return Ok(self.device.sessions_over());
-                    }
-                    UnstartedCause::Worn => {
-                        self.device.wear_out();
-                        bring_home(&mut self.home, Home::Whole(store));
-                        return Ok(self.device.sessions_over());
-                    }
-                }
-            }
-            Finished::Broken(broken) => {
-                if !self
-                    .device
-                    .is_job(broken.limit(), broken.before(), broken.batch())
-                {
-                    return Err(Stranger {
-                        finished: Finished::Broken(broken),
-                    });
-                }
-                self.device.break_off();
-                bring_home(&mut self.home, Home::Failed(broken));
-                return Ok(self.device.sessions_over());
-            }
-            Finished::Reopened(store) => {
-                if self.device.is_target(store.limit(), store.items()) {
-                    self.device.flush_target();
-                    bring_home(&mut self.home, Home::Whole(store));
-                    return Ok(self.device.sessions_over());
-                }
-                if self.device.is_before(store.limit(), store.items()) {
-                    self.device.keep();
-                    bring_home(&mut self.home, Home::Whole(store));
-                    return Ok(self.device.sessions_over());
-                }
-                return Err(Stranger {
-                    finished: Finished::Reopened(store),
-                });
-            }
-        }
+        let Some(ending) = self.device.ending_of(&finished) else {
+            return Err(Stranger { finished });
+        };
+        self.device.end_job(ending);
+        bring_home(&mut self.home, home_after(finished));
+        Ok(self.device.sessions_over())
     }
 
     /// Ends it: what remains is its store, or the whole of it where a job is out.
@@ -312,6 +259,18 @@ fn planned_of<D: Disk, A: Allocator + Copy>(
 {
     let _limit = store.limit();
     Planned::new(alloc, store, batch)
+}
+
+// The store of a job that is given back.
+fn home_after<D: Disk, A: Allocator + Copy>(finished: Finished<D, A>) -> Home<D, A>
+    ensures { result ≡ home_of finished }
+{
+    match finished {
+        Finished::Stored(store) => Home::Whole(store),
+        Finished::Unstarted(store, _, _) => Home::Whole(store),
+        Finished::Broken(broken) => Home::Failed(broken),
+        Finished::Reopened(store) => Home::Whole(store),
+    }
 }
 
 // The store is at home again.

@@ -1,5 +1,5 @@
 //! Changes of a map that are stored as one.
-ghost use Rattle.std.specs.Prelude.{◌≡◌, ◌++◌, ◌∷◌, [], Some, None, OnOk, OnErr};
+ghost use Rattle.std.specs.Prelude.{◌≡◌, ◌++◌, ◌∷◌, [], Some, None, IfOk, OnOk, OnErr};
 
 use crate::Edit;
 use std::alloc::{AllocError, Allocator};
@@ -8,7 +8,7 @@ use std::marker::Model;
 /// Edits in the order in which they were added; of two edits of one key the later one counts.
 #[derive(Drop)]
 pub struct Batch<A: Allocator + Copy> {
-    edits: Vec<Edit<A>, A>,
+    pub(crate) edits: Vec<Edit<A>, A>,
 }
 
 impl<A: Allocator + Copy> Model for Batch<A> {
@@ -53,5 +53,16 @@ impl<A: Allocator + Copy> Batch<A> {
         ensures { result.now ≡ self.now }
     {
         &self.edits
+    }
+
+    /// The same edits in memory of their own.
+    pub fn copy(&self, alloc: A) -> Result<Self, AllocError>
+        ensures { IfOk result (λ copy. copy ≡ self.now) }
+    {
+        let mut edits = Vec::new(alloc);
+        for edit in &self.edits {
+            edits.push(edit.copy(alloc)?)?;
+        }
+        Ok(Batch { edits })
     }
 }

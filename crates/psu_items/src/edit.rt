@@ -1,15 +1,15 @@
 //! One change of a batch.
-ghost use Rattle.std.specs.Prelude.{◌≡◌, Some, None, option_map};
+ghost use Rattle.std.specs.Prelude.{◌≡◌, Some, None, IfOk, option_map};
 
-use std::alloc::Allocator;
+use std::alloc::{AllocError, Allocator};
 use std::marker::Model;
 
 /// A key, with the value that it is given, or with none where its item is removed. Contracts see an
 /// `Edit` of `specs/`.
 #[derive(Drop)]
 pub struct Edit<A: Allocator + Copy> {
-    key: Vec<u8, A>,
-    value: Option<Vec<u8, A>>,
+    pub(crate) key: Vec<u8, A>,
+    pub(crate) value: Option<Vec<u8, A>>,
 }
 
 impl<A: Allocator + Copy> Model for Edit<A> {
@@ -43,5 +43,16 @@ impl<A: Allocator + Copy> Edit<A> {
             Some(value) => Some(value),
             None => None,
         }
+    }
+
+    /// The same edit in memory of its own.
+    pub(crate) fn copy(&self, alloc: A) -> Result<Self, AllocError>
+        ensures { IfOk result (λ copy. copy ≡ self.now) }
+    {
+        let mut copy = Edit::new(self.key.to_vec(alloc)?, None);
+        if let Some(value) = &self.value {
+            copy.value = Some(value.to_vec(alloc)?);
+        }
+        Ok(copy)
     }
 }

@@ -1,22 +1,20 @@
 //! The map: pairs in the order of their keys.
 ghost use Rattle.std.specs.Prelude.{◌≡◌, ◌<◌, ◌^◌, [], ◌∷◌, ◌++◌, length, IfOk, IfErr, OnOk, OnErr, option_map};
-ghost use Rattle.std.specs.Ordering.{nat_cmp};
-ghost use Rattle.std.specs.Cmp.Lexicographic.{slice_cmp};
 ghost use Rattle.std.specs.List.{AllByRecursion};
 ghost use Rattle.psu_items.specs.Map.{Item, item_of, Before, get, put, without, cost, IsSorted, Sets};
 ghost use Rattle.psu_items.specs.Batch.{edited, changed, Assigns};
-ghost use Rattle.psu_items.specs.Place.{key_at, IsPlace, IsAt, IsGap};
+ghost use Rattle.psu_items.specs.Place.{IsAt, IsGap};
 
+use crate::search::{search, value_of};
 use crate::{Batch, Edit, Pair};
 use std::alloc::{AllocError, Allocator};
-use std::cmp::Ordering;
 use std::marker::Model;
 
 /// An ordered map from the bytes of a key to the bytes of a value. Contracts see the list of its
 /// items, in the byte order of their keys.
 #[derive(Drop)]
 pub struct Items<A: Allocator + Copy> {
-    pairs: Vec<Pair<A>, A>,
+    pub(crate) pairs: Vec<Pair<A>, A>,
 }
 
 impl<A: Allocator + Copy> Model for Items<A> {
@@ -44,10 +42,7 @@ impl<A: Allocator + Copy> Items<A> {
     pub fn get(&self, key: &[u8]) -> Option<&[u8]>
         ensures { option_map (λ v. v.now) result ≡ get self.now key.now }
     {
-        match self.search(key) {
-            Ok(at) => Some(self.pairs[at].value()),
-            Err(_) => None,
-        }
+        value_of(&self.pairs, key)
     }
 
     /// Gives a key a value, in place of the one that it has. The only error is a want of memory.
@@ -144,36 +139,10 @@ impl<A: Allocator + Copy> Items<A> {
     }
 
     // Where the key is, or where it would go.
-    #[tactic(auto, using(crate::proofs::Keys::same_by_order, crate::proofs::Keys::other_by_order))]
     fn search(&self, key: &[u8]) -> Result<usize, usize>
         ensures found { IfOk result (IsAt self.now key.now) }
         ensures absent { IfErr result (IsGap self.now key.now) }
     {
-        let at = place(&self.pairs, key);
-        if at < self.pairs.len() && order(&self.pairs, at, key) == Ordering::Equal {
-            Ok(at)
-        } else {
-            Err(at)
-        }
+        search(&self.pairs, key)
     }
-}
-
-// How the key of a pair compares with a key.
-fn order<A: Allocator + Copy>(pairs: &[Pair<A>], at: usize, key: &[u8]) -> Ordering
-    requires { at < length pairs.now }
-    ensures { result ≡ slice_cmp nat_cmp (key_at pairs.now at) key.now }
-{
-    pairs[at].key().cmp(key)
-}
-
-// How many pairs have a smaller key.
-fn place<A: Allocator + Copy>(pairs: &[Pair<A>], key: &[u8]) -> usize
-    ensures { IsPlace pairs.now key.now result }
-{
-    for at in 0..pairs.len() {
-        if order(pairs, at, key) != Ordering::Less {
-            return at;
-        }
-    }
-    pairs.len()
 }

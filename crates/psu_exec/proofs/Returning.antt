@@ -1,0 +1,45 @@
+-- The store of a job that was given back, at home.
+use Rattle.std.proofs.Common.{◌≡◌, inl, inr, ◌⊎◌, not, false, Option, Some, refl, sym, subst, ◌∙◌}
+use Rattle.psu_disk.specs.declared.disk.Disk.{Ghosts}
+use Rattle.psu_items.specs.declared.commit.UnstartedCause.TheVariants as unstarted
+use Rattle.psu_exec.specs.Batch.{batch}
+use Rattle.psu_exec.specs.Device.{Flush, target, is_broken}
+use Rattle.psu_exec.specs.Calls.{GivesBack, IsExpected, ended}
+use Rattle.psu_exec.specs.Jobs.{finished_of, home_edits, home_goal, home_limit, home_map, home_of, is_home_whole}
+use Rattle.psu_exec.specs.declared.home.Home.{Home}
+use Rattle.psu_exec.specs.declared.ending.Ending.{Ending}
+use Rattle.psu_exec.specs.declared.ending.Ending.TheVariants as ending
+use Rattle.psu_exec.specs.declared.finished.Finished.{Finished}
+use Rattle.psu_exec.specs.declared.finished.Finished.TheVariants as finished
+
+-- what holds of a store at home
+pub record IsHome {D A : Type 0} {G : Ghosts D} (f : Flush) (home : Home D A G) : Type 0 where
+  pub holds : home_map home ≡ f.before
+  pub sized : home_limit home ≡ f.limit
+  pub kind : is_home_whole home ≡ not (is_broken f.store)
+  pub edits : home_edits (batch f.before (target f)) home ≡ batch f.before (target f)
+  pub goal : home_goal (target f) home ≡ target f
+
+pub returned : {D A : Type 0} {G : Ghosts D} (f new : Flush) (end : Finished D A G) → IsExpected f (finished_of end) → GivesBack f (finished_of end) new → home_goal (target f) (home_of end) ≡ target f
+    → IsHome new (home_of end)
+returned f new (finished.Stored store) expected is goal = rw is (record { holds = expected.1; sized = expected.0; kind = refl; edits = refl; goal = refl })
+returned f new (finished.Unstarted store edits unstarted.Memory) expected is goal = rw is (record { holds = expected.1; sized = expected.0; kind = refl; edits = refl; goal = refl })
+returned f new (finished.Unstarted store edits unstarted.Worn) expected is goal = rw is (record { holds = expected.1; sized = expected.0; kind = refl; edits = refl; goal = refl })
+returned f new (finished.Broken store) expected is goal = rw is (record { holds = expected.1; sized = expected.0; kind = refl; edits = expected.2; goal = goal })
+returned f new (finished.Reopened store) expected (inl is) goal = rw is.1 (record { holds = is.0; sized = expected.0; kind = refl; edits = refl; goal = refl })
+returned f new (finished.Reopened store) expected (inr is) goal = rw is.1 (record { holds = before_is expected.1; sized = expected.0; kind = refl; edits = refl; goal = refl })
+  where
+    before_is : (store.items ≡ f.before) ⊎ (store.items ≡ target f) → store.items ≡ f.before
+    before_is (inl e) = e
+    before_is (inr e) = absurd (is.0 e)
+
+-- what is put into a place is there
+pub at_home : {D A : Type 0} {G : Ghosts D} (f : Flush) (place : Option (Home D A G)) (put own : Home D A G) → place ≡ Some put → put ≡ own → IsHome f own → (h : Home D A G) → place ≡ Some h → IsHome f h
+at_home f place put own here is home h at = let both = sym here ∙ at in subst (IsHome f) (sym is ∙ cc) home
+
+-- an ended job is out no more
+pub out_after : (f : Flush) (e : Ending) → (ended f e).out ≡ false
+out_after f ending.Flushed = refl
+out_after f ending.Kept = refl
+out_after f ending.Broken = refl
+out_after f ending.Worn = refl

@@ -1,0 +1,111 @@
+// Whether planned edits lead to a map, with no memory.
+ghost use Rattle.std.specs.Prelude.{◌≡◌, ◌↔◌, ◌++◌, ◌∷◌, IsTrue, IfSome, IfNone, List, Some, None, option_map};
+ghost use Rattle.std.specs.List.{flat_map};
+ghost use Rattle.psu_items.specs.Map.{IsSorted};
+ghost use Rattle.psu_items.specs.Batch.{changed, Edit as EditData};
+ghost use Rattle.psu_exec.specs.Batch.{assignment, batch, removal};
+
+use crate::comparison::same_value;
+use crate::difference::is_value;
+use psu_items::{Edit, Items, Pair, Plan};
+use std::alloc::Allocator;
+
+// The edits behind this first one; none where another is the first.
+fn behind<'e, A: Allocator + Copy>(
+    edits: &'e [Edit<A>],
+    key: &[u8],
+    value: Option<&[u8]>,
+) -> Option<&'e [Edit<A>]>
+    ensures some { IfSome result (λ rest. edits.now ≡ record { key = key.now; value = option_map (λ v. v.now) value.entry } ∷ rest.now) }
+    ensures none { IfNone result ((rest : List EditData) → edits.now ≡ record { key = key.now; value = option_map (λ v. v.now) value.entry } ∷ rest → ⊥) }
+{
+    match edits {
+        [] => None,
+        [first, rest @ ..] => {
+            if first.key() == key && same_value(first.value(), value) {
+                Some(rest)
+            } else {
+                None
+            }
+        }
+    }
+}
+
+// The edits behind the removal of an item whose key the target has not.
+fn behind_removal<'e, A: Allocator + Copy>(
+    edits: &'e [Edit<A>],
+    target: &Items<A>,
+    pair: &Pair<A>,
+) -> Option<&'e [Edit<A>]>
+    ensures some { IfSome result (λ rest. edits.now ≡ removal target.now pair.now ++ rest.now) }
+    ensures none { IfNone result ((rest : List EditData) → edits.now ≡ removal target.now pair.now ++ rest → ⊥) }
+{
+    if target.get(pair.key()).is_some() {
+        return Some(edits);
+    }
+    behind(edits, pair.key(), None)
+}
+
+// The edits behind the assignment of an item that is new or differs.
+fn behind_assignment<'e, A: Allocator + Copy>(
+    edits: &'e [Edit<A>],
+    before: &Plan<A>,
+    pair: &Pair<A>,
+) -> Option<&'e [Edit<A>]>
+    ensures some { IfSome result (λ rest. edits.now ≡ assignment before.now.map pair.now ++ rest.now) }
+    ensures none { IfNone result ((rest : List EditData) → edits.now ≡ assignment before.now.map pair.now ++ rest → ⊥) }
+{
+    if is_value(pair.value(), before.get(pair.key())) {
+        return Some(edits);
+    }
+    behind(edits, pair.key(), Some(pair.value()))
+}
+
+// The edits behind all removals.
+fn behind_removals<'e, A: Allocator + Copy>(
+    plan: &'e Plan<A>,
+    target: &Items<A>,
+) -> Option<&'e [Edit<A>]>
+    ensures some { IfSome result (λ rest. plan.now.edits ≡ flat_map (removal target.now) plan.now.map ++ rest.now) }
+    ensures none { IfNone result ((rest : List EditData) → plan.now.edits ≡ flat_map (removal target.now) plan.now.map ++ rest → ⊥) }
+    ensures sorted { IsSorted plan.now.map }
+{
+    let mut rest = plan.edits().edits();
+    for pair in plan.pairs() {
+        match behind_removal(rest, target, pair) {
+            Some(behind) => rest = behind,
+            None => return None,
+        }
+    }
+    Some(rest)
+}
+
+// Whether these edits are all assignments.
+fn are_assignments<A: Allocator + Copy>(
+    edits: &[Edit<A>],
+    before: &Plan<A>,
+    target: &Items<A>,
+) -> bool
+    ensures is { IsTrue result ↔ (edits.now ≡ flat_map (assignment before.now.map) target.now) }
+    ensures sorted { IsSorted target.now }
+{
+    let mut rest = edits;
+    for pair in target.pairs() {
+        match behind_assignment(rest, before, pair) {
+            Some(behind) => rest = behind,
+            None => return false,
+        }
+    }
+    rest.is_empty()
+}
+
+/// Whether the planned edits are those that make the map this one.
+pub fn leads_to<A: Allocator + Copy>(plan: &Plan<A>, target: &Items<A>) -> bool
+    ensures is { IsTrue result ↔ (plan.now.edits ≡ batch plan.now.map target.now) }
+    ensures leads { IsTrue result → changed plan.now.map plan.now.edits ≡ target.now }
+{
+    match behind_removals(plan, target) {
+        Some(rest) => are_assignments(rest, plan, target),
+        None => false,
+    }
+}
