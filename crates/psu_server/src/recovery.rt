@@ -1,11 +1,16 @@
 //! What a restart would find in an image, without running on it.
-ghost use Rattle.std.specs.Prelude.{◌≡◌, IfOk, IfErr};
+ghost use Rattle.std.specs.Prelude.{◌≡◌, ℕ, List, IfOk, IfErr, false};
+ghost use Rattle.std.specs.Option.{ForSome};
+ghost use Rattle.psu_disk.specs.Disk.{HasFailed};
+ghost use Rattle.psu_items.specs.Map.{Item};
+ghost use Rattle.psu_items.specs.Image.{EachStands};
+ghost use Rattle.psu_exec.specs.Jobs.{home_disk};
 ghost use Rattle.psu_exec.specs.Registers.{first_request};
 ghost use Rattle.psu_server.specs.Recover.{IsReported, IsRecoverRefusal};
 
-use crate::{RecoverFault, Report};
+use crate::{Examined, RecoverFault, Report};
 use psu_disk::Disk;
-use psu_exec::Exec;
+use psu_exec::{Ended, Exec};
 use psu_items::Store;
 use std::alloc::Allocator;
 
@@ -19,20 +24,52 @@ pub fn recover<D: Disk + Drop, A: Allocator + Copy>(
     ensures found { D.honest → IfOk result (IsReported (D.state disk).bytes) }
     ensures refused { D.honest → IfErr result (IsRecoverRefusal (D.state disk).bytes) }
 {
+    let Examined { found, .. } = examine(alloc, disk);
+    found
+}
+
+/// As `recover`, with the disk: a device fault is told only where a call of the disk failed, and what the disk stood for it stands
+/// for.
+pub fn examine<D: Disk, A: Allocator + Copy>(alloc: A, disk: D) -> Examined<D>
+    ensures found { D.honest → IfOk result.found (IsReported (D.state disk).bytes) }
+    ensures refused { D.honest → IfErr result.found (IsRecoverRefusal (D.state disk).bytes) }
+    ensures device { IfErr result.found (λ e. e ≡ RecoverFault.Device → HasFailed (D.failures disk) (D.failures result.disk)) }
+    ensures left { D.honest → (limit : ℕ) (map : List Item) → EachStands (D.state disk) limit map → EachStands (D.state result.disk) limit map }
+{
     let store = match Store::open(alloc, disk) {
         Ok(store) => store,
-        Err(refused) => return Err(RecoverFault::from(refused.cause)),
+        Err(refused) => {
+            return Examined {
+                found: Err(RecoverFault::from(refused.cause)),
+                disk: refused.disk,
+            };
+        }
     };
     let version = store.version();
     let root = store.number();
     let limit = store.limit();
     let pages = store.items().cost();
     match Exec::power_on(alloc, store) {
-        Ok(exec) => {
-            let report = report_of(&exec, version, root, limit, pages);
-            Ok(report)
-        }
-        Err(fault) => Err(RecoverFault::from(fault.cause)),
+        Ok(exec) => Examined {
+            found: Ok(report_of(&exec, version, root, limit, pages)),
+            disk: disk_of(exec),
+        },
+        Err(fault) => Examined {
+            found: Err(RecoverFault::from(fault.cause)),
+            disk: fault.store.into_disk(),
+        },
+    }
+}
+
+// The disk of a device that no job is out of.
+fn disk_of<D: Disk, A: Allocator + Copy>(exec: Exec<D, A>) -> D
+    requires { exec.device.flush.out ≡ false }
+    ensures { ForSome exec.home (λ home. result ≡ home_disk home) }
+{
+    match exec.end() {
+        Ended::Whole(store) => store.into_disk(),
+        Ended::Failed(broken) => broken.into_disk(),
+        Ended::Out(_) => unreachable!(),
     }
 }
 

@@ -1,6 +1,6 @@
 use Rattle.std.proofs.Common.{◌≡◌, ◌∙◌, ℕ, List, refl, sym, ap, subst}
 use Rattle.psu_items.specs.Map.{Item, cost}
-use Rattle.psu_items.specs.Image.{HasReadableRoot, IsRefusal, Stands}
+use Rattle.psu_items.specs.Image.{EachStands, HasReadableRoot, IsRefusal, Stands}
 use Rattle.psu_items.specs.declared.open_cause.OpenCause.{OpenCause}
 use Rattle.psu_items.specs.declared.open_cause.OpenCause.TheVariants as opening
 use Rattle.psu_exec.specs.Contents.{items_of}
@@ -9,13 +9,14 @@ use Rattle.psu_exec.specs.Registers.{first_request}
 use Rattle.psu_exec.specs.declared.contents.Contents.{Contents}
 use Rattle.psu_exec.specs.declared.power_fault.PowerCause.{PowerCause}
 use Rattle.psu_exec.specs.declared.power_fault.PowerCause.TheVariants as power
+use Rattle.psu_exec.specs.declared.home.Home.TheVariants as home
 use Rattle.psu_exec.proofs.FirstRequest.{first_request-at_power_on}
 use Rattle.psu_server.specs.declared.report.Report.{Report}
 use Rattle.psu_server.specs.declared.recover_fault.RecoverFault.{RecoverFault}
 use Rattle.psu_server.specs.Causes.{HasBadItems}
 use Rattle.psu_server.specs.Recover.{IsReported, IsRecoverRefusal, recover_open, recover_power}
 use Rattle.psu_server.proofs.Starting.{readable}
-use Rattle.psu_server.proofs.recovery.recover.Goals as goal
+use Rattle.psu_server.proofs.recovery.examine.Goals as goal
 
 pub returns-in-Ok-power_on-clause-found : goal.returns-in-Ok-power_on-clause-found
 returns-in-Ok-power_on-clause-found g c = λ h.
@@ -26,7 +27,7 @@ returns-in-Ok-power_on-clause-found g c = λ h.
     let limit : c.limit-limit.result ≡ c.in-Ok.store.limit = c.limit-limit.ensures.value in
     let pages : c.cost-pages.result ≡ cost (items_of contents) = c.cost-pages.ensures.value ∙ ap cost (c.items.ensures.value ∙ sym found) in
     let request = ap (λ (s : State). first_request s.volatile.registers) c.in-Ok-power_on.ensures.state ∙ first_request-at_power_on contents.enables in
-    subst (λ (r : Report). IsReported bytes r) (sym c.report_of-report.ensures)
+    subst (λ (r : Report). IsReported bytes r) (sym c.report_of.ensures)
     (record {
       contents = contents;
       sound = c.in-Ok-power_on.ensures.sound;
@@ -63,3 +64,12 @@ returns-in-Err-power_on-clause-refused g c = λ h.
     let cause : PowerCause = c.in-Err-power_on.fault.cause in
     let bad : cause ≡ power.BadItems → HasBadItems bytes = λ is. record { limit = c.in-Ok.store.limit; map = c.in-Ok.store.items; stands = c.in-Ok.ensures.stood h; none = c.in-Err-power_on.ensures.bad is } in
     subst (λ (e : RecoverFault). IsRecoverRefusal bytes e) (sym c.from-in-Err-power_on.ensures) (by_cause bytes cause (readable bytes c.in-Ok.store.limit c.in-Ok.store.items (c.in-Ok.ensures.stood h)) bad)
+
+pub returns-in-Ok-power_on-clause-left : goal.returns-in-Ok-power_on-clause-left
+returns-in-Ok-power_on-clause-left g c = λ h limit map each.
+    subst (λ d. EachStands (g.D.Disk.state d) limit map) (sym (c.disk_of.ensures (home.Whole c.in-Ok.store) c.in-Ok-power_on.ensures.home)) (c.in-Ok.ensures.left h limit map each)
+
+pub returns-in-Err-power_on-clause-left : goal.returns-in-Err-power_on-clause-left
+returns-in-Err-power_on-clause-left g c = λ h limit map each.
+    subst (λ d. EachStands (g.D.Disk.state d) limit map) (sym c.into_disk.ensures.value)
+    (subst (λ s. EachStands (g.D.Disk.state s.disk) limit map) (sym c.in-Err-power_on.ensures.back) (c.in-Ok.ensures.left h limit map each))

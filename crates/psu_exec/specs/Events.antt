@@ -1,0 +1,30 @@
+-- The events of the theorem on power loss are the calls of the program.
+use Rattle.std.specs.Prelude.{◌≡◌, ℕ, ◌≤◌, List, [], true}
+use Rattle.psu_disk.specs.Disk.{DiskState, LeavesOnly}
+use Rattle.psu_items.specs.Map.{Item}
+use Rattle.psu_items.specs.Image.{Stands, IsEither, EachIsEither}
+use Rattle.psu_exec.specs.Contents.{items_of, IsContents}
+use Rattle.psu_exec.specs.declared.contents.Contents.{Contents}
+use Rattle.psu_exec.specs.Device.{State, target, power_on}
+use Rattle.psu_exec.specs.Calls.{Entry, Allows}
+use Rattle.psu_exec.specs.World.{World, Running, Call, DiskCall, Restart, Moves, DiskAfter, IsDown, Happens, recorded}
+
+-- A call that may be answered so is an event, with the disk that it may leave: the same, or that of the end that was given back.
+abbrev pub CallsHappen : Type 0
+CallsHappen = (w : World) (entry : Entry) (new : State) (disk : DiskState) → w.mode ≡ Running → Allows w.state entry new → DiskAfter w entry disk
+    → Happens w (Call entry disk) (record w { state = new; history = recorded w.state entry w.history; disk = disk })
+
+-- A disk call while a job is out is an event, where what it leaves stands for the map before or the target.
+abbrev pub DiskCallsHappen : Type 0
+DiskCallsHappen = (w : World) (disk : DiskState) → w.mode ≡ Running → w.state.flush.out ≡ true → Moves w.disk disk → EachIsEither disk w.state.flush.limit w.state.flush.before (target w.state.flush)
+    → Happens w (DiskCall disk) (record w { disk = disk })
+
+-- A power-on with contents that the disk stands for is an event.
+abbrev pub RestartsHappen : Type 0
+RestartsHappen = (w : World) (limit : ℕ) (contents : Contents) → IsDown w.mode → IsContents contents → Stands w.disk.bytes limit (items_of contents)
+    → Happens w (Restart limit contents) (record { state = power_on limit contents; history = []; disk = w.disk; mode = Running; limit = limit; start = contents })
+
+-- Where each image since a job began stands for one of two maps, so does each that the disk may leave at a moment of the job.
+abbrev pub MomentsAreEither : {D : Type 0} → (D → ℕ) → (D → ℕ → List ℕ → Type 0) → (D → DiskState) → Type 0
+MomentsAreEither {D} moment left_since state = (first mid last : D) (limit : ℕ) (before goal : List Item) → LeavesOnly moment left_since first last (IsEither limit before goal) → moment first ≤ moment mid
+    → ((x : List ℕ) → left_since mid (moment first) x → left_since last (moment first) x) → EachIsEither (state mid) limit before goal

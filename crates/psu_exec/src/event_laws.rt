@@ -1,0 +1,41 @@
+// The events of the theorem on power loss are the calls of the program.
+ghost use Rattle.std.specs.Prelude.{◌+◌, ◌≤◌, length};
+ghost use Rattle.psu_exec.specs.Events.{CallsHappen, DiskCallsHappen, MomentsAreEither, RestartsHappen};
+ghost use Rattle.psu_exec.specs.World.{Moves};
+
+use psu_disk::{Disk, DiskFault};
+
+/// What a call of the device ensures makes it an event; so does what a job ensures of each of its disk calls, and a power-on.
+pub fn calls_are_events()
+    ensures calls { CallsHappen }
+    ensures disk_calls { DiskCallsHappen }
+    ensures restarts { RestartsHappen }
+{}
+
+/// What a job ensures of every moment since it began holds after each of its disk calls.
+pub fn moments_are_events<D: Disk>()
+    ensures { D.tells → MomentsAreEither D.moment D.left_since D.state }
+{}
+
+/// A read, whether it works or fails, moves the disk as an event may.
+pub fn read_is_an_event<D: Disk>(disk: &mut D, at: u64, into: &mut [u8]) -> Result<(), DiskFault>
+    requires { at + length into.old ≤ D.extent disk.old }
+    ensures { D.honest → Moves (D.state disk.old) (D.state disk.new) }
+{
+    disk.read(at, into)
+}
+
+/// A write, whether it works or fails, moves the disk as an event may.
+pub fn write_is_an_event<D: Disk>(disk: &mut D, at: u64, bytes: &[u8]) -> Result<(), DiskFault>
+    requires { at + length bytes.now ≤ D.extent disk.old }
+    ensures { D.honest → Moves (D.state disk.old) (D.state disk.new) }
+{
+    disk.write(at, bytes)
+}
+
+/// A sync, whether it works or fails, moves the disk as an event may.
+pub fn sync_is_an_event<D: Disk>(disk: &mut D) -> Result<(), DiskFault>
+    ensures { D.honest → Moves (D.state disk.old) (D.state disk.new) }
+{
+    disk.sync()
+}
