@@ -24,6 +24,10 @@ mod messages;
 #[cfg(test)]
 mod outputs;
 #[cfg(test)]
+mod readings;
+#[cfg(test)]
+mod refusals;
+#[cfg(test)]
 mod reports;
 #[cfg(test)]
 mod rows;

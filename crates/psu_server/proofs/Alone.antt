@@ -85,9 +85,9 @@ job_alone r w new q j = (some (subst (λ (s : State). HasWork s.flush) q.state j
   kind_is : j.job.kind ≡ kind_for r.state.flush.store
   kind_is = ap (λ (d : JobData). d.kind) j.take.1.2.0.2 ∙ ap (λ (s : State). kind_for (job_out s.flush).store) q.state ∙ ap (λ (f : Flush). kind_for f.store) (committing r.state.flush q.whole)
 
-  by : (end : JobEnd) → EndsJob j.job.kind end → IsSound none end → Calls j.taken (GaveBack end (Some j.over)) new → Still (committed r) new
+  by : (end : JobEnd) → EndsJob j.job.kind end → IsSound none new.disk.bytes end → Calls j.taken (GaveBack end (Some j.over)) new → Still (committed r) new
   by (Stored limit map) own sound give = stored_is r w j.taken new j.job limit map j.over q j.take give
-  by (Unstarted limit before edits cause) own sound give = cc
+  by (Unstarted limit before edits cause) own sound give = let worn = sound.0 in cc
   by (Failed limit before edits cause) own sound give = cc
   by (Reopened limit map) own sound give =
       let commit : EndsJob Commit (Reopened limit map) = subst (λ (k : JobKind). EndsJob k (Reopened limit map)) (kind_is ∙ ap kind_for q.whole) own in absurd commit

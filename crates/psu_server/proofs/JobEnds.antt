@@ -1,7 +1,9 @@
 -- A job that goes out, runs and is given back.
 use Rattle.std.proofs.Common.{◌≡◌, ◌≢◌, ℕ, ◌+◌, ◌≤◌, ◌^◌, Bool, true, false, Option, Some, None, List, [], ◌∷◌, refl, sym, ap, ◌∙◌, subst, inl, inr, arith, ⊎_elim, map, slice_index_or, option_map}
 use Rattle.psu_disk.specs.Disk.{HasFailed}
+use Rattle.psu_disk.specs.Ranges.{reads_left}
 use Rattle.psu_disk.specs.declared.disk.Disk.{Ghosts}
+use Rattle.psu_items.proofs.Resting.{kept_number}
 use Rattle.psu_items.specs.declared.commit.UnstartedCause.TheVariants as unstarted
 use Rattle.psu_items.specs.Batch.{Edit}
 use Rattle.psu_items.specs.Map.{Item}
@@ -21,7 +23,7 @@ use Rattle.psu_exec.specs.declared.job.Job.{Job as AnyJob}
 use Rattle.psu_exec.specs.declared.job.Job.TheVariants as job
 use Rattle.psu_exec.specs.declared.wait.Wait.{Wait}
 use Rattle.psu_server.specs.Failures.{failures_at, failures_of}
-use Rattle.psu_server.specs.Jobs.{Counts, HasRun, HasReasons, home_number}
+use Rattle.psu_server.specs.Jobs.{Counts, HasRun, HasReasons, Wears, home_number}
 use Rattle.psu_server.specs.Lives.{Life, disk_at, world_of}
 use Rattle.psu_server.specs.Runs.{Mishaps, none, is_short, IsSound, EndsJob, JobDone}
 use Rattle.psu_server.specs.Within.{Covers, IsLater, Within}
@@ -115,6 +117,21 @@ counts_of (job.Reopen alloc old) (finished.Broken broken) runs h long =
     still_counts broken.limit broken.before broken.batch broken.cause _ _ runs.device (runs.strange h) long
 counts_of (job.Reopen alloc old) (finished.Reopened store) runs h long = runs.failures
 
+-- a commit that wears the store out finds the last number
+pub wears_of : {D A : Type 0} {G : Ghosts D} (j : AnyJob D A G) (end : Finished D A G) → RunsTo j end → Ghosts.honest G → is_short (finished_of end) ≡ false → Wears (finished_of end) (Ghosts.state G (home_disk (home_of end))).bytes
+wears_of (job.Commit planned) (finished.Stored store) runs h long = tt
+wears_of (job.Commit planned) (finished.Unstarted store back unstarted.Memory) runs h long = cc
+wears_of {D} {A} {G} (job.Commit planned) (finished.Unstarted store back unstarted.Worn) runs h long =
+    let disk = Ghosts.state G store.disk in
+    let told = kept_number disk store.root store.limit store.number store.items (store.kept h) disk.bytes (reads_left disk) in
+    subst (λ (n : ℕ). 2 ^ 64 ≤ n + 1) (ap (λ s. s.number) (sym runs.store) ∙ sym told) (runs.worn refl)
+wears_of (job.Commit planned) (finished.Broken broken) runs h long = tt
+wears_of (job.Commit planned) (finished.Reopened store) runs h long = tt
+wears_of (job.Reopen alloc old) (finished.Stored store) runs h long = tt
+wears_of (job.Reopen alloc old) (finished.Unstarted store back cause) runs h long = absurd runs
+wears_of (job.Reopen alloc old) (finished.Broken broken) runs h long = tt
+wears_of (job.Reopen alloc old) (finished.Reopened store) runs h long = tt
+
 -- the count of failures is a later one, however the job ended
 pub later_of : {D A : Type 0} {G : Ghosts D} (j : AnyJob D A G) (end : Finished D A G) → RunsTo j end
     → IsLater (Ghosts.failures G (job_disk j)) (Ghosts.failures G (home_disk (home_of end)))
@@ -202,6 +219,7 @@ has_run {D} {A} {G} old j new end over short runs gave is true_of short_is = rec
   stands = λ h. subst (λ (there : Option (Home D A G)). IsTrueOf (target old.device.flush) (finished_of end) (disk_at there)) (sym is)
       (subst (λ (d : D). IsTrueOf (target old.device.flush) (finished_of end) (Ghosts.state G d)) (same_disk end) (true_of h));
   later = subst (λ (there : Option (Home D A G)). IsLater (Ghosts.failures G (job_disk j)) (failures_at there)) (sym is) (later_of j end runs);
+  wears = λ h long. subst (λ (there : Option (Home D A G)). Wears (finished_of end) (disk_at there).bytes) (sym is) (wears_of j end runs h long);
   counts = λ h long. subst (λ (there : Option (Home D A G)). Counts (finished_of end) (Ghosts.failures G (job_disk j)) (failures_at there)) (sym is) (counts_of j end runs h long);
 }
 
@@ -213,12 +231,12 @@ gone_of (Unstarted limit before edits cause) = record { refused = false; failed 
 gone_of (Failed limit before edits cause) = record { refused = false; failed = true; worn = false }
 gone_of (Reopened limit map) = none
 
-sound_of : (end : JobEnd) (can : Mishaps) → Covers can (gone_of end) → IsSound can end
+sound_of : (end : JobEnd) (image : List ℕ) (can : Mishaps) → Wears end image → Covers can (gone_of end) → IsSound can image end
 unfolding gone_of
-sound_of (Stored limit map) can cov = tt
-sound_of (Unstarted limit before edits cause) can cov = cov.worn refl
-sound_of (Failed limit before edits cause) can cov = cov.failed refl
-sound_of (Reopened limit map) can cov = tt
+sound_of (Stored limit map) image can wears cov = tt
+sound_of (Unstarted limit before edits cause) image can wears cov = (cov.worn refl, wears)
+sound_of (Failed limit before edits cause) image can wears cov = cov.failed refl
+sound_of (Reopened limit map) image can wears cov = tt
 
 failed_of : (end : JobEnd) (b c : ℕ) → Counts end b c → (gone_of end).failed ≡ true → HasFailed b c
 unfolding gone_of
@@ -245,7 +263,7 @@ job_done {D} {A} {G} old taken new j life short h took there run long =
         take = (disk_at old.home, (taken.device, refl, took, refl, refl));
         give = (disk_at new.home, (new.device, refl, run.give, run.stands h, refl));
         own = run.own;
-        sound = sound_of run.finished can cov;
+        sound = sound_of run.finished (disk_at new.home).bytes can (run.wears h calm) cov;
         long = calm;
       },
     )

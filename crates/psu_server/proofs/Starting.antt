@@ -28,11 +28,11 @@ use Rattle.psu_exec.specs.declared.power_fault.PowerCause.TheVariants as power
 use Rattle.psu_server.specs.declared.run_cause.RunCause.{RunCause}
 use Rattle.psu_server.specs.declared.run_cause.RunCause.TheVariants.{Read, Write, Open, Device, TooLong, Memory}
 use Rattle.psu_server.specs.declared.start_cause.StartCause.TheVariants as start
-use Rattle.psu_server.specs.Causes.{NotStarted, cause_of_open, cause_of_power}
+use Rattle.psu_server.specs.Causes.{NotStarted, cause_of_open, cause_of_power, IsWornOut}
 use Rattle.psu_server.specs.Failures.{failures_at, failures_of}
 use Rattle.psu_server.specs.Jobs.{HasReasons, IsExplained}
 use Rattle.psu_server.specs.Lives.{born, disk_at, world_of, PowersOn}
-use Rattle.psu_server.specs.Reasons.{IsHaltedBy, IsWornOut, StopsFor}
+use Rattle.psu_server.specs.Reasons.{IsHaltedBy, StopsFor}
 use Rattle.psu_server.specs.Within.{IsLater}
 use Rattle.psu_server.proofs.Calls.{called}
 use Rattle.psu_server.proofs.Within.{failed_before}

@@ -1,8 +1,8 @@
--- The cause of a run's end where the disk does not power on.
-use Rattle.std.specs.Prelude.{◌≡◌, ℕ, List}
+-- The cause of a run's end where the disk does not power on, and why a store can't take a commit.
+use Rattle.std.specs.Prelude.{◌≡◌, ℕ, ◌+◌, ◌≤◌, ◌^◌, List}
 use Rattle.psu_disk.specs.Disk.{HasFailed}
 use Rattle.psu_items.specs.Map.{Item}
-use Rattle.psu_items.specs.Image.{Stands, HasNoRoot, HasBadRoot, HasOtherVersion, HasReadableRoot}
+use Rattle.psu_items.specs.Image.{counting, number_in, Stands, HasNoRoot, HasBadRoot, HasOtherVersion, HasReadableRoot}
 use Rattle.psu_exec.specs.Contents.{items_of, IsContents}
 use Rattle.psu_exec.specs.declared.contents.Contents.{Contents}
 use Rattle.psu_items.specs.declared.open_cause.OpenCause.{OpenCause}
@@ -44,3 +44,7 @@ NotStarted image before now Write = ⊥
 NotStarted image before now Device = ⊥
 NotStarted image before now TooLong = ⊥
 NotStarted image before now Memory = (now ≡ before) × HasReadableRoot image
+
+-- the root that counts has the last number, so that there is none for a commit
+abbrev pub IsWornOut : List ℕ → Type 0
+IsWornOut image = 2 ^ 64 ≤ number_in (counting image) image + 1

@@ -1,10 +1,10 @@
 -- What a job came to, for the run.
-use Rattle.std.specs.Prelude.{◌≡◌, ℕ, ◌≤◌, ◌+◌, ◌^◌, Bool, false, List, Option, Some}
+use Rattle.std.specs.Prelude.{◌≡◌, ℕ, ◌≤◌, ◌+◌, ◌^◌, Bool, false, List, Option, Some, ⊤}
 use Rattle.std.specs.Option.{ForSome}
 use Rattle.psu_disk.specs.Disk.{HasFailed}
 use Rattle.psu_disk.specs.declared.disk.Disk.{Ghosts}
 use Rattle.psu_exec.specs.Device.{target}
-use Rattle.psu_exec.specs.Calls.{JobEnd, Failed, GaveBack, Allows}
+use Rattle.psu_exec.specs.Calls.{JobEnd, Unstarted, Failed, GaveBack, Allows}
 use Rattle.psu_exec.specs.Jobs.{home_disk, job_data, job_disk}
 use Rattle.psu_exec.specs.World.{IsTrueOf}
 use Rattle.psu_exec.specs.declared.condition.Condition.{Condition}
@@ -13,6 +13,7 @@ use Rattle.psu_exec.specs.declared.exec.Exec.{Exec}
 use Rattle.psu_exec.specs.declared.home.Home.{Home}
 use Rattle.psu_exec.specs.declared.home.Home.TheVariants as home
 use Rattle.psu_exec.specs.declared.job.Job.{Job}
+use Rattle.psu_server.specs.Causes.{IsWornOut}
 use Rattle.psu_server.specs.Failures.{failures_of}
 use Rattle.psu_server.specs.Lives.{disk_at}
 use Rattle.psu_server.specs.Runs.{EndsJob, is_short}
@@ -23,6 +24,11 @@ abbrev pub Counts : JobEnd → ℕ → ℕ → Type 0
 Counts (Failed limit before edits cause) before_count now_count = HasFailed before_count now_count
 Counts finished before_count now_count = now_count ≡ before_count
 
+-- a commit is refused for good only where the root that counts has the last number
+abbrev pub Wears : JobEnd → List ℕ → Type 0
+Wears (Unstarted limit before edits cause) image = IsWornOut image
+Wears finished image = ⊤
+
 -- the job that was out is given back
 pub record HasRun {D A : Type 0} {G : Ghosts D} (old : Exec D A G) (job : Job D A G) (new : Exec D A G) (short : Bool) : Type 0 where
   pub finished : JobEnd
@@ -32,6 +38,7 @@ pub record HasRun {D A : Type 0} {G : Ghosts D} (old : Exec D A G) (job : Job D 
   pub own : EndsJob (job_data job).kind finished
   pub stands : Ghosts.honest G → IsTrueOf (target old.device.flush) finished (disk_at new.home)
   pub later : IsLater (Ghosts.failures G (job_disk job)) (failures_of new)
+  pub wears : Ghosts.honest G → is_short finished ≡ false → Wears finished (disk_at new.home).bytes
   pub counts : Ghosts.honest G → is_short finished ≡ false → Counts finished (Ghosts.failures G (job_disk job)) (failures_of new)
 
 -- ---- why a store can't take a commit

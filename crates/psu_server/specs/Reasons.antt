@@ -1,19 +1,15 @@
--- Why a store can't take a commit, and why a run ends early.
-use Rattle.std.specs.Prelude.{◌≡◌, ◌⊎◌, ℕ, ◌+◌, ◌≤◌, ◌^◌, List, length, Option, ⊤, IfSome}
+-- Why a run ends early.
+use Rattle.std.specs.Prelude.{◌≡◌, ◌⊎◌, ℕ, ◌≤◌, List, length, Option, ⊤, IfSome}
 use Rattle.psu_disk.specs.declared.disk.Disk.{Ghosts}
 use Rattle.psu_disk.specs.Disk.{HasFailed}
-use Rattle.psu_items.specs.Image.{counting, number_in, HasNoRoot, HasBadRoot, HasOtherVersion, HasReadableRoot}
+use Rattle.psu_items.specs.Image.{HasNoRoot, HasBadRoot, HasOtherVersion, HasReadableRoot}
 use Rattle.psu_exec.specs.declared.condition.Condition.TheVariants.{Worn}
 use Rattle.psu_exec.specs.declared.exec.Exec.{Exec}
 use Rattle.psu_server.specs.declared.run_cause.RunCause.{RunCause}
 use Rattle.psu_server.specs.declared.run_cause.RunCause.TheVariants.{Read, Write, Open, Device, TooLong, Memory}
 use Rattle.psu_server.specs.declared.start_cause.StartCause.TheVariants as start
-use Rattle.psu_server.specs.Causes.{HasBadItems}
+use Rattle.psu_server.specs.Causes.{HasBadItems, IsWornOut}
 use Rattle.psu_server.specs.Failures.{failures_of}
-
--- the root that counts has the last number, so that there is none for a commit
-abbrev pub IsWornOut : List ℕ → Type 0
-IsWornOut image = 2 ^ 64 ≤ number_in (counting image) image + 1
 
 -- ---- the device that is powered on
 

@@ -8,6 +8,7 @@ use Rattle.psu_exec.specs.Device.{Reply, Error, Parked, Later, is_broken}
 use Rattle.psu_exec.specs.Calls.{JobKind, Commit, Reopen, JobData, JobEnd, Stored, Unstarted, Failed, Reopened, Job, Nothing, Executed, Settled, Took, GaveBack}
 use Rattle.psu_exec.specs.World.{World}
 use Rattle.psu_server.specs.Lines.{Message, Asks, messages}
+use Rattle.psu_server.specs.Causes.{IsWornOut}
 use Rattle.psu_server.specs.Lives.{Calls, PowersOn}
 use Rattle.psu_server.specs.Script.{with_answer, line_text, IsScript}
 
@@ -30,12 +31,13 @@ is_short (Unstarted limit before edits Memory) = true
 is_short (Failed limit before edits broken_cause.Memory) = true
 is_short finished = false
 
--- A job ends so only where that may go wrong. One that ends for want of memory ends the run.
-abbrev pub IsSound : Mishaps → JobEnd → Type 0
-IsSound can (Stored limit map) = ⊤
-IsSound can (Unstarted limit before edits cause) = can.worn ≡ true
-IsSound can (Failed limit before edits cause) = can.failed ≡ true
-IsSound can (Reopened limit map) = ⊤
+-- A job ends so only where that may go wrong: a commit is refused for good only where the root that counts on the disk has the last
+-- number. One that ends for want of memory ends the run.
+abbrev pub IsSound : Mishaps → List ℕ → JobEnd → Type 0
+IsSound can image (Stored limit map) = ⊤
+IsSound can image (Unstarted limit before edits cause) = (can.worn ≡ true) × IsWornOut image
+IsSound can image (Failed limit before edits cause) = can.failed ≡ true
+IsSound can image (Reopened limit map) = ⊤
 
 -- a job of this kind may end so
 abbrev pub EndsJob : JobKind → JobEnd → Type 0
@@ -54,7 +56,7 @@ pub record JobDone (can : Mishaps) (w new : World) : Type 0 where
   pub take : Calls w (Took (Job job)) taken
   pub give : Calls taken (GaveBack finished (Some over)) new
   pub own : EndsJob job.kind finished
-  pub sound : IsSound can finished
+  pub sound : IsSound can new.disk.bytes finished
   pub long : is_short finished ≡ false
 
 -- so many jobs, one after another

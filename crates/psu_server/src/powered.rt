@@ -4,11 +4,10 @@ ghost use Rattle.psu_items.specs.Image.{EachStands};
 ghost use Rattle.psu_items.specs.Map.{Item};
 ghost use Rattle.psu_exec.specs.Device.{is_broken, is_open, wait_of};
 ghost use Rattle.psu_exec.specs.declared.condition.Condition.TheVariants.{Worn};
-ghost use Rattle.psu_server.specs.Causes.{NotStarted};
 ghost use Rattle.psu_server.specs.Failures.{failures_of};
 ghost use Rattle.psu_server.specs.Jobs.{IsExplained};
 ghost use Rattle.psu_server.specs.Lives.{born, disk_at, world_of, PowersOn};
-ghost use Rattle.psu_server.specs.Reasons.{IsWornOut};
+ghost use Rattle.psu_server.specs.Causes.{IsWornOut, NotStarted};
 ghost use Rattle.psu_server.specs.Within.{IsLater};
 
 use crate::{RunCause, RunFault};

@@ -4,7 +4,7 @@ use Rattle.psu_items.specs.Map.{Item}
 use Rattle.psu_items.specs.Image.{Stands}
 use Rattle.psu_items.proofs.Resting.{kept_number}
 use Rattle.psu_exec.specs.Device.{is_broken}
-use Rattle.psu_server.specs.Reasons.{IsWornOut}
+use Rattle.psu_server.specs.Causes.{IsWornOut}
 use Rattle.psu_server.proofs.Starting.{worn_number}
 use Rattle.psu_server.proofs.powered.Powered.into_disk.Goals as goal
 

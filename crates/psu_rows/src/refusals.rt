@@ -1,0 +1,125 @@
+// Each allocation of a take and of a settle refused: nothing has changed, and with memory both go on.
+ghost use Rattle.std.specs.Prelude.{◌≡◌, true};
+ghost use Rattle.psu_exec.specs.Device.{is_open};
+
+use crate::images::least;
+use bumpalo::Bump;
+use psu_disk::MemDisk;
+use psu_exec::{Condition, Exec, NoJob, Outcome, ScpiError, Session, plain};
+use psu_items::Store;
+use psu_lex::Unit;
+use std::alloc::Global;
+use std::process::Abort;
+use std::test::Fail;
+
+type Power<'a> = Exec<MemDisk<Global>, &'a Bump<Global>>;
+
+fn powered_on<'a>(rt: &impl Abort, arena: &'a Bump<Global>, disk: MemDisk<Global>) -> Power<'a> {
+    let store = match Store::open(arena, disk) {
+        Ok(store) => store,
+        Err(_) => panic!(rt; "not opened"),
+    };
+    match Exec::power_on(arena, store) {
+        Ok(exec) => exec,
+        Err(_) => panic!(rt; "no power-on"),
+    }
+}
+
+fn outcome<'a>(exec: &mut Power<'a>, session: Session, text: &[u8]) -> Outcome<&'a Bump<Global>>
+    requires { is_open exec.old.device session ≡ true }
+    ensures { is_open exec.new.device session ≡ true }
+{
+    let unit = Unit {
+        text,
+        first: true,
+        fault: None,
+    };
+    exec.execute(session, &plain(&unit))
+}
+
+// Takes the arena's memory but so many bytes.
+fn leave(rt: &impl Abort, arena: &Bump<Global>, left: usize) {
+    arena.set_allocation_limit(Some(arena.allocated_bytes()));
+    let spare = arena.chunk_capacity();
+    assert!(rt; spare >= left, "too small an arena");
+    if spare >= left {
+        let filled = arena.try_alloc_slice_fill_clone(spare - left, 0u8).is_ok();
+        assert!(rt; filled);
+    }
+}
+
+// Whether a take with so much memory was refused; then another is not, and its end answers the wait.
+fn take_is_refused(rt: &impl Abort, alloc: Global, left: usize) -> bool {
+    let Ok(arena) = Bump::try_with_capacity(alloc, 20_000) else {
+        panic!(rt; "no arena");
+    };
+    let disk = least(alloc).expect(rt, "a disk");
+    let mut exec = powered_on(rt, &arena, disk);
+    let Ok(session) = exec.open_session() else {
+        panic!(rt; "crowded");
+    };
+    assert!(rt; matches!(outcome(&mut exec, session, b"*PSC 0"), Outcome::Done));
+    assert!(rt; matches!(outcome(&mut exec, session, b"*OPC?"), Outcome::Parked));
+    leave(rt, &arena, left);
+    let (job, refused) = match exec.take() {
+        Ok(job) => (job, false),
+        Err(cause) => {
+            assert!(rt; matches!(cause, NoJob::Memory));
+            assert!(rt; matches!(exec.condition(), Condition::Whole));
+            assert!(rt; !exec.is_flushed());
+            assert!(rt; matches!(exec.settle(session), Outcome::Parked));
+            arena.set_allocation_limit(None);
+            match exec.take() {
+                Ok(job) => (job, true),
+                Err(_) => panic!(rt; "no job"),
+            }
+        }
+    };
+    arena.set_allocation_limit(None);
+    assert!(rt; exec.give_back(job.run()).is_ok());
+    match exec.settle(session) {
+        Outcome::Answer(text) => assert_eq!(rt; text.as_bytes(), "1".as_bytes()),
+        _ => panic!(rt; "no answer"),
+    }
+    refused
+}
+
+#[test]
+fn each_allocation_of_a_take_refused(rt: HostRuntime) {
+    let mut refused = 0u32;
+    for step in 0..64usize {
+        if take_is_refused(&rt, rt.alloc(), step * 64) {
+            refused = refused.saturating_add(1);
+        }
+    }
+    assert!(rt; refused > 0 && refused < 64, "{refused} refused");
+}
+
+#[test]
+fn the_allocation_of_a_settle_refused(rt: HostRuntime) {
+    let Ok(arena) = Bump::try_with_capacity(rt.alloc(), 20_000) else {
+        panic!(&rt; "no arena");
+    };
+    let disk = least(rt.alloc()).expect(&rt, "a disk");
+    let mut exec = powered_on(&rt, &arena, disk);
+    let Ok(session) = exec.open_session() else {
+        panic!(&rt; "crowded");
+    };
+    assert!(rt; matches!(outcome(&mut exec, session, b"*PSC 0"), Outcome::Done));
+    assert!(rt; matches!(outcome(&mut exec, session, b"*OPC?"), Outcome::Parked));
+    match exec.take() {
+        Ok(job) => assert!(rt; exec.give_back(job.run()).is_ok()),
+        Err(_) => panic!(&rt; "no job"),
+    }
+    leave(&rt, &arena, 0);
+    // Two refusals: the wait stays over, and the event status register has bit 2 of -225.
+    for _ in 0..2 {
+        assert!(rt; matches!(exec.settle(session), Outcome::Error(ScpiError::OutOfMemory)));
+    }
+    arena.set_allocation_limit(None);
+    match exec.settle(session) {
+        Outcome::Answer(text) => assert_eq!(rt; text.as_bytes(), "1".as_bytes()),
+        _ => panic!(&rt; "no answer"),
+    }
+    assert!(rt; matches!(exec.settle(session), Outcome::Done));
+}
