@@ -257,7 +257,6 @@ fn planned_of<D: Disk, A: Allocator + Copy>(
     ensures store { result.store ≡ store }
     ensures batch { result.batch ≡ batch }
 {
-    let _limit = store.limit();
     Planned::new(alloc, store, batch)
 }
 
