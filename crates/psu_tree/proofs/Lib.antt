@@ -10,3 +10,4 @@ pub mod UnitReadings
 pub mod OneReading
 pub mod SomeReading
 pub mod Matching
+pub mod Apart

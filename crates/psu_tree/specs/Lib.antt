@@ -1,5 +1,6 @@
 pub mod Headers
 pub mod Table
+pub mod Rows
 pub mod Shown
 pub mod Scans
 pub mod Path
