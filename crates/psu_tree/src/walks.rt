@@ -1,9 +1,9 @@
 // Headers against the table.
-ghost use Rattle.std.specs.Prelude.{◌≡◌, ◌≤◌, length, map, IsTrue, ◌↔◌};
+ghost use Rattle.std.specs.Prelude.{◌≡◌, ◌≤◌, length, map, true, IsTrue, ◌↔◌};
 ghost use Rattle.psu_tree.specs.Headers.{Matches, capital, fits, in_brackets, is_form, is_numbered, is_small, names, same_letters, stem};
 ghost use Rattle.psu_tree.specs.Scans.{digit_before};
 ghost use Rattle.psu_tree.specs.Reading.{digits_of};
-ghost use Rattle.psu_tree.specs.Shown.{entries, mnemonic};
+ghost use Rattle.psu_tree.specs.Shown.{each_begins, entries, mnemonic};
 ghost use Rattle.psu_tree.specs.Table.{table};
 
 use crate::table::PATTERNS;
@@ -11,7 +11,8 @@ use crate::{Kind, Node, Section};
 
 /// The table of commands.
 pub fn patterns() -> &'static [Section]
-    ensures { entries result.now ≡ table }
+    ensures rows { entries result.now ≡ table }
+    ensures letters { each_begins result.now ≡ true }
 {
     &PATTERNS
 }
@@ -59,7 +60,7 @@ fn is_form(name: &[u8], word: &[u8]) -> bool
     if is_small(*letter) {
         return is_same(name, word);
     }
-    if *letter != capital(*other) {
+    if *letter != *other && *letter != capital(*other) {
         return false;
     }
     is_form(letters, others)
