@@ -4,6 +4,7 @@ ghost use Rattle.psu_lex.specs.Bytes.{all_white};
 ghost use Rattle.psu_lex.specs.Message.{IsMessage, Makes, Part, ended, ends_unit, fault_of, opens_first, parts};
 ghost use Rattle.psu_lex.specs.Scan.{IsStop};
 
+use crate::class::is_white;
 use crate::pieces::{after, between, piece_end};
 use crate::{ScpiError, Unit, Units};
 use memchr::{memchr2, memchr3};
@@ -71,7 +72,7 @@ pub fn is_blank(text: &[u8]) -> bool
     ensures { result ≡ all_white text.now }
 {
     for byte in text {
-        if *byte > 32 || *byte == b'\n' {
+        if !is_white(*byte) {
             return false;
         }
     }
