@@ -11,3 +11,4 @@ pub mod OneReading
 pub mod SomeReading
 pub mod Matching
 pub mod Apart
+pub mod Forms

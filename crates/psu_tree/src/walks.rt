@@ -47,23 +47,32 @@ pub fn is_same(name: &[u8], word: &[u8]) -> bool
     is_same(letters, others)
 }
 
+// Whether a word that is not longer than a mnemonic is its short or its long form.
+fn is_form_within(name: &[u8], word: &[u8]) -> bool
+    requires { length word.now ≤ length name.now }
+    ensures { result ≡ is_form name.now word.now }
+{
+    let Some((other, others)) = word.split_first() else {
+        return name.is_empty() || is_small(name[0]);
+    };
+    let letter = name[0];
+    if is_small(letter) {
+        return is_same(name, word);
+    }
+    if letter != *other && letter != capital(*other) {
+        return false;
+    }
+    is_form_within(&name[1..], others)
+}
+
 // Whether a word is the short or the long form of a mnemonic.
 fn is_form(name: &[u8], word: &[u8]) -> bool
     ensures { result ≡ is_form name.now word.now }
 {
-    let Some((letter, letters)) = name.split_first() else {
-        return word.is_empty();
-    };
-    let Some((other, others)) = word.split_first() else {
-        return is_small(*letter);
-    };
-    if is_small(*letter) {
-        return is_same(name, word);
-    }
-    if *letter != *other && *letter != capital(*other) {
+    if word.len() > name.len() {
         return false;
     }
-    is_form(letters, others)
+    is_form_within(name, word)
 }
 
 // Whether a digit stands before a place.
