@@ -74,8 +74,7 @@ fn read_parts<'a>(
 pub fn read_unit<'a>(path: &Path<'a>, unit: &Unit<'a>) -> Result<Command<'a>, ScpiError>
     ensures { Reads path.now (part unit.now) result }
 {
-    let given = syntax(unit);
-    match &given {
+    match &syntax(unit) {
         Err(error) => Err(*error),
         Ok(parts) => {
             let mut words = ArrayVec::new();
@@ -120,8 +119,8 @@ pub fn request<'a>(path: &mut Path<'a>, unit: &Unit<'a>, inside: bool) -> Reques
     ensures call { Calls (part unit.now) result.call }
     ensures inside { result.inside ≡ inside }
 {
-    let given = syntax(unit);
-    let parts = match &given {
+    let given = &syntax(unit);
+    let parts = match given {
         Ok(parts) => parts,
         Err(error) => return Request {
             call: None,

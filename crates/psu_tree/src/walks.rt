@@ -1,5 +1,5 @@
 // Headers against the table.
-ghost use Rattle.std.specs.Prelude.{◌≡◌, ◌≤◌, length, map, true, IsTrue, ◌↔◌};
+ghost use Rattle.std.specs.Prelude.{◌≡◌, ◌≤◌, [], length, map, true, IsTrue, ◌↔◌};
 ghost use Rattle.psu_tree.specs.Headers.{Matches, capital, fits, in_brackets, is_form, is_numbered, is_small, names, same_letters, stem};
 ghost use Rattle.psu_tree.specs.Scans.{digit_before};
 ghost use Rattle.psu_tree.specs.Reading.{digits_of};
@@ -137,6 +137,25 @@ pub fn is_named(node: &Node, word: &[u8]) -> bool
     is_form(node.name.as_bytes(), form)
 }
 
+// Whether all of the nodes may be left out.
+fn may_miss_all(nodes: &[Node]) -> bool
+    ensures { result ≡ fits (map mnemonic nodes.now) [] }
+{
+    for node in nodes {
+        if !may_miss(node.kind) {
+            return false;
+        }
+    }
+    true
+}
+
+// Whether a last word names the node, and those behind it may be left out.
+fn is_last(node: &Node, later: &[Node], word: &[u8], others: &[&[u8]]) -> bool
+    ensures { result ≡ true → (names (mnemonic node.now) word.now ≡ true) × (fits (map mnemonic later.now) (map (λ word. word.now) others.now) ≡ true) }
+{
+    others.is_empty() && is_named(node, word) && may_miss_all(later)
+}
+
 /// Whether leaving out some bracketed nodes makes each node left a form of the word in its place.
 pub fn walk(nodes: &[Node], words: &[&[u8]]) -> bool
     ensures exact { result ≡ fits (map mnemonic nodes.now) (map (λ word. word.now) words.now) }
@@ -146,6 +165,9 @@ pub fn walk(nodes: &[Node], words: &[&[u8]]) -> bool
         return words.is_empty();
     };
     if let Some((word, others)) = words.split_first() {
+        if is_last(node, later, word, others) {
+            return true;
+        }
         if is_named(node, word) && walk(later, others) {
             return true;
         }

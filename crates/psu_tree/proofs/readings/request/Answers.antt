@@ -8,5 +8,5 @@ use Rattle.psu_tree.proofs.readings.request.Goals as goal
 
 pub returns-clause-call : goal.returns-clause-call
 returns-clause-call c =
-    let s = c.syntax-given.ensures in
+    let s = c.syntax.ensures in
     called (part c.args.unit.now) c.in-Ok.parts s.0 c.call_of.result s.1 (subst (λ (z : Result rust.Syntax ScpiError). Shows z s.0) c.in-Ok.is s.2) c.call_of.ensures
