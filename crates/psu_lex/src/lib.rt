@@ -50,6 +50,3 @@ pub use unit_fault::UnitFault;
 pub use unit_syntax::Syntax;
 pub use units::Units;
 pub use written::Written;
-
-#[cfg(test)]
-mod tests;
