@@ -37,7 +37,7 @@ digits_same (x ∷ a) (y ∷ b) h =
     let p = and_parts (capital x == capital y) (same_letters a b) h in
     rw (digit_same x y p.0, digits_same a b p.1) refl
 
-stem_same : (a b : List ℕ) → same_letters a b ≡ true → same_letters (stem a) (stem b) ≡ true
+pub stem_same : (a b : List ℕ) → same_letters a b ≡ true → same_letters (stem a) (stem b) ≡ true
 stem_same [] [] h = refl
 stem_same [] (y ∷ b) h = absurd (cc (h))
 stem_same (x ∷ a) [] h = absurd (cc (h))

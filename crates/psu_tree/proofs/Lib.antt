@@ -11,4 +11,5 @@ pub mod OneReading
 pub mod SomeReading
 pub mod Matching
 pub mod Apart
+pub mod OneNumber
 pub mod Forms

@@ -1,6 +1,5 @@
 pub mod Headers
 pub mod Table
-pub mod Rows
 pub mod Shown
 pub mod Scans
 pub mod Path
@@ -9,3 +8,4 @@ pub mod Taken
 pub mod Commands
 pub mod Reading
 pub mod Nonvolatile
+pub mod Rows

@@ -4,7 +4,7 @@ ghost use Rattle.psu_lex.specs.Message.{Part};
 ghost use Rattle.psu_lex.specs.declared.scpi_error.ScpiError.{ScpiError};
 ghost use Rattle.psu_tree.specs.Headers.{Matches, Mnemonic, fits};
 ghost use Rattle.psu_tree.specs.Reading.{Reads};
-ghost use Rattle.psu_tree.specs.Rows.{EachIsAskedByItsHeaders, HaveNoHeaderInCommon};
+ghost use Rattle.psu_tree.specs.Rows.{EachIsAskedByItsHeaders, HaveNoHeaderInCommon, HaveOneNumber};
 ghost use Rattle.psu_tree.specs.Table.{table};
 ghost use Rattle.psu_tree.specs.declared.command.Command.{Command};
 
@@ -45,4 +45,9 @@ pub fn no_header_of_two_rows()
 /// A header that matches a row asks for what that row says, wherever it stands in the table.
 pub fn a_header_asks_for_its_row()
     ensures { EachIsAskedByItsHeaders table }
+{}
+
+/// A header that matches a row of the table has one number at most, that of the row's `<n>`.
+pub fn one_number_of_a_header()
+    ensures { HaveOneNumber table }
 {}
