@@ -35,6 +35,3 @@ pub use message::Message;
 pub use message_type::MessageType;
 pub use session_core::SessionCore;
 pub use side::Side;
-
-#[cfg(test)]
-mod tests;

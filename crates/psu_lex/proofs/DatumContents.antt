@@ -1,9 +1,7 @@
 -- What a string or a block holds that is a datum.
-use Rattle.std.proofs.Common.{◌≡◌, ℕ, ◌+◌, ◌-◌, ◌<◌, ◌≤◌, List, [], ◌∷◌, ◌++◌, length, take, drop, sym, ap, ◌∙◌, arith, inl, inr, length-append}
-use Rattle.std.proofs.Math.Seq.{take-append_seam, drop-append_seam}
+use Rattle.std.proofs.Common.{◌≡◌, ℕ, ◌+◌, List, [], ◌++◌, length, sym, ap, ◌∙◌, arith, inl, inr}
 use Rattle.psu_lex.specs.Data.{IsDatumOf}
-use Rattle.psu_lex.specs.Message.{doubled, spelling}
-use Rattle.psu_lex.specs.Message.Piece.{Quoted, Counted}
+use Rattle.psu_lex.specs.Message.Piece.{Counted}
 use Rattle.psu_lex.proofs.Quotes.{same_head, same_tail}
 use Rattle.psu_lex.proofs.Unique.{same_piece}
 

@@ -1,5 +1,5 @@
 -- Steps over a macro's body.
-use Rattle.std.proofs.Common.{◌≡◌, ℕ, ◌-◌, ◌==◌, ◌<◌, ◌≤◌, nat_lt, max, Bool, true, false, List, [], ◌∷◌, ◌++◌, length, take, drop, take_all, refl, sym, ap, ◌∙◌, subst, arith, append_assoc, inl, inr, length-append, slice_index, Ok, Err}
+use Rattle.std.proofs.Common.{◌≡◌, ℕ, ◌-◌, ◌==◌, ◌<◌, ◌≤◌, ◌+◌, nat_lt, max, min, Bool, true, false, List, [], ◌∷◌, ◌++◌, length, take, drop, take_all, refl, sym, ap, ◌∙◌, subst, arith, append_assoc, inl, inr, length-append, slice_index, Ok, Err}
 use Rattle.std.proofs.lemmas.Bool.{cases_Bool}
 use Rattle.std.proofs.lemmas.Bool.Decides.{nat_tests}
 use Rattle.std.proofs.lemmas.List.{append-nil, take-append-drop, drop_all, append_cancel_right}
@@ -8,8 +8,7 @@ use Rattle.psu_lex.specs.Bytes.{opens, separates}
 use Rattle.psu_lex.specs.Message.{Token, spelling, opens_first, BeginsPiece, Reads}
 use Rattle.psu_lex.specs.Message.Token.{Byte, Separator, Whole, Faulty}
 use Rattle.psu_lex.specs.Macros.{is_placeholder, parameter, expansion, greatest, anything, ExpandsTo}
-use Rattle.psu_lex.specs.MacroScan.{begins_placeholder, Spells, Keeps, Puts, Exceeds}
-use Rattle.psu_lex.specs.declared.scpi_error.ScpiError.{ScpiError}
+use Rattle.psu_lex.specs.MacroScan.{begins_placeholder, Spells, Keeps, Puts}
 use Rattle.psu_lex.specs.declared.scpi_error.ScpiError.TheVariants.{MacroParameterError, TooMuchData}
 use Rattle.psu_lex.proofs.Quotes.{same_byte, same_head}
 use Rattle.psu_lex.proofs.Unique.{same_tokens}
@@ -173,12 +172,23 @@ put_on args body bytes later old new piece n so_far e p d most text s =
     let same : old ++ (piece ++ text) ≡ new ++ text = sym (append_assoc old piece text) ∙ ap (λ (z : List ℕ). z ++ text) (sym e) in
     (all.0, subst (Spells args body all.0) same all.1)
 
-pub put_long : (args : List (List ℕ)) (body bytes old other : List ℕ) (most : ℕ) (error : ScpiError) → Spells [] body most other → (most == length args) ≡ true
-    → ((most : ℕ) (text : List ℕ) → Spells args bytes most text → (all : ℕ) × Spells args body all (old ++ text))
-    → error ≡ TooMuchData → Exceeds args bytes old → ExpandsTo body args (Err error)
-put_long args body bytes old other most error g is so_far e (n, piece, p, far) =
-    let rest = some_spelling args (drop n bytes) in
-    let put = p rest.0 rest.1 rest.2 in
-    let all = so_far put.0 (piece ++ rest.1) put.1 in
-    let long : 65536 < length (old ++ (piece ++ rest.1)) = omega (arith, far, length-append old piece, length-append old (piece ++ rest.1), length-append piece rest.1) in
-    subst (λ (z : ScpiError). ExpandsTo body args (Err z)) (sym e) (expands_long args body (old ++ (piece ++ rest.1)) other most all.0 g is all.1 long)
+-- the same of its length
+pub put_length : (args : List (List ℕ)) (body bytes later piece : List ℕ) (n had has : ℕ)
+    → ((most : ℕ) (text : List ℕ) → Spells args bytes most text → (all : ℕ) × (whole : List ℕ) × Spells args body all whole × (min 65537 (had + length text) ≡ min 65537 (length whole)))
+    → has ≡ min 65537 (had + length piece) → Puts args bytes n piece → later ≡ drop n bytes
+    → (most : ℕ) (text : List ℕ) → Spells args later most text → (all : ℕ) × (whole : List ℕ) × Spells args body all whole × (min 65537 (has + length text) ≡ min 65537 (length whole))
+put_length args body bytes later piece n had has so_far e p d most text s =
+    let put = p most text (subst (λ (z : List ℕ). Spells args z most text) d s) in
+    let all = so_far put.0 (piece ++ text) put.1 in
+    let l : length (piece ++ text) ≡ length piece + length text = length-append piece text in
+    (all.0, all.1, all.2, omega (arith, e, l, all.3))
+
+same_text : (args : List (List ℕ)) (bytes : List ℕ) (most more : ℕ) (text other : List ℕ) → Spells args bytes most text → Spells args bytes more other → text ≡ other
+same_text args bytes most more text other s u = s.3 ∙ ap (expansion args false) (same_tokens anything bytes s.0 u.0 s.1 u.1) ∙ sym u.3
+
+-- what was filled, where its length is good
+pub filled_is : (args : List (List ℕ)) (body text other whole : List ℕ) (most more all held : ℕ) → Spells [] body most other → (most == length args) ≡ true → Spells args body more whole
+    → held ≡ min 65537 (length whole) → held ≤ 65536 → Spells args body all text → ExpandsTo body args (Ok text)
+filled_is args body text other whole most more all held g is s l le t =
+    let same = same_text args body all more text whole t s in
+    expands args body text other most all g is t (omega (arith, l, le, ap length same))

@@ -5,16 +5,16 @@ use Rattle.std.proofs.Math.Seq.{drop-append_seam}
 use Rattle.std.proofs.lemmas.List.{drop_all}
 use Rattle.psu_lex.specs.Bytes.{ends_in_newline, all_digits, value_after, is_quote, opens}
 use Rattle.psu_lex.specs.Message.{opens_first, BeginsPiece, EndsString, fault_of}
-use Rattle.psu_lex.specs.declared.scpi_error.ScpiError.TheVariants.{InvalidStringData, InvalidBlockData}
+use Rattle.psu_lex.specs.declared.unit_fault.UnitFault.TheVariants.{String, Block}
 use Rattle.psu_lex.proofs.Quotes.{same_byte}
 use Rattle.psu_lex.proofs.Searches.{drop-add}
 use Rattle.psu_lex.proofs.Exists.{hash_left, piece_string, string_piece, last_newline, open_line, open_end, Measured, measured_in}
 
-pub block_fault : (text : List ℕ) → slice_index text 0 ≡ 35 → InvalidBlockData ≡ fault_of text
+pub block_fault : (text : List ℕ) → slice_index text 0 ≡ 35 → Block ≡ fault_of text
 block_fault [] h = absurd (omega (arith, h))
 block_fault (x ∷ text) h = rw (eq-eqb x 35 h) refl
 
-pub string_fault : (text : List ℕ) → opens_first text ≡ true → (slice_index text 0 ≡ 35 → ⊥) → InvalidStringData ≡ fault_of text
+pub string_fault : (text : List ℕ) → opens_first text ≡ true → (slice_index text 0 ≡ 35 → ⊥) → String ≡ fault_of text
 string_fault [] o h = absurd (cc (o))
 string_fault (x ∷ text) o h = elim (cases_Bool (x == 35)) [
   | inl t ↦ absurd (h (same_byte x 35 t))

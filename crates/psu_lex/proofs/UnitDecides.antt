@@ -8,10 +8,11 @@ use Rattle.psu_lex.specs.Bytes.{is_white, is_dark, is_closed, all_white, starts,
 use Rattle.psu_lex.specs.Number.{Number, IsNumber, NumberGives, number_text, mantissa, reading_of}
 use Rattle.psu_lex.specs.NumberScan.{run, left, is_nonempty, scanned, excess_of, at_tail}
 use Rattle.psu_lex.specs.Message.{BeginsPiece, spelling, opens_first}
-use Rattle.psu_lex.specs.Syntax.{Datum, ends_in_white, is_node, Lists, Syntax, SpellsHeader, UnitReads, has_high, TextGives, FaultGives}
+use Rattle.psu_lex.specs.Syntax.{Datum, error_of, ends_in_white, is_node, Lists, Syntax, SpellsHeader, UnitReads, has_high, TextGives, FaultGives}
 use Rattle.psu_lex.specs.SyntaxScan.{is_header, is_uncut, class_at, is_parted, Trims, Splits, Ends, HasNone, Begins}
 use Rattle.psu_lex.specs.declared.datum_class.DatumClass.{DatumClass}
 use Rattle.psu_lex.specs.declared.datum_class.DatumClass.TheVariants.{Numeric, Character, String, Block}
+use Rattle.psu_lex.specs.declared.unit_fault.UnitFault.{UnitFault}
 use Rattle.psu_lex.specs.declared.scpi_error.ScpiError.{ScpiError}
 use Rattle.psu_lex.specs.declared.scpi_error.ScpiError.TheVariants.{InvalidCharacter, SyntaxError}
 use Rattle.psu_lex.proofs.Quotes.{same_byte}
@@ -203,8 +204,8 @@ some_gives false text = elim (decide_unit text) [
   | inr none ↦ (Err SyntaxError, inr (none, refl))
 ]
 
-pub some_result : (fault : Option ScpiError) (text : List ℕ) → (r : Result Syntax ScpiError) × FaultGives fault text r
-some_result (Some e) text = (Err e, refl)
+pub some_result : (fault : Option UnitFault) (text : List ℕ) → (r : Result Syntax ScpiError) × FaultGives fault text r
+some_result (Some e) text = (Err (error_of e), refl)
 some_result None text =
     let tokens = some_tokens is_closed text in
     let r = some_gives (has_high tokens.0) text in

@@ -6,11 +6,12 @@ use Rattle.std.specs.Option.{ok_or}
 use Rattle.psu_lex.specs.Bytes.{is_white, is_dark, is_closed}
 use Rattle.psu_lex.specs.NumberScan.{run, left}
 use Rattle.psu_lex.specs.Message.{Token, Reads}
-use Rattle.psu_lex.specs.Syntax.{is_name_byte, is_node, all_nodes, behind, ask_text, mark_text, Header, IsHeader, header_text, SpellsHeader, Lists, Syntax, is_apart, UnitReads, has_high, TextGives, FaultGives}
+use Rattle.psu_lex.specs.Syntax.{error_of, is_name_byte, is_node, all_nodes, behind, ask_text, mark_text, Header, IsHeader, header_text, SpellsHeader, Lists, Syntax, is_apart, UnitReads, has_high, TextGives, FaultGives}
 use Rattle.psu_lex.specs.declared.mark.Mark.{Mark}
 use Rattle.psu_lex.specs.declared.mark.Mark.TheVariants.{Star, Colon, Bare}
 use Rattle.psu_lex.specs.Shown.{Shows, ShowsSyntax}
 use Rattle.psu_lex.specs.declared.unit_syntax.Syntax as rust
+use Rattle.psu_lex.specs.declared.unit_fault.UnitFault.{UnitFault}
 use Rattle.psu_lex.specs.declared.scpi_error.ScpiError.{ScpiError}
 use Rattle.psu_lex.specs.declared.scpi_error.ScpiError.TheVariants.{InvalidCharacter, SyntaxError}
 use Rattle.psu_lex.proofs.Runs.{every, leads, every_head, every_append, every_more, run_at, left_at, run_left}
@@ -119,7 +120,7 @@ one_gives false text r q (inl g) (inr h) = absurd (h.0 g.0 g.1)
 one_gives false text r q (inr g) (inl h) = absurd (g.0 h.0 h.1)
 one_gives false text r q (inr g) (inr h) = g.1 ∙ sym h.1
 
-pub one_result : (fault : Option ScpiError) (text : List ℕ) (r q : Result Syntax ScpiError) → FaultGives fault text r → FaultGives fault text q → r ≡ q
+pub one_result : (fault : Option UnitFault) (text : List ℕ) (r q : Result Syntax ScpiError) → FaultGives fault text r → FaultGives fault text q → r ≡ q
 one_result (Some e) text r q g h = g ∙ sym h
 one_result None text r q (tokens, reads, g) (others, more, h) =
     let same : others ≡ tokens = same_tokens is_closed text others tokens more reads in
@@ -128,23 +129,24 @@ one_result None text r q (tokens, reads, g) (others, more, h) =
 -- ---- the same, as the code goes
 
 -- what the code's result stands for
-abbrev Given : Option ScpiError → List ℕ → Result rust.Syntax ScpiError → Type 0
+abbrev Given : Option UnitFault → List ℕ → Result rust.Syntax ScpiError → Type 0
 Given fault text shown = (given : Result Syntax ScpiError) × FaultGives fault text given × Shows shown given
 
-pub given_fault : (fault : Option ScpiError) (text : List ℕ) (e : ScpiError) → fault ≡ Some e → Given fault text (Err e)
-given_fault fault text e is = subst (λ (z : Option ScpiError). Given z text (Err e)) (sym is) (Err e, refl, refl)
+pub given_fault : (fault : Option UnitFault) (text : List ℕ) (e : UnitFault) (error : ScpiError) → fault ≡ Some e → error ≡ error_of e → Given fault text (Err error)
+given_fault fault text e error is same =
+    subst (λ (z : Option UnitFault). Given z text (Err error)) (sym is) (Err (error_of e), refl, same)
 
 given_at : (text : List ℕ) (tokens : List Token) (r : Option rust.Syntax) → Reads is_closed text tokens → has_high tokens ≡ false
     → IfSome r (λ shown. (s : Syntax) × UnitReads text s × ShowsSyntax shown s) → IfNone r ((s : Syntax) → UnitReads text s → ⊥) → Given None text (ok_or r SyntaxError)
 given_at text tokens (Some shown) reads f (s, u, w) none = (Ok s, (tokens, reads, subst (λ (z : Bool). TextGives z text (Ok s)) (sym f) (inl (s, u, refl))), w)
 given_at text tokens None reads f some none = (Err SyntaxError, (tokens, reads, subst (λ (z : Bool). TextGives z text (Err SyntaxError)) (sym f) (inr (none, refl))), refl)
 
-pub given_cut : (fault : Option ScpiError) (text : List ℕ) (tokens : List Token) (r : Option rust.Syntax) (q : Result rust.Syntax ScpiError) → fault ≡ None → Reads is_closed text tokens → has_high tokens ≡ false
+pub given_cut : (fault : Option UnitFault) (text : List ℕ) (tokens : List Token) (r : Option rust.Syntax) (q : Result rust.Syntax ScpiError) → fault ≡ None → Reads is_closed text tokens → has_high tokens ≡ false
     → IfSome r (λ shown. (s : Syntax) × UnitReads text s × ShowsSyntax shown s) → IfNone r ((s : Syntax) → UnitReads text s → ⊥) → q ≡ ok_or r SyntaxError → Given fault text q
 given_cut fault text tokens r q is reads f some none e =
-    subst (λ (z : Option ScpiError). Given z text q) (sym is) (subst (Given None text) (sym e) (given_at text tokens r reads f some none))
+    subst (λ (z : Option UnitFault). Given z text q) (sym is) (subst (Given None text) (sym e) (given_at text tokens r reads f some none))
 
-pub given_high : (fault : Option ScpiError) (text : List ℕ) (tokens : List Token) → fault ≡ None → Reads is_closed text tokens → has_high tokens ≡ true → Given fault text (Err InvalidCharacter)
+pub given_high : (fault : Option UnitFault) (text : List ℕ) (tokens : List Token) → fault ≡ None → Reads is_closed text tokens → has_high tokens ≡ true → Given fault text (Err InvalidCharacter)
 given_high fault text tokens is reads h =
-    subst (λ (z : Option ScpiError). Given z text (Err InvalidCharacter)) (sym is)
+    subst (λ (z : Option UnitFault). Given z text (Err InvalidCharacter)) (sym is)
     (Err InvalidCharacter, (tokens, reads, subst (λ (z : Bool). TextGives z text (Err InvalidCharacter)) (sym h) refl), refl)

@@ -8,7 +8,7 @@ use Rattle.std.proofs.lemmas.Grind.{common_steps}
 use Rattle.memchr.specs.Find.{IsFirstByte, is_byte2, is_byte3}
 use Rattle.psu_lex.specs.Bytes.{opens, separates, is_closed}
 use Rattle.psu_lex.specs.Message.{opens_first, ends_unit, BeginsPiece, HasNoPiece, Makes, Part, ended, next_first, fault_of, spelling}
-use Rattle.psu_lex.specs.declared.scpi_error.ScpiError.{ScpiError}
+use Rattle.psu_lex.specs.declared.unit_fault.UnitFault.{UnitFault}
 use Rattle.psu_lex.specs.Message.Token.{Byte, Separator, Whole, Faulty}
 use Rattle.psu_lex.specs.Scan.{has, IsStop}
 use Rattle.psu_lex.proofs.Searches.{has_head, has_tail, has_shorter, free_before, free_all, drop-add, free_later}
@@ -98,13 +98,13 @@ unit_step first bytes piece at found n units e a b p h m =
     (step_piece first bytes (at + found) n units (subst (λ (z : List ℕ). BeginsPiece z (drop n z)) e p) (subst (λ (z : List ℕ). is_closed (drop n z) ≡ true) e h)
     (subst (λ (z : ℕ). Makes first (take z bytes) (drop z bytes) units) same m))
 
-pub unit_fault : (first : Bool) (bytes piece : List ℕ) (at found : ℕ) (fault : ScpiError) → piece ≡ drop (at + found) bytes
+pub unit_fault : (first : Bool) (bytes piece : List ℕ) (at found : ℕ) (fault : UnitFault) → piece ≡ drop (at + found) bytes
     → has separates (take found (drop at bytes)) ≡ false → has opens (take found (drop at bytes)) ≡ false → opens_first piece ≡ true → HasNoPiece is_closed piece → fault ≡ fault_of piece
     → Makes first (take at bytes) (drop at bytes) (record { text = bytes; first = first; fault = Some fault } ∷ [])
 unit_fault first bytes piece at found fault e a b o n is =
     let whole : Part = record { text = bytes; first = first; fault = Some fault } in
     step_run first bytes at found (whole ∷ []) a b
-    (subst (λ (z : ScpiError). Makes first (take (at + found) bytes) (drop (at + found) bytes) (record { text = bytes; first = first; fault = Some z } ∷ []))
+    (subst (λ (z : UnitFault). Makes first (take (at + found) bytes) (drop (at + found) bytes) (record { text = bytes; first = first; fault = Some z } ∷ []))
     (ap fault_of (sym e) ∙ sym is)
     (step_fault first bytes (at + found) (subst (λ (z : List ℕ). opens_first z ≡ true) e o) (subst (HasNoPiece is_closed) e n)))
 

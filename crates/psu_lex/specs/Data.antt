@@ -21,9 +21,10 @@ abbrev pub IsDatumOf : List ℕ → List ℕ → Type 0
 IsDatumOf text bytes =
     ((digits : List ℕ) × (text ≡ spelling (Counted digits bytes)) × IsWhole (Counted digits bytes) []) ⊎ (text ≡ spelling (Open bytes))
 
--- memory was refused, or there are no such bytes and this is the fault
+-- memory was refused where there are such bytes, or there are none and this is the fault
 abbrev pub Refuses : ScpiError → (List ℕ → Type 0) → ScpiError → Type 0
-Refuses fault IsOf error = (error ≡ OutOfMemory) ⊎ ((error ≡ fault) × ((bytes : List ℕ) → IsOf bytes → ⊥))
+Refuses fault IsOf error =
+    ((error ≡ OutOfMemory) × (bytes : List ℕ) × IsOf bytes) ⊎ ((error ≡ fault) × ((bytes : List ℕ) → IsOf bytes → ⊥))
 
 -- a block as answered: the number of its bytes in as few digits as it needs
 abbrev pub definite_text : List ℕ → List ℕ

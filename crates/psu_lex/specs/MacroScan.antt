@@ -1,5 +1,5 @@
 -- Words of the contracts inside this crate: what the scan of a macro's body has found.
-use Rattle.std.specs.Prelude.{◌≡◌, ℕ, ◌==◌, ◌&&◌, ◌<◌, Bool, false, List, [], ◌∷◌, ◌++◌, length, take, drop}
+use Rattle.std.specs.Prelude.{◌≡◌, ℕ, ◌==◌, ◌&&◌, Bool, false, List, [], ◌∷◌, ◌++◌, take, drop}
 use Rattle.psu_lex.specs.Message.{Token, Reads}
 use Rattle.psu_lex.specs.Macros.{is_placeholder, expansion, greatest, anything}
 
@@ -22,11 +22,3 @@ Keeps bytes n =
 abbrev pub Puts : List (List ℕ) → List ℕ → ℕ → List ℕ → Type 0
 Puts args bytes n piece =
     (most : ℕ) (text : List ℕ) → Spells args (drop n bytes) most text → (all : ℕ) × Spells args bytes all (piece ++ text)
-
--- a list has got what the first n bytes give
-abbrev pub Grows : List (List ℕ) → List ℕ → ℕ → List ℕ → List ℕ → Type 0
-Grows args bytes n old new = (piece : List ℕ) × (new ≡ old ++ piece) × Puts args bytes n piece
-
--- with what the first bytes give a list is too long
-abbrev pub Exceeds : List (List ℕ) → List ℕ → List ℕ → Type 0
-Exceeds args bytes old = (n : ℕ) × (piece : List ℕ) × Puts args bytes n piece × (65536 < length (old ++ piece))

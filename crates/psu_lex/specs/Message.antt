@@ -2,9 +2,9 @@
 -- Source: IEEE 488.2, 7.3 to 7.5 (units, separators, terminators), 7.7.5 (strings), 7.7.6 (blocks).
 use Rattle.std.specs.Prelude.{◌≡◌, ◌⊎◌, ℕ, ◌+◌, ◌<◌, ◌==◌, ◌||◌, ◌&&◌, Bool, true, false, List, [], ◌∷◌, ◌++◌, length, Option, Some, None, if◌then◌else◌}
 use Rattle.psu_lex.specs.Bytes.{separates, is_quote, opens, all_white, all_digits, has_newline, starts, ends_in_newline, value_after, is_closed}
-use Rattle.psu_lex.specs.declared.scpi_error.ScpiError.{ScpiError}
-use Rattle.psu_lex.specs.declared.scpi_error.ScpiError.TheVariants.{InvalidStringData, InvalidBlockData}
 use Rattle.psu_lex.specs.declared.unit.Unit as rust
+use Rattle.psu_lex.specs.declared.unit_fault.UnitFault.{UnitFault}
+use Rattle.psu_lex.specs.declared.unit_fault.UnitFault.TheVariants.{String, Block}
 
 -- ---- strings and blocks
 
@@ -78,14 +78,14 @@ Reads may_follow bytes (token ∷ tokens) =
 
 -- ---- units
 
--- a unit as written; whether it is the first of its message; -151 or -161
+-- a unit as written; whether it is the first of its message; what is faulty of it
 pub record Part : Type 0 where
   pub text : List ℕ
   pub first : Bool
-  pub fault : Option ScpiError
+  pub fault : Option UnitFault
 
-abbrev pub fault_of : List ℕ → ScpiError
-fault_of text = if starts 35 text then InvalidBlockData else InvalidStringData
+abbrev pub fault_of : List ℕ → UnitFault
+fault_of text = if starts 35 text then Block else String
 
 -- a unit that ends here, unless it is white space alone
 abbrev pub ended : Bool → List ℕ → List Part

@@ -12,7 +12,9 @@ use Rattle.psu_lex.specs.declared.datum.Datum as rust
 use Rattle.psu_lex.specs.declared.mark.Mark.{Mark}
 use Rattle.psu_lex.specs.declared.mark.Mark.TheVariants.{Star, Colon, Bare}
 use Rattle.psu_lex.specs.declared.scpi_error.ScpiError.{ScpiError}
-use Rattle.psu_lex.specs.declared.scpi_error.ScpiError.TheVariants.{InvalidCharacter, SyntaxError}
+use Rattle.psu_lex.specs.declared.scpi_error.ScpiError.TheVariants.{InvalidCharacter, InvalidStringData, InvalidBlockData, SyntaxError}
+use Rattle.psu_lex.specs.declared.unit_fault.UnitFault.{UnitFault}
+use Rattle.psu_lex.specs.declared.unit_fault.UnitFault.TheVariants as fault
 
 -- ---- headers
 
@@ -141,8 +143,13 @@ TextGives false text result =
     ((syntax : Syntax) × UnitReads text syntax × (result ≡ Ok syntax))
     ⊎ (((syntax : Syntax) → UnitReads text syntax → ⊥) × (result ≡ Err SyntaxError))
 
-abbrev pub FaultGives : Option ScpiError → List ℕ → Result Syntax ScpiError → Type 0
-FaultGives (Some fault) text result = result ≡ Err fault
+-- -151 or -161
+abbrev pub error_of : UnitFault → ScpiError
+error_of fault.String = InvalidStringData
+error_of fault.Block = InvalidBlockData
+
+abbrev pub FaultGives : Option UnitFault → List ℕ → Result Syntax ScpiError → Type 0
+FaultGives (Some faulty) text result = result ≡ Err (error_of faulty)
 FaultGives None text result = (tokens : List Token) × Reads is_closed text tokens × TextGives (has_high tokens) text result
 
 -- what a unit gives: its fault, -101, -102, or its header and data

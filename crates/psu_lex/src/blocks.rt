@@ -19,7 +19,7 @@ fn is_all(rest: &[u8], end: usize) -> bool
 
 /// The bytes that a text stands for as block data (IEEE 488.2, 7.7.6). A text that is anything but
 /// one whole block is invalid block data; an NL may follow a block without a length, and is no part
-/// of it.
+/// of it. Memory is wanted for a block alone.
 pub fn block<A: Allocator + Copy>(alloc: A, text: &[u8]) -> Result<Bytes<A>, ScpiError>
     ensures ok { IfOk result (λ bytes. IsBlockOf text.now bytes) }
     ensures err { IfErr result (λ error. Refuses InvalidBlockData (IsBlockOf text.now) error) }
@@ -37,8 +37,10 @@ pub fn block<A: Allocator + Copy>(alloc: A, text: &[u8]) -> Result<Bytes<A>, Scp
     let digits = (rest[0] - b'0') as usize;
     let content = after(front(rest, end), 1 + digits);
     let mut list = Vec::new(alloc);
-    list.extend_from_slice(content)?;
-    Ok(Bytes { list })
+    match list.extend_from_slice(content) {
+        Ok(()) => Ok(Bytes { list }),
+        Err(_) => Err(ScpiError::OutOfMemory),
+    }
 }
 
 /// The bytes as a block with its length (IEEE 488.2, 8.7.9), the length in as few digits as it needs.

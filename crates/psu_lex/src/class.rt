@@ -1,6 +1,15 @@
 // Classes of bytes.
 ghost use Rattle.std.specs.Prelude.{◌≡◌};
+ghost use Rattle.psu_lex.specs.Bytes.{is_white};
 ghost use Rattle.psu_lex.specs.NumberScan.{belongs};
+
+/// Whether the byte is white space: 0 to 32, but for NL.
+#[inline(always)]
+pub fn is_white(byte: u8) -> bool
+    ensures { result ≡ is_white byte }
+{
+    byte <= 32 && byte != b'\n'
+}
 
 /// A class of bytes.
 #[derive(Clone, Copy, Debug, PartialEq, Eq)]
@@ -22,8 +31,8 @@ impl Class {
     {
         match self {
             Class::Digit => byte.is_ascii_digit(),
-            Class::White => byte <= 32 && byte != b'\n',
-            Class::Dark => byte > 32 || byte == b'\n',
+            Class::White => is_white(byte),
+            Class::Dark => !is_white(byte),
             Class::Letter => byte.is_ascii_alphabetic(),
         }
     }

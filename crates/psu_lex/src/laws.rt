@@ -1,4 +1,4 @@
-// Laws of the definitions.
+//! Laws of the definitions.
 ghost use Rattle.std.specs.Prelude.{ℕ, List, Result, ℤ, ◌≡◌};
 ghost use Rattle.psu_lex.specs.Data.{IsBlockOf, IsDatumOf, IsStringOf};
 ghost use Rattle.psu_lex.specs.Macros.{ExpandsTo};

@@ -14,7 +14,7 @@ mod found;
 mod header;
 mod headers;
 mod high_bytes;
-mod laws;
+pub mod laws;
 mod macros;
 mod mark;
 mod message;
@@ -25,6 +25,7 @@ mod scpi_error;
 mod strings;
 mod syntaxes;
 mod unit;
+mod unit_fault;
 mod unit_syntax;
 mod units;
 mod written;
@@ -37,12 +38,6 @@ pub use datum_class::DatumClass;
 pub use decimals::fixed3;
 pub use error_class::ErrorClass;
 pub use header::Header;
-pub use laws::{
-    every_body_has_an_expansion, every_list_has_units, every_text_gives_a_value,
-    every_unit_has_a_syntax, one_content_of_a_block, one_content_of_a_datum,
-    one_content_of_a_string, one_expansion_of_a_body, one_header_of_a_text, one_list_of_units,
-    one_number_of_a_text, one_syntax_of_a_text, one_syntax_of_a_unit, one_value_of_a_text,
-};
 pub use macros::expand;
 pub use mark::Mark;
 pub use message::split;
@@ -51,9 +46,7 @@ pub use scpi_error::ScpiError;
 pub use strings::string;
 pub use syntaxes::syntax;
 pub use unit::Unit;
+pub use unit_fault::UnitFault;
 pub use unit_syntax::Syntax;
 pub use units::Units;
 pub use written::Written;
-
-#[cfg(test)]
-mod tests;

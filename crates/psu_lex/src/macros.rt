@@ -1,13 +1,13 @@
 // Macros: a body with its parameters put in.
-ghost use Rattle.std.specs.Prelude.{ℕ, List, [], ◌∷◌, ◌≡◌, ◌⊎◌, ◌++◌, ◌≤◌, ◌<◌, Ok, Err, false, length, map, IfOk, IfErr, OnOk};
+ghost use Rattle.std.specs.Prelude.{ℕ, List, [], ◌≡◌, ◌⊎◌, ◌+◌, ◌≤◌, ◌<◌, Ok, Err, false, length, map, min, IfOk, IfErr};
 ghost use Rattle.psu_lex.specs.Message.{opens_first};
 ghost use Rattle.psu_lex.specs.Macros.{ExpandsTo, parameter};
-ghost use Rattle.psu_lex.specs.MacroScan.{Exceeds, Grows, Keeps, Spells, begins_placeholder};
-ghost use Rattle.psu_lex.specs.declared.scpi_error.ScpiError.TheVariants.{OutOfMemory, TooMuchData};
+ghost use Rattle.psu_lex.specs.MacroScan.{Keeps, Puts, Spells, begins_placeholder};
+ghost use Rattle.psu_lex.specs.declared.scpi_error.ScpiError.TheVariants.{OutOfMemory};
 
 use crate::pieces::{after, begins, front, whole_end};
 use crate::{Bytes, ScpiError};
-use std::alloc::Allocator;
+use std::alloc::{AllocError, Allocator};
 
 /// The most bytes that an expansion may have.
 const MOST: usize = 65_536;
@@ -73,43 +73,57 @@ fn argument<'a>(args: &[&'a [u8]], place: usize) -> &'a [u8]
     }
 }
 
-/// Adds bytes to an expansion, if it does not get too long.
-fn add<A: Allocator + Copy>(list: &mut Vec<u8, A>, bytes: &[u8]) -> Result<(), ScpiError>
-    requires { length list.old.items ≤ 65536 }
-    ensures ok { OnOk result ((list.new.items ≡ list.old.items ++ bytes.now) × (length list.new.items ≤ 65536)) }
-    ensures err { IfErr result (λ error. (error ≡ OutOfMemory) ⊎ ((error ≡ TooMuchData) × (65536 < length (list.old.items ++ bytes.now)))) }
-{
-    if bytes.len() > MOST - list.len() {
-        return Err(ScpiError::TooMuchData);
-    }
-    list.extend_from_slice(bytes)?;
-    Ok(())
-}
-
-/// Adds what the next bytes of a body give, and answers how many they are.
-fn add_next<A: Allocator + Copy>(
-    list: &mut Vec<u8, A>,
-    rest: &[u8],
-    args: &[&[u8]],
-) -> Result<usize, ScpiError>
-    requires short { length list.old.items ≤ 65536 }
-    requires some { 0 < length rest.now }
-    ensures within { IfOk result (λ n. (0 < n) × (n ≤ length rest.now)) }
-    ensures short { OnOk result (length list.new.items ≤ 65536) }
-    ensures ok { IfOk result (λ n. Grows (map (λ arg. arg.now) args.now) rest.now n list.old.items list.new.items) }
-    ensures err { IfErr result (λ error. (error ≡ OutOfMemory) ⊎ ((error ≡ TooMuchData) × Exceeds (map (λ arg. arg.now) args.now) rest.now list.old.items)) }
+/// What the next bytes of a body give, and how many they are: a placeholder's parameter, or what stays as it is.
+fn piece_at<'a>(rest: &'a [u8], args: &[&'a [u8]]) -> (&'a [u8], usize)
+    requires { 0 < length rest.now }
+    ensures within { (0 < result.1) × (result.1 ≤ length rest.now) }
+    ensures puts { Puts (map (λ arg. arg.now) args.now) rest.now result.1 result.0.now }
 {
     if is_placeholder(rest) {
-        return match add(list, argument(args, (rest[1] - b'1') as usize)) {
-            Ok(()) => Ok(2),
-            Err(error) => Err(error),
-        };
+        return (argument(args, (rest[1] - b'1') as usize), 2);
     }
     let kept = verbatim(rest);
-    match add(list, front(rest, kept)) {
-        Ok(()) => Ok(kept),
-        Err(error) => Err(error),
+    (front(rest, kept), kept)
+}
+
+/// A length and more, held to one more than an expansion may have.
+fn longer(length: usize, more: usize) -> usize
+    ensures { result ≡ min 65537 (length + more) }
+{
+    length.saturating_add(more).min(MOST + 1)
+}
+
+/// How many bytes an expansion has, held to one more than it may have.
+fn length_of<'a>(body: &'a [u8], args: &[&'a [u8]]) -> usize
+    ensures { (most : ℕ) × (text : List ℕ) × Spells (map (λ arg. arg.now) args.now) body.now most text × (result ≡ min 65537 (length text)) }
+{
+    let mut rest = body;
+    let mut length = 0usize;
+    while !rest.is_empty() {
+        let (piece, used) = piece_at(rest, args);
+        length = longer(length, piece.len());
+        rest = after(rest, used);
     }
+    length
+}
+
+/// The bytes of an expansion of this length.
+fn filled<'a, A: Allocator + Copy>(
+    alloc: A,
+    body: &'a [u8],
+    args: &[&'a [u8]],
+    length: usize,
+) -> Result<Bytes<A>, AllocError>
+    ensures { IfOk result (λ text. (most : ℕ) × Spells (map (λ arg. arg.now) args.now) body.now most text) }
+{
+    let mut list = Vec::with_capacity(alloc, length)?;
+    let mut rest = body;
+    while !rest.is_empty() {
+        let (piece, used) = piece_at(rest, args);
+        list.extend_from_slice(piece)?;
+        rest = after(rest, used);
+    }
+    Ok(Bytes { list })
 }
 
 /// The expansion of a macro (IEEE 488.2, 10.8): its body with `$1` to `$9` outside strings and blocks
@@ -117,25 +131,24 @@ fn add_next<A: Allocator + Copy>(
 /// that is faulty takes the rest of the body with it, unchanged.
 ///
 /// Another number of parameters than the greatest placeholder is a macro parameter error; else an
-/// expansion of more than 65,536 bytes is too much data.
-pub fn expand<A: Allocator + Copy>(
+/// expansion of more than 65,536 bytes is too much data. Memory is wanted for a good expansion alone.
+pub fn expand<'a, A: Allocator + Copy>(
     alloc: A,
-    body: &[u8],
-    args: &[&[u8]],
+    body: &'a [u8],
+    args: &[&'a [u8]],
 ) -> Result<Bytes<A>, ScpiError>
     ensures ok { IfOk result (λ text. ExpandsTo body.now (map (λ arg. arg.now) args.now) (Ok text)) }
-    ensures err { IfErr result (λ error. (error ≡ OutOfMemory) ⊎ ExpandsTo body.now (map (λ arg. arg.now) args.now) (Err error)) }
+    ensures err { IfErr result (λ error. ((error ≡ OutOfMemory) × (text : List ℕ) × ExpandsTo body.now (map (λ arg. arg.now) args.now) (Ok text)) ⊎ ExpandsTo body.now (map (λ arg. arg.now) args.now) (Err error)) }
 {
     if greatest_of(body) != args.len() {
         return Err(ScpiError::MacroParameterError);
     }
-    let mut list = Vec::new(alloc);
-    let mut rest = body;
-    while !rest.is_empty() {
-        match add_next(&mut list, rest, args) {
-            Ok(used) => rest = after(rest, used),
-            Err(error) => return Err(error),
-        }
+    let length = length_of(body, args);
+    if length > MOST {
+        return Err(ScpiError::TooMuchData);
     }
-    Ok(Bytes { list })
+    match filled(alloc, body, args, length) {
+        Ok(text) => Ok(text),
+        Err(_) => Err(ScpiError::OutOfMemory),
+    }
 }

@@ -4,8 +4,9 @@ ghost use Rattle.psu_lex.specs.Bytes.{all_white};
 ghost use Rattle.psu_lex.specs.Message.{IsMessage, Makes, Part, ended, ends_unit, fault_of, opens_first, parts};
 ghost use Rattle.psu_lex.specs.Scan.{IsStop};
 
+use crate::class::is_white;
 use crate::pieces::{after, between, piece_end};
-use crate::{ScpiError, Unit, Units};
+use crate::{Unit, UnitFault, Units};
 use memchr::{memchr2, memchr3};
 use std::alloc::{AllocError, Allocator};
 
@@ -32,19 +33,19 @@ fn later_stop(bytes: &[u8], at: usize, step: usize, stop: usize) -> usize
 }
 
 /// The fault of a string or block that is not whole.
-fn fault_at(piece: &[u8]) -> ScpiError
+fn fault_at(piece: &[u8]) -> UnitFault
     requires { opens_first piece.now ≡ true }
     ensures { result ≡ fault_of piece.now }
 {
     if piece[0] == b'#' {
-        ScpiError::InvalidBlockData
+        UnitFault::Block
     } else {
-        ScpiError::InvalidStringData
+        UnitFault::String
     }
 }
 
 /// Where the unit at the front ends, or its fault.
-fn unit_end(bytes: &[u8]) -> Result<usize, ScpiError>
+fn unit_end(bytes: &[u8]) -> Result<usize, UnitFault>
     ensures within { IfOk result (λ n. n ≤ length bytes.now) }
     ensures end { IfOk result (λ n. ends_unit (drop n bytes.now) ≡ true) }
     ensures ok { IfOk result (λ n. (first : Bool) (units : List Part) → Makes first (take n bytes.now) (drop n bytes.now) units → Makes first [] bytes.now units) }
@@ -71,7 +72,7 @@ pub fn is_blank(text: &[u8]) -> bool
     ensures { result ≡ all_white text.now }
 {
     for byte in text {
-        if *byte > 32 || *byte == b'\n' {
+        if !is_white(*byte) {
             return false;
         }
     }

@@ -86,6 +86,7 @@ fn has_digit(whole: &[u8], fraction: &[u8]) -> bool
 }
 
 /// The number that the text is, if it is one.
+#[inline(always)]
 pub fn scan(text: &[u8]) -> Option<Written<'_>>
     ensures some { IfSome result (λ shown. ShowsNumber shown (scanned text.now) × IsNumber (scanned text.now) × (text.now ≡ number_text (scanned text.now))) }
     ensures none { IfNone result ((n : Number) → IsNumber n → text.now ≡ number_text n → ⊥) }

@@ -1,5 +1,5 @@
 // Numbers: their value as a whole number.
-ghost use Rattle.std.specs.Prelude.{ℕ, ◌≡◌, ◌+◌, ◌*◌, ◌^◌, ◌≤◌, ◌<◌, ◌++◌, min, true, length, take, slice_index, if◌then◌else◌, ℤ, pos};
+ghost use Rattle.std.specs.Prelude.{ℕ, ◌≡◌, ◌+◌, ◌*◌, ◌^◌, ◌≤◌, ◌<◌, ◌++◌, nat_lt, min, true, length, take, slice_index, if◌then◌else◌, ℤ, pos};
 ghost use Rattle.psu_lex.specs.Bytes.{all_digits, value_after};
 ghost use Rattle.psu_lex.specs.Number.{Number, IsNumber, NumberGives, magnitude, reading_of, valued, without_zeros};
 ghost use Rattle.psu_lex.specs.NumberScan.{with_minus};
@@ -88,6 +88,16 @@ fn significant(whole: &[u8], fraction: &[u8]) -> usize
     0
 }
 
+/// Whether the mantissa has more than 255 digits, leading zeros not counted.
+fn is_too_long(whole: &[u8], fraction: &[u8]) -> bool
+    ensures { result ≡ nat_lt 255 (length (without_zeros (whole.now ++ fraction.now))) }
+{
+    if whole.len() + fraction.len() <= 255 {
+        return false;
+    }
+    significant(whole, fraction) > 255
+}
+
 /// The power, unless it is left out.
 fn unless(left_out: bool, power: u64) -> usize
     ensures { result ≡ (if left_out then 0 else power) }
@@ -117,7 +127,7 @@ pub fn valued(shown: &Written<'_>, places: u8) -> Result<i64, ScpiError>
     if power > 32_000 {
         return Err(ScpiError::ExponentTooLarge);
     }
-    if significant(shown.whole, shown.fraction) > 255 {
+    if is_too_long(shown.whole, shown.fraction) {
         return Err(ScpiError::TooManyDigits);
     }
     let up = places as usize + unless(shown.power.divides, power);

@@ -3,6 +3,7 @@ ghost use Rattle.std.specs.Prelude.{ℕ, List, ◌≡◌, ◌+◌, ◌-◌, ◌�
 ghost use Rattle.psu_lex.specs.Bytes.{all_digits, ends_in_newline, is_closed, is_quote, starts, starts_quoted, value_after};
 ghost use Rattle.psu_lex.specs.Message.{opens_first, BeginsPiece, EndsString, HasNoPiece};
 
+use crate::class::is_white;
 use memchr::memchr2;
 
 /// The bytes from the nth on.
@@ -94,7 +95,7 @@ fn closes(text: &[u8]) -> bool
     ensures { result ≡ is_closed text.now }
 {
     for byte in text {
-        if *byte > 32 || *byte == b'\n' {
+        if !is_white(*byte) {
             return *byte == b',' || *byte == b';' || *byte == b'\n';
         }
     }

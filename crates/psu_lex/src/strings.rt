@@ -13,7 +13,7 @@ fn undoubled<A: Allocator + Copy>(alloc: A, body: &[u8], quote: u8) -> Result<By
     requires { (content : List ℕ) × (body.now ≡ doubled quote content) }
     ensures { IfOk result (λ bytes. body.now ≡ doubled quote bytes) }
 {
-    let mut list = Vec::new(alloc);
+    let mut list = Vec::with_capacity(alloc, body.len())?;
     let mut second = false;
     for byte in body {
         if second {
@@ -27,7 +27,7 @@ fn undoubled<A: Allocator + Copy>(alloc: A, body: &[u8], quote: u8) -> Result<By
 }
 
 /// The bytes that a text stands for as string data (IEEE 488.2, 7.7.5). A text that is anything but
-/// one whole string is invalid string data.
+/// one whole string is invalid string data; memory is wanted for a string alone.
 pub fn string<A: Allocator + Copy>(alloc: A, text: &[u8]) -> Result<Bytes<A>, ScpiError>
     ensures ok { IfOk result (λ bytes. IsStringOf text.now bytes) }
     ensures err { IfErr result (λ error. Refuses InvalidStringData (IsStringOf text.now) error) }
@@ -43,5 +43,8 @@ pub fn string<A: Allocator + Copy>(alloc: A, text: &[u8]) -> Result<Bytes<A>, Sc
     if end < rest.len() {
         return Err(ScpiError::InvalidStringData);
     }
-    Ok(undoubled(alloc, front(rest, end - 1), quote)?)
+    match undoubled(alloc, front(rest, end - 1), quote) {
+        Ok(bytes) => Ok(bytes),
+        Err(_) => Err(ScpiError::OutOfMemory),
+    }
 }

@@ -36,7 +36,7 @@ pub fn syntax<'a>(unit: &Unit<'a>) -> Result<Syntax<'a>, ScpiError>
     ensures { (given : Result Parts Error) × SyntaxGives (part unit.now) given × Shows result given }
 {
     if let Some(fault) = unit.fault {
-        return Err(fault);
+        return Err(fault.error());
     }
     if has_high(unit.text) {
         return Err(ScpiError::InvalidCharacter);

@@ -1,5 +1,5 @@
 // A unit of a message.
-use crate::ScpiError;
+use crate::UnitFault;
 
 /// A program message unit as written (IEEE 488.2, 7.3.2), or what takes its place where it is faulty.
 #[derive(Clone, Copy, Debug, PartialEq, Eq)]
@@ -8,6 +8,6 @@ pub struct Unit<'a> {
     pub text: &'a [u8],
     /// Whether it is the first of its message.
     pub first: bool,
-    /// Invalid string data or invalid block data, where its strings or blocks are faulty.
-    pub fault: Option<ScpiError>,
+    /// What is faulty of it.
+    pub fault: Option<UnitFault>,
 }

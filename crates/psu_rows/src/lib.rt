@@ -2,11 +2,17 @@
 #![tactic(auto)]
 
 #[cfg(test)]
+mod answers;
+#[cfg(test)]
 mod devices;
 #[cfg(test)]
 mod faults;
 #[cfg(test)]
 mod files;
+#[cfg(test)]
+mod frames;
+#[cfg(test)]
+mod grammar;
 #[cfg(test)]
 mod hislip;
 #[cfg(test)]
@@ -32,8 +38,12 @@ mod reports;
 #[cfg(test)]
 mod rows;
 #[cfg(test)]
+mod sessions;
+#[cfg(test)]
 mod status;
 #[cfg(test)]
 mod stores;
+#[cfg(test)]
+mod streams;
 #[cfg(test)]
 mod tree;

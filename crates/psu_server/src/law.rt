@@ -5,7 +5,7 @@ ghost use Rattle.psu_server.specs.Runs.{ScriptAlone};
 ghost use Rattle.psu_server.specs.Script.{IsScript};
 
 use psu_exec::{every_unit_reads, one_reading_of_a_unit};
-use psu_lex::{every_list_has_units, one_list_of_units};
+use psu_lex::laws::{every_list_has_units, one_list_of_units};
 
 /// Where no memory is refused, no disk call fails and the store isn't worn, the text that may be written is the script.
 pub fn script_is_the_only_text()

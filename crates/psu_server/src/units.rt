@@ -13,7 +13,8 @@ use crate::jobs::flush;
 use crate::powered::Powered;
 use psu_disk::Disk;
 use psu_exec::{Exec, Outcome, Request, ScpiError, Session, every_unit_reads, plain};
-use psu_lex::{every_list_has_units, split};
+use psu_lex::laws::every_list_has_units;
+use psu_lex::split;
 use std::alloc::Allocator;
 
 fn is_parked<A: Allocator + Copy>(outcome: &Outcome<A>) -> bool

@@ -10,3 +10,6 @@ pub mod UnitReadings
 pub mod OneReading
 pub mod SomeReading
 pub mod Matching
+pub mod Apart
+pub mod OneNumber
+pub mod Forms

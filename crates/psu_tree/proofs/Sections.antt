@@ -1,13 +1,15 @@
 -- The first row of a table by its sections.
 use Rattle.std.proofs.Common.{◌≡◌, ℕ, ◌==◌, ◌&&◌, Bool, true, false, not, Bor, List, [], ◌∷◌, ◌++◌, length, refl, sym, ap, ◌∙◌, arith, inl, inr}
 use Rattle.std.specs.Prelude.{Some, None, map, if◌then◌else◌}
-use Rattle.std.proofs.lemmas.Bool.{cases_Bool}
+use Rattle.std.proofs.Math.Bool.{and-false, and-true}
+use Rattle.std.proofs.lemmas.Bool.{and_parts, cases_Bool, eqb-true}
 use Rattle.psu_lex.specs.Bytes.{all_digits}
 use Rattle.psu_tree.specs.Headers.{Entry, asked, capital, fits, in_brackets, is_form, is_numbered, is_small, stem}
-use Rattle.psu_tree.specs.Scans.{begins_apart, first_letter, is_apart}
-use Rattle.psu_tree.specs.Shown.{entry, mnemonic, fits_behind, named_of, row_behind}
+use Rattle.psu_tree.specs.Scans.{first_letter, second_letter}
+use Rattle.psu_tree.specs.Shown.{begins_with, each_begins, entry, fits_behind, named_of, row_behind}
 use Rattle.psu_tree.specs.declared.node.Node.{Node}
 use Rattle.psu_tree.specs.declared.row.Row.{Row}
+use Rattle.psu_tree.specs.declared.section.Section.{Section}
 
 same_fit : (root : Node) (row : Row) (ws : List (List ℕ)) → fits (entry root row).nodes ws ≡ fits_behind (named_of root ws) (in_brackets root.kind) row.nodes.now ws
 same_fit root row [] = refl
@@ -49,49 +51,87 @@ none_without root rows (word ∷ words) e m = absurd (omega (arith, e))
 pub none_named : (root : Node) (rows : List Row) (ws : List (List ℕ)) → named_of root ws ≡ false → in_brackets root.kind ≡ false → None ≡ row_behind (named_of root ws) (in_brackets root.kind) rows ws
 none_named root rows ws n m = sym (closed_at (named_of root ws) (in_brackets root.kind) rows ws n m)
 
--- ---- a root that begins with another letter
+-- ---- a root that begins with other letters
 
 not_small : (b : Bool) → not b ≡ true → b ≡ false
 not_small true h = absurd (cc (h))
 not_small false h = refl
 
-and_left : (a b : Bool) → (a && b) ≡ true → a ≡ true
-and_left true b h = refl
-and_left false b h = h
-
-and_right : (a b : Bool) → (a && b) ≡ true → b ≡ true
-and_right true b h = h
-and_right false b h = absurd (cc (h))
-
-other_form : (n : ℕ) (ns : List ℕ) (x : ℕ) (xs : List ℕ) → is_small n ≡ false → (n == capital x) ≡ false → is_form (n ∷ ns) (x ∷ xs) ≡ false
-other_form n ns x xs s f = simp (s, f)
-
 no_form : (n : ℕ) (ns : List ℕ) → is_small n ≡ false → is_form (n ∷ ns) [] ≡ false
 no_form n ns s = rw s refl
 
-stem_form : (n : ℕ) (ns : List ℕ) (x : ℕ) (xs : List ℕ) → is_small n ≡ false → (n == capital x) ≡ false → is_form (n ∷ ns) (stem (x ∷ xs)) ≡ false
-stem_form n ns x xs s f = elim (cases_Bool (all_digits (x ∷ xs))) [
-  | inl t ↦ rw t (no_form n ns s)
-  | inr g ↦ rw g (other_form n ns x (stem xs) s f)
+other_first : (n : ℕ) (ns : List ℕ) (x : ℕ) (xs : List ℕ) → is_small n ≡ false → (n == capital x) ≡ false → is_form (n ∷ ns) (x ∷ xs) ≡ false
+other_first n ns x xs s f = simp (s, f)
+
+other_second : (n m : ℕ) (ns : List ℕ) (x y : ℕ) (xs : List ℕ) → is_small n ≡ false → is_small m ≡ false → (m == capital y) ≡ false → is_form (n ∷ m ∷ ns) (x ∷ y ∷ xs) ≡ false
+other_second n m ns x y xs s t f = simp (s, t, f, and-false)
+
+too_short : (n m : ℕ) (ns : List ℕ) (x : ℕ) → is_small n ≡ false → is_small m ≡ false → is_form (n ∷ m ∷ ns) (x ∷ []) ≡ false
+too_short n m ns x s t = simp (s, t, and-false)
+
+too_long : (n x y : ℕ) (xs : List ℕ) → is_small n ≡ false → is_form (n ∷ []) (x ∷ y ∷ xs) ≡ false
+too_long n x y xs s = simp (s, and-false)
+
+form_two : (n m : ℕ) (ns : List ℕ) (x y : ℕ) (xs : List ℕ) → is_small n ≡ false → is_small m ≡ false → (n == capital x && m == capital y) ≡ false → is_form (n ∷ m ∷ ns) (x ∷ y ∷ xs) ≡ false
+form_two n m ns x y xs s t f = elim (cases_Bool (n == capital x)) [
+  | inl e ↦ other_second n m ns x y xs s t (rw e at f)
+  | inr g ↦ other_first n (m ∷ ns) x (y ∷ xs) s g
 ]
 
-named_apart : (numbered : Bool) (name word : List ℕ) (words : List (List ℕ)) → begins_apart (first_letter (word ∷ words)) name ≡ true → is_form name (if numbered then stem word else word) ≡ false
-named_apart numbered [] word words h = absurd (cc (h))
-named_apart true (n ∷ ns) [] words h = no_form n ns (not_small (is_small n) (and_left (not (is_small n)) (not (n == 0)) h))
-named_apart false (n ∷ ns) [] words h = no_form n ns (not_small (is_small n) (and_left (not (is_small n)) (not (n == 0)) h))
-named_apart true (n ∷ ns) (x ∷ xs) words h =
-    stem_form n ns x xs (not_small (is_small n) (and_left (not (is_small n)) (not (n == capital x)) h)) (not_small (n == capital x) (and_right (not (is_small n)) (not (n == capital x)) h))
-named_apart false (n ∷ ns) (x ∷ xs) words h =
-    other_form n ns x xs (not_small (is_small n) (and_left (not (is_small n)) (not (n == capital x)) h)) (not_small (n == capital x) (and_right (not (is_small n)) (not (n == capital x)) h))
+apart_one : (n : ℕ) (word : List ℕ) (words : List (List ℕ)) → is_small n ≡ false → (n == first_letter (word ∷ words) && 0 == second_letter (word ∷ words)) ≡ false → is_form (n ∷ []) word ≡ false
+apart_one n [] words s f = no_form n [] s
+apart_one n (x ∷ []) words s f = other_first n [] x [] s (sym (and-true (n == capital x)) ∙ f)
+apart_one n (x ∷ y ∷ xs) words s f = too_long n x y xs s
 
-pub unnamed : (root : Node) (ws : List (List ℕ)) → begins_apart (first_letter ws) root.name.now ≡ true → named_of root ws ≡ false
-unnamed root [] h = refl
-unnamed root (word ∷ words) h = named_apart (is_numbered root.kind) root.name.now word words h
+apart_two : (numbered : Bool) (n m : ℕ) (ns word : List ℕ) (words : List (List ℕ)) → is_small n ≡ false → is_small m ≡ false
+    → (n == first_letter (word ∷ words) && m == second_letter (word ∷ words)) ≡ false → is_form (n ∷ m ∷ ns) (if numbered then stem word else word) ≡ false
+apart_two true n m ns [] words s t f = no_form n (m ∷ ns) s
+apart_two false n m ns [] words s t f = no_form n (m ∷ ns) s
+apart_two false n m ns (x ∷ []) words s t f = too_short n m ns x s t
+apart_two true n m ns (x ∷ []) words s t f = elim (cases_Bool (all_digits (x ∷ []))) [
+  | inl d ↦ rw d (no_form n (m ∷ ns) s)
+  | inr d ↦ rw d (too_short n m ns x s t)
+]
+apart_two false n m ns (x ∷ y ∷ xs) words s t f = form_two n m ns x y xs s t f
+apart_two true n m ns (x ∷ y ∷ xs) words s t f = elim (cases_Bool (all_digits (x ∷ y ∷ xs))) [
+  | inl d ↦ rw d (no_form n (m ∷ ns) s)
+  | inr d ↦ elim (cases_Bool (all_digits (y ∷ xs))) [
+    | inl e ↦ rw (d, e) (too_short n m ns x s t)
+    | inr e ↦ rw (d, e) (form_two n m ns x y (stem xs) s t f)
+  ]
+]
 
-pub none_apart : (root : Node) (rows : List Row) (ws : List (List ℕ)) (letter : ℕ) → letter ≡ first_letter ws → is_apart letter (mnemonic root) ≡ true
+-- a node that begins with two letters, and words that do not
+apart : (numbered : Bool) (first second : ℕ) (name word : List ℕ) (words : List (List ℕ)) → begins_with first second numbered name ≡ true
+    → (first == first_letter (word ∷ words) && second == second_letter (word ∷ words)) ≡ false → is_form name (if numbered then stem word else word) ≡ false
+apart numbered first second [] word words h f = absurd (cc (h))
+apart numbered first second (n ∷ []) word words h f =
+    let p = and_parts (not (is_small n) && not numbered) (n == first && 0 == second) h in
+    let q = and_parts (not (is_small n)) (not numbered) p.0 in
+    let r = and_parts (n == first) (0 == second) p.1 in
+    let plain : numbered ≡ false = not_small numbered q.1 in
+    let off : (n == first_letter (word ∷ words) && 0 == second_letter (word ∷ words)) ≡ false = rw (eqb-true n first r.0, eqb-true 0 second r.1) f in
+    rw plain (apart_one n word words (not_small (is_small n) q.0) off)
+apart numbered first second (n ∷ m ∷ ns) word words h f =
+    let p = and_parts (not (is_small n) && not (is_small m)) (n == first && m == second) h in
+    let q = and_parts (not (is_small n)) (not (is_small m)) p.0 in
+    let r = and_parts (n == first) (m == second) p.1 in
+    let off : (n == first_letter (word ∷ words) && m == second_letter (word ∷ words)) ≡ false = rw (eqb-true n first r.0, eqb-true m second r.1) f in
+    apart_two numbered n m ns word words (not_small (is_small n) q.0) (not_small (is_small m) q.1) off
+
+pub unnamed : (root : Node) (ws : List (List ℕ)) (first second : ℕ) → begins_with first second (is_numbered root.kind) root.name.now ≡ true
+    → (first == first_letter ws && second == second_letter ws) ≡ false → named_of root ws ≡ false
+unnamed root [] first second h f = refl
+unnamed root (word ∷ words) first second h f = apart (is_numbered root.kind) first second root.name.now word words h f
+
+-- a section that is passed over
+pub none_passed : (root : Node) (rows : List Row) (ws : List (List ℕ)) (begins : Bool) → (begins ≡ false → named_of root ws ≡ false) → (not begins && not (in_brackets root.kind)) ≡ true
     → row_behind (named_of root ws) (in_brackets root.kind) rows ws ≡ None
-none_apart root rows ws letter e h =
-    let apart : is_apart (first_letter ws) (mnemonic root) ≡ true = ap (λ (n : ℕ). is_apart n (mnemonic root)) (sym e) ∙ h in
-    let stands = and_left (not (in_brackets root.kind)) (begins_apart (first_letter ws) root.name.now) apart in
-    let begins = and_right (not (in_brackets root.kind)) (begins_apart (first_letter ws) root.name.now) apart in
-    closed_at (named_of root ws) (in_brackets root.kind) rows ws (unnamed root ws begins) (not_small (in_brackets root.kind) stands)
+none_passed root rows ws begins named h =
+    let p = and_parts (not begins) (not (in_brackets root.kind)) h in
+    closed_at (named_of root ws) (in_brackets root.kind) rows ws (named (not_small begins p.0)) (not_small (in_brackets root.kind) p.1)
+
+pub each_one : (sections others : List Section) (section : Section) → sections ≡ section ∷ others → each_begins sections ≡ true
+    → (begins_with section.first section.second (is_numbered section.root.kind) section.root.name.now ≡ true) × (each_begins others ≡ true)
+each_one sections others section e h =
+    and_parts (begins_with section.first section.second (is_numbered section.root.kind) section.root.name.now) (each_begins others) (ap each_begins (sym e) ∙ h)

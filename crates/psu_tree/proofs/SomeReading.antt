@@ -3,6 +3,7 @@ use Rattle.std.proofs.Common.{◌≡◌, ℕ, Bool, true, false, List, [], ◌�
 use Rattle.psu_lex.specs.Message.{Part}
 use Rattle.psu_lex.specs.Shown.{IsSomeDatum}
 use Rattle.psu_lex.specs.Syntax.{Datum, Lists, Syntax, SyntaxGives, TextGives, FaultGives, UnitReads, has_high}
+use Rattle.psu_lex.specs.declared.unit_fault.UnitFault.{UnitFault}
 use Rattle.psu_lex.specs.declared.scpi_error.ScpiError.{ScpiError}
 use Rattle.psu_lex.specs.declared.scpi_error.ScpiError.TheVariants.{MissingParameter, ParameterNotAllowed}
 use Rattle.psu_tree.specs.Commands.{CommandReads, Makes, alone, unit_of, greatest_of}
@@ -83,7 +84,7 @@ text_reads true text s g = absurd (cc (g))
 text_reads false text s (inl (t, u, e)) = let same : t ≡ s = cc (e) in subst (UnitReads text) same u
 text_reads false text s (inr (none, e)) = absurd (cc (e))
 
-fault_reads : (fault : Option ScpiError) (text : List ℕ) (s : Syntax) → FaultGives fault text (Ok s) → UnitReads text s
+fault_reads : (fault : Option UnitFault) (text : List ℕ) (s : Syntax) → FaultGives fault text (Ok s) → UnitReads text s
 fault_reads (Some e) text s g = absurd (cc (g))
 fault_reads None text s (tokens, reads, g) = text_reads (has_high tokens) text s g
 

@@ -8,3 +8,4 @@ pub mod Taken
 pub mod Commands
 pub mod Reading
 pub mod Nonvolatile
+pub mod Rows

@@ -14,6 +14,13 @@ first_letter [] = 0
 first_letter ([] ∷ words) = 0
 first_letter ((x ∷ word) ∷ words) = capital x
 
+-- the second one
+abbrev pub second_letter : List (List ℕ) → ℕ
+second_letter [] = 0
+second_letter ([] ∷ words) = 0
+second_letter ((x ∷ []) ∷ words) = 0
+second_letter ((x ∷ y ∷ word) ∷ words) = capital y
+
 -- a mnemonic begins with a capital, and with another than this letter
 abbrev pub begins_apart : ℕ → List ℕ → Bool
 begins_apart letter [] = false

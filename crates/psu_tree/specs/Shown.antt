@@ -1,6 +1,6 @@
 -- The table as the code has it.
-use Rattle.std.specs.Prelude.{ℕ, Bool, false, ◌&&◌, ◌||◌, List, [], ◌∷◌, ◌++◌, map, find, Option}
-use Rattle.psu_tree.specs.Headers.{Mnemonic, Entry, fits, names}
+use Rattle.std.specs.Prelude.{ℕ, Bool, false, true, ◌==◌, ◌&&◌, ◌||◌, not, List, [], ◌∷◌, ◌++◌, map, find, Option}
+use Rattle.psu_tree.specs.Headers.{Mnemonic, Entry, fits, is_numbered, is_small, names}
 use Rattle.psu_tree.specs.Nonvolatile.{keeping_of}
 use Rattle.psu_tree.specs.declared.node.Node.{Node}
 use Rattle.psu_tree.specs.declared.row.Row.{Row}
@@ -16,6 +16,18 @@ entry root row = record { nodes = mnemonic root ∷ map mnemonic row.nodes.now; 
 abbrev pub entries : List Section → List Entry
 entries [] = []
 entries (section ∷ sections) = map (entry section.root) section.rows.now ++ entries sections
+
+-- a node begins with these two letters, in capitals; 0 is none
+abbrev pub begins_with : ℕ → ℕ → Bool → List ℕ → Bool
+begins_with first second numbered [] = false
+begins_with first second numbered (x ∷ []) = (not (is_small x) && not numbered) && (x == first && 0 == second)
+begins_with first second numbered (x ∷ y ∷ name) = (not (is_small x) && not (is_small y)) && (x == first && y == second)
+
+-- each section's node does with those that the section has
+abbrev pub each_begins : List Section → Bool
+each_begins [] = true
+each_begins (section ∷ sections) =
+    begins_with section.first section.second (is_numbered section.root.kind) section.root.name.now && each_begins sections
 
 -- the words match the nodes behind a first one, which the first of them names, or which may be left out
 abbrev pub fits_behind : Bool → Bool → List Node → List (List ℕ) → Bool

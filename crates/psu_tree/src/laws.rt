@@ -4,9 +4,11 @@ ghost use Rattle.psu_lex.specs.Message.{Part};
 ghost use Rattle.psu_lex.specs.declared.scpi_error.ScpiError.{ScpiError};
 ghost use Rattle.psu_tree.specs.Headers.{Matches, Mnemonic, fits};
 ghost use Rattle.psu_tree.specs.Reading.{Reads};
+ghost use Rattle.psu_tree.specs.Rows.{EachIsAskedByItsHeaders, HaveNoHeaderInCommon, HaveOneNumber};
+ghost use Rattle.psu_tree.specs.Table.{table};
 ghost use Rattle.psu_tree.specs.declared.command.Command.{Command};
 
-use psu_lex::{
+use psu_lex::laws::{
     every_unit_has_a_syntax, one_content_of_a_datum, one_content_of_a_string, one_header_of_a_text,
     one_number_of_a_text, one_syntax_of_a_unit,
 };
@@ -33,4 +35,19 @@ pub fn every_unit_reads()
 /// node left a form of the word in its place.
 pub fn a_row_fits_where_it_matches()
     ensures { (nodes : List Mnemonic) (words : List (List ℕ)) → (fits nodes words ≡ true) ↔ Matches nodes words }
+{}
+
+/// No header matches two rows of the table.
+pub fn no_header_of_two_rows()
+    ensures { HaveNoHeaderInCommon table }
+{}
+
+/// A header that matches a row asks for what that row says, wherever it stands in the table.
+pub fn a_header_asks_for_its_row()
+    ensures { EachIsAskedByItsHeaders table }
+{}
+
+/// A header that matches a row of the table has one number at most, that of the row's `<n>`.
+pub fn one_number_of_a_header()
+    ensures { HaveOneNumber table }
 {}

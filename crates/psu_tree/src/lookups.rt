@@ -1,9 +1,9 @@
 // The row of a header. A row whose first letter is another than the header's is passed over.
-ghost use Rattle.std.specs.Prelude.{◌≡◌, map, if◌then◌else◌};
+ghost use Rattle.std.specs.Prelude.{◌≡◌, ◌==◌, ◌&&◌, not, true, false, map, if◌then◌else◌};
 ghost use Rattle.std.specs.Option.{option_copied};
 ghost use Rattle.psu_tree.specs.Headers.{asked, fits, in_brackets};
-ghost use Rattle.psu_tree.specs.Scans.{begins_apart, first_letter, is_apart, rows_apart};
-ghost use Rattle.psu_tree.specs.Shown.{entries, mnemonic, named_of, row_at, row_behind, row_either};
+ghost use Rattle.psu_tree.specs.Scans.{begins_apart, first_letter, is_apart, rows_apart, second_letter};
+ghost use Rattle.psu_tree.specs.Shown.{each_begins, entries, mnemonic, named_of, row_at, row_behind, row_either};
 ghost use Rattle.psu_tree.specs.Table.{table};
 
 use crate::walks::{capital, is_named, is_small, may_miss, patterns, walk};
@@ -17,6 +17,22 @@ fn first_letter(words: &[&[u8]]) -> u8
         return 0;
     };
     let Some((letter, _)) = word.split_first() else {
+        return 0;
+    };
+    capital(*letter)
+}
+
+// The second letter of the words.
+fn second_letter(words: &[&[u8]]) -> u8
+    ensures { result ≡ second_letter (map (λ word. word.now) words.now) }
+{
+    let Some((word, _)) = words.split_first() else {
+        return 0;
+    };
+    let Some((_, letters)) = word.split_first() else {
+        return 0;
+    };
+    let Some((letter, _)) = letters.split_first() else {
         return 0;
     };
     capital(*letter)
@@ -94,12 +110,12 @@ fn row_either<'a>(letter: u8, rows: &'a [Row], words: &[&[u8]], later: &[&[u8]])
     None
 }
 
-// Whether the first word names the root.
-fn is_named_first(letter: u8, root: &Node, words: &[&[u8]]) -> bool
-    requires { letter ≡ first_letter (map (λ word. word.now) words.now) }
+// Whether the first word names the root, where it begins with its letters.
+fn is_named_first(begins: bool, root: &Node, words: &[&[u8]]) -> bool
+    requires { begins ≡ false → named_of root.now (map (λ word. word.now) words.now) ≡ false }
     ensures { result ≡ named_of root.now (map (λ word. word.now) words.now) }
 {
-    if begins_apart(letter, root.name.as_bytes()) {
+    if !begins {
         return false;
     }
     let Some((word, _)) = words.split_first() else {
@@ -109,12 +125,13 @@ fn is_named_first(letter: u8, root: &Node, words: &[&[u8]]) -> bool
 }
 
 // The first of a section's rows that the words match.
-fn row_in<'a>(letter: u8, section: &'a Section, words: &[&[u8]]) -> Option<&'a Row>
-    requires { letter ≡ first_letter (map (λ word. word.now) words.now) }
+fn row_in<'a>(letter: u8, begins: bool, section: &'a Section, words: &[&[u8]]) -> Option<&'a Row>
+    requires letter { letter ≡ first_letter (map (λ word. word.now) words.now) }
+    requires named { begins ≡ false → named_of section.now.root (map (λ word. word.now) words.now) ≡ false }
     ensures { option_copied result ≡ row_behind (named_of section.now.root (map (λ word. word.now) words.now)) (in_brackets section.now.root.kind) section.now.rows.now (map (λ word. word.now) words.now) }
 {
     let missing = may_miss(section.root.kind);
-    if !is_named_first(letter, &section.root, words) {
+    if !is_named_first(begins, &section.root, words) {
         return if missing {
             row_at(letter, section.rows, words)
         } else {
@@ -138,18 +155,37 @@ fn asked_by(row: &Row, asks: bool) -> Option<Form>
     if asks { row.query } else { row.command }
 }
 
+// Whether a section is passed over by words that begin with its letters, or do not.
+#[inline(always)]
+fn is_passed(begins: bool, section: &Section) -> bool
+    ensures { result ≡ (not begins && not (in_brackets section.now.root.kind)) }
+{
+    !begins && !may_miss(section.root.kind)
+}
+
+// Whether these are the letters that a section's node begins with.
+#[inline(always)]
+fn has_letters(section: &Section, first: u8, second: u8) -> bool
+    ensures { result ≡ (section.now.first == first && section.now.second == second) }
+{
+    section.first == first && section.second == second
+}
+
 // What the first row asks for that the words match.
 fn form_in(sections: &[Section], words: &[&[u8]], asks: bool) -> Option<Form>
+    requires { each_begins sections.now ≡ true }
     ensures { result ≡ asked (entries sections.now) (map (λ word. word.now) words.now) asks }
 {
-    let letter = first_letter(words);
+    let first = first_letter(words);
+    let second = second_letter(words);
     let mut rest = sections;
     'sections: while let Some((section, others)) = rest.split_first() {
         rest = others;
-        if is_apart(letter, &section.root) {
+        let begins = has_letters(section, first, second);
+        if is_passed(begins, section) {
             continue;
         }
-        if let Some(row) = row_in(letter, section, words) {
+        if let Some(row) = row_in(first, begins, section, words) {
             return asked_by(row, asks);
         }
     }

@@ -74,11 +74,11 @@ fn read_parts<'a>(
 pub fn read_unit<'a>(path: &Path<'a>, unit: &Unit<'a>) -> Result<Command<'a>, ScpiError>
     ensures { Reads path.now (part unit.now) result }
 {
-    match syntax(unit) {
-        Err(error) => Err(error),
+    match &syntax(unit) {
+        Err(error) => Err(*error),
         Ok(parts) => {
             let mut words = ArrayVec::new();
-            read_parts(&mut words, path, &parts)
+            read_parts(&mut words, path, parts)
         }
     }
 }
@@ -119,21 +119,22 @@ pub fn request<'a>(path: &mut Path<'a>, unit: &Unit<'a>, inside: bool) -> Reques
     ensures call { Calls (part unit.now) result.call }
     ensures inside { result.inside ≡ inside }
 {
-    let parts = match syntax(unit) {
+    let given = &syntax(unit);
+    let parts = match given {
         Ok(parts) => parts,
         Err(error) => return Request {
             call: None,
-            reading: Err(error),
+            reading: Err(*error),
             inside,
         },
     };
     let mut words = ArrayVec::new();
-    let reading = read_parts(&mut words, path, &parts);
+    let reading = read_parts(&mut words, path, parts);
     if reading.is_ok() {
         move_path(path, words, parts.header.mark);
     }
     Request {
-        call: call_of(&parts),
+        call: call_of(parts),
         reading,
         inside,
     }

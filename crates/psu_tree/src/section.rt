@@ -4,6 +4,10 @@ use crate::{Node, Row};
 /// The rows whose headers begin with one node.
 #[derive(Clone, Copy, Debug)]
 pub struct Section {
+    /// The first letter of its mnemonic.
+    pub first: u8,
+    /// The second one, 0 where there is none: a header that begins with other letters is passed over.
+    pub second: u8,
     pub root: Node,
     pub rows: &'static [Row],
 }

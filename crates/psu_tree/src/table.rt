@@ -113,38 +113,56 @@ const SOURCE: [Row; 6] = [
 /// last, since their rows are tried for each header that came so far.
 pub static PATTERNS: [Section; 9] = [
     Section {
+        first: b'*',
+        second: 0,
         root: node!(*),
         rows: &COMMON,
     },
     Section {
+        first: b'S',
+        second: b'Y',
         root: node!(SYSTem),
         rows: &SYSTEM,
     },
     Section {
+        first: b'S',
+        second: b'T',
         root: node!(STATus),
         rows: &STATUS,
     },
     Section {
+        first: b'O',
+        second: b'U',
         root: node!(OUTPut <n>),
         rows: &OUTPUT,
     },
     Section {
+        first: b'M',
+        second: b'E',
         root: node!(MEASure <n>),
         rows: &MEASURE,
     },
     Section {
+        first: b'S',
+        second: b'I',
         root: node!(SIMulation),
         rows: &SIMULATION,
     },
     Section {
+        first: b'D',
+        second: b'I',
         root: node!(DIAGnostic),
         rows: &DIAGNOSTIC,
     },
     Section {
+        first: b'M',
+        second: b'M',
         root: node!(MMEMory),
         rows: &MEMORY,
     },
     Section {
+        first: b'S',
+        second: b'O',
         root: node!([SOURce<n>:]),
         rows: &SOURCE,
     },

@@ -1,9 +1,9 @@
 // Headers against the table.
-ghost use Rattle.std.specs.Prelude.{◌≡◌, ◌≤◌, length, map, IsTrue, ◌↔◌};
+ghost use Rattle.std.specs.Prelude.{◌≡◌, ◌≤◌, [], length, map, true, IsTrue, ◌↔◌};
 ghost use Rattle.psu_tree.specs.Headers.{Matches, capital, fits, in_brackets, is_form, is_numbered, is_small, names, same_letters, stem};
 ghost use Rattle.psu_tree.specs.Scans.{digit_before};
 ghost use Rattle.psu_tree.specs.Reading.{digits_of};
-ghost use Rattle.psu_tree.specs.Shown.{entries, mnemonic};
+ghost use Rattle.psu_tree.specs.Shown.{each_begins, entries, mnemonic};
 ghost use Rattle.psu_tree.specs.Table.{table};
 
 use crate::table::PATTERNS;
@@ -11,7 +11,8 @@ use crate::{Kind, Node, Section};
 
 /// The table of commands.
 pub fn patterns() -> &'static [Section]
-    ensures { entries result.now ≡ table }
+    ensures rows { entries result.now ≡ table }
+    ensures letters { each_begins result.now ≡ true }
 {
     &PATTERNS
 }
@@ -46,23 +47,32 @@ pub fn is_same(name: &[u8], word: &[u8]) -> bool
     is_same(letters, others)
 }
 
+// Whether a word that is not longer than a mnemonic is its short or its long form.
+fn is_form_within(name: &[u8], word: &[u8]) -> bool
+    requires { length word.now ≤ length name.now }
+    ensures { result ≡ is_form name.now word.now }
+{
+    let Some((other, others)) = word.split_first() else {
+        return name.is_empty() || is_small(name[0]);
+    };
+    let letter = name[0];
+    if is_small(letter) {
+        return is_same(name, word);
+    }
+    if letter != *other && letter != capital(*other) {
+        return false;
+    }
+    is_form_within(&name[1..], others)
+}
+
 // Whether a word is the short or the long form of a mnemonic.
 fn is_form(name: &[u8], word: &[u8]) -> bool
     ensures { result ≡ is_form name.now word.now }
 {
-    let Some((letter, letters)) = name.split_first() else {
-        return word.is_empty();
-    };
-    let Some((other, others)) = word.split_first() else {
-        return is_small(*letter);
-    };
-    if is_small(*letter) {
-        return is_same(name, word);
-    }
-    if *letter != capital(*other) {
+    if word.len() > name.len() {
         return false;
     }
-    is_form(letters, others)
+    is_form_within(name, word)
 }
 
 // Whether a digit stands before a place.
@@ -127,6 +137,25 @@ pub fn is_named(node: &Node, word: &[u8]) -> bool
     is_form(node.name.as_bytes(), form)
 }
 
+// Whether all of the nodes may be left out.
+fn may_miss_all(nodes: &[Node]) -> bool
+    ensures { result ≡ fits (map mnemonic nodes.now) [] }
+{
+    for node in nodes {
+        if !may_miss(node.kind) {
+            return false;
+        }
+    }
+    true
+}
+
+// Whether a last word names the node, and those behind it may be left out.
+fn is_last(node: &Node, later: &[Node], word: &[u8], others: &[&[u8]]) -> bool
+    ensures { result ≡ true → (names (mnemonic node.now) word.now ≡ true) × (fits (map mnemonic later.now) (map (λ word. word.now) others.now) ≡ true) }
+{
+    others.is_empty() && is_named(node, word) && may_miss_all(later)
+}
+
 /// Whether leaving out some bracketed nodes makes each node left a form of the word in its place.
 pub fn walk(nodes: &[Node], words: &[&[u8]]) -> bool
     ensures exact { result ≡ fits (map mnemonic nodes.now) (map (λ word. word.now) words.now) }
@@ -136,6 +165,9 @@ pub fn walk(nodes: &[Node], words: &[&[u8]]) -> bool
         return words.is_empty();
     };
     if let Some((word, others)) = words.split_first() {
+        if is_last(node, later, word, others) {
+            return true;
+        }
         if is_named(node, word) && walk(later, others) {
             return true;
         }

@@ -50,6 +50,9 @@ fn add_path<'a>(words: &mut Words<'a>, path: &Path<'a>)
     requires { words.old.items ≡ [] }
     ensures { map (λ word. word.now) words.new.items ≡ path.now }
 {
+    if path.words.is_empty() {
+        return;
+    }
     let _ = words.try_extend_from_slice(path.words.as_slice());
 }
 

@@ -3,7 +3,7 @@ use Rattle.psu_lex.proofs.UnitParts.{given_fault, given_high, given_cut}
 use Rattle.psu_lex.proofs.syntaxes.syntax.Goals as goal
 
 pub returns-in-Some : goal.returns-in-Some
-returns-in-Some c = given_fault c.args.unit.now.fault c.args.unit.now.text.now c.in-Some.fault c.in-Some.is
+returns-in-Some c = given_fault c.args.unit.now.fault c.args.unit.now.text.now c.in-Some.fault c.error.result c.in-Some.is c.error.ensures
 
 pub returns-then-has_high : goal.returns-then-has_high
 returns-then-has_high c =

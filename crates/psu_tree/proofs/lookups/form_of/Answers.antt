@@ -6,4 +6,4 @@ use Rattle.psu_tree.proofs.lookups.form_of.Goals as goal
 pub returns : goal.returns
 returns c =
     c.form_in.ensures
-    ∙ ap (λ (t : List Entry). asked t (map (λ (word : Bor (List ℕ)). word.now) c.args.words.now) c.args.asks) c.patterns.ensures
+    ∙ ap (λ (t : List Entry). asked t (map (λ (word : Bor (List ℕ)). word.now) c.args.words.now) c.args.asks) c.patterns.ensures.rows

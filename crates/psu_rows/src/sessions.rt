@@ -1,6 +1,6 @@
 // Messages of a session.
-use super::{Told, bare, executes, first, is_sent, joined, sends, tell};
-use crate::{Action, FatalCode, First, SessionCore, Side};
+use crate::frames::{Told, bare, executes, first, is_sent, joined, sends, tell};
+use psu_hislip::{Action, FatalCode, First, SessionCore, Side};
 use std::alloc::Global;
 
 // The session ends with this code.

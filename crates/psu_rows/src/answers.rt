@@ -1,6 +1,6 @@
 // A command, its answer, and the sizes of answers.
-use super::{bare, executes, joined, sends, tell};
-use crate::{Action, Channel, Message, SessionCore, Side};
+use crate::frames::{bare, executes, joined, sends, tell};
+use psu_hislip::{Action, Channel, Message, SessionCore, Side};
 use std::alloc::Global;
 
 // A core that has been told the greatest message of its client.

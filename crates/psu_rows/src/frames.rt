@@ -1,37 +1,33 @@
-// Frames and sessions by the bytes of the profile's table; expected values by its rules.
-use crate::{Action, Channel, First, SessionCore, Side};
+// What the tests of frames and sessions share: messages by the bytes of the profile's table.
+use psu_hislip::{Action, Channel, First, SessionCore, Side};
 use std::alloc::Global;
 
-mod answers;
-mod sessions;
-mod streams;
-
 /// What a message asked for.
-type Told = Option<Vec<Action<Global>>>;
+pub type Told = Option<Vec<Action<Global>>>;
 
-// A message without parameter and payload.
-fn bare(kind: u8, control: u8) -> [u8; 16] {
+/// A message without parameter and payload.
+pub fn bare(kind: u8, control: u8) -> [u8; 16] {
     [
         0x48, 0x53, kind, control, 0, 0, 0, 0, 0, 0, 0, 0, 0, 0, 0, 0,
     ]
 }
 
-// The first message of a stream, on one of the channels.
-fn tell(alloc: Global, core: &mut SessionCore<Global>, side: Side, stream: &[u8]) -> Told {
+/// The first message of a stream, on one of the channels.
+pub fn tell(alloc: Global, core: &mut SessionCore<Global>, side: Side, stream: &[u8]) -> Told {
     let mut channel = Channel::new(alloc);
     let messages = channel.feed(stream).ok()?;
     core.on(side, messages.first()?).ok()
 }
 
-// The first message of a connection.
-fn first(alloc: Global, stream: &[u8]) -> Option<First> {
+/// The first message of a connection.
+pub fn first(alloc: Global, stream: &[u8]) -> Option<First> {
     let mut channel = Channel::new(alloc);
     let messages = channel.feed(stream).ok()?;
     Some(First::of(messages.first()?))
 }
 
-// Session 1, joined.
-fn joined(alloc: Global) -> Option<SessionCore<Global>> {
+/// Session 1, joined.
+pub fn joined(alloc: Global) -> Option<SessionCore<Global>> {
     let mut core = SessionCore::new(alloc, 1);
     let mut join = bare(17, 0);
     join[7] = 1;
@@ -45,23 +41,24 @@ fn joined(alloc: Global) -> Option<SessionCore<Global>> {
     Some(core)
 }
 
-fn is_sent(action: Option<&Action<Global>>, side: Side, bytes: &[u8]) -> bool {
+/// Whether an action sends these bytes.
+pub fn is_sent(action: Option<&Action<Global>>, side: Side, bytes: &[u8]) -> bool {
     match action {
         Some(Action::Send(to, sent)) => *to == side && sent.as_slice() == bytes,
         _ => false,
     }
 }
 
-// One message is sent, and nothing else is asked for.
-fn sends(told: &Told, side: Side, bytes: &[u8]) -> bool {
+/// One message is sent, and nothing else is asked for.
+pub fn sends(told: &Told, side: Side, bytes: &[u8]) -> bool {
     match told {
         Some(actions) => actions.len() == 1 && is_sent(actions.first(), side, bytes),
         None => false,
     }
 }
 
-// The last thing asked for, which is the one where `count` is 1.
-fn executes(told: &Told, count: usize, number: u32, text: &[u8]) -> bool {
+/// The last thing asked for, which is the one where `count` is 1.
+pub fn executes(told: &Told, count: usize, number: u32, text: &[u8]) -> bool {
     match told {
         Some(actions) => match actions.last() {
             Some(Action::Execute(id, bytes)) => actions.len() == count

@@ -1,6 +1,6 @@
 // Streams of messages.
-use super::{bare, first, joined, sends, tell};
-use crate::{Channel, FatalCode, First, Header, Message, MessageType, SessionCore, Side};
+use crate::frames::{bare, first, joined, sends, tell};
+use psu_hislip::{Channel, FatalCode, First, Header, Message, MessageType, SessionCore, Side};
 
 /// Initialize with the payload `hislip0`.
 const INITIALIZE: &[u8] =

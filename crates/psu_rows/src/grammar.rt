@@ -1,9 +1,10 @@
 // The worked examples of the grammar; expected values by its rules.
-use crate::{
-    DatumClass, ScpiError, Unit, block, definite, expand, fixed3, number, split, string, syntax,
+use psu_lex::{
+    DatumClass, ScpiError, Unit, UnitFault, block, definite, expand, fixed3, number, split, string,
+    syntax,
 };
 
-fn is_unit(unit: Unit<'_>, text: &[u8], first: bool, fault: Option<ScpiError>) -> bool {
+fn is_unit(unit: Unit<'_>, text: &[u8], first: bool, fault: Option<UnitFault>) -> bool {
     unit.text == text && unit.first == first && unit.fault == fault
 }
 
@@ -28,16 +29,16 @@ fn messages_are_cut_into_units(rt: HostRuntime) {
     if mixed.len() == 3 {
         assert!(rt; is_unit(mixed[0], b"VOLT 1", true, None));
         assert!(rt; is_unit(mixed[1], b"CURR 'a;b'", true, None));
-        let fault = Some(ScpiError::InvalidStringData);
+        let fault = Some(UnitFault::String);
         assert!(rt; is_unit(mixed[2], b"VO\"a;b\"LT;X", true, fault));
     }
 }
 
 #[test]
 fn faulty_strings_and_blocks_take_all_up_to_the_end(rt: HostRuntime) {
-    let string = Some(ScpiError::InvalidStringData);
-    let block = Some(ScpiError::InvalidBlockData);
-    let rows: [(&[u8], Option<ScpiError>); 8] = [
+    let string = Some(UnitFault::String);
+    let block = Some(UnitFault::Block);
+    let rows: [(&[u8], Option<UnitFault>); 8] = [
         (b"A 'b;C\nD", string),
         (b"A 'b' c;D", string),
         (b"A \"b'c;D", string),
@@ -325,7 +326,7 @@ fn faults_of_a_unit_come_in_order(rt: HostRuntime) {
     let faulty = Unit {
         text: b"A\xff 'b",
         first: true,
-        fault: Some(ScpiError::InvalidStringData),
+        fault: Some(UnitFault::String),
     };
     assert!(rt; syntax(&faulty).err() == Some(ScpiError::InvalidStringData));
 }
@@ -350,6 +351,24 @@ fn many_data_are_read_in_one_pass(rt: HostRuntime) {
     assert!(rt; syntax(&unit_of(&quotes)).is_ok());
 }
 
+#[test]
+fn many_strings_are_cut_in_one_pass(rt: HostRuntime) {
+    let mut strings = [b'"'; 65_535];
+    for at in 0..65_535 {
+        if at % 3 == 2 {
+            strings[at] = b',';
+        }
+    }
+    let Ok(units) = split(rt.alloc(), &strings) else {
+        panic!(rt; "out of memory");
+    };
+    let units = units.as_slice();
+    assert!(rt; units.len() == 1);
+    if units.len() == 1 {
+        assert!(rt; is_unit(units[0], &strings, true, None));
+    }
+}
+
 // Every beginning of a message reads in one way, and no beginning stops the program.
 #[test]
 fn beginnings_of_a_message_are_read(rt: HostRuntime) {
@@ -360,7 +379,7 @@ fn beginnings_of_a_message_are_read(rt: HostRuntime) {
         };
         for unit in units.as_slice() {
             let error = syntax(unit).err();
-            assert!(rt; unit.fault.is_none() || error == unit.fault);
+            assert!(rt; unit.fault.is_none() || error == unit.fault.map(|fault| fault.error()));
         }
     }
 }
