@@ -2,4 +2,5 @@ pub mod Names
 pub mod Contents
 pub mod Commands
 pub mod Costs
+pub mod Parts
 pub mod Views
