@@ -1,12 +1,11 @@
 -- The map of contents made in the order of its keys, part after part.
-use Rattle.std.proofs.Common.{◌≡◌, ℕ, zero, suc, ◌+◌, ◌<◌, ◌≤◌, Bool, true, false, cond, List, [], ◌∷◌, ◌++◌, length, get_or, take, map, Option, refl, sym, ◌∙◌, ap, subst, arith, append_assoc}
+use Rattle.std.proofs.Common.{◌≡◌, ℕ, zero, suc, ◌+◌, ◌<◌, ◌≤◌, List, [], ◌∷◌, ◌++◌, length, get_or, take, map, refl, sym, ◌∙◌, ap, subst, arith, append_assoc}
 use Rattle.std.specs.List.{AllByRecursion}
 use Rattle.std.proofs.Math.Seq.{take-suc, take-length}
 use Rattle.std.proofs.lemmas.List.{length-take-le}
 use Rattle.psu_items.specs.Map.{Item, item_of, Before, IsSorted}
 use Rattle.psu_outputs.specs.declared.output_settings.OutputSettings.{OutputSettings}
-use Rattle.psu_outputs.specs.Settings.{reset}
-use Rattle.psu_nv.specs.Contents.{Macro, Contents, IsContents, enables_items, register_items, registers_items, user_items, macros_items, file_item}
+use Rattle.psu_nv.specs.Contents.{Contents, enables_items, register_items, registers_items, user_items, macros_items, file_item}
 use Rattle.psu_nv.specs.Commands.{settings_at}
 use Rattle.psu_nv.proofs.Parts.{LedBelow, AllBelow, Below, all-append, all-map, below_key, enables_led, registers_below, registers_before, user_below, macros_below, files_before}
 
@@ -66,7 +65,7 @@ module _ (c : Contents) where
       subst (AllBelow 5) (ap (λ (l : List (List OutputSettings)). ((enables_items c.enables ++ registers_items 0 l) ++ user_items c.user) ++ macros_items c.macros) (take-length c.registers))
       (all-append (λ (i : Item). LedBelow 5 i.key) ((enables_items c.enables ++ registers_items 0 (take (length c.registers) c.registers)) ++ user_items c.user) (macros_items c.macros) (raise 4 5 _ (omega arith) (led_user (length c.registers))) (macros_below c.macros))
 
-taken_before : (files : List Item) (i : ℕ) (d : Item) → IsSorted files → i < length files → Below (let f = get_or files i d in f.key) (take i files)
+pub taken_before : (files : List Item) (i : ℕ) (d : Item) → IsSorted files → i < length files → Below (let f = get_or files i d in f.key) (take i files)
 taken_before [] i d sorted lt = absurd (omega (arith, lt))
 taken_before (f ∷ files) zero d sorted lt = tt
 taken_before (f ∷ files) (suc i) d sorted lt = (at_all files i sorted.0 (omega (arith, lt)), taken_before files i d sorted.1 (omega (arith, lt)))

@@ -1,15 +1,15 @@
 -- What is found under each key of the map that contents are kept as.
-use Rattle.std.proofs.Common.{◌≡◌, ℕ, zero, suc, ◌+◌, ◌<◌, ◌≤◌, inl, inr, Bool, true, false, cond, List, [], ◌∷◌, ◌++◌, length, get_or, map, Option, Some, None, refl, sym, ◌∙◌, ap, subst, bytes_eq, arith}
+use Rattle.std.proofs.Common.{◌≡◌, ℕ, zero, suc, ◌+◌, ◌<◌, ◌≤◌, Bool, true, false, cond, List, [], ◌∷◌, ◌++◌, map, Option, Some, None, refl, sym, ◌∙◌, ap, subst, bytes_eq, arith}
 use Rattle.std.specs.List.{AllByRecursion}
 use Rattle.psu_items.specs.Map.{Item, item_of, get, Before}
 use Rattle.psu_items.proofs.Keys.{same_true, before_not_same, after_not_same}
 use Rattle.psu_outputs.specs.declared.output_settings.OutputSettings.{OutputSettings}
-use Rattle.psu_outputs.specs.Settings.{reset, bytes_of}
-use Rattle.psu_nv.specs.Contents.{Macro, Contents, enables_items, register_items, registers_items, user_items, macros_items, macro_bytes, file_item, items_of}
+use Rattle.psu_outputs.specs.Settings.{bytes_of}
+use Rattle.psu_nv.specs.Contents.{Macro, Contents, enables_items, register_items, registers_items, user_items, macros_items, file_item, items_of}
 use Rattle.psu_nv.specs.Costs.{is_reset}
 use Rattle.psu_nv.specs.Commands.{settings_at}
 use Rattle.psu_nv.specs.Parts.{Part, Enables, Register, User, Macros, File, key_of, file_items, part_items, value_in}
-use Rattle.psu_nv.proofs.Parts.{AllBelow, AllFrom, LedBelow, LedFrom, before_led, before_number, IsFrom, registers_from, enables_led, registers_below, user_below, macros_below, from_macros, from_user, from_registers, files_led, all-map}
+use Rattle.psu_nv.proofs.Parts.{AllBelow, AllFrom, LedBelow, LedFrom, before_led, before_number, IsFrom, registers_from, enables_led, registers_below, user_below, from_macros, from_user, from_registers, files_led, all-map}
 
 -- the first that is there
 abbrev pub first : Option (List ℕ) → Option (List ℕ) → Option (List ℕ)
@@ -93,7 +93,7 @@ pub get_file : (files : List Item) (name : List ℕ) → get (map file_item file
 get_file [] name = refl
 get_file (f ∷ files) name = ap (λ (o : Option (List ℕ)). cond (bytes_eq f.key name) (Some f.value) o) (get_file files name)
 
-value_file : (name : List ℕ) (o : Option (List ℕ)) → value_in (file_items name o) ≡ o
+pub value_file : (name : List ℕ) (o : Option (List ℕ)) → value_in (file_items name o) ≡ o
 value_file name None = refl
 value_file name (Some v) = refl
 

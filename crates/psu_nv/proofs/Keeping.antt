@@ -69,20 +69,20 @@ label-push (m ∷ macros) new label none other = by_test (same_label m.label lab
     by_test true none rest = none
     by_test false none rest = rest none other
 
-not_first : (m : Macro) (macros : List Macro) (label : List ℕ) → has_label (m ∷ macros) label ≡ false → (same_label m.label label ≡ false) × (has_label macros label ≡ false)
+pub not_first : (m : Macro) (macros : List Macro) (label : List ℕ) → has_label (m ∷ macros) label ≡ false → (same_label m.label label ≡ false) × (has_label macros label ≡ false)
 not_first m macros label none = by_test (same_label m.label label) none
   where
     by_test : (b : Bool) → is_some (cond b (Some m.body) (body_at macros label)) ≡ false → (b ≡ false) × (has_label macros label ≡ false)
     by_test true none = absurd cc
     by_test false none = (refl, none)
 
-distinct-push : (macros : List Macro) (new : Macro) → HasDistinct macros → has_label macros new.label ≡ false → HasDistinct (macros ++ new ∷ [])
+pub distinct-push : (macros : List Macro) (new : Macro) → HasDistinct macros → has_label macros new.label ≡ false → HasDistinct (macros ++ new ∷ [])
 distinct-push [] new distinct none = (refl, tt)
 distinct-push (m ∷ macros) new distinct none =
     let parts = not_first m macros new.label none in
     (label-push macros new m.label distinct.0 (label_sym new.label m.label ∙ parts.0), distinct-push macros new distinct.1 parts.1)
 
-all-push : (P : Macro → Type 0) (macros : List Macro) (new : Macro) → AllByRecursion P macros → P new → AllByRecursion P (macros ++ new ∷ [])
+pub all-push : (P : Macro → Type 0) (macros : List Macro) (new : Macro) → AllByRecursion P macros → P new → AllByRecursion P (macros ++ new ∷ [])
 all-push P [] new all here = (here, tt)
 all-push P (m ∷ macros) new all here = (all.0, all-push P macros new all.1 here)
 

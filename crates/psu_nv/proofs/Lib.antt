@@ -5,3 +5,7 @@ pub mod Keeping
 pub mod Parts
 pub mod Gets
 pub mod Encoding
+pub mod MacroBytes
+pub mod Filed
+pub mod Kept
+pub mod Telling

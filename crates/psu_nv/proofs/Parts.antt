@@ -1,21 +1,16 @@
 -- The items of contents: their order, and what is found under each key.
-use Rattle.std.proofs.Common.{◌≡◌, ℕ, zero, suc, ◌+◌, ◌<◌, ◌≤◌, inl, inr, Bool, true, false, cond, List, [], ◌∷◌, ◌++◌, length, get_or, take, map, Option, Some, None, refl, sym, ◌∙◌, ap, subst, bytes_eq, arith, append_assoc}
-use Rattle.std.specs.Prelude.{option_map}
-use Rattle.std.specs.List.{flat_map, AllByRecursion}
+use Rattle.std.proofs.Common.{◌≡◌, ℕ, ◌+◌, ◌<◌, ◌≤◌, Bool, true, false, cond, List, [], ◌∷◌, ◌++◌, length, map, Option, Some, None, refl, sym, ap, subst, arith}
+use Rattle.std.specs.List.{AllByRecursion}
 use Rattle.std.specs.Ordering.{nat_cmp, ordering_then}
 use Rattle.std.specs.declared.cmp.Ordering.{Ordering}
 use Rattle.std.specs.declared.cmp.Ordering.TheVariants.{Less}
 use Rattle.std.specs.Cmp.{nat_cmp_is}
 use Rattle.std.specs.Cmp.Lexicographic.{slice_cmp}
-use Rattle.std.proofs.lemmas.Bool.{cases_Bool}
-use Rattle.psu_items.specs.Map.{Item, item_of, get, Before, IsSorted}
-use Rattle.psu_items.proofs.Keys.{same_true, before_not_same, after_not_same}
+use Rattle.psu_items.specs.Map.{Item, item_of, Before, IsSorted}
 use Rattle.psu_outputs.specs.declared.output_settings.OutputSettings.{OutputSettings}
-use Rattle.psu_outputs.specs.Settings.{reset, bytes_of}
-use Rattle.psu_nv.specs.Contents.{Macro, Contents, IsContents, enables_items, register_items, registers_items, user_items, macros_items, macro_bytes, file_item, items_of}
+use Rattle.psu_outputs.specs.Settings.{bytes_of}
+use Rattle.psu_nv.specs.Contents.{Macro, Contents, enables_items, register_items, registers_items, user_items, macros_items, file_item, items_of}
 use Rattle.psu_nv.specs.Costs.{is_reset}
-use Rattle.psu_nv.specs.Commands.{settings_at}
-use Rattle.psu_nv.specs.Parts.{Part, Enables, Register, User, Macros, File, key_of, file_items, part_items, value_in}
 
 -- # Order by the first byte
 

@@ -1,10 +1,19 @@
 // Laws over the definitions, which no code needs to run.
-ghost use Rattle.std.specs.Prelude.{◌≡◌};
-ghost use Rattle.psu_items.specs.Map.{get};
+ghost use Rattle.std.specs.Prelude.{◌≡◌, true};
+ghost use Rattle.psu_items.specs.Map.{get, IsSorted};
 ghost use Rattle.psu_nv.specs.Contents.{Contents as Kept, IsContents, items_of};
 ghost use Rattle.psu_nv.specs.Parts.{Part as Each, key_of, part_items, value_in};
+ghost use Rattle.psu_nv.specs.Decoding.{has_keys};
 
-/// What contents have of each part is what their map has at the key of this part.
-pub fn parts_are_of_the_whole()
-    ensures { (c : Kept) → (part : Each) → get (items_of c) (key_of part) ≡ value_in (part_items c part) }
+/// Contents with the same items are the same, so a map keeps all of them.
+pub fn items_tell_contents()
+    ensures { (a b : Kept) → IsContents a → IsContents b → items_of a ≡ items_of b → a ≡ b }
+{}
+
+/// The parts together are the whole: what contents have of each part is what their map has at the key of this part, and it has
+/// no keys but those of parts, in order.
+pub fn parts_are_the_whole()
+    ensures each { (c : Kept) → (part : Each) → get (items_of c) (key_of part) ≡ value_in (part_items c part) }
+    ensures keys { (c : Kept) → IsContents c → has_keys (items_of c) ≡ true }
+    ensures sorted { (c : Kept) → IsContents c → IsSorted (items_of c) }
 {}

@@ -1,4 +1,4 @@
-use Rattle.std.proofs.Common.{◌≡◌, ◌<◌, ◌∙◌, ◌∷◌, List, ℕ, sym, ap, subst, length, arith}
+use Rattle.std.proofs.Common.{◌<◌, ◌∙◌, ◌∷◌, List, ℕ, sym, ap, subst, length, arith}
 use Rattle.psu_items.specs.Map.{IsSorted}
 use Rattle.psu_nv.specs.Contents.{Contents}
 use Rattle.psu_nv.proofs.Encoding.{before_register, next_register, before_user, before_macros, before_file, next_file}
