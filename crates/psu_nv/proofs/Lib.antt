@@ -1,3 +1,4 @@
+pub mod Items
 pub mod Finding
 pub mod States
 pub mod Totals

@@ -10,6 +10,7 @@ ghost use Rattle.psu_nv.specs.Contents.{Macro, IsContents, contents_of, enables_
 ghost use Rattle.psu_nv.specs.Parts.{value_in};
 ghost use Rattle.psu_nv.specs.Decoding.{has_keys, IsKept, IsFault, files_in};
 
+use crate::files::Files;
 use crate::keys::{files_of, fit_files, has_keys};
 use crate::written::{WrittenMacros, macros_of};
 use crate::{Contents, DecodeFault, UserData};
@@ -85,7 +86,7 @@ fn build<A: Allocator + Copy>(
         user: read.user.copy(),
         macros,
         enables: read.enables,
-        files: files_of(alloc, items)?,
+        files: Files::of(files_of(alloc, items)?),
     })
 }
 

@@ -13,6 +13,7 @@ mod encode;
 mod file;
 mod file_bytes;
 mod file_kind;
+mod files;
 mod found;
 mod keys;
 mod laws;
