@@ -116,17 +116,17 @@ contents_files c is =
 
 -- # The part that a key leads to
 
-abbrev IsPart : Part → Type 0
+abbrev pub IsPart : Part → Type 0
 IsPart Enables = Unit {0}
 IsPart (Register number) = number < 10
 IsPart User = Unit {0}
 IsPart Macros = Unit {0}
 IsPart (File name) = Unit {0}
 
-record PartAt (key : List ℕ) : Type 0 where
-  part : Part
-  key_is : key ≡ key_of part
-  is : IsPart part
+pub record PartAt (key : List ℕ) : Type 0 where
+  pub part : Part
+  pub key_is : key ≡ key_of part
+  pub is : IsPart part
 
 nothing_is : (bytes : List ℕ) → is_nothing bytes ≡ true → bytes ≡ []
 nothing_is [] is = refl
@@ -141,7 +141,7 @@ number_is (number ∷ bytes) is =
     low : (n : ℕ) → nat_le n 9 ≡ true → n < 10
     low n test = grind (arith, nat_tests)
 
-part_at : (key : List ℕ) → is_key key ≡ true → PartAt key
+pub part_at : (key : List ℕ) → is_key key ≡ true → PartAt key
 part_at [] is = absurd cc
 part_at (kind ∷ bytes) is = by_two (kind == 2) refl is
   where
@@ -183,7 +183,7 @@ part_at (kind ∷ bytes) is = by_two (kind == 2) refl is
     by_two false e is = by_five (kind == 5) refl e is
 
 -- a key that contents can't have isn't in a map that has their keys
-get_bad : (items : List Item) (key : List ℕ) → has_keys items ≡ true → is_key key ≡ false → get items key ≡ None
+pub get_bad : (items : List Item) (key : List ℕ) → has_keys items ≡ true → is_key key ≡ false → get items key ≡ None
 get_bad [] key keys bad = refl
 get_bad (i ∷ items) key keys bad =
     let p = both (is_key i.key) (has_keys items) keys in

@@ -10,3 +10,4 @@ pub mod MacroBytes
 pub mod Filed
 pub mod Kept
 pub mod Telling
+pub mod Edits

@@ -1,5 +1,5 @@
 -- The parts that contents are kept as, each the value of a key of the map.
-use Rattle.std.specs.Prelude.{ℕ, Option, Some, None, List, [], ◌∷◌}
+use Rattle.std.specs.Prelude.{◌≡◌, ◌⊎◌, ℕ, Option, Some, None, List, [], ◌∷◌}
 use Rattle.psu_items.specs.Map.{Item, item_of, get}
 use Rattle.psu_items.specs.Batch.{Edit}
 use Rattle.psu_nv.specs.Contents.{Contents, enables_items, register_items, user_items, macros_items}
@@ -41,3 +41,12 @@ value_in (i ∷ items) = Some i.value
 -- the edit that makes a map have what contents have of a part
 abbrev pub edit_of : Contents → Part → Edit
 edit_of c part = record { key = key_of part; value = value_in (part_items c part) }
+
+-- a part is one of these
+abbrev pub IsAmong : Part → List Part → Type 0
+IsAmong part [] = ⊥
+IsAmong part (p ∷ parts) = (part ≡ p) ⊎ IsAmong part parts
+
+-- the contents differ in these parts at most
+abbrev pub DifferIn : List Part → Contents → Contents → Type 0
+DifferIn parts old new = (part : Part) → IsAmong part parts ⊎ (value_in (part_items old part) ≡ value_in (part_items new part))

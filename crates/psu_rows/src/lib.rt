@@ -2,6 +2,10 @@
 #![tactic(auto)]
 
 #[cfg(test)]
+mod contents;
+#[cfg(test)]
+mod decoding;
+#[cfg(test)]
 mod devices;
 #[cfg(test)]
 mod faults;
@@ -33,3 +37,5 @@ mod status;
 mod stores;
 #[cfg(test)]
 mod tree;
+#[cfg(test)]
+mod wants;
