@@ -28,9 +28,6 @@ registers-push q (suc r) (s ∷ registers) lt =
     ∙ sym (append_assoc (register_items q s) (registers_items (q + 1) (take r registers)) (register_items (q + suc r) (settings_at registers r)))
 
 module _ (c : Contents) where
-  pub so_far : ℕ → List Item
-  so_far r = enables_items c.enables ++ registers_items 0 (take r c.registers)
-
   pub before_register : (r k : ℕ) (items : List Item) → items ≡ enables_items c.enables ++ registers_items 0 (take r c.registers) → k ≡ r → r < length c.registers → Below (2 ∷ k ∷ []) items
   before_register r k items is same lt =
       subst (Below (2 ∷ k ∷ [])) (sym is) (all-append (λ (i : Item). Before i.key (2 ∷ k ∷ [])) (enables_items c.enables) (registers_items 0 (take r c.registers)) (below_key 2 (k ∷ []) (enables_items c.enables) (enables_led c.enables)) (registers_before 0 k (take r c.registers) (omega (arith, length-take-le r c.registers (omega (arith, lt)), same))))

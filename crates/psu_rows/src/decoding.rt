@@ -56,15 +56,23 @@ fn keys_that_no_contents_have(rt: HostRuntime) -> Result<(), Fail> {
     assert_eq!(rt; fault(alloc, &[4, 1], &[1, b'A', 0, 0])?, bad);
     assert_eq!(rt; fault(alloc, &[5], &[0])?, bad);
     assert_eq!(rt; fault(alloc, b"\x05a/b", &[0])?, bad);
-    let mut name = [b'A'; 34];
-    name[0] = 5;
-    assert_eq!(rt; fault(alloc, &name, &[0])?, bad);
-    assert_eq!(rt; fault(alloc, &name[..33], &[0])?, None);
     Ok(())
 }
 
 #[test]
-fn enables_and_registers(rt: HostRuntime) -> Result<(), Fail> {
+fn a_name_of_32_bytes(rt: HostRuntime) -> Result<(), Fail> {
+    let alloc = rt.alloc();
+    let mut longest = [b'A'; 33];
+    longest[0] = 5;
+    assert_eq!(rt; fault(alloc, &longest, &[0])?, None);
+    let mut longer = [b'A'; 34];
+    longer[0] = 5;
+    assert_eq!(rt; fault(alloc, &longer, &[0])?, Some(DecodeFault::BadKey));
+    Ok(())
+}
+
+#[test]
+fn enables(rt: HostRuntime) -> Result<(), Fail> {
     let alloc = rt.alloc();
     let bad = Some(DecodeFault::BadValue);
     assert_eq!(rt; fault(alloc, &[1], &[32, 128])?, None);
@@ -72,12 +80,19 @@ fn enables_and_registers(rt: HostRuntime) -> Result<(), Fail> {
     assert_eq!(rt; fault(alloc, &[1], &[32])?, bad);
     assert_eq!(rt; fault(alloc, &[1], &[32, 128, 0])?, bad);
     assert_eq!(rt; fault(alloc, &[1], &[96, 128])?, bad);
+    Ok(())
+}
+
+#[test]
+fn registers(rt: HostRuntime) -> Result<(), Fail> {
+    let alloc = rt.alloc();
     let most = settings([0xea, 0x60, 0x13, 0x88, 0xea, 0x60, 3]);
     assert_eq!(rt; fault(alloc, &[2, 9], &most)?, None);
-    assert_eq!(rt; fault(alloc, &[2, 9], &most[..27])?, bad);
-    let reset = settings([0, 0, 0, 0, 0xea, 0x60, 0]);
-    assert_eq!(rt; fault(alloc, &[2, 0], &reset)?, bad);
+    let bad = Some(DecodeFault::BadValue);
+    assert_eq!(rt; fault(alloc, &[2, 9], &[0; 27])?, bad);
+    assert_eq!(rt; fault(alloc, &[2, 9], &[0; 29])?, bad);
     for first in [
+        [0, 0, 0, 0, 0xea, 0x60, 0],
         [0xea, 0x61, 0, 0, 0, 0, 0],
         [0, 0, 0x13, 0x89, 0, 0, 0],
         [0, 0, 0, 0, 0xea, 0x61, 0],
