@@ -180,9 +180,8 @@ fn a_bad_key_comes_first(rt: HostRuntime) -> Result<(), Fail> {
     Ok(())
 }
 
-#[test]
-fn all_parts_together(rt: HostRuntime) -> Result<(), Fail> {
-    let alloc = rt.alloc();
+// A map of every kind of item, its keys in another order.
+fn whole(alloc: Global) -> Result<Items<Global>, AllocError> {
     let mut items = one(alloc, b"\x05B", &[2])?;
     items.insert([1].to_vec(alloc)?, [0, 8].to_vec(alloc)?)?;
     items.insert(b"\x05A".to_vec(alloc)?, b"\x00xyz".to_vec(alloc)?)?;
@@ -190,7 +189,13 @@ fn all_parts_together(rt: HostRuntime) -> Result<(), Fail> {
     items.insert([3].to_vec(alloc)?, [9].to_vec(alloc)?)?;
     let on = settings([0, 0, 0, 0, 0xea, 0x60, 2]);
     items.insert([2, 4].to_vec(alloc)?, on.to_vec(alloc)?)?;
-    let Ok(contents) = Contents::decode_items(alloc, &items) else {
+    Ok(items)
+}
+
+#[test]
+fn all_parts_together(rt: HostRuntime) -> Result<(), Fail> {
+    let items = whole(rt.alloc())?;
+    let Ok(contents) = Contents::decode_items(rt.alloc(), &items) else {
         return Err(Fail::from("refused"));
     };
     assert_eq!(rt; contents.enables(), Some((0, 8)));
@@ -202,9 +207,19 @@ fn all_parts_together(rt: HostRuntime) -> Result<(), Fail> {
         b"xyz".as_slice()
     );
     assert_eq!(rt; contents.cost(), items.cost());
-    let copy = contents.copy(alloc)?.encode_items(alloc)?;
-    assert_eq!(rt; copy.pairs().len(), 6);
-    for (a, b) in copy.pairs().iter().zip(items.pairs()) {
+    Ok(())
+}
+
+#[test]
+fn a_copy_is_encoded_to_the_same_map(rt: HostRuntime) -> Result<(), Fail> {
+    let items = whole(rt.alloc())?;
+    let Ok(contents) = Contents::decode_items(rt.alloc(), &items) else {
+        return Err(Fail::from("refused"));
+    };
+    let copy = contents.copy(rt.alloc())?;
+    let again = copy.encode_items(rt.alloc())?;
+    assert_eq!(rt; again.pairs().len(), 6);
+    for (a, b) in again.pairs().iter().zip(items.pairs()) {
         assert!(rt; a.key() == b.key() && a.value() == b.value());
     }
     Ok(())

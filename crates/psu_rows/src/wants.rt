@@ -25,7 +25,7 @@ fn arena_with(alloc: Global, left: usize) -> Result<Bump, Fail> {
 }
 
 // How a step with little memory ended.
-#[derive(Clone, Copy, PartialEq, Eq)]
+#[derive(Clone, Copy)]
 enum End {
     Done,
     Refused,
@@ -118,27 +118,59 @@ fn copied(alloc: Global, left: usize) -> Result<End, Fail> {
     })
 }
 
-#[test]
-fn each_allocation_of_contents_refused(rt: HostRuntime) -> Result<(), Fail> {
-    let mut done = 0u32;
-    let mut refused = 0u32;
-    for step in 0..100usize {
-        let left = step * 16;
-        for end in [
-            defined(rt.alloc(), left)?,
-            stored(rt.alloc(), left)?,
-            decoded(rt.alloc(), left)?,
-            encoded(rt.alloc(), left)?,
-            copied(rt.alloc(), left)?,
-        ] {
-            match end {
-                End::Done => done = done.saturating_add(1),
-                End::Refused => refused = refused.saturating_add(1),
-                End::Wrong => assert!(rt; false, "at {left} bytes"),
-            }
+// How many steps were done and how many refused; none where one was wrong.
+#[derive(Clone, Copy)]
+struct Ends {
+    done: u32,
+    refused: u32,
+}
+
+impl Ends {
+    // One more, unless it was wrong.
+    fn with(self, end: End) -> Option<Ends> {
+        match end {
+            End::Done => Some(Ends {
+                done: self.done.saturating_add(1),
+                refused: self.refused,
+            }),
+            End::Refused => Some(Ends {
+                done: self.done,
+                refused: self.refused.saturating_add(1),
+            }),
+            End::Wrong => None,
         }
     }
-    assert!(rt; refused > 40, "{refused} refused");
-    assert!(rt; done > 200, "{done} done");
+}
+
+#[test]
+fn each_allocation_of_a_change_refused(rt: HostRuntime) -> Result<(), Fail> {
+    let mut ends = Ends {
+        done: 0,
+        refused: 0,
+    };
+    for step in 0..60usize {
+        let left = step * 16;
+        ends = ends.with(defined(rt.alloc(), left)?).ok_or("a macro")?;
+        ends = ends.with(stored(rt.alloc(), left)?).ok_or("a file")?;
+    }
+    assert!(rt; ends.refused > 8, "{} refused", ends.refused);
+    assert!(rt; ends.done > 80, "{} done", ends.done);
+    Ok(())
+}
+
+#[test]
+fn each_allocation_of_a_map_refused(rt: HostRuntime) -> Result<(), Fail> {
+    let mut ends = Ends {
+        done: 0,
+        refused: 0,
+    };
+    for step in 0..100usize {
+        let left = step * 16;
+        ends = ends.with(decoded(rt.alloc(), left)?).ok_or("a decoding")?;
+        ends = ends.with(encoded(rt.alloc(), left)?).ok_or("an encoding")?;
+        ends = ends.with(copied(rt.alloc(), left)?).ok_or("a copy")?;
+    }
+    assert!(rt; ends.refused > 30, "{} refused", ends.refused);
+    assert!(rt; ends.done > 100, "{} done", ends.done);
     Ok(())
 }
