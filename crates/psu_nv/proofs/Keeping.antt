@@ -1,34 +1,16 @@
 -- What contents may be, kept over each change of a part.
-use Rattle.std.proofs.Common.{◌≡◌, inl, inr, ℕ, suc, ◌<◌, ◌≤◌, Bool, true, false, cond, List, [], ◌∷◌, ◌++◌, length, get_or, drop, take, Option, Some, None, refl, sym, ◌∙◌, ap, subst, bytes_eq, arith, length-append, drop-cons}
+use Rattle.std.proofs.Common.{◌≡◌, inl, inr, ℕ, suc, ◌<◌, ◌≤◌, Bool, true, false, cond, List, [], ◌∷◌, ◌++◌, length, get_or, drop, take, Option, Some, None, refl, sym, ◌∙◌, ap, subst, arith, length-append, drop-cons}
 use Rattle.std.specs.Prelude.{◌&&◌, is_some, ◌==◌, bit_and}
 use Rattle.std.specs.Option.{ForSome}
 use Rattle.std.specs.List.{AllByRecursion, remove}
 use Rattle.std.proofs.lemmas.Bool.{cases_eq}
 use Rattle.std.proofs.lemmas.Bool.Decides.{nat_tests}
-use Rattle.std.specs.Ordering.{nat_cmp, is_lt}
-use Rattle.std.specs.Cmp.Lexicographic.{slice_cmp}
 use Rattle.psu_items.specs.Map.{Item, item_of, put, without, IsSorted}
 use Rattle.psu_items.proofs.Maps.{sorted-put, sorted-without}
+use Rattle.psu_nv.proofs.Items.{all_put, all_without}
 use Rattle.psu_nv.specs.Names.{small, same_label, is_label}
 use Rattle.psu_nv.specs.Contents.{Macro, Contents, contents_of, body_at, has_label, HasDistinct, IsMacro, IsFile, IsContents}
 use Rattle.psu_nv.specs.Commands.{without_label, macro_of}
-
-pub all_put : (P : Item → Type 0) (items : List Item) (key value : List ℕ) → AllByRecursion P items → P (item_of key value) → AllByRecursion P (put items key value)
-all_put P [] key value all here = (here, tt)
-all_put P (i ∷ items) key value all here = by_tests (bytes_eq i.key key) (is_lt (slice_cmp nat_cmp i.key key)) (all_put P items key value all.1 here)
-  where
-    by_tests : (same less : Bool) → AllByRecursion P (put items key value) → AllByRecursion P (cond same (item_of key value ∷ items) (cond less (i ∷ put items key value) (item_of key value ∷ i ∷ items)))
-    by_tests true less rest = (here, all.1)
-    by_tests false true rest = (all.0, rest)
-    by_tests false false rest = (here, all)
-
-pub all_without : (P : Item → Type 0) (items : List Item) (key : List ℕ) → AllByRecursion P items → AllByRecursion P (without items key)
-all_without P [] key all = tt
-all_without P (i ∷ items) key all = by_test (bytes_eq i.key key) (all_without P items key all.1)
-  where
-    by_test : (same : Bool) → AllByRecursion P (without items key) → AllByRecursion P (cond same (without items key) (i ∷ without items key))
-    by_test true rest = rest
-    by_test false rest = (all.0, rest)
 
 with_files : (c : Contents) (files : List Item) → IsContents c → AllByRecursion IsFile files → IsSorted files → IsContents (contents_of c.registers c.user c.macros c.enables files)
 with_files c files is all sorted = record { ten = is.ten; settings = is.settings; user = is.user; macros = is.macros; distinct = is.distinct; most_macros = is.most_macros; mss = is.mss; files = all; sorted = sorted }
@@ -69,20 +51,20 @@ label-push (m ∷ macros) new label none other = by_test (same_label m.label lab
     by_test true none rest = none
     by_test false none rest = rest none other
 
-not_first : (m : Macro) (macros : List Macro) (label : List ℕ) → has_label (m ∷ macros) label ≡ false → (same_label m.label label ≡ false) × (has_label macros label ≡ false)
+pub not_first : (m : Macro) (macros : List Macro) (label : List ℕ) → has_label (m ∷ macros) label ≡ false → (same_label m.label label ≡ false) × (has_label macros label ≡ false)
 not_first m macros label none = by_test (same_label m.label label) none
   where
     by_test : (b : Bool) → is_some (cond b (Some m.body) (body_at macros label)) ≡ false → (b ≡ false) × (has_label macros label ≡ false)
     by_test true none = absurd cc
     by_test false none = (refl, none)
 
-distinct-push : (macros : List Macro) (new : Macro) → HasDistinct macros → has_label macros new.label ≡ false → HasDistinct (macros ++ new ∷ [])
+pub distinct-push : (macros : List Macro) (new : Macro) → HasDistinct macros → has_label macros new.label ≡ false → HasDistinct (macros ++ new ∷ [])
 distinct-push [] new distinct none = (refl, tt)
 distinct-push (m ∷ macros) new distinct none =
     let parts = not_first m macros new.label none in
     (label-push macros new m.label distinct.0 (label_sym new.label m.label ∙ parts.0), distinct-push macros new distinct.1 parts.1)
 
-all-push : (P : Macro → Type 0) (macros : List Macro) (new : Macro) → AllByRecursion P macros → P new → AllByRecursion P (macros ++ new ∷ [])
+pub all-push : (P : Macro → Type 0) (macros : List Macro) (new : Macro) → AllByRecursion P macros → P new → AllByRecursion P (macros ++ new ∷ [])
 all-push P [] new all here = (here, tt)
 all-push P (m ∷ macros) new all here = (all.0, all-push P macros new all.1 here)
 

@@ -1,4 +1,13 @@
+pub mod Items
 pub mod Finding
 pub mod States
 pub mod Totals
 pub mod Keeping
+pub mod Parts
+pub mod Gets
+pub mod Encoding
+pub mod MacroBytes
+pub mod Filed
+pub mod Kept
+pub mod Telling
+pub mod Edits

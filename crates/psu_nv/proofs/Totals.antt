@@ -14,11 +14,12 @@ use Rattle.psu_items.proofs.Maps.{get_before, all_after, get-put, sorted-put}
 use Rattle.psu_items.proofs.Keys.{same_key, after-tests}
 use Rattle.psu_nv.specs.Names.{is_label, is_label_byte, begins_with_letter, same_label}
 use Rattle.psu_nv.specs.Commands.{without_label, macro_of}
+use Rattle.psu_nv.proofs.Items.{all_put, all_without}
 use Rattle.psu_items.specs.Map.{Item, item_of, get, put, without, cost, IsSorted}
 use Rattle.psu_outputs.specs.declared.output_settings.OutputSettings.{OutputSettings}
 use Rattle.psu_outputs.specs.Settings.{AreSettings, bytes_of}
 use Rattle.psu_nv.specs.Contents.{Macro, Contents, IsMacro, body_at, has_label, enables_items, register_items, registers_items, user_items, macro_bytes, macros_items, file_item, items_of, cost_of}
-use Rattle.psu_nv.specs.Costs.{page_count, is_reset, registers_cost, macros_length, macros_cost, size_at, pages_of}
+use Rattle.psu_nv.specs.Costs.{page_count, is_reset, registers_cost, macros_length, macros_cost, size_at, pages_of, IsShort}
 
 pub cost-append : (a b : List Item) → cost (a ++ b) ≡ cost a + cost b
 cost-append [] b = omega arith
@@ -211,3 +212,24 @@ some_macro macros label has = omega (arith, length-without_label macros label ha
 pub parts_total : (c : Contents) (e r u m f total : ℕ) → AllByRecursion AreSettings c.registers → e ≡ cost (enables_items c.enables) → r ≡ registers_cost c.registers → u ≡ cost (user_items c.user) → m ≡ macros_cost c.macros → f ≡ cost c.files
     → total ≡ e + (r + (u + (m + f))) → total ≡ cost_of c
 parts_total c e r u m f total are ee er eu em ef is = omega (arith, parts_cost c are, ee, er, eu, em, ef, is)
+
+-- # Files with their total
+
+pub few_pages : (files : List Item) → AllByRecursion IsShort files → cost files ≤ 66 * length files
+few_pages [] short = omega arith
+few_pages (f ∷ files) short = omega (arith, few_pages files short.1, short.0)
+
+module _ (files : List Item) (name : List ℕ) (sorted : IsSorted files) (short : AllByRecursion IsShort files) (total had : ℕ) (total_is : total ≡ cost files) (had_is : had ≡ pages_of (get files name)) where
+  pub had_within : had ≤ total
+  had_within = omega (arith, cost-without files name sorted, had_is, total_is)
+
+  pub total_without : (after : List Item) (left : ℕ) → after ≡ without files name → left ≡ total - had → (left ≡ cost after) × AllByRecursion IsShort after
+  total_without after left is left_is =
+      let found : left ≡ cost (without files name) = omega (arith, cost-without files name sorted, had_is, total_is, left_is) in
+      (found ∙ ap cost (sym is), subst (AllByRecursion IsShort) (sym is) (all_without IsShort files name short))
+
+  pub total_with : (after : List Item) (key value : List ℕ) (page left : ℕ) → length value ≤ 32769 → key ≡ name → after ≡ put files key value → page ≡ page_count (length value) → left ≡ total + page - had → (left ≡ cost after) × AllByRecursion IsShort after
+  total_with after key value page left fits same is page_is left_is =
+      let put_is : after ≡ put files name value = is ∙ ap (λ (k : List ℕ). put files k value) same in
+      let found : left ≡ cost (put files name value) = omega (arith, cost-put files name value sorted, had_is, total_is, page_is, left_is) in
+      (found ∙ ap cost (sym put_is), subst (AllByRecursion IsShort) (sym put_is) (all_put IsShort files name value short fits))

@@ -1,6 +1,7 @@
 -- The cost of contents, part by part.
-use Rattle.std.specs.Prelude.{ℕ, ◌+◌, ◌/◌, Bool, Option, Some, None, if◌then◌else◌, List, [], ◌∷◌, length, sum_by}
+use Rattle.std.specs.Prelude.{ℕ, ◌+◌, ◌/◌, ◌≤◌, Bool, Option, Some, None, if◌then◌else◌, List, [], ◌∷◌, length, sum_by}
 use Rattle.std.specs.Str.{bytes_eq}
+use Rattle.psu_items.specs.Map.{Item}
 use Rattle.psu_outputs.specs.declared.output_settings.OutputSettings.{OutputSettings}
 use Rattle.psu_outputs.specs.Settings.{reset, bytes_of}
 use Rattle.psu_nv.specs.Names.{same_label}
@@ -35,3 +36,7 @@ size_at (m ∷ macros) label = if same_label m.label label then 3 + (length m.la
 abbrev pub pages_of : Option (List ℕ) → ℕ
 pages_of None = 0
 pages_of (Some value) = page_count (length value)
+
+-- a file is at most a type and 32,768 bytes
+abbrev pub IsShort : Item → Type 0
+IsShort file = length file.value ≤ 32769

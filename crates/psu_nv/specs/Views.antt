@@ -5,6 +5,9 @@ use Rattle.psu_nv.specs.declared.file_kind.FileKind.{FileKind}
 use Rattle.psu_nv.specs.declared.file_kind.FileKind.TheVariants.{Binary, State, Macro}
 use Rattle.psu_nv.specs.declared.command.NvCommand.{NvCommand}
 use Rattle.psu_nv.specs.declared.command.NvCommand.TheVariants as given
+use Rattle.psu_nv.specs.Parts as kept
+use Rattle.psu_nv.specs.declared.part.Part.{Part}
+use Rattle.psu_nv.specs.declared.part.Part.TheVariants as parts
 
 -- the byte of a file's type
 abbrev pub code_of : FileKind → ℕ
@@ -33,3 +36,11 @@ command_of (given.StoreState register name) = StoreState register.number name.no
 command_of (given.LoadState register name) = LoadState register.number name.now
 command_of (given.StoreMacro label name) = StoreMacro label.now name.now
 command_of (given.LoadMacro label name) = LoadMacro label.now name.now
+
+-- the part as data
+abbrev pub part_of : Part → kept.Part
+part_of parts.Enables = kept.Enables
+part_of (parts.Register register) = kept.Register register.number
+part_of parts.User = kept.User
+part_of parts.Macros = kept.Macros
+part_of (parts.File name) = kept.File name.now

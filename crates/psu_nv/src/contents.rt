@@ -4,9 +4,10 @@ ghost use Rattle.psu_items.specs.Map.{get};
 ghost use Rattle.psu_nv.specs.Contents.{fresh};
 ghost use Rattle.psu_nv.specs.Commands.{settings_at};
 
+use crate::files::Files;
 use crate::names::same_label;
 use crate::{Definition, File, FileKind, Register, UserData};
-use psu_items::{Items, Pair};
+use psu_items::Pair;
 use psu_outputs::Settings;
 use std::alloc::{AllocError, Allocator};
 use std::marker::Model;
@@ -20,7 +21,7 @@ pub struct Contents<A: Allocator + Copy> {
     pub(crate) user: UserData,
     pub(crate) macros: Vec<Definition<A>, A>,
     pub(crate) enables: Option<(u8, u8)>,
-    pub(crate) files: Items<A>,
+    pub(crate) files: Files<A>,
 }
 
 impl<A: Allocator + Copy> Model for Contents<A> {
@@ -44,7 +45,7 @@ impl<A: Allocator + Copy> Contents<A> {
             user: UserData::none(),
             macros: Vec::new(alloc),
             enables: None,
-            files: Items::new(alloc),
+            files: Files::new(alloc),
         }
     }
 

@@ -12,24 +12,13 @@ use crate::{Contents, Register};
 use std::alloc::Allocator;
 
 impl<A: Allocator + Copy> Contents<A> {
-    // The pages of what a name has.
-    fn pages_at(&self, name: &[u8]) -> u128
-        ensures value { result ≡ pages_of (get self.now.files name.now) }
-        ensures most { result < 2 ^ 121 }
-    {
-        match self.files.get(name) {
-            Some(value) => page_count(value.len() as u128),
-            None => 0,
-        }
-    }
-
     // The pages of the files with a value of so many bytes at a name.
     pub(crate) fn files_with(&self, name: &[u8], size: usize) -> u128
         requires { size < 2 ^ 40 }
         ensures value { (value : List ℕ) → length value ≡ size → result ≡ cost (put self.now.files name.now value) }
         ensures most { result < 2 ^ 125 }
     {
-        self.files.cost() + page_count(size as u128) - self.pages_at(name)
+        self.files.cost() + page_count(size as u128) - self.files.pages_at(name)
     }
 
     // The pages of the files with the settings of a register at a name.
@@ -55,7 +44,7 @@ impl<A: Allocator + Copy> Contents<A> {
         ensures value { result ≡ cost (without self.now.files name.now) }
         ensures most { result < 2 ^ 125 }
     {
-        self.files.cost() - self.pages_at(name)
+        self.files.cost() - self.files.pages_at(name)
     }
 
     // The bytes of the macros in their item.

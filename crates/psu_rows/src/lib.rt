@@ -4,6 +4,10 @@
 #[cfg(test)]
 mod answers;
 #[cfg(test)]
+mod contents;
+#[cfg(test)]
+mod decoding;
+#[cfg(test)]
 mod devices;
 #[cfg(test)]
 mod faults;
@@ -47,3 +51,5 @@ mod stores;
 mod streams;
 #[cfg(test)]
 mod tree;
+#[cfg(test)]
+mod wants;

@@ -1,0 +1,181 @@
+// Contents from the map that they are kept as.
+ghost use Rattle.std.specs.Prelude.{◌≡◌, ◌∷◌, [], ◌<◌, ◌≤◌, ◌++◌, List, ℕ, Option, true, length, slice_index_or, IfOk, IfErr, IfSome, IfNone, option_map, bit_and};
+ghost use Rattle.std.specs.Option.{ForSome};
+ghost use Rattle.std.specs.List.{AllByRecursion};
+ghost use Rattle.psu_outputs.specs.declared.output_settings.OutputSettings.{OutputSettings as Each};
+ghost use Rattle.psu_outputs.specs.Settings.{AreSettings, reset};
+ghost use Rattle.psu_items.specs.Map.{get};
+ghost use Rattle.psu_nv.specs.declared.decode_fault.DecodeFault.TheVariants.{BadValue};
+ghost use Rattle.psu_nv.specs.Contents.{Macro, IsContents, contents_of, enables_items, register_items, user_items, macros_items, items_of, IsMacro, HasDistinct};
+ghost use Rattle.psu_nv.specs.Parts.{value_in};
+ghost use Rattle.psu_nv.specs.Decoding.{has_keys, IsKept, IsFault, files_in};
+
+use crate::files::Files;
+use crate::keys::{files_of, fit_files, has_keys};
+use crate::written::{WrittenMacros, macros_of};
+use crate::{Contents, DecodeFault, UserData};
+use arrayvec::ArrayVec;
+use psu_items::Items;
+use psu_outputs::Settings;
+use std::alloc::{AllocError, Allocator};
+
+// What a map says of all parts but the files, read before memory is taken.
+#[derive(Drop)]
+struct Read<'a> {
+    enables: Option<(u8, u8)>,
+    registers: [Settings; 10],
+    user: UserData,
+    macros: WrittenMacros<'a>,
+}
+
+impl<A: Allocator + Copy> Contents<A> {
+    /// The contents that are kept as this map. It is refused where no contents have it: BadKey for a key that isn't one of theirs,
+    /// else BadValue. Memory is wanted only for the map of contents.
+    pub fn decode_items(alloc: A, items: &Items<A>) -> Result<Contents<A>, DecodeFault>
+        ensures items { IfOk result (λ contents. items_of contents ≡ items.now) }
+        ensures are { IfOk result IsContents }
+        ensures fault { IfErr result (IsFault items.now) }
+    {
+        if !has_keys(items.pairs()) {
+            return Err(DecodeFault::BadKey);
+        }
+        let read = parts_of(items)?;
+        Ok(build(alloc, &read, items)?)
+    }
+}
+
+// What a map says of the parts, if it is that of contents.
+fn parts_of<A: Allocator + Copy>(items: &Items<A>) -> Result<Read<'_>, DecodeFault>
+    requires { has_keys items.now ≡ true }
+    ensures are { IfOk result (λ r. IsContents (contents_of r.registers r.user r.macros.items r.enables (files_in items.now))) }
+    ensures items { IfOk result (λ r. items_of (contents_of r.registers r.user r.macros.items r.enables (files_in items.now)) ≡ items.now) }
+    ensures bad { IfErr result (λ e. e ≡ BadValue) }
+    ensures none { IfErr result (λ e. IsKept items.now → ⊥) }
+{
+    let enables = enables_in(items.get(&[1]))?;
+    let registers = registers_in(items)?;
+    let user = user_in(items.get(&[3]))?;
+    let macros = macros_in(items.get(&[4]))?;
+    if !fit_files(items.pairs()) {
+        return Err(DecodeFault::BadValue);
+    }
+    Ok(Read {
+        enables,
+        registers,
+        user,
+        macros,
+    })
+}
+
+// The contents of what was read.
+fn build<A: Allocator + Copy>(
+    alloc: A,
+    read: &Read<'_>,
+    items: &Items<A>,
+) -> Result<Contents<A>, AllocError>
+    requires { IsContents (contents_of read.now.registers read.now.user read.now.macros.items read.now.enables (files_in items.now)) }
+    ensures { IfOk result (λ c. c ≡ contents_of read.now.registers read.now.user read.now.macros.items read.now.enables (files_in items.now)) }
+{
+    let mut macros = Vec::new(alloc);
+    for written in read.macros.as_slice() {
+        macros.push(written.definition(alloc)?)?;
+    }
+    Ok(Contents {
+        alloc,
+        registers: read.registers,
+        user: read.user.copy(),
+        macros,
+        enables: read.enables,
+        files: Files::of(files_of(alloc, items)?),
+    })
+}
+
+// SRE and ESE by the value of their key; none where it has none.
+fn enables_in(value: Option<&[u8]>) -> Result<Option<(u8, u8)>, DecodeFault>
+    ensures found { IfOk result (λ enables. value_in (enables_items enables) ≡ option_map (λ v. v.now) value.entry) }
+    ensures mss { IfOk result (λ enables. ForSome enables (λ e. bit_and e.0 64 ≡ 0)) }
+    ensures bad { IfErr result (λ e. e ≡ BadValue) }
+    ensures none { IfErr result (λ e. (enables : Option (ℕ × ℕ)) → ForSome enables (λ e. bit_and e.0 64 ≡ 0) → value_in (enables_items enables) ≡ option_map (λ v. v.now) value.entry → ⊥) }
+{
+    match value {
+        None => Ok(None),
+        Some([sre, ese]) => {
+            if *sre & 64 != 0 {
+                return Err(DecodeFault::BadValue);
+            }
+            Ok(Some((*sre, *ese)))
+        }
+        Some(_) => Err(DecodeFault::BadValue),
+    }
+}
+
+// The registers by the values of their keys.
+fn registers_in<A: Allocator + Copy>(items: &Items<A>) -> Result<[Settings; 10], DecodeFault>
+    ensures ten { IfOk result (λ registers. length registers ≡ 10) }
+    ensures are { IfOk result (λ registers. AllByRecursion AreSettings registers) }
+    ensures found { IfOk result (λ registers. (r : ℕ) → r < 10 → value_in (register_items r (slice_index_or registers r reset)) ≡ get items.now (2 ∷ r ∷ [])) }
+    ensures bad { IfErr result (λ e. e ≡ BadValue) }
+    ensures none { IfErr result (λ e. IsKept items.now → ⊥) }
+{
+    let mut registers = [Settings::reset(); 10];
+    for number in 0..10 {
+        registers[number as usize] = register_in(items.get(&[2, number]))?;
+    }
+    Ok(registers)
+}
+
+// The settings of a register by the value of its key.
+fn register_in(value: Option<&[u8]>) -> Result<Settings, DecodeFault>
+    ensures found { IfOk result (λ settings. (r : ℕ) → value_in (register_items r settings) ≡ option_map (λ v. v.now) value.entry) }
+    ensures are { IfOk result AreSettings }
+    ensures bad { IfErr result (λ e. e ≡ BadValue) }
+    ensures none { IfErr result (λ e. (settings : List Each) → (r : ℕ) → AreSettings settings → value_in (register_items r settings) ≡ option_map (λ v. v.now) value.entry → ⊥) }
+{
+    let reset = Settings::reset();
+    let Some(bytes) = value else {
+        return Ok(reset);
+    };
+    if bytes == reset.to_bytes().as_slice() {
+        return Err(DecodeFault::BadValue);
+    }
+    match Settings::of_bytes(bytes) {
+        Some(settings) => Ok(settings),
+        None => Err(DecodeFault::BadValue),
+    }
+}
+
+// User data by the value of its key.
+fn user_in(value: Option<&[u8]>) -> Result<UserData, DecodeFault>
+    ensures found { IfOk result (λ user. value_in (user_items user) ≡ option_map (λ v. v.now) value.entry) }
+    ensures most { IfOk result (λ user. length user ≤ 63) }
+    ensures bad { IfErr result (λ e. e ≡ BadValue) }
+    ensures none { IfErr result (λ e. (user : List ℕ) → length user ≤ 63 → value_in (user_items user) ≡ option_map (λ v. v.now) value.entry → ⊥) }
+{
+    match value {
+        None => Ok(UserData::none()),
+        Some([]) => Err(DecodeFault::BadValue),
+        Some(bytes) => match UserData::of(bytes) {
+            Some(user) => Ok(user),
+            None => Err(DecodeFault::BadValue),
+        },
+    }
+}
+
+// The macros by the value of their key.
+fn macros_in(value: Option<&[u8]>) -> Result<WrittenMacros<'_>, DecodeFault>
+    ensures found { IfOk result (λ macros. value_in (macros_items macros.items) ≡ option_map (λ v. v.now) value.entry) }
+    ensures are { IfOk result (λ macros. AllByRecursion IsMacro macros.items) }
+    ensures distinct { IfOk result (λ macros. HasDistinct macros.items) }
+    ensures most { IfOk result (λ macros. length macros.items ≤ 32) }
+    ensures bad { IfErr result (λ e. e ≡ BadValue) }
+    ensures none { IfErr result (λ e. (macros : List Macro) → AllByRecursion IsMacro macros → HasDistinct macros → length macros ≤ 32 → value_in (macros_items macros) ≡ option_map (λ v. v.now) value.entry → ⊥) }
+{
+    match value {
+        None => Ok(ArrayVec::new()),
+        Some([]) => Err(DecodeFault::BadValue),
+        Some(bytes) => match macros_of(bytes) {
+            Some(macros) => Ok(macros),
+            None => Err(DecodeFault::BadValue),
+        },
+    }
+}

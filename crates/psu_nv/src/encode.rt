@@ -1,0 +1,136 @@
+// The map that contents are kept as.
+ghost use Rattle.std.specs.Prelude.{◌≡◌, ◌≤◌, ℕ, ◌++◌, ◌∷◌, [], length, IfOk, OnOk, OnErr, option_map};
+ghost use Rattle.std.specs.List.{AllByRecursion};
+ghost use Rattle.psu_items.specs.Map.{Item, Before};
+ghost use Rattle.psu_nv.specs.Contents.{items_of, register_items, user_items, macros_items, macro_bytes};
+ghost use Rattle.psu_nv.specs.Parts.{key_of, part_items, value_in, edit_of};
+ghost use Rattle.psu_nv.specs.Views.{part_of};
+
+use crate::part::with_first;
+use crate::{Contents, Definition, Part, Register};
+use psu_items::{Batch, Items};
+use psu_outputs::Settings;
+use std::alloc::{AllocError, Allocator};
+
+impl<A: Allocator + Copy> Contents<A> {
+    /// The map that they are kept as.
+    #[tactic(auto, unfolding(crate::specs::Contents::items_of))]
+    pub fn encode_items(&self, alloc: A) -> Result<Items<A>, AllocError>
+        ensures { IfOk result (λ items. items ≡ items_of self.now) }
+    {
+        let _ = &self.alloc;
+        let mut items = Items::new(alloc);
+        self.append(alloc, &mut items, Part::Enables)?;
+        for number in 0..10 {
+            if let Some(register) = Register::of(number) {
+                self.append(alloc, &mut items, Part::Register(register))?;
+            }
+        }
+        self.append(alloc, &mut items, Part::User)?;
+        self.append(alloc, &mut items, Part::Macros)?;
+        for pair in self.files.pairs() {
+            let key = with_first(alloc, 5, pair.key())?;
+            items.append(key, pair.value().to_vec(alloc)?)?;
+        }
+        Ok(items)
+    }
+
+    /// The value of one part alone; none where it is absent.
+    pub fn encode_part(&self, alloc: A, part: Part<'_>) -> Result<Option<Vec<u8, A>>, AllocError>
+        ensures { IfOk result (λ value. option_map (λ bytes. bytes.items) value ≡ value_in (part_items self.now (part_of part.entry))) }
+    {
+        match part {
+            Part::Enables => match self.enables {
+                Some((sre, ese)) => Ok(Some([sre, ese].to_vec(alloc)?)),
+                None => Ok(None),
+            },
+            Part::Register(register) => settings_value(alloc, self.register(register)),
+            Part::User => some_bytes(alloc, self.user.bytes()),
+            Part::Macros => self.macros_value(alloc),
+            Part::File(name) => match self.files.get(name) {
+                Some(value) => Ok(Some(value.to_vec(alloc)?)),
+                None => Ok(None),
+            },
+        }
+    }
+
+    /// Adds the edit that makes a map have what these contents have of one part: its key with its value, or with none where
+    /// the part is absent.
+    pub fn edit(&self, alloc: A, batch: &mut Batch<A>, part: Part<'_>) -> Result<(), AllocError>
+        ensures ok { OnOk result (batch.new ≡ batch.old ++ edit_of self.now (part_of part.entry) ∷ []) }
+        ensures err { OnErr result (batch.new ≡ batch.old) }
+    {
+        let key = part.key(alloc)?;
+        match self.encode_part(alloc, part)? {
+            Some(value) => batch.assign(key, value),
+            None => batch.remove(key),
+        }
+    }
+
+    // Adds the item of a part, if it is there, behind all others.
+    fn append(&self, alloc: A, items: &mut Items<A>, part: Part<'_>) -> Result<(), AllocError>
+        requires { AllByRecursion (λ (i : Item). Before i.key (key_of (part_of part))) items.old }
+        ensures { OnOk result (items.new ≡ items.old ++ part_items self.now (part_of part.entry)) }
+    {
+        if let Some(value) = self.encode_part(alloc, part)? {
+            items.append(part.key(alloc)?, value)?;
+        }
+        Ok(())
+    }
+
+    // The bytes of the macros; none where there are none.
+    fn macros_value(&self, alloc: A) -> Result<Option<Vec<u8, A>>, AllocError>
+        ensures { IfOk result (λ value. option_map (λ bytes. bytes.items) value ≡ value_in (macros_items self.now.macros)) }
+    {
+        if self.macros.is_empty() {
+            return Ok(None);
+        }
+        let mut bytes = Vec::new(alloc);
+        for definition in &self.macros {
+            put_macro(&mut bytes, definition)?;
+        }
+        Ok(Some(bytes))
+    }
+}
+
+// The 28 bytes of settings; none of those of `*RST`.
+fn settings_value<A: Allocator + Copy>(
+    alloc: A,
+    settings: Settings,
+) -> Result<Option<Vec<u8, A>>, AllocError>
+    ensures { IfOk result (λ value. (number : ℕ) → option_map (λ bytes. bytes.items) value ≡ value_in (register_items number settings)) }
+{
+    let bytes = settings.to_bytes();
+    if bytes == Settings::reset().to_bytes() {
+        return Ok(None);
+    }
+    Ok(Some(bytes.to_vec(alloc)?))
+}
+
+// These bytes; none where there are none.
+fn some_bytes<A: Allocator + Copy>(alloc: A, bytes: &[u8]) -> Result<Option<Vec<u8, A>>, AllocError>
+    ensures { IfOk result (λ value. option_map (λ kept. kept.items) value ≡ value_in (user_items bytes.now)) }
+{
+    if bytes.is_empty() {
+        return Ok(None);
+    }
+    Ok(Some(bytes.to_vec(alloc)?))
+}
+
+// Adds the bytes of a macro: label length, label, body length in two bytes, body.
+fn put_macro<A: Allocator + Copy>(
+    bytes: &mut Vec<u8, A>,
+    definition: &Definition<A>,
+) -> Result<(), AllocError>
+    requires label { length definition.now.label ≤ 12 }
+    requires body { length definition.now.body ≤ 1024 }
+    ensures { OnOk result (bytes.new.items ≡ bytes.old.items ++ macro_bytes definition.now) }
+{
+    let label = definition.label();
+    let body = definition.body();
+    bytes.push(label.len() as u8)?;
+    bytes.extend_from_slice(label)?;
+    bytes.extend_from_slice(&(body.len() as u16).to_be_bytes())?;
+    bytes.extend_from_slice(body)?;
+    Ok(())
+}

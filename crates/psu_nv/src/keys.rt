@@ -1,0 +1,92 @@
+// The keys of the map, and the files under theirs.
+ghost use Rattle.std.specs.Prelude.{◌≡◌, IfOk, option_map};
+ghost use Rattle.psu_items.specs.Map.{IsSorted};
+ghost use Rattle.psu_nv.specs.Contents.{begins_with_kind};
+ghost use Rattle.psu_nv.specs.Decoding.{is_number, is_key, has_keys, name_in, files_in, fits_file, fit_files};
+
+use crate::file_kind::FileKind;
+use crate::names::is_name;
+use psu_items::{Items, Pair};
+use std::alloc::{AllocError, Allocator};
+
+// Whether contents may have all of these keys.
+pub(crate) fn has_keys<A: Allocator + Copy>(pairs: &[Pair<A>]) -> bool
+    ensures { result ≡ has_keys pairs.now }
+{
+    pairs.iter().all(|pair| is_key(pair.key()))
+}
+
+// Whether contents may have a key: 1, 3 or 4 alone, 2 and the number of a register, 5 and a file's name.
+fn is_key(key: &[u8]) -> bool
+    ensures { result ≡ is_key key.now }
+{
+    match key {
+        [] => false,
+        [2, rest @ ..] => is_number(rest),
+        [5, name @ ..] => is_name(name),
+        [kind, rest @ ..] => *kind >= 1 && *kind <= 4 && rest.is_empty(),
+    }
+}
+
+// Whether bytes are the number of a register, and nothing behind it.
+fn is_number(bytes: &[u8]) -> bool
+    ensures { result ≡ is_number bytes.now }
+{
+    match bytes {
+        [number] => *number <= 9,
+        _ => false,
+    }
+}
+
+// The name of the file that a key leads to, if it leads to one.
+fn name_in(key: &[u8]) -> Option<&[u8]>
+    ensures { option_map (λ name. name.now) result ≡ name_in key.now }
+{
+    match key {
+        [5, name @ ..] => Some(name),
+        _ => None,
+    }
+}
+
+// Whether each file has a type and at most 32,768 bytes.
+pub(crate) fn fit_files<A: Allocator + Copy>(pairs: &[Pair<A>]) -> bool
+    ensures { result ≡ fit_files pairs.now }
+{
+    pairs.iter().all(|pair| fits_file(pair.key(), pair.value()))
+}
+
+// Whether a file may be kept as this value, where the key leads to one.
+fn fits_file(key: &[u8], value: &[u8]) -> bool
+    ensures { result ≡ fits_file (name_in key.now) value.now }
+{
+    match name_in(key) {
+        Some(_) => begins_with_kind(value) && value.len() <= 32_769,
+        None => true,
+    }
+}
+
+// Whether the first byte is the type of a file.
+fn begins_with_kind(value: &[u8]) -> bool
+    ensures { result ≡ begins_with_kind value.now }
+{
+    match value {
+        [] => false,
+        [code, ..] => FileKind::of_code(*code).is_some(),
+    }
+}
+
+// The files of a map, under their names.
+pub(crate) fn files_of<A: Allocator + Copy>(
+    alloc: A,
+    items: &Items<A>,
+) -> Result<Items<A>, AllocError>
+    ensures { IfOk result (λ files. files ≡ files_in items.now) }
+{
+    let mut files = Items::new(alloc);
+    for pair in items.pairs() {
+        if let Some(name) = name_in(pair.key()) {
+            files.append(name.to_vec(alloc)?, pair.value().to_vec(alloc)?)?;
+        }
+    }
+    Ok(files)
+}

@@ -1,0 +1,51 @@
+// The parts that contents are kept as.
+ghost use Rattle.std.specs.Prelude.{◌≡◌, ◌∷◌, IfOk};
+ghost use Rattle.psu_nv.specs.Parts.{key_of};
+ghost use Rattle.psu_nv.specs.Views.{part_of};
+
+use crate::Register;
+use std::alloc::{AllocError, Allocator};
+
+/// What is kept under one key of the map.
+#[derive(Clone, Copy)]
+pub enum Part<'a> {
+    /// SRE and ESE.
+    Enables,
+    /// A register of settings.
+    Register(Register),
+    /// User data.
+    User,
+    /// The macros, all of them.
+    Macros,
+    /// The file of a name.
+    File(&'a [u8]),
+}
+
+impl<'a> Part<'a> {
+    /// Its key.
+    pub fn key<A: Allocator + Copy>(self, alloc: A) -> Result<Vec<u8, A>, AllocError>
+        ensures { IfOk result (λ key. key.items ≡ key_of (part_of self.entry)) }
+    {
+        match self {
+            Part::Enables => [1].to_vec(alloc),
+            Part::Register(register) => [2, register.number()].to_vec(alloc),
+            Part::User => [3].to_vec(alloc),
+            Part::Macros => [4].to_vec(alloc),
+            Part::File(name) => with_first(alloc, 5, name),
+        }
+    }
+}
+
+// A byte, and other bytes behind it.
+pub(crate) fn with_first<A: Allocator + Copy>(
+    alloc: A,
+    first: u8,
+    bytes: &[u8],
+) -> Result<Vec<u8, A>, AllocError>
+    ensures { IfOk result (λ all. all.items ≡ first ∷ bytes.now) }
+{
+    let mut all = Vec::new(alloc);
+    all.push(first)?;
+    all.extend_from_slice(bytes)?;
+    Ok(all)
+}
