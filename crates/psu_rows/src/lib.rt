@@ -4,6 +4,8 @@
 #[cfg(test)]
 mod answers;
 #[cfg(test)]
+mod commands;
+#[cfg(test)]
 mod contents;
 #[cfg(test)]
 mod decoding;
@@ -17,6 +19,8 @@ mod files;
 mod frames;
 #[cfg(test)]
 mod grammar;
+#[cfg(test)]
+mod headers;
 #[cfg(test)]
 mod hislip;
 #[cfg(test)]

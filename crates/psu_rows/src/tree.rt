@@ -1,15 +1,13 @@
-// The command tree: headers of the table, faults in their order, and the readings of worked rows.
+// The command tree: headers of the table, faults in their order, and the paths of worked rows.
 // 0 stands for a command, another number for the fault of the reading.
 use psu_lex::{Unit, split};
-use psu_tree::{
-    Command, Kind, Level, Node, Output, Path, Switch, nonvolatile, patterns, read_unit, request,
-};
+use psu_tree::{Path, read_unit, request};
 use std::alloc::Global;
 use std::process::Abort;
 use std::test::Fail;
 
-// The reading of a unit at the root.
-fn fault(text: &[u8]) -> u16 {
+/// The fault of a unit's reading at the root, 0 where it is a command.
+pub fn fault(text: &[u8]) -> u16 {
     let unit = Unit {
         text,
         first: true,
@@ -347,146 +345,4 @@ fn paths_of_worked_rows(rt: HostRuntime) -> Result<(), Fail> {
         "VOLT:LEV:IMM:AMPL 1;AMPL 2;:VOLT:LEV:LEV 1;:STAT:PRES;OPER?",
         &[0, 0, 113, 0, 0],
     )
-}
-
-fn unit_of(text: &[u8]) -> Unit<'_> {
-    Unit {
-        text,
-        first: true,
-        fault: None,
-    }
-}
-
-#[test]
-fn values_of_commands(rt: HostRuntime) {
-    let levels: [(&[u8], u16); 5] = [
-        (b"SOUR3:VOLT 5250.5 mv", 5251),
-        (b"SOUR3:VOLT 5.2505", 5251),
-        (b"SOUR3:VOLT MAX", 60_000),
-        (b"SOUR3:VOLT -0.0004", 0),
-        (b"SOUR3:VOLT 1.5 V", 1500),
-    ];
-    for (text, want) in levels {
-        let read = read_unit(&Path::root(), &unit_of(text));
-        assert!(rt;
-            matches!(read, Ok(Command::Level(Level::Voltage, Output::Three, value)) if value == want)
-        );
-    }
-    let half = read_unit(&Path::root(), &unit_of(b"OUTP2 -0.5"));
-    assert!(rt; matches!(half, Ok(Command::Switch(Switch::Output, Output::Two, true))));
-    let Ok(Command::Contents(name, body)) = read_unit(
-        &Path::root(),
-        &unit_of(b"MMEM:DATA 'a-b', #0x;y\n"),
-    ) else {
-        panic!(rt; "a file");
-    };
-    let Some(name) = name else {
-        panic!(rt; "a name");
-    };
-    assert_eq!(rt; name.as_slice(), b"a-b".as_slice());
-    assert_eq!(rt; body.as_slice(), b"x;y\n".as_slice());
-    assert!(rt; nonvolatile(&Command::Contents(Some(name), body), true));
-    let read = read_unit(&Path::root(), &unit_of(b"MMEM:DATA 'a''b',#10"));
-    assert!(rt; matches!(read, Ok(Command::Contents(None, _))));
-    let Ok(enable) = read_unit(&Path::root(), &unit_of(b"*SRE 1")) else {
-        panic!(rt; "an enable");
-    };
-    assert!(rt; nonvolatile(&enable, false) && !nonvolatile(&enable, true));
-}
-
-#[test]
-fn calls_of_macros(rt: HostRuntime) {
-    let rows: [(&[u8], bool); 9] = [
-        (b"SETA 3, \"x\"", true),
-        (b"VOLT 1E32001", true),
-        (b"ABCDEFGHIJKL", true),
-        (b"ABCDEFGHIJKLM", false),
-        (b":SETA 3", false),
-        (b"SETA?", false),
-        (b"*RST", false),
-        (b"A:B", false),
-        (b"SETA 1,", false),
-    ];
-    for (text, want) in rows {
-        let asked = request(&mut Path::root(), &unit_of(text), true);
-        assert_eq!(rt; asked.call.is_some(), want, "{text:?}");
-        assert!(rt; asked.inside);
-    }
-}
-
-// A number that is hard to guess, from the one before.
-fn next(seed: u32) -> u32 {
-    seed.wrapping_mul(1_664_525).wrapping_add(1_013_904_223)
-}
-
-// Adds a mnemonic, `kept` letters of it, in letters of either case.
-fn add_word(text: &mut Vec<u8>, name: &[u8], kept: usize, seed: u32) -> Result<(), Fail> {
-    let mut dice = seed;
-    for letter in name.iter().take(kept) {
-        dice = next(dice);
-        if dice / 65_536 % 2 == 0 {
-            text.push(letter.to_ascii_lowercase())?;
-        } else {
-            text.push(letter.to_ascii_uppercase())?;
-        }
-    }
-    Ok(())
-}
-
-// How many letters its short form has.
-fn short_of(name: &[u8]) -> usize {
-    name.iter()
-        .take_while(|letter| !letter.is_ascii_lowercase())
-        .count()
-}
-
-fn may_miss(node: &Node) -> bool {
-    matches!(node.kind, Kind::Maybe | Kind::MaybeNumbered)
-}
-
-// Adds a node, left out, short, long or cut by one letter, and answers whether it may stand so.
-fn add_node(text: &mut Vec<u8>, node: &Node, seed: u32) -> Result<bool, Fail> {
-    let name = node.name.as_bytes();
-    let choice = seed / 65_536 % 8;
-    if may_miss(node) && choice < 3 {
-        return Ok(true);
-    }
-    if !text.is_empty() && text.as_slice() != b"*".as_slice() {
-        text.push(b':')?;
-    }
-    let kept = match choice {
-        7 => name.len().saturating_sub(1),
-        0 | 4 | 5 => short_of(name),
-        _ => name.len(),
-    };
-    add_word(text, name, kept, seed)?;
-    Ok(kept == name.len() || kept == short_of(name))
-}
-
-// 10,000 headers made from the table: each is defined where all of its nodes are short or long forms.
-#[test]
-fn headers_made_from_the_table(rt: HostRuntime) -> Result<(), Fail> {
-    let mut seed = 1;
-    let mut made = 0u32;
-    for _ in 0..186 {
-        for section in patterns() {
-            for row in section.rows {
-                let mut text = Vec::new(rt.alloc());
-                seed = next(seed);
-                let mut good = add_node(&mut text, &section.root, seed)?;
-                for node in row.nodes {
-                    seed = next(seed);
-                    good = add_node(&mut text, node, seed)? && good;
-                }
-                if row.command.is_none() {
-                    text.push(b'?')?;
-                }
-                let given = fault(&text);
-                assert_eq!(rt; given == 0 || given == 109, good, "{text:?}");
-                made = made.wrapping_add(1);
-            }
-        }
-    }
-    assert_eq!(rt; made, 10_044);
-    Ok(())
 }
