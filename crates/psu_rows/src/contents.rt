@@ -1,4 +1,5 @@
 // Contents: what they are kept as, what they cost, and what is refused.
+use psu_items::Batch;
 use psu_lex::ScpiError;
 use psu_nv::{Contents, FileBytes, NvCommand, Part, Register};
 use psu_outputs::{Millivolts, Output, Setting, Settings};
@@ -49,6 +50,23 @@ fn a_register_is_28_bytes_under_its_number(rt: HostRuntime) -> Result<(), Fail> 
     let value = contents.encode_part(alloc, part)?.ok_or("absent")?;
     assert_eq!(rt; value.as_slice(), want.as_slice());
     assert!(rt; contents.encode_part(alloc, Part::User)?.is_none());
+    Ok(())
+}
+
+#[test]
+fn a_batch_has_the_parts_that_changed(rt: HostRuntime) -> Result<(), Fail> {
+    let alloc = rt.alloc();
+    let mut contents = Contents::fresh(alloc);
+    assert_eq!(rt; contents.change(256, &save(0, volts(5_250)?)?), Ok(()));
+    let register = Register::of(0).ok_or("no register")?;
+    let mut batch = Batch::new(alloc);
+    contents.edit(alloc, &mut batch, Part::Register(register))?;
+    contents.edit(alloc, &mut batch, Part::File(b"A"))?;
+    assert_eq!(rt; batch.edits().len(), 2);
+    assert_eq!(rt; batch.edits()[0].key(), [2, 0].as_slice());
+    assert_eq!(rt; batch.edits()[0].value().ok_or("removed")?.len(), 28);
+    assert_eq!(rt; batch.edits()[1].key(), [5, b'A'].as_slice());
+    assert!(rt; batch.edits()[1].value().is_none());
     Ok(())
 }
 
