@@ -1,4 +1,4 @@
--- A header that matches a row of the table has one number at most: that of the row's one numbered node.
+-- A header that matches a row of the table has one number at most: a row has one numbered node at most, and no mnemonic ends in a digit.
 use Rattle.std.proofs.Common.{◌≡◌, ◌⊎◌, ℕ, ◌≤◌, ◌-◌, ◌==◌, ◌&&◌, ◌||◌, Bool, true, false, not, List, [], ◌∷◌, ◌++◌, length, drop, length-drop, refl, subst, arith, inl, inr}
 use Rattle.std.specs.Prelude.{if◌then◌else◌}
 use Rattle.std.proofs.lemmas.Bool.{and_parts, cases_Bool, or_cases}

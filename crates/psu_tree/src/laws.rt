@@ -47,7 +47,7 @@ pub fn a_header_asks_for_its_row()
     ensures { EachIsAskedByItsHeaders table }
 {}
 
-/// A header that matches a row of the table has one number at most, that of the row's `<n>`.
+/// A header that matches a row of the table has one number at most: of two nodes one ends without a digit.
 pub fn one_number_of_a_header()
     ensures { HaveOneNumber table }
 {}
