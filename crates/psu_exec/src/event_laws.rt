@@ -1,5 +1,6 @@
 // The events of the theorem on power loss are the calls of the program.
-ghost use Rattle.std.specs.Prelude.{◌+◌, ◌≤◌, length};
+ghost use Rattle.std.specs.Prelude.{◌≡◌, ◌+◌, ◌≤◌, length, OnOk};
+ghost use Rattle.psu_disk.specs.Disk.{HasCause, Holds, IsSynced, Range};
 ghost use Rattle.psu_exec.specs.Events.{CallsHappen, DiskCallsHappen, MomentsAreEither, RestartsHappen};
 ghost use Rattle.psu_exec.specs.World.{Moves};
 
@@ -20,7 +21,9 @@ pub fn moments_are_events<D: Disk>()
 /// A read, whether it works or fails, moves the disk as an event may.
 pub fn read_is_an_event<D: Disk>(disk: &mut D, at: u64, into: &mut [u8]) -> Result<(), DiskFault>
     requires { at + length into.old ≤ D.extent disk.old }
-    ensures { D.honest → Moves (D.state disk.old) (D.state disk.new) }
+    ensures moves { D.honest → Moves (D.state disk.old) (D.state disk.new) }
+    ensures bytes { D.honest → OnOk result (into.new ≡ Range at (length into.old) (D.state disk.old).bytes) }
+    ensures cause { HasCause (D.failures disk.old) (D.failures disk.new) result }
 {
     disk.read(at, into)
 }
@@ -28,14 +31,18 @@ pub fn read_is_an_event<D: Disk>(disk: &mut D, at: u64, into: &mut [u8]) -> Resu
 /// A write, whether it works or fails, moves the disk as an event may.
 pub fn write_is_an_event<D: Disk>(disk: &mut D, at: u64, bytes: &[u8]) -> Result<(), DiskFault>
     requires { at + length bytes.now ≤ D.extent disk.old }
-    ensures { D.honest → Moves (D.state disk.old) (D.state disk.new) }
+    ensures moves { D.honest → Moves (D.state disk.old) (D.state disk.new) }
+    ensures written { D.honest → OnOk result (Holds at bytes.now (D.state disk.old).bytes (D.state disk.new).bytes) }
+    ensures cause { HasCause (D.failures disk.old) (D.failures disk.new) result }
 {
     disk.write(at, bytes)
 }
 
 /// A sync, whether it works or fails, moves the disk as an event may.
 pub fn sync_is_an_event<D: Disk>(disk: &mut D) -> Result<(), DiskFault>
-    ensures { D.honest → Moves (D.state disk.old) (D.state disk.new) }
+    ensures moves { D.honest → Moves (D.state disk.old) (D.state disk.new) }
+    ensures synced { D.honest → OnOk result (IsSynced (D.state disk.new)) }
+    ensures cause { HasCause (D.failures disk.old) (D.failures disk.new) result }
 {
     disk.sync()
 }
