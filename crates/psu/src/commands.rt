@@ -2,7 +2,7 @@
 use crate::fault::Fault;
 use psu_disk::{Disk, FileDisk, MemDisk};
 use psu_items::Store;
-use psu_server::{recover, report_text, run};
+use psu_server::{Examined, examine, report_text, run};
 use std::alloc::Global;
 use std::fs::File;
 use std::io::{self, Input, Print, Write};
@@ -67,7 +67,8 @@ pub fn recover_image<R: Files<File = File> + Print>(
         Ok(disk) => disk,
         Err(fault) => return Err(Fault::File(fault)),
     };
-    let report = match recover(alloc, disk) {
+    let Examined { found, .. } = examine(alloc, disk);
+    let report = match found {
         Ok(report) => report,
         Err(fault) => return Err(Fault::Recover(fault)),
     };

@@ -3,8 +3,9 @@ use Rattle.std.proofs.Common.{◌≡◌, inl, inr, ◌⊎◌, not, false, Option
 use Rattle.psu_disk.specs.declared.disk.Disk.{Ghosts}
 use Rattle.psu_items.specs.declared.commit.UnstartedCause.TheVariants as unstarted
 use Rattle.psu_exec.specs.Batch.{batch}
-use Rattle.psu_exec.specs.Device.{Flush, target, is_broken}
-use Rattle.psu_exec.specs.Calls.{GivesBack, IsExpected, ended}
+use Rattle.psu_exec.specs.Device.{Flush, State, target, is_broken}
+use Rattle.psu_exec.proofs.Giving.{FlushGives}
+use Rattle.psu_exec.specs.Calls.{IsExpected, ended}
 use Rattle.psu_exec.specs.Jobs.{finished_of, home_edits, home_goal, home_limit, home_map, home_of, is_home_whole}
 use Rattle.psu_exec.specs.declared.home.Home.{Home}
 use Rattle.psu_exec.specs.declared.ending.Ending.{Ending}
@@ -20,7 +21,7 @@ pub record IsHome {D A : Type 0} {G : Ghosts D} (f : Flush) (home : Home D A G) 
   pub edits : home_edits (batch f.before (target f)) home ≡ batch f.before (target f)
   pub goal : home_goal (target f) home ≡ target f
 
-pub returned : {D A : Type 0} {G : Ghosts D} (f new : Flush) (end : Finished D A G) → IsExpected f (finished_of end) → GivesBack f (finished_of end) new → home_goal (target f) (home_of end) ≡ target f
+pub returned : {D A : Type 0} {G : Ghosts D} (f new : Flush) (end : Finished D A G) → IsExpected f (finished_of end) → FlushGives f (finished_of end) new → home_goal (target f) (home_of end) ≡ target f
     → IsHome new (home_of end)
 returned f new (finished.Stored store) expected is goal = rw is (record { holds = expected.1; sized = expected.0; kind = refl; edits = refl; goal = refl })
 returned f new (finished.Unstarted store edits unstarted.Memory) expected is goal = rw is (record { holds = expected.1; sized = expected.0; kind = refl; edits = refl; goal = refl })
@@ -38,8 +39,8 @@ pub at_home : {D A : Type 0} {G : Ghosts D} (f : Flush) (place : Option (Home D 
 at_home f place put own here is home h at = let both = sym here ∙ at in subst (IsHome f) (sym is ∙ cc) home
 
 -- an ended job is out no more
-pub out_after : (f : Flush) (e : Ending) → (ended f e).out ≡ false
-out_after f ending.Flushed = refl
-out_after f ending.Kept = refl
-out_after f ending.Broken = refl
-out_after f ending.Worn = refl
+pub out_after : (s : State) (e : Ending) → (ended s e).flush.out ≡ false
+out_after s ending.Flushed = refl
+out_after s ending.Kept = refl
+out_after s ending.Broken = refl
+out_after s ending.Worn = refl

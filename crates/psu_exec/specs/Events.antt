@@ -3,8 +3,7 @@ use Rattle.std.specs.Prelude.{◌≡◌, ℕ, ◌≤◌, List, [], true}
 use Rattle.psu_disk.specs.Disk.{DiskState, LeavesOnly}
 use Rattle.psu_items.specs.Map.{Item}
 use Rattle.psu_items.specs.Image.{Stands, IsEither, EachIsEither}
-use Rattle.psu_exec.specs.Contents.{items_of, IsContents}
-use Rattle.psu_exec.specs.declared.contents.Contents.{Contents}
+use Rattle.psu_nv.specs.Contents.{Contents, IsContents, items_of, fits}
 use Rattle.psu_exec.specs.Device.{State, target, power_on}
 use Rattle.psu_exec.specs.Calls.{Entry, Allows}
 use Rattle.psu_exec.specs.World.{World, Running, Call, DiskCall, Restart, Moves, DiskAfter, IsDown, Happens, recorded}
@@ -21,7 +20,7 @@ DiskCallsHappen = (w : World) (disk : DiskState) → w.mode ≡ Running → w.st
 
 -- A power-on with contents that the disk stands for is an event.
 abbrev pub RestartsHappen : Type 0
-RestartsHappen = (w : World) (limit : ℕ) (contents : Contents) → IsDown w.mode → IsContents contents → Stands w.disk.bytes limit (items_of contents)
+RestartsHappen = (w : World) (limit : ℕ) (contents : Contents) → IsDown w.mode → IsContents contents → fits limit contents ≡ true → Stands w.disk.bytes limit (items_of contents)
     → Happens w (Restart limit contents) (record { state = power_on limit contents; history = []; disk = w.disk; mode = Running; limit = limit; start = contents })
 
 -- Where each image since a job began stands for one of two maps, so does each that the disk may leave at a moment of the job.

@@ -1,8 +1,8 @@
 // The one state, without its store.
 ghost use Rattle.std.specs.Prelude.{◌≡◌, ◌==◌, true, IfOk, OnErr};
-ghost use Rattle.psu_exec.specs.Contents.{IsContents};
+ghost use Rattle.psu_nv.specs.Contents.{IsContents, fits};
 ghost use Rattle.psu_exec.specs.Device.{State, is_open, power_on};
-ghost use Rattle.psu_exec.specs.Registers.{first_request};
+ghost use Rattle.psu_status.specs.Status.{first_request};
 ghost use Rattle.psu_exec.specs.Calls.{Allows, unparked, with_session};
 ghost use Rattle.psu_exec.specs.Calls.Entry.{Opened, Closed, Cleared};
 ghost use Rattle.psu_exec.specs.Consistent.{IsConsistent};
@@ -11,17 +11,18 @@ mod flushing;
 mod units;
 
 use crate::waits::least_free;
-use crate::{Condition, Contents, Crowded, Registers, SESSIONS, Session, Wait};
+use crate::{Condition, Contents, Crowded, SESSIONS, Session, Wait};
+use psu_instrument::Instrument;
 use psu_items::Plan;
 use std::alloc::{AllocError, Allocator};
 use std::marker::Model;
 
-/// The one state: what is kept, the registers, the sessions, and what is accepted and not yet flushed.
+/// The one state: what is kept, the instrument, the sessions, and what is accepted and not yet flushed.
 #[derive(Drop)]
 pub struct Device<A: Allocator + Copy> {
     alloc: A,
     limit: u16,
-    contents: Contents,
+    contents: Contents<A>,
     // The map that the store holds, or held before its job, with the batch of the job that is out or of the store that broke.
     map: Plan<A>,
     // How many changes are in that batch.
@@ -31,7 +32,7 @@ pub struct Device<A: Allocator + Copy> {
     out: bool,
     waits: [Option<Wait>; SESSIONS],
     open_now: [bool; SESSIONS],
-    registers: Registers,
+    instrument: Instrument,
 }
 
 impl<A: Allocator + Copy> Model for Device<A> {
@@ -41,7 +42,7 @@ impl<A: Allocator + Copy> Model for Device<A> {
     ghost Value = { State };
 
     ghost view = { λ d. record {
-      volatile = record { registers = d.registers; open_now = d.open_now };
+      volatile = record { instrument = d.instrument; open_now = d.open_now };
       flush = record { limit = d.limit; contents = d.contents; before = d.map.map; unflushed = d.unflushed; held = held_of d.held (changed d.map.map d.map.edits); store = d.store; out = d.out; waits = d.waits };
     } };
 
@@ -55,12 +56,14 @@ impl<A: Allocator + Copy> Device<A> {
     pub(crate) fn power_on(
         alloc: A,
         limit: u16,
-        contents: Contents,
+        contents: Contents<A>,
     ) -> Result<Device<A>, AllocError>
-        requires { IsContents contents }
+        requires sound { IsContents contents }
+        requires fitting { fits limit contents ≡ true }
         ensures { IfOk result (λ d. d ≡ power_on limit contents) }
     {
-        let map = Plan::of(alloc, contents.items(alloc)?);
+        let map = Plan::of(alloc, contents.encode_items(alloc)?);
+        let instrument = Instrument::power_on(contents.enables());
         Ok(Device {
             alloc,
             limit,
@@ -72,7 +75,7 @@ impl<A: Allocator + Copy> Device<A> {
             out: false,
             waits: [None; SESSIONS],
             open_now: [false; SESSIONS],
-            registers: Registers::power_on(contents.enables),
+            instrument,
         })
     }
 
@@ -129,7 +132,7 @@ impl<A: Allocator + Copy> Device<A> {
     }
 
     /// What is kept without power.
-    pub(crate) fn contents(&self) -> &Contents
+    pub(crate) fn contents(&self) -> &Contents<A>
         ensures value { result.now ≡ self.now.flush.contents }
         ensures consistent { IsConsistent self.now.flush }
     {
@@ -150,10 +153,10 @@ impl<A: Allocator + Copy> Device<A> {
         self.unflushed == 0
     }
 
-    /// The service request that the registers make as they are.
+    /// The service request that the instrument makes as it is.
     pub(crate) fn first_request(&self) -> Option<u8>
-        ensures { result ≡ first_request self.now.volatile.registers }
+        ensures { result ≡ first_request self.now.volatile.instrument.status }
     {
-        self.registers.first_request()
+        self.instrument.first_request()
     }
 }

@@ -3,17 +3,17 @@ ghost use Rattle.std.specs.Prelude.{◌≡◌, ◌<◌, ◌≤◌, ◌==◌, IfO
 ghost use Rattle.std.specs.Option.{ForSome};
 ghost use Rattle.psu_items.specs.Batch.{changed};
 ghost use Rattle.psu_exec.specs.Batch.{batch};
-ghost use Rattle.psu_exec.specs.Contents.{items_of, IsContents};
+ghost use Rattle.psu_nv.specs.Contents.{Contents as Kept, items_of, IsContents, fits};
 ghost use Rattle.psu_exec.specs.Device.{power_on, is_open, is_broken, target, wait_of, State, Answer, Error, Later, refused};
-ghost use Rattle.psu_exec.specs.Registers.{first_request, prescribed};
+ghost use Rattle.psu_status.specs.Status.{first_request, prescribed};
 ghost use Rattle.psu_exec.specs.Calls.{Allows};
 ghost use Rattle.psu_exec.specs.Calls.Entry.{Executed, Settled, Took, GaveBack, Opened, Closed, Cleared};
 ghost use Rattle.psu_exec.specs.Consistent.{IsConsistent};
-ghost use Rattle.psu_exec.specs.Shown.{outcome_of, over_of};
+ghost use Rattle.psu_exec.specs.Shown.{cause_of, outcome_of, over_of};
 ghost use Rattle.psu_exec.specs.Jobs.{home_edits, home_goal, home_map, home_limit, home_of, is_home_whole};
-ghost use Rattle.psu_exec.specs.declared.contents.Contents.{Contents as Kept};
 ghost use Rattle.psu_lex.specs.declared.scpi_error.ScpiError.{ScpiError as AnyError};
-ghost use Rattle.psu_exec.specs.declared.command.Command.TheVariants.{OpcQuery};
+ghost use Rattle.psu_exec.specs.World.{asks_opc};
+ghost use Rattle.psu_instrument.specs.declared.completion.Completion.{Completion};
 ghost use Rattle.psu_exec.specs.declared.wait.Wait.TheVariants.{Until};
 
 use crate::{
@@ -22,6 +22,7 @@ use crate::{
 };
 use psu_disk::Disk;
 use psu_items::{Batch, Store};
+use psu_nv::DecodeFault;
 use std::alloc::{AllocError, Allocator};
 use std::mem;
 
@@ -51,23 +52,32 @@ impl<D: Disk, A: Allocator + Copy> Exec<D, A> {
     pub fn power_on(alloc: A, store: Store<D, A>) -> Result<Exec<D, A>, PowerFault<D, A>>
         ensures state { IfOk result (λ e. e.device ≡ power_on store.limit e.device.flush.contents) }
         ensures found { IfOk result (λ e. items_of e.device.flush.contents ≡ store.items) }
-        ensures only { IfOk result (λ e. (c : Kept) → items_of c ≡ store.items → c ≡ e.device.flush.contents) }
+        ensures only { IfOk result (λ e. (c : Kept) → IsContents c → items_of c ≡ store.items → c ≡ e.device.flush.contents) }
         ensures sound { IfOk result (λ e. IsContents e.device.flush.contents) }
+        ensures fitting { IfOk result (λ e. fits store.limit e.device.flush.contents ≡ true) }
         // In the standard's words: 96 exactly where enables are kept with bit 5 of SRE and bit 7 of ESE, else none.
-        ensures request { IfOk result (λ e. first_request e.device.volatile.registers ≡ prescribed e.device.flush.contents.enables) }
+        ensures request { IfOk result (λ e. first_request e.device.volatile.instrument.status ≡ prescribed e.device.flush.contents.enables) }
         ensures home { IfOk result (λ e. e.home ≡ Some (at_home.Whole store)) }
 
         ensures back { IfErr result (λ f. f.store ≡ store) }
-        ensures bad { IfErr result (λ f. f.cause ≡ PowerCause.BadItems → (c : Kept) → IsContents c → items_of c ≡ store.items → ⊥) }
+        ensures bad { IfErr result (λ f. f.cause ≡ PowerCause.BadItems → (c : Kept) → IsContents c → fits store.limit c ≡ true → items_of c ≡ store.items → ⊥) }
         ensures memory { IfErr result (λ f. f.cause ≡ PowerCause.Memory → (c : Kept) × IsContents c × (items_of c ≡ store.items)) }
     {
-        let Some(contents) = Contents::kept_as(store.items()) else {
+        let contents = match Contents::decode_items(alloc, store.items()) {
+            Ok(contents) => contents,
+            Err(fault) => return Err(PowerFault {
+                cause: cause_of(fault),
+                store,
+            }),
+        };
+        let limit = store.limit();
+        if !contents.fits(limit) {
             return Err(PowerFault {
                 cause: PowerCause::BadItems,
                 store,
             });
-        };
-        match Device::power_on(alloc, store.limit(), contents) {
+        }
+        match Device::power_on(alloc, limit, contents) {
             Ok(device) => Ok(Exec {
                 alloc,
                 device,
@@ -81,14 +91,14 @@ impl<D: Disk, A: Allocator + Copy> Exec<D, A> {
     }
 
     /// One unit of a session that is open.
-    pub fn execute(&mut self, session: Session, request: &Request) -> Outcome<A>
+    pub fn execute(&mut self, session: Session, request: &Request<'_>) -> Outcome<A>
         requires open { is_open self.old.device session ≡ true }
         ensures step { Allows self.old.device (Executed session request.now (outcome_of result)) self.new.device }
         ensures home { self.new.home ≡ self.old.home }
 
-        // What follows from the step: `*OPC?` is answered only where no change is left that is not flushed; an error sets its bit in
-        // the event status register and changes nothing else; a unit that is to come later changes nothing.
-        ensures complete { request.now ≡ record { reading = Ok OpcQuery } → (text : List ℕ) → outcome_of result ≡ Answer text → self.old.device.flush.unflushed ≡ 0 }
+        // What follows from the step: `*OPC?` is answered only where no change is left that is not flushed; an error is
+        // reported and changes nothing else; a unit that is to come later changes nothing.
+        ensures complete { asks_opc request.now.reading ≡ true → (text : List ℕ) → outcome_of result ≡ Answer text → self.old.device.flush.unflushed ≡ 0 }
         ensures refused { (e : AnyError) → outcome_of result ≡ Error e → self.new.device ≡ refused self.old.device e }
         ensures later { outcome_of result ≡ Later → self.new.device ≡ self.old.device }
 
@@ -106,9 +116,9 @@ impl<D: Disk, A: Allocator + Copy> Exec<D, A> {
         ensures home { self.new.home ≡ self.old.home }
 
         // What follows from the step: the session waits on only while a change is left that is not flushed, its wait ends with 1
-        // only where none before it is left, and an error sets its bit in the event status register.
+        // only where none before it is left, and an error is reported.
         ensures parked { result ≡ Outcome.Parked → 0 < self.old.device.flush.unflushed }
-        ensures complete { (text : List ℕ) → outcome_of result ≡ Answer text → wait_of self.old.device.flush session ≡ Some (Until 0) }
+        ensures complete { (text : List ℕ) → outcome_of result ≡ Answer text → (c : Completion) × (wait_of self.old.device.flush session ≡ Some (Until c 0)) }
         ensures refused { (e : AnyError) → outcome_of result ≡ Error e → self.new.device.volatile ≡ (refused self.old.device e).volatile }
         ensures kept { self.new.device.flush.contents ≡ self.old.device.flush.contents }
 
@@ -154,7 +164,7 @@ impl<D: Disk, A: Allocator + Copy> Exec<D, A> {
     }
 
     /// What is kept without power, all that is accepted included: what the store's map stands for, changed by the tail.
-    pub fn contents(&self) -> &Contents
+    pub fn contents(&self) -> &Contents<A>
         ensures value { result.now ≡ self.now.device.flush.contents }
         ensures consistent { IsConsistent self.now.device.flush }
     {
@@ -175,9 +185,9 @@ impl<D: Disk, A: Allocator + Copy> Exec<D, A> {
         self.device.is_flushed()
     }
 
-    /// The service request that the registers make as they are.
+    /// The service request that the instrument makes as it is.
     pub fn first_request(&self) -> Option<u8>
-        ensures { result ≡ first_request self.now.device.volatile.registers }
+        ensures { result ≡ first_request self.now.device.volatile.instrument.status }
     {
         self.device.first_request()
     }
@@ -247,13 +257,23 @@ impl<D: Disk, A: Allocator + Copy> Exec<D, A> {
     }
 }
 
-// A job whose batch leads to the map of contents, which the store can hold.
+// Why items are those of no contents that a power-on takes.
+fn cause_of(fault: DecodeFault) -> PowerCause
+    ensures { result ≡ cause_of fault }
+{
+    match fault {
+        DecodeFault::BadKey | DecodeFault::BadValue => PowerCause::BadItems,
+        DecodeFault::Memory => PowerCause::Memory,
+    }
+}
+
+// A job whose batch leads to the map of contents that fit, which the store can hold.
 fn planned_of<D: Disk, A: Allocator + Copy>(
     alloc: A,
     store: Store<D, A>,
     batch: Batch<A>,
 ) -> Planned<D, A>
-    requires { (c : Kept) × (changed store.items batch ≡ items_of c) }
+    requires { (c : Kept) × IsContents c × (fits store.limit c ≡ true) × (changed store.items batch ≡ items_of c) }
     ensures store { result.store ≡ store }
     ensures batch { result.batch ≡ batch }
 {

@@ -1,5 +1,5 @@
 -- Steps over a macro's body.
-use Rattle.std.proofs.Common.{◌≡◌, ℕ, ◌-◌, ◌==◌, ◌<◌, ◌≤◌, ◌+◌, nat_lt, max, min, Bool, true, false, List, [], ◌∷◌, ◌++◌, length, take, drop, take_all, refl, sym, ap, ◌∙◌, subst, arith, append_assoc, inl, inr, length-append, slice_index, Ok, Err}
+use Rattle.std.proofs.Common.{◌≡◌, ℕ, ◌-◌, ◌==◌, ◌<◌, ◌≤◌, ◌+◌, nat_lt, max, min, Bool, true, false, cond, List, [], ◌∷◌, ◌++◌, length, take, drop, take_all, refl, sym, ap, ◌∙◌, subst, arith, append_assoc, inl, inr, length-append, slice_index, Ok, Err}
 use Rattle.std.proofs.lemmas.Bool.{cases_Bool}
 use Rattle.std.proofs.lemmas.Bool.Decides.{nat_tests}
 use Rattle.std.proofs.lemmas.List.{append-nil, take-append-drop, drop_all, append_cancel_right}
@@ -192,3 +192,34 @@ pub filled_is : (args : List (List ℕ)) (body text other whole : List ℕ) (mos
 filled_is args body text other whole most more all held g is s l le t =
     let same = same_text args body all more text whole t s in
     expands args body text other most all g is t (omega (arith, l, le, ap length same))
+
+-- ---- too many parameters
+
+within_nine : (b : ℕ) (most : ℕ) → is_placeholder b ≡ true → most ≤ 9 → max (b - 48) most ≤ 9
+within_nine b most is le = let low : b < 58 = grind (arith, nat_tests) in omega arith
+
+behind_dollar : (b : ℕ) (t : Bool) (later other : ℕ) → is_placeholder b ≡ t → later ≤ 9 → other ≤ 9 → cond t (max (b - 48) later) other ≤ 9
+behind_dollar b true later other e le others = within_nine b later e le
+behind_dollar b false later other e le others = others
+
+-- no placeholder is greater than 9
+greatest_most : (dollar : Bool) (tokens : List Token) → greatest dollar tokens ≤ 9
+greatest_most true [] = omega arith
+greatest_most false [] = omega arith
+greatest_most true (Byte b ∷ tokens) = behind_dollar b (is_placeholder b) (greatest false tokens) (greatest (b == 36) tokens) refl (greatest_most false tokens) (greatest_most (b == 36) tokens)
+greatest_most false (Byte b ∷ tokens) = greatest_most (b == 36) tokens
+greatest_most true (Separator b ∷ tokens) = greatest_most false tokens
+greatest_most false (Separator b ∷ tokens) = greatest_most false tokens
+greatest_most true (Whole piece ∷ tokens) = greatest_most false tokens
+greatest_most false (Whole piece ∷ tokens) = greatest_most false tokens
+greatest_most true (Faulty text ∷ tokens) = greatest_most false tokens
+greatest_most false (Faulty text ∷ tokens) = greatest_most false tokens
+
+apart : (m n : ℕ) → m < n → (m == n) ≡ false
+apart m n lt = grind (arith, nat_tests)
+
+-- more than nine parameters are too many for every body
+pub expands_many : (args : List (List ℕ)) (bytes : List ℕ) → 9 < length args → ExpandsTo bytes args (Err MacroParameterError)
+expands_many args bytes lt =
+    let s = some_spelling [] bytes in
+    expands_other args bytes s.1 s.0 s.2 (apart s.0 (length args) (omega (arith, s.2.2, greatest_most false s.2.0)))

@@ -1,10 +1,18 @@
 // Numbers as answered.
-ghost use Rattle.std.specs.Prelude.{◌≡◌, IfOk};
+ghost use Rattle.std.specs.Prelude.{◌≡◌, decimal, IfOk};
 ghost use Rattle.psu_lex.specs.Decimals.{fixed3_text};
 
 use crate::Bytes;
 use itoa::Buffer;
 use std::alloc::{AllocError, Allocator};
+
+/// A whole number as answered (IEEE 488.2, 8.7.2).
+pub fn whole<A: Allocator + Copy>(alloc: A, number: u64) -> Result<Bytes<A>, AllocError>
+    ensures { IfOk result (λ text. text ≡ decimal number) }
+{
+    let mut buffer = Buffer::new();
+    Bytes::of(alloc, buffer.format(number).as_bytes())
+}
 
 /// A number of thousandths as answered: the whole part, a point and three decimals (IEEE 488.2, 8.7.3),
 /// as `-0.005` for -5.

@@ -35,7 +35,7 @@ pub use bytes::Bytes;
 pub use data::Data;
 pub use datum::Datum;
 pub use datum_class::DatumClass;
-pub use decimals::fixed3;
+pub use decimals::{fixed3, whole};
 pub use error_class::ErrorClass;
 pub use header::Header;
 pub use macros::expand;

@@ -211,7 +211,8 @@ impl<A: Allocator + Copy> Contents<A> {
 
     /// The pages that the contents cost: one for each item, and one for each 512 bytes begun of its value.
     pub fn cost(&self) -> u128
-        ensures { result ≡ cost_of self.now }
+        ensures value { result ≡ cost_of self.now }
+        ensures most { result < 2 ^ 102 }
     {
         let pages = Pages {
             enables: enables_pages(self.enables),

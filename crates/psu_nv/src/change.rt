@@ -2,6 +2,7 @@
 ghost use Rattle.std.specs.Prelude.{◌≡◌, ◌⊎◌, ◌≤◌, Some, None, length, IfErr, OnOk, OnErr};
 ghost use Rattle.psu_lex.specs.declared.scpi_error.ScpiError.TheVariants.{OutOfMemory};
 ghost use Rattle.psu_nv.specs.Commands.{answer, apply, refused};
+ghost use Rattle.psu_nv.specs.Contents.{IsContents};
 ghost use Rattle.psu_nv.specs.Views.{command_of};
 
 use crate::{Contents, NvCommand};
@@ -12,6 +13,7 @@ impl<A: Allocator + Copy> Contents<A> {
     /// Makes a nonvolatile command's change where its result fits the limit. The errors in their order: those of names and
     /// labels and what they find, -254 where the result doesn't fit, -225 where memory is refused. After each nothing has changed.
     pub fn change(&mut self, limit: u16, command: &NvCommand) -> Result<(), ScpiError>
+        ensures sound { OnOk result (IsContents self.new) }
         ensures ok { OnOk result ((answer limit self.old (command_of command.now) ≡ None) × (self.new ≡ apply self.old (command_of command.now))) }
         ensures refused { IfErr result (λ e. (answer limit self.old (command_of command.now) ≡ Some e) ⊎ ((answer limit self.old (command_of command.now) ≡ None) × (e ≡ OutOfMemory))) }
         ensures err { OnErr result (self.new ≡ self.old) }
@@ -23,7 +25,10 @@ impl<A: Allocator + Copy> Contents<A> {
             return Err(ScpiError::MediaFull);
         }
         match self.make(command) {
-            Ok(()) => Ok(()),
+            Ok(()) => {
+                let _ = &self.alloc;
+                Ok(())
+            }
             Err(_) => Err(ScpiError::OutOfMemory),
         }
     }

@@ -1,5 +1,5 @@
 // What is kept without power, as one value.
-ghost use Rattle.std.specs.Prelude.{◌≡◌, ◌≤◌, length, IfOk, option_map, Option, Some, None};
+ghost use Rattle.std.specs.Prelude.{◌≡◌, ◌≤◌, length, IfOk, IfSome, option_map, Option, Some, None};
 ghost use Rattle.psu_items.specs.Map.{get};
 ghost use Rattle.psu_nv.specs.Contents.{fresh};
 ghost use Rattle.psu_nv.specs.Commands.{settings_at};
@@ -86,7 +86,8 @@ impl<A: Allocator + Copy> Contents<A> {
 
     /// The body of the macro with a label, without regard to case; none where no macro has it.
     pub fn body(&self, label: &[u8]) -> Option<&[u8]>
-        ensures { option_map (λ body. body.now) result ≡ body_at self.now.macros label.now }
+        ensures value { option_map (λ body. body.now) result ≡ body_at self.now.macros label.now }
+        ensures most { IfSome result (λ body. length body.now ≤ 1024) }
     {
         for definition in &self.macros {
             if same_label(definition.label(), label) {

@@ -67,7 +67,7 @@ impl<A: Allocator + Copy> Files<A> {
     // The pages that they cost.
     pub(crate) fn cost(&self) -> u128
         ensures value { result ≡ cost self.now }
-        ensures most { result < 2 ^ 124 }
+        ensures most { result < 2 ^ 80 }
     {
         // Their number bounds the pages.
         let _count = self.items.pairs().len();

@@ -28,8 +28,8 @@ impl<A: Allocator + Copy> Contents<A> {
         }
     }
 
-    // Whether a file has the name.
-    pub(crate) fn has_file(&self, name: &[u8]) -> bool
+    /// Whether a file has the name.
+    pub fn has_file(&self, name: &[u8]) -> bool
         ensures { result ≡ has_file self.now.files name.now }
     {
         self.files.get(name).is_some()
@@ -58,8 +58,8 @@ impl<A: Allocator + Copy> Contents<A> {
         }
     }
 
-    // The bytes of a file; none where there is none.
-    pub(crate) fn bytes_of(&self, name: &[u8]) -> &[u8]
+    /// The bytes of a file, without its type; no bytes where there is none.
+    pub fn bytes_of(&self, name: &[u8]) -> &[u8]
         ensures value { result.now ≡ bytes_in self.now.files name.now }
         ensures most { length result.now ≤ 32768 }
     {

@@ -10,8 +10,8 @@ pub(crate) fn is_label(bytes: &[u8]) -> bool
     begins_with_letter(bytes) && are_label_bytes(bytes) && bytes.len() <= 12
 }
 
-// Whether bytes are a file's name: 1 to 32 of letters, digits, `_`, `-` and `.`.
-pub(crate) fn is_name(bytes: &[u8]) -> bool
+/// Whether bytes are a file's name: 1 to 32 of letters, digits, `_`, `-` and `.`.
+pub fn is_name(bytes: &[u8]) -> bool
     ensures { result ≡ is_name bytes.now }
 {
     are_name_bytes(bytes) && bytes.len() >= 1 && bytes.len() <= 32

@@ -12,8 +12,8 @@ use psu_lex::ScpiError;
 use std::alloc::Allocator;
 
 impl<A: Allocator + Copy> Contents<A> {
-    // The first refusal of a command by what its names and labels are and find.
-    pub(crate) fn refusal(&self, command: &NvCommand) -> Option<ScpiError>
+    /// Why a command is refused by what its names and labels are and find, before its result is looked at; none where it is not.
+    pub fn refusal(&self, command: &NvCommand) -> Option<ScpiError>
         ensures { result ≡ refused self.now (command_of command.now) }
     {
         match command {

@@ -58,7 +58,7 @@ impl<A: Allocator + Copy> Contents<A> {
     // The pages of the macros as they are.
     pub(crate) fn macros_now(&self) -> u128
         ensures value { result ≡ macros_cost self.now.macros }
-        ensures most { result < 2 ^ 125 }
+        ensures most { result < 2 ^ 101 }
     {
         macros_pages(self.macros.len(), self.macros_size())
     }
@@ -107,7 +107,7 @@ impl<A: Allocator + Copy> Contents<A> {
 fn macros_pages(count: usize, size: u128) -> u128
     requires { size < 2 ^ 100 }
     ensures value { (macros : List Macro) → length macros ≡ count → macros_length macros ≡ size → result ≡ macros_cost macros }
-    ensures most { result < 2 ^ 125 }
+    ensures most { result < 2 ^ 101 }
 {
     if count == 0 { 0 } else { page_count(size) }
 }

@@ -36,6 +36,7 @@ impl UserData {
     /// User data of these bytes; none where there are more than 63.
     pub fn of(bytes: &[u8]) -> Option<UserData>
         ensures found { IfSome result (λ user. user ≡ bytes.now) }
+        ensures most { IfSome result (λ user. length user ≤ 63) }
         ensures none { IfNone result (63 < length bytes.now) }
     {
         let mut kept = ArrayVec::new();

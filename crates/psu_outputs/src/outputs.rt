@@ -7,7 +7,7 @@ ghost use Rattle.psu_outputs.specs.Outputs.{reset_supply, supply_of, with_supply
 ghost use Rattle.psu_lex.specs.declared.scpi_error.ScpiError.TheVariants.{DataOutOfRange, SettingsConflict};
 
 use crate::supply::Supply;
-use crate::{Measured, Milliohms, Output, Settings};
+use crate::{Measured, Milliohms, Output, OutputSettings, Settings};
 use psu_lex::ScpiError;
 use std::marker::Model;
 
@@ -77,6 +77,13 @@ impl Outputs {
         let [a, b, c, d] = self.supplies;
         let [p, q, r, s] = settings.outputs();
         self.supplies = [a.restored(p), b.restored(q), c.restored(r), d.restored(s)];
+    }
+
+    /// What is set of one output.
+    pub fn settings(&self, output: Output) -> OutputSettings
+        ensures { let s = supply_of self.now output in result ≡ s.settings }
+    {
+        self.supplies[output.place()].settings
     }
 
     /// What is measured at an output.

@@ -4,9 +4,10 @@ ghost use Rattle.psu_exec.specs.Device.{is_open};
 
 use crate::stores::{committed, empty, one_edit};
 use psu_disk::{Choice, FailOnce, Fuse, MemDisk};
-use psu_exec::{Ended, Exec, Finished, NoJob, Outcome, PowerCause, Session, plain};
+use psu_exec::{Ended, Exec, Finished, NoJob, Outcome, PowerCause, Session};
 use psu_items::{Commit, Store};
 use psu_lex::Unit;
+use psu_tree::{Path, request};
 use std::alloc::Global;
 use std::process::Abort;
 use std::test::Fail;
@@ -54,14 +55,19 @@ fn says(rt: &impl Abort, exec: &mut Power, session: Session, text: &[u8], want: 
         first: true,
         fault: None,
     };
-    tells(rt, exec.execute(session, &plain(&unit)), want);
+    tells(
+        rt,
+        exec.execute(session, &request(&mut Path::root(), &unit, false)),
+        want,
+    );
 }
 
 fn tells(rt: &impl Abort, outcome: Outcome<Global>, want: &[u8]) {
     match outcome {
         Outcome::Done => assert_eq!(rt; "done".as_bytes(), want),
-        Outcome::Answer(text) => assert_eq!(rt; text.as_bytes(), want),
+        Outcome::Answer(text) => assert_eq!(rt; text.as_slice(), want),
         Outcome::Error(_) => assert_eq!(rt; "error".as_bytes(), want),
+        Outcome::Expand(_) => assert_eq!(rt; "expand".as_bytes(), want),
         Outcome::Parked => assert_eq!(rt; "parked".as_bytes(), want),
         Outcome::Later => assert_eq!(rt; "later".as_bytes(), want),
     }
@@ -146,7 +152,7 @@ fn commands_while_a_job_is_out_wait_for_the_next(rt: HostRuntime) {
         tells(&rt, exec.settle(session), b"1");
     }
     assert!(rt; exec.is_flushed());
-    assert_eq!(rt; exec.contents().enables, Some((4, 0)));
+    assert_eq!(rt; exec.contents().enables(), Some((4, 0)));
 }
 
 // Each call of a commit that fails breaks the store: -320 for the wait and for what would change it, until it is opened again.
@@ -186,7 +192,7 @@ fn a_broken_store_is_opened_again(rt: HostRuntime) {
         match exec.end() {
             Ended::Whole(store) => match Store::open(alloc, store.into_disk().into_inner()) {
                 Ok(store) => match Exec::power_on(alloc, store) {
-                    Ok(exec) => assert_eq!(rt; exec.contents().enables, Some((0, 0))),
+                    Ok(exec) => assert_eq!(rt; exec.contents().enables(), Some((0, 0))),
                     Err(_) => panic!(&rt; "no power-on"),
                 },
                 Err(_) => panic!(&rt; "not opened"),
@@ -291,7 +297,12 @@ fn a_loss_in_a_job_leaves_before_or_target(rt: HostRuntime) {
                 first: true,
                 fault: None,
             };
-            assert!(rt; matches!(exec.execute(session, &plain(&unit)), Outcome::Done));
+            assert!(rt;
+                matches!(
+                    exec.execute(session, &request(&mut Path::root(), &unit, false)),
+                    Outcome::Done
+                )
+            );
             let Ok(job) = exec.take() else {
                 panic!(&rt; "no job");
             };
@@ -308,7 +319,7 @@ fn a_loss_in_a_job_leaves_before_or_target(rt: HostRuntime) {
             };
             match Exec::power_on(alloc, store) {
                 Ok(exec) => {
-                    let enables = exec.contents().enables;
+                    let enables = exec.contents().enables();
                     assert!(rt; enables == None || enables == Some((0, 0)));
                 }
                 Err(_) => panic!(&rt; "no power-on"),

@@ -26,9 +26,13 @@ mod hislip;
 #[cfg(test)]
 mod images;
 #[cfg(test)]
+mod instrument_rows;
+#[cfg(test)]
 mod locks;
 #[cfg(test)]
 mod losses;
+#[cfg(test)]
+mod macro_rows;
 #[cfg(test)]
 mod maps;
 #[cfg(test)]

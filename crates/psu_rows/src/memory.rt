@@ -31,7 +31,7 @@ fn keeps_a_prefix(alloc: Global, disk: psu_disk::MemDisk<Global>) -> bool {
         return false;
     };
     matches!(
-        exec.contents().enables,
+        exec.contents().enables(),
         None | Some((0, 0)) | Some((32, 0)) | Some((0, 128)) | Some((32, 128))
     )
 }

@@ -1,7 +1,7 @@
-// Units as the commands that stand are read from them, and the faults of a reading in their order. A number is rounded half away from
+// Units as commands are read from them, and the faults of a reading in their order. A number is rounded half away from
 // zero before it is looked at.
-use psu_exec::{Command, ScpiError, plain};
-use psu_lex::{Unit, split};
+use psu_lex::{ScpiError, Unit, split};
+use psu_tree::{Command, Enable, Flag, Path, Query, read_unit, request};
 
 fn unit_of(text: &[u8]) -> Unit<'_> {
     Unit {
@@ -12,33 +12,55 @@ fn unit_of(text: &[u8]) -> Unit<'_> {
 }
 
 #[test]
-fn units_read_as_commands(rt: HostRuntime) {
-    let rows: [(&[u8], Command); 16] = [
-        (b"*sRe 00005", Command::Sre(5)),
-        (b"*SRE \t5 ", Command::Sre(5)),
-        (b"*SRE +5", Command::Sre(5)),
-        (b"*SRE 000000000005", Command::Sre(5)),
-        (b"*SRE 1 E +2", Command::Sre(100)),
-        (b"*SRE 255.4", Command::Sre(255)),
-        (b"*ESE -0", Command::Ese(0)),
-        (b"*ESE -0.4", Command::Ese(0)),
-        (b"*PSC 0", Command::PscOff),
-        (b"*PSC -0.4", Command::PscOff),
-        (b"*PSC 0.5", Command::PscOn),
-        (b"*PSC -32767", Command::PscOn),
-        (b"*PSC 32767.4", Command::PscOn),
-        (b" *idn?\r", Command::IdnQuery),
-        (b"*STB? ", Command::StbQuery),
-        (b"*OPC?", Command::OpcQuery),
+fn numbers_of_commands(rt: HostRuntime) {
+    let rows: [(&[u8], Enable, u8); 8] = [
+        (b"*sRe 00005", Enable::ServiceRequest, 5),
+        (b"*SRE \t5 ", Enable::ServiceRequest, 5),
+        (b"*SRE +5", Enable::ServiceRequest, 5),
+        (b"*SRE 000000000005", Enable::ServiceRequest, 5),
+        (b"*SRE 1 E +2", Enable::ServiceRequest, 100),
+        (b"*SRE 255.4", Enable::ServiceRequest, 255),
+        (b"*ESE -0", Enable::EventStatus, 0),
+        (b"*ESE -0.4", Enable::EventStatus, 0),
     ];
-    for (text, command) in rows {
-        assert_eq!(rt; plain(&unit_of(text)).reading, Ok(command));
+    for (text, which, number) in rows {
+        let read = read_unit(&Path::root(), &unit_of(text));
+        assert!(rt;
+            matches!(read, Ok(Command::Enable(to, value)) if to == which && value == number),
+            "at {text:?}"
+        );
+    }
+    let flags: [(&[u8], bool); 5] = [
+        (b"*PSC 0", false),
+        (b"*PSC -0.4", false),
+        (b"*PSC 0.5", true),
+        (b"*PSC -32767", true),
+        (b"*PSC 32767.4", true),
+    ];
+    for (text, on) in flags {
+        let read = read_unit(&Path::root(), &unit_of(text));
+        assert!(rt;
+            matches!(read, Ok(Command::Flag(Flag::PowerOnClear, value)) if value == on),
+            "at {text:?}"
+        );
+    }
+    let queries: [(&[u8], Query); 3] = [
+        (b" *idn?\r", Query::Identification),
+        (b"*STB? ", Query::StatusByte),
+        (b"*OPC?", Query::OperationComplete),
+    ];
+    for (text, query) in queries {
+        let read = read_unit(&Path::root(), &unit_of(text));
+        assert!(rt;
+            matches!(read, Ok(Command::Query(asked)) if asked == query),
+            "at {text:?}"
+        );
     }
 }
 
 #[test]
 fn faults_of_a_reading_come_in_order(rt: HostRuntime) {
-    let rows: [(&[u8], ScpiError); 30] = [
+    let rows: [(&[u8], ScpiError); 29] = [
         (b"*SRE \xff", ScpiError::InvalidCharacter),
         (b"*SRE ,\xff", ScpiError::InvalidCharacter),
         (b"*SRE 5,", ScpiError::SyntaxError),
@@ -48,7 +70,6 @@ fn faults_of_a_reading_come_in_order(rt: HostRuntime) {
         (b"*SRE 1 E + 2", ScpiError::SyntaxError),
         (b"*SRE5", ScpiError::UndefinedHeader),
         (b"SRE 5", ScpiError::UndefinedHeader),
-        (b"*OPC", ScpiError::UndefinedHeader),
         (b"*IDN", ScpiError::UndefinedHeader),
         (b"*ESR 1,2", ScpiError::UndefinedHeader),
         (b"FOO 1E99999", ScpiError::UndefinedHeader),
@@ -71,7 +92,8 @@ fn faults_of_a_reading_come_in_order(rt: HostRuntime) {
         (b"*PSC -32767.5", ScpiError::DataOutOfRange),
     ];
     for (text, error) in rows {
-        assert_eq!(rt; plain(&unit_of(text)).reading, Err(error));
+        let read = read_unit(&Path::root(), &unit_of(text));
+        assert!(rt; matches!(read, Err(fault) if fault == error), "at {text:?}");
     }
 }
 
@@ -81,14 +103,19 @@ fn units_of_a_message_are_read(rt: HostRuntime) {
     let Ok(units) = split(rt.alloc(), b"*SRE 255; *sre? ;*ESE 'a") else {
         panic!(rt; "out of memory");
     };
-    let readings = [
-        Ok(Command::Sre(255)),
-        Ok(Command::SreQuery),
-        Err(ScpiError::InvalidStringData),
-    ];
-    let units = units.as_slice();
-    assert_eq!(rt; units.len(), readings.len());
-    for (unit, reading) in units.iter().zip(readings) {
-        assert_eq!(rt; plain(unit).reading, reading);
-    }
+    let [first, second, third] = units.as_slice() else {
+        panic!(rt; "three units");
+    };
+    let mut path = Path::root();
+    let read = request(&mut path, first, false).reading;
+    assert!(rt; matches!(read, Ok(Command::Enable(Enable::ServiceRequest, 255))));
+    let read = request(&mut path, second, false).reading;
+    assert!(rt;
+        matches!(
+            read,
+            Ok(Command::Query(Query::Enable(Enable::ServiceRequest)))
+        )
+    );
+    let read = request(&mut path, third, false).reading;
+    assert!(rt; matches!(read, Err(ScpiError::InvalidStringData)));
 }

@@ -5,9 +5,10 @@ ghost use Rattle.psu_exec.specs.Device.{is_open};
 use crate::images::least;
 use bumpalo::Bump;
 use psu_disk::MemDisk;
-use psu_exec::{Condition, Exec, NoJob, Outcome, ScpiError, Session, plain};
+use psu_exec::{Condition, Exec, NoJob, Outcome, ScpiError, Session};
 use psu_items::Store;
 use psu_lex::Unit;
+use psu_tree::{Path, request};
 use std::alloc::Global;
 use std::process::Abort;
 use std::test::Fail;
@@ -34,7 +35,7 @@ fn outcome<'a>(exec: &mut Power<'a>, session: Session, text: &[u8]) -> Outcome<&
         first: true,
         fault: None,
     };
-    exec.execute(session, &plain(&unit))
+    exec.execute(session, &request(&mut Path::root(), &unit, false))
 }
 
 // Takes the arena's memory but so many bytes.
@@ -78,7 +79,7 @@ fn take_is_refused(rt: &impl Abort, alloc: Global, left: usize) -> bool {
     arena.set_allocation_limit(None);
     assert!(rt; exec.give_back(job.run()).is_ok());
     match exec.settle(session) {
-        Outcome::Answer(text) => assert_eq!(rt; text.as_bytes(), "1".as_bytes()),
+        Outcome::Answer(text) => assert_eq!(rt; text.as_slice(), "1".as_bytes()),
         _ => panic!(rt; "no answer"),
     }
     refused
@@ -117,7 +118,7 @@ fn the_allocation_of_a_settle_refused(rt: HostRuntime) {
     assert!(rt; matches!(exec.settle(session), Outcome::Error(ScpiError::OutOfMemory)));
     arena.set_allocation_limit(None);
     match exec.settle(session) {
-        Outcome::Answer(text) => assert_eq!(rt; text.as_bytes(), "1".as_bytes()),
+        Outcome::Answer(text) => assert_eq!(rt; text.as_slice(), "1".as_bytes()),
         _ => panic!(&rt; "no answer"),
     }
     assert!(rt; matches!(exec.settle(session), Outcome::Done));

@@ -308,6 +308,8 @@ fn paths_of_worked_rows(rt: HostRuntime) -> Result<(), Fail> {
         "SOUR2:VOLT 3;SOUR2:CURR 1;*CLS;CURR 1",
         &[0, 113, 0, 0],
     )?;
+    // A header of one node leaves the path, with a colon too.
+    reads(&rt, rt.alloc(), "SYST:ERR?;:OUTP?;ERR?", &[0, 0, 0])?;
     // A fault leaves the path, and so does a common header.
     reads(
         &rt,

@@ -1,5 +1,5 @@
 -- Where nothing goes wrong, there is one text.
-use Rattle.std.proofs.Common.{◌≡◌, ◌⊎◌, ℕ, suc, zero, ◌-◌, ◌≤◌, ◌==◌, Bool, true, false, if◌then◌else◌, List, [], ◌∷◌, ◌++◌, refl, sym, ap, ◌∙◌, subst, subst₂, inl, inr, arith, Some, None}
+use Rattle.std.proofs.Common.{◌≡◌, ◌⊎◌, ℕ, suc, zero, ◌-◌, ◌≤◌, ◌==◌, Bool, true, false, if◌then◌else◌, List, [], ◌∷◌, ◌++◌, refl, sym, ap, ◌∙◌, subst, subst₂, inl, inr, arith, Option, Some, None, Result, Ok, Err}
 use Rattle.std.proofs.lemmas.Bool.{cases_Bool}
 use Rattle.std.proofs.lemmas.Bool.Decides.{nat_tests}
 use Rattle.psu_disk.specs.Disk.{DiskState}
@@ -7,19 +7,21 @@ use Rattle.psu_disk.specs.Ranges.{reads_left}
 use Rattle.psu_items.specs.Map.{Item}
 use Rattle.psu_items.specs.Image.{EachStands}
 use Rattle.psu_items.proofs.Single.{one_stands}
-use Rattle.psu_exec.specs.declared.contents.Contents.{Contents}
-use Rattle.psu_exec.specs.declared.request.Request.{Request}
+use Rattle.psu_nv.specs.Contents.{Contents, IsContents, items_of}
+use Rattle.psu_nv.proofs.Telling.{same_contents}
+use Rattle.psu_lex.specs.declared.scpi_error.ScpiError.{ScpiError}
+use Rattle.psu_instrument.specs.Macros.{CallGives, ExpandsAt, written}
+use Rattle.psu_tree.specs.declared.unit_request.Request.{Request}
 use Rattle.psu_exec.specs.declared.condition.Condition.TheVariants.{Whole}
-use Rattle.psu_exec.specs.Contents.{items_of}
-use Rattle.psu_exec.specs.Device.{Reply, Done, Answer, Error, Parked, Later, State, Volatile, Flush, MayAnswer, answer, after_unit, count_held, is_broken, target, wait_of}
-use Rattle.psu_exec.specs.Calls.{JobData, JobEnd, JobKind, Commit, Stored, Unstarted, Failed, Reopened, Job, Executed, Settled, Took, GaveBack, HasNone, HasWork, MaySettle, ends_wait, job_out, kind_for, opened, stored, settle_answer, after_settle, settled, unparked, wait_less}
+use Rattle.psu_exec.specs.Device.{Reply, Done, Answer, Error, Expand, Parked, Later, State, Flush, AnswersCalled, AnswersNow, MayAnswer, answer_call, after_unit, called, count_held, is_broken, is_later as comes_later, target, wait_of}
+use Rattle.psu_exec.specs.Calls.{JobData, JobEnd, JobKind, Commit, Stored, Unstarted, Failed, Reopened, Job, Executed, Settled, Took, GaveBack, HasNone, HasWork, MaySettle, ends_wait, job_out, kind_for, opened, stored, with_stored, settle_answer, after_settle, settled, unparked, wait_less}
 use Rattle.psu_exec.specs.World.{World}
-use Rattle.psu_exec.proofs.Keeping.{one_contents}
 use Rattle.psu_server.specs.Lines.{Message, Asks, messages}
 use Rattle.psu_server.specs.Lives.{Calls, PowersOn}
-use Rattle.psu_server.specs.Script.{at_start, Rest, Went, Told, flushed_by, flushed, waited, after_reply, after_first, unit, units, message, Scripted, with_answer, line_text}
-use Rattle.psu_server.specs.Runs.{none, JobDone, Jobs, Flushes, IsMeant, IsSound, EndsJob, Reopens, is_later, is_out_of_memory, ScriptAlone, Acts, UnitRuns, UnitsRun, MessageRuns, Runs, is_final}
+use Rattle.psu_server.specs.Script.{at_start, Rest, Went, Told, Replies, RepliesCalled, RepliesNow, Goes, GoesFrom, TellsInside, TellsReply, Tells, TellsMessage, flushed_by, flushed, waited, after_reply, restarted, Scripted, with_answer, line_text}
+use Rattle.psu_server.specs.Runs.{none, JobDone, Jobs, Flushes, IsMeant, IsSound, EndsJob, Reopens, is_later, is_out_of_memory, ScriptAlone, Acts, UnitRuns, UnitsRun, ReplyRuns, LineRuns, MessageRuns, Runs, is_final}
 use Rattle.psu_server.proofs.JobEnds.{no_wait_after}
+use Rattle.psu_server.proofs.Scripts.{AllHold, Holds, asked_hold, message_holds}
 use Rattle.psu_server.proofs.SessionOne.{over_free}
 
 -- A device at rest, as the script and as the world have it: the store is whole and holds these contents' map, which each image of the
@@ -28,6 +30,8 @@ pub record Still (r : Rest) (w : World) : Type 0 where
   pub state : w.state ≡ r.state
   pub whole : r.state.flush.store ≡ Whole
   pub holds : items_of r.stored ≡ r.state.flush.before
+  pub kept : IsContents r.stored
+  pub sound : IsContents r.state.flush.contents
   pub disk : EachStands w.disk r.state.flush.limit (items_of r.stored)
 
 -- and no unit waits
@@ -46,9 +50,6 @@ committing f w = rw w refl
 target_of : State → List Item
 target_of s = target s.flush
 
-whole_state : (new old : State) (f : Flush) → new.volatile ≡ old.volatile → new.flush ≡ f → new ≡ record old { flush = f }
-whole_state new old f v e = ap (λ (z : Volatile). record new { volatile = z }) v ∙ ap (λ (z : Flush). record old { flush = z }) e
-
 -- what a job that is stored leaves
 stored_is : (r : Rest) (w taken new : World) (job : JobData) (limit : ℕ) (map : List Item) (over : List ℕ) → Still r w → Calls w (Took (Job job)) taken → Calls taken (GaveBack (Stored limit map) (Some over)) new
     → Still (committed r) new
@@ -59,8 +60,7 @@ stored_is r w taken new job limit map over q take give =
     let out : taken.state ≡ record r.state { flush = job_out f }
     = ap (λ (z : World). z.state) take.1.4 ∙ take.1.2.1 ∙ ap (λ (s : State). record s { flush = job_out s.flush }) q.state in
     let done : new.state ≡ (committed r).state
-    = ap (λ (z : World). z.state) give.1.4 ∙ whole_state give.1.0 taken.state (stored taken.state.flush) give.1.2.volatile give.1.2.flush
-    ∙ ap (λ (s : State). record s { flush = stored s.flush }) out in
+    = ap (λ (z : World). z.state) give.1.4 ∙ give.1.2.gives ∙ ap with_stored out in
     let aim : target_of taken.state ≡ items_of f.contents = ap target_of out ∙ ap (λ (z : Flush). target z) commit in
     let same_limit : limit ≡ f.limit = give.1.2.expected.0 ∙ ap (λ (s : State). s.flush.limit) out ∙ ap (λ (z : Flush). z.limit) commit in
     let same_map : map ≡ items_of f.contents = give.1.2.expected.1 ∙ aim in
@@ -70,6 +70,8 @@ stored_is r w taken new job limit map over q take give =
       state = done;
       whole = refl;
       holds = sym (ap (λ (z : Flush). target z) commit);
+      kept = q.sound;
+      sound = subst (λ (z : Flush). IsContents (stored z).contents) (sym commit) q.sound;
       disk = subst (λ (d : DiskState). EachStands d (committed r).state.flush.limit (items_of f.contents)) (sym there)
           (subst (λ (n : ℕ). EachStands give.0 n (items_of f.contents)) (same_limit ∙ sym limit_out)
           (subst (λ (m : List Item). EachStands give.0 limit m) same_map give.1.3));
@@ -142,9 +144,31 @@ pub record Same (went : Went) (o : Reply) (new : World) : Type 0 where
   pub reply : went.reply ≡ o
   pub quiet : Quiet went.rest new
 
-calm_answer : (s : State) (c : Request) (o : Reply) → MayAnswer s 1 c o → IsMeant none o → o ≡ answer s 1 c
-calm_answer s c o (inl e) m = e
-calm_answer s c o (inr e) m = let bad = m e.0 in cc
+-- where no memory is refused a call gives the expansion of its body, or the error in its place
+calm_given : (inside : Bool) (body : List ℕ) (args : List (List ℕ)) (o : Reply) (given : Result (List ℕ) ScpiError) → o ≡ answer_call given → CallGives inside body args given → IsMeant none o
+    → ExpandsAt inside body args given
+calm_given inside body args o (Ok text) is g m = g
+calm_given inside body args o (Err error) is (inl short) m = let bad = m (is ∙ ap (λ (e : ScpiError). (let r : Reply = Error e in r)) short.0) in cc
+calm_given inside body args o (Err error) is (inr g) m = g
+
+calm_called : (s : State) (c : Request) (o : Reply) → Holds c → (body : Option (List ℕ)) → AnswersCalled s c body o → IsMeant none o → RepliesCalled s c body o
+calm_called s c o holds None (inl e) m = e
+calm_called s c o holds None (inr e) m = let bad = m e.0 in cc
+calm_called s c o holds (Some body) h m = record {
+  parameters = holds.0;
+  holds = holds.1;
+  given = h.given;
+  gives = calm_given c.inside body (written holds.0) o h.given h.is (h.gives holds.0 holds.1) m;
+  is = h.is;
+}
+
+calm_now : (s : State) (c : Request) (o : Reply) → Holds c → (late : Bool) → AnswersNow late s c o → IsMeant none o → RepliesNow late s c o
+calm_now s c o holds true h m = h
+calm_now s c o holds false h m = calm_called s c o holds (called s c) h m
+
+-- a unit is answered as the script says
+calm_reply : (r : Rest) (s : State) (c : Request) (o : Reply) → s ≡ r.state → Holds c → MayAnswer s 1 c o → IsMeant none o → Replies r.state c o
+calm_reply r s c o same holds h m = subst (λ (z : State). Replies z c o) same (calm_now s c o holds (comes_later s 1 c) h m)
 
 -- a call that leaves the disk, told of the script's state
 abbrev Answers : World → Request → Reply → World → Type 0
@@ -152,6 +176,11 @@ Answers w c o new = Calls w (Executed 1 c o) new
 
 after_call : (r : Rest) (w new : World) (c : Request) (o : Reply) → w.state ≡ r.state → Answers w c o new → new.state ≡ after_unit r.state 1 c o
 after_call r w new c o same call = ap (λ (z : World). z.state) call.1.4 ∙ call.1.2.1.is ∙ ap (λ (s : State). after_unit s 1 c o) same
+
+-- what is kept after a unit may be kept
+sound_call : (r : Rest) (w new : World) (c : Request) (o : Reply) → w.state ≡ r.state → Answers w c o new → IsContents (after_unit r.state 1 c o).flush.contents
+sound_call r w new c o same call =
+    subst (λ (s : State). IsContents s.flush.contents) (sym (ap (λ (z : World). z.state) call.1.4) ∙ after_call r w new c o same call) call.1.2.1.sound
 
 disk_call : (w new : World) (c : Request) (o : Reply) → Answers w c o new → new.disk ≡ w.disk
 disk_call w new c o call = ap (λ (z : World). z.disk) call.1.4 ∙ call.1.3
@@ -161,6 +190,8 @@ still_on r w new c o q call = record {
   state = after_call r w new c o q.state call;
   whole = q.whole;
   holds = q.holds;
+  kept = q.kept;
+  sound = sound_call r w new c o q.state call;
   disk = subst (λ (d : DiskState). EachStands d r.state.flush.limit (items_of r.stored)) (sym (disk_call w new c o call)) q.disk;
 }
 
@@ -168,6 +199,7 @@ at_once : (r : Rest) (w new : World) (c : Request) (o : Reply) → Quiet r w →
 at_once r w new c Done q final call = record { reply = refl; quiet = record { still = still_on r w new c Done q.still call; wait = q.wait } }
 at_once r w new c (Answer a) q final call = record { reply = refl; quiet = record { still = still_on r w new c (Answer a) q.still call; wait = q.wait } }
 at_once r w new c (Error e) q final call = record { reply = refl; quiet = record { still = still_on r w new c (Error e) q.still call; wait = q.wait } }
+at_once r w new c (Expand e) q final call = record { reply = refl; quiet = record { still = still_on r w new c (Expand e) q.still call; wait = q.wait } }
 at_once r w new c Parked q final call = cc
 at_once r w new c Later q final call = cc
 
@@ -182,11 +214,11 @@ settle_limit f o = by (ends_wait o) where
   by true = refl
   by false = refl
 
-settle_keeps : (f : Flush) (o : Reply) → ((settled f 1 o).store ≡ f.store) × ((settled f 1 o).before ≡ f.before)
+settle_keeps : (f : Flush) (o : Reply) → ((settled f 1 o).store ≡ f.store) × ((settled f 1 o).before ≡ f.before) × ((settled f 1 o).contents ≡ f.contents)
 settle_keeps f o = by (ends_wait o) where
-  by : (b : Bool) → ((if b then unparked f 1 else f).store ≡ f.store) × ((if b then unparked f 1 else f).before ≡ f.before)
-  by true = (refl, refl)
-  by false = (refl, refl)
+  by : (b : Bool) → ((if b then unparked f 1 else f).store ≡ f.store) × ((if b then unparked f 1 else f).before ≡ f.before) × ((if b then unparked f 1 else f).contents ≡ f.contents)
+  by true = (refl, refl, refl)
+  by false = (refl, refl, refl)
 
 settle_at : (r : Rest) (w new : World) (o : Reply) → Still r w → Calls w (Settled 1 o) new → is_final o ≡ true → is_out_of_memory o ≡ false → Same (waited r) o new
 settle_at r w new o q call final long =
@@ -200,6 +232,8 @@ settle_at r w new o q call final long =
           state = ap (λ (z : World). z.state) call.1.4 ∙ call.1.2.2 ∙ ap (λ (s : State). after_settle s 1 o) q.state ∙ ap (λ (x : Reply). after_settle r.state 1 x) reply;
           whole = (settle_keeps r.state.flush a).0 ∙ q.whole;
           holds = q.holds ∙ sym (settle_keeps r.state.flush a).1;
+          kept = q.kept;
+          sound = subst (λ (c : Contents). IsContents c) (sym (settle_keeps r.state.flush a).2) q.sound;
           disk = subst (λ (n : ℕ). EachStands new.disk n (items_of r.stored)) (sym (settle_limit r.state.flush a))
               (subst (λ (d : DiskState). EachStands d r.state.flush.limit (items_of r.stored)) (sym there) q.disk);
         };
@@ -207,47 +241,58 @@ settle_at r w new o q call final long =
       };
     }
 
-acts_alone : (r : Rest) (w new : World) (c : Request) (o : Reply) → Quiet r w → Acts none w c o new → Same (after_reply r c (answer r.state 1 c)) o new
-acts_alone r w new c o q (final, inl (meant, call)) =
-    let is : o ≡ answer r.state 1 c = calm_answer w.state c o call.1.2.1.may meant ∙ ap (λ (s : State). answer s 1 c) q.still.state in
-    subst (λ (x : Reply). Same (after_reply r c x) o new) is (at_once r w new c o q final call)
-acts_alone r w new c o q (final, inr (long, parked, over, call, f, settle)) =
-    let is : Parked ≡ answer r.state 1 c = calm_answer w.state c Parked call.1.2.1.may (λ e. cc) ∙ ap (λ (s : State). answer s 1 c) q.still.state in
-    subst (λ (x : Reply). Same (after_reply r c x) o new) is
-    (settle_at (flushed (record r { state = after_unit r.state 1 c Parked })) over new o
-    (flush_alone (record r { state = after_unit r.state 1 c Parked }) parked over (still_on r w parked c Parked q.still call) f) settle final long)
+-- what a unit came to that is done with, in the script's words
+pub record ActsAs (r : Rest) (c : Request) (o : Reply) (new : World) : Type 0 where
+  pub first : Reply
+  pub replies : Replies r.state c first
+  pub now : is_later first ≡ false
+  pub same : Same (after_reply r c first) o new
 
 final_now : (o : Reply) → is_final o ≡ true → is_later o ≡ false
 final_now Done e = refl
 final_now (Answer a) e = refl
 final_now (Error x) e = refl
+final_now (Expand x) e = refl
 final_now Parked e = refl
 final_now Later e = cc
 
-not_late : (r : Rest) (w new : World) (c : Request) (o : Reply) → w.state ≡ r.state → Acts none w c o new → is_later (answer r.state 1 c) ≡ false
-not_late r w new c o same (final, inl (meant, call)) =
-    subst (λ (x : Reply). is_later x ≡ false) (calm_answer w.state c o call.1.2.1.may meant ∙ ap (λ (s : State). answer s 1 c) same) (final_now o final)
-not_late r w new c o same (final, inr (long, parked, over, call, f, settle)) =
-    subst (λ (x : Reply). is_later x ≡ false) (calm_answer w.state c Parked call.1.2.1.may (λ e. cc) ∙ ap (λ (s : State). answer s 1 c) same) refl
+acts_alone : (r : Rest) (w new : World) (c : Request) (o : Reply) → Quiet r w → Holds c → Acts none w c o new → ActsAs r c o new
+acts_alone r w new c o q holds (final, inl (meant, call)) = record {
+  first = o;
+  replies = calm_reply r w.state c o q.still.state holds call.1.2.1.may meant;
+  now = final_now o final;
+  same = at_once r w new c o q final call;
+}
+acts_alone r w new c o q holds (final, inr (long, parked, over, call, f, settle)) = record {
+  first = Parked;
+  replies = calm_reply r w.state c Parked q.still.state holds call.1.2.1.may (λ e. cc);
+  now = refl;
+  same = settle_at (flushed (record r { state = after_unit r.state 1 c Parked })) over new o
+      (flush_alone (record r { state = after_unit r.state 1 c Parked }) parked over (still_on r w parked c Parked q.still call) f) settle final long;
+}
 
-first_is : (r : Rest) (c : Request) (x : Reply) → is_later x ≡ false → after_first r c x ≡ after_reply r c x
-first_is r c Done h = refl
-first_is r c (Answer a) h = refl
-first_is r c (Error e) h = refl
-first_is r c Parked h = refl
-first_is r c Later h = cc
+goes_now : (r : Rest) (c : Request) (x : Reply) → is_later x ≡ false → GoesFrom r c x (after_reply r c x)
+goes_now r c Done h = refl
+goes_now r c (Answer a) h = refl
+goes_now r c (Error e) h = refl
+goes_now r c (Expand e) h = refl
+goes_now r c Parked h = refl
+goes_now r c Later h = cc
 
--- a unit goes on in one way
-unit_alone : (r : Rest) (w new : World) (c : Request) (o : Reply) → Quiet r w → UnitRuns none w c o new → Same (unit r c) o new
-unit_alone r w new c o q (inl a) =
-    subst (λ (z : Went). Same z o new) (sym (first_is r c (answer r.state 1 c) (not_late r w new c o q.still.state a))) (acts_alone r w new c o q a)
-unit_alone r w new c o q (inr (late, over, call, f, a)) =
-    let is : Later ≡ answer r.state 1 c = calm_answer w.state c Later call.1.2.1.may (λ e. cc) ∙ ap (λ (s : State). answer s 1 c) q.still.state in
+-- a unit goes on as the script says
+unit_alone : (r : Rest) (w new : World) (c : Request) (o : Reply) → Quiet r w → Holds c → UnitRuns none w c o new → (went : Went) × Goes r c went × Same went o new
+unit_alone r w new c o q holds (inl acts) =
+    let a = acts_alone r w new c o q holds acts in (after_reply r c a.first, (a.first, a.replies, goes_now r c a.first a.now), a.same)
+unit_alone r w new c o q holds (inr (late, over, call, f, acts)) =
     let rests : Quiet (flushed r) over = record {
       still = flush_alone r late over (still_on r w late c Later q.still call) f;
       wait = wait_by (r.state.flush.unflushed == 0) r q.still.whole q.wait;
     } in
-    subst (λ (x : Reply). Same (after_first r c x) o new) is (acts_alone (flushed r) over new c o rests a)
+    let a = acts_alone (flushed r) over new c o rests holds acts in (
+      after_reply (flushed r) c a.first,
+      (Later, calm_reply r w.state c Later q.still.state holds call.1.2.1.may (λ e. cc), (a.first, a.replies, refl)),
+      a.same,
+    )
 
 -- ---- messages
 
@@ -255,12 +300,33 @@ pub record SameTold (t : Told) (all : List ℕ) (new : World) : Type 0 where
   pub text : t.text ≡ all
   pub quiet : Quiet t.rest new
 
-units_alone : (cs : List Request) (r : Rest) (w new : World) (text all : List ℕ) → Quiet r w → UnitsRun none w text cs all new → SameTold (units r text cs) all new
-units_alone [] r w new text all q u = record { text = sym u.1; quiet = subst (λ (z : World). Quiet r z) (sym u.0) q }
-units_alone (c ∷ cs) r w new text all q (o, mid, u, more) =
-    let one = unit_alone r w mid c o q u in
-    units_alone cs (unit r c).rest mid new (with_answer text (unit r c).reply) all one.quiet
-    (subst (λ (x : Reply). UnitsRun none mid (with_answer text x) cs all new) (sym one.reply) more)
+inside_alone : (cs : List Request) (r : Rest) (w new : World) (text all : List ℕ) → Quiet r w → AllHold cs → UnitsRun none w text cs all new → (told : Told) × TellsInside r text cs told × SameTold told all new
+inside_alone [] r w new text all q hold u = (record { rest = r; text = text }, refl, record { text = sym u.1; quiet = subst (λ (z : World). Quiet r z) (sym u.0) q })
+inside_alone (c ∷ cs) r w new text all q (holds, hold) (o, mid, u, more) =
+    let one = unit_alone r w mid c o q holds u in
+    let rest = inside_alone cs one.0.rest mid new (with_answer text one.0.reply) all one.2.quiet hold
+    (subst (λ (x : Reply). UnitsRun none mid (with_answer text x) cs all new) (sym one.2.reply) more) in
+    (rest.0, (one.0, one.1, rest.1), rest.2)
+
+told_here : (r : Rest) (w new : World) (text all : List ℕ) (o : Reply) → Quiet r w → (new ≡ w) × (all ≡ with_answer text o) → SameTold (record { rest = r; text = with_answer text o }) all new
+told_here r w new text all o q u = record { text = sym u.1; quiet = subst (λ (z : World). Quiet r z) (sym u.0) q }
+
+reply_alone : (o : Reply) (r : Rest) (w new : World) (text all : List ℕ) → Quiet r w → ReplyRuns none w text o all new → (told : Told) × TellsReply r text o told × SameTold told all new
+reply_alone (Expand bytes) r w new text all q (requests, asks, u) =
+    let t = inside_alone requests r w new text all q (asked_hold true bytes requests asks) u in (t.0, (requests, asks, t.1), t.2)
+reply_alone Done r w new text all q u = (record { rest = r; text = with_answer text Done }, refl, told_here r w new text all Done q u)
+reply_alone (Answer a) r w new text all q u = (record { rest = r; text = with_answer text (Answer a) }, refl, told_here r w new text all (Answer a) q u)
+reply_alone (Error e) r w new text all q u = (record { rest = r; text = with_answer text (Error e) }, refl, told_here r w new text all (Error e) q u)
+reply_alone Parked r w new text all q u = (record { rest = r; text = with_answer text Parked }, refl, told_here r w new text all Parked q u)
+reply_alone Later r w new text all q u = (record { rest = r; text = with_answer text Later }, refl, told_here r w new text all Later q u)
+
+line_alone : (cs : List Request) (r : Rest) (w new : World) (text all : List ℕ) → Quiet r w → AllHold cs → LineRuns none w text cs all new → (told : Told) × Tells r text cs told × SameTold told all new
+line_alone [] r w new text all q hold u = (record { rest = r; text = text }, refl, record { text = sym u.1; quiet = subst (λ (z : World). Quiet r z) (sym u.0) q })
+line_alone (c ∷ cs) r w new text all q (holds, hold) (o, mid, some, after, u, told, more) =
+    let one = unit_alone r w mid c o q holds u in
+    let put = reply_alone one.0.reply one.0.rest mid after text some one.2.quiet (subst (λ (x : Reply). ReplyRuns none mid text x some after) (sym one.2.reply) told) in
+    let rest = line_alone cs put.0.rest after new put.0.text all put.2.quiet hold (subst (λ (z : List ℕ). LineRuns none after z cs all new) (sym put.2.text) more) in
+    (rest.0, (one.0, put.0, one.1, put.1, rest.1), rest.2)
 
 -- a device that has just been powered on
 start_quiet : (image : List ℕ) (new : World) → (p : PowersOn image new) → Quiet (at_start p.on.limit p.on.start) new
@@ -269,15 +335,17 @@ start_quiet image new p = record {
     state = ap (λ (z : World). z.state) p.opens.1.4 ∙ p.opens.1.2.1 ∙ ap (λ (s : State). opened s (Some 1)) p.start.state;
     whole = refl;
     holds = refl;
+    kept = p.start.sound;
+    sound = p.start.sound;
     disk = subst (λ (d : DiskState). EachStands d p.on.limit (items_of p.on.start)) (sym (ap (λ (z : World). z.disk) p.opens.1.4 ∙ p.opens.1.3)) p.start.disk;
   };
   wait = refl;
 }
 
-restart_alone : (r : Rest) (w new : World) → Quiet r w → PowersOn w.disk.bytes new → SameTold (message r Message.Power []) [] new
+restart_alone : (r : Rest) (w new : World) → Quiet r w → PowersOn w.disk.bytes new → SameTold (record { rest = restarted r; text = [] }) [] new
 restart_alone r w new q p =
     let same = one_stands w.disk.bytes p.on.limit r.state.flush.limit (items_of p.on.start) (items_of r.stored) p.found (q.still.disk w.disk.bytes (reads_left w.disk)) in
-    let contents : p.on.start ≡ r.stored = one_contents p.on.start r.stored same.1 in
+    let contents : p.on.start ≡ r.stored = same_contents p.on.start r.stored p.start.sound q.still.kept same.1 in
     record {
       text = refl;
       quiet = subst (λ (n : ℕ). Quiet (at_start n r.stored) new) same.0 (subst (λ (c : Contents). Quiet (at_start p.on.limit c) new) contents (start_quiet w.disk.bytes new p));
@@ -286,13 +354,16 @@ restart_alone r w new q p =
 pub record SameMessage (r : Rest) (m : Message) (text : List ℕ) (new : World) : Type 0 where
   pub requests : List Request
   pub asks : Asks m requests
-  pub told : SameTold (message r m requests) text new
+  pub told : Told
+  pub tells : TellsMessage r m requests told
+  pub same : SameTold told text new
 
-units_told : (r : Rest) (w new : World) (requests : List Request) (all text : List ℕ) → Quiet r w → UnitsRun none w [] requests all new → text ≡ line_text all
-    → SameTold (record { rest = (units r [] requests).rest; text = line_text (units r [] requests).text }) text new
-units_told r w new requests all text q u is =
-    let t = units_alone requests r w new [] all q u in
-    record { text = ap line_text t.text ∙ sym is; quiet = t.quiet }
+-- what the units of a message told, with the end of its line
+line_told : (r : Rest) (w new : World) (requests : List Request) (all text : List ℕ) → Quiet r w → AllHold requests → LineRuns none w [] requests all new → text ≡ line_text all
+    → (told : Told) × ((every : Told) × Tells r [] requests every × (told ≡ record { rest = every.rest; text = line_text every.text })) × SameTold told text new
+line_told r w new requests all text q hold u is =
+    let t = line_alone requests r w new [] all q hold u in
+    (record { rest = t.0.rest; text = line_text t.0.text }, (t.0, t.1, refl), record { text = ap line_text t.2.text ∙ sym is; quiet = t.2.quiet })
 
 reopened_same : (r : Rest) (w over : World) → Quiet r w → Reopens none w over → over ≡ w
 reopened_same r w over q (inl e) = e.1
@@ -302,18 +373,23 @@ message_alone : (m : Message) (r : Rest) (w new : World) (text : List ℕ) → Q
 message_alone Message.Power r w new text q (none_is, over, reopens, p) = record {
   requests = [];
   asks = refl;
-  told = subst (λ (z : List ℕ). SameTold (message r Message.Power []) z new) (sym none_is)
+  told = record { rest = restarted r; text = [] };
+  tells = refl;
+  same = subst (λ (z : List ℕ). SameTold (record { rest = restarted r; text = [] }) z new) (sym none_is)
       (restart_alone r w new q (subst (λ (z : World). PowersOn z.disk.bytes new) (reopened_same r w over q reopens) p));
 }
-message_alone Message.Overlong r w new text q (requests, asks, all, u, is) = record { requests = requests; asks = asks; told = units_told r w new requests all text q u is }
-message_alone (Message.Units bytes) r w new text q (requests, asks, all, u, is) = record { requests = requests; asks = asks; told = units_told r w new requests all text q u is }
+message_alone Message.Overlong r w new text q (requests, asks, all, u, is) =
+    let t = line_told r w new requests all text q (message_holds Message.Overlong requests asks) u is in
+    record { requests = requests; asks = asks; told = t.0; tells = t.1; same = t.2 }
+message_alone (Message.Units bytes) r w new text q (requests, asks, all, u, is) =
+    let t = line_told r w new requests all text q (message_holds (Message.Units bytes) requests asks) u is in
+    record { requests = requests; asks = asks; told = t.0; tells = t.1; same = t.2 }
 
 runs_alone : (ms : List Message) (r : Rest) (w last : World) (text : List ℕ) → Quiet r w → Runs none w ms text last → Scripted r ms text
 runs_alone [] r w last text q u = u.1
 runs_alone (m ∷ ms) r w last text q (first, more, mid, u, us, is) =
     let a = message_alone m r w mid first q u in
-    let t = a.told in
-    (a.requests, more, a.asks, runs_alone ms (message r m a.requests).rest mid last more t.quiet us, is ∙ ap (λ (z : List ℕ). z ++ more) (sym t.text))
+    (a.requests, a.told, more, a.asks, a.tells, runs_alone ms a.told.rest mid last more a.same.quiet us, is ∙ ap (λ (z : List ℕ). z ++ more) (sym a.same.text))
 
 pub script_is_alone : ScriptAlone
 script_is_alone image input text first last p runs =

@@ -6,21 +6,22 @@ use Rattle.psu_disk.specs.declared.disk.Disk.{Ghosts}
 use Rattle.psu_items.specs.Map.{Item}
 use Rattle.psu_items.specs.Image.{Stands, EachStands}
 use Rattle.psu_items.proofs.Single.{one_stands}
-use Rattle.psu_exec.specs.Contents.{applied, items_of}
-use Rattle.psu_exec.specs.Device.{Reply, Done, Answer, Error, Parked, Later, count_held, target}
+use Rattle.psu_nv.specs.Contents.{items_of}
+use Rattle.psu_exec.specs.Device.{Reply, Done, Answer, Error, Expand, Parked, Later, count_held, target}
 use Rattle.psu_exec.specs.Calls.{Entry, Executed, Settled, Took, GaveBack, Opened, Job, Allows}
 use Rattle.psu_exec.specs.Headline.{IsPrefix}
 use Rattle.psu_exec.specs.World.{World, Running, Event, Call, Happens, Run, IsStart, DiskAfter, after}
 use Rattle.psu_exec.specs.declared.exec.Exec.{Exec}
 use Rattle.psu_exec.specs.declared.home.Home.{Home}
-use Rattle.psu_exec.specs.declared.request.Request.{Request}
-use Rattle.psu_exec.specs.declared.change.Change.{Change}
+use Rattle.psu_tree.specs.declared.unit_request.Request.{Request}
+use Rattle.psu_nv.specs.Commands.{Command as Change, applied}
 use Rattle.psu_exec.proofs.Events.{prefix_is_left, run_keeps, while_running}
 use Rattle.psu_exec.proofs.Invariant.{kept_at_start}
 use Rattle.psu_server.specs.Lines.{Message}
-use Rattle.psu_server.specs.Lives.{Life, disk_at, world_of, lived, Calls, CallsAll, unit_in, units_in, PowersOn, IsLeftBy, LeavesPrefix}
+use Rattle.psu_server.specs.Lives.{Life, disk_at, world_of, lived, Calls, CallsAll, on_line, unit_in, units_in, PowersOn, IsLeftBy, LeavesPrefix}
 use Rattle.psu_server.specs.Progress.{Begins}
-use Rattle.psu_server.specs.Runs.{Mishaps, JobDone, Jobs, Flushes, Acts, UnitRuns, UnitsRun, MessageRuns, Runs, is_final}
+use Rattle.psu_server.proofs.Places.{none_on_lines, on_lines}
+use Rattle.psu_server.specs.Runs.{Mishaps, JobDone, Jobs, Flushes, Acts, UnitRuns, UnitsRun, ReplyRuns, LineRuns, MessageRuns, Runs, is_final}
 
 -- ---- one call of the code
 
@@ -78,29 +79,55 @@ pub flush_calls : (can : Mishaps) (w new : World) → Flushes can w new → Exec
 flush_calls can w new f = jobs_calls f.0 can w new f.1
 
 -- a unit that is done with is executed
-final_unit : (request : Request) (reply : Reply) → is_final reply ≡ true → unit_in (Executed 1 request reply) ≡ request ∷ []
+final_unit : (request : Request) (reply : Reply) → is_final reply ≡ true → unit_in (Executed 1 request reply) ≡ on_line request
 final_unit request Done e = refl
 final_unit request (Answer text) e = refl
 final_unit request (Error error) e = refl
+final_unit request (Expand text) e = refl
 final_unit request Parked e = cc
 final_unit request Later e = cc
 
-pub acts_calls : (can : Mishaps) (w new : World) (request : Request) (reply : Reply) → Acts can w request reply new → Executes w (request ∷ []) new
+cat_none : (l : List Request) → l ++ [] ≡ l
+cat_none [] = refl
+cat_none (x ∷ l) = ap (λ (z : List Request). x ∷ z) (cat_none l)
+
+-- what was executed, and then calls that execute no unit of a line
+pub executes_idle : (w mid new : World) (xs : List Request) → Executes w xs mid → Executes mid [] new → Executes w xs new
+executes_idle w mid new xs p q = executes_as w new (xs ++ []) xs (cat_none xs) (executes_join w mid new xs [] p q)
+
+pub acts_calls : (can : Mishaps) (w new : World) (request : Request) (reply : Reply) → Acts can w request reply new → Executes w (on_line request) new
 acts_calls can w new request reply (final, inl (meant, c)) = executes_as w new _ _ (final_unit request reply final) (executes_one w (Executed 1 request reply) new c)
 acts_calls can w new request reply (final, inr (long, parked, over, c, f, s)) =
-    executes_join w over new (request ∷ []) [] (executes_join w parked over (request ∷ []) [] (executes_one w (Executed 1 request Parked) parked c) (flush_calls can parked over f))
+    executes_idle w over new (on_line request) (executes_idle w parked over (on_line request) (executes_one w (Executed 1 request Parked) parked c) (flush_calls can parked over f))
     (executes_one over (Settled 1 reply) new s)
 
-pub unit_calls : (can : Mishaps) (w new : World) (request : Request) (reply : Reply) → UnitRuns can w request reply new → Executes w (request ∷ []) new
+pub unit_calls : (can : Mishaps) (w new : World) (request : Request) (reply : Reply) → UnitRuns can w request reply new → Executes w (on_line request) new
 unit_calls can w new request reply (inl a) = acts_calls can w new request reply a
 unit_calls can w new request reply (inr (late, over, c, f, a)) =
-    executes_join w over new [] (request ∷ []) (executes_join w late over [] [] (executes_one w (Executed 1 request Later) late c) (flush_calls can late over f))
+    executes_join w over new [] (on_line request) (executes_join w late over [] [] (executes_one w (Executed 1 request Later) late c) (flush_calls can late over f))
     (acts_calls can over new request reply a)
 
-pub units_calls : (requests : List Request) (can : Mishaps) (w new : World) (text all : List ℕ) → UnitsRun can w text requests all new → Executes w requests new
+pub units_calls : (requests : List Request) (can : Mishaps) (w new : World) (text all : List ℕ) → UnitsRun can w text requests all new → Executes w (on_lines requests) new
 units_calls [] can w new text all u = subst (λ (z : World). Executes w [] z) (sym u.0) (executes_none w)
 units_calls (request ∷ requests) can w new text all (reply, mid, u, more) =
-    executes_join w mid new (request ∷ []) requests (unit_calls can w mid request reply u) (units_calls requests can mid new _ all more)
+    executes_join w mid new (on_line request) (on_lines requests) (unit_calls can w mid request reply u) (units_calls requests can mid new _ all more)
+
+-- the units of an expansion are none of a line
+pub reply_calls : (reply : Reply) (can : Mishaps) (w new : World) (text all : List ℕ) → ReplyRuns can w text reply all new → Executes w [] new
+reply_calls (Expand bytes) can w new text all (requests, (units, is, asks), u) =
+    executes_as w new (on_lines requests) [] (none_on_lines units [] requests asks) (units_calls requests can w new text all u)
+reply_calls Done can w new text all u = subst (λ (z : World). Executes w [] z) (sym u.0) (executes_none w)
+reply_calls (Answer a) can w new text all u = subst (λ (z : World). Executes w [] z) (sym u.0) (executes_none w)
+reply_calls (Error e) can w new text all u = subst (λ (z : World). Executes w [] z) (sym u.0) (executes_none w)
+reply_calls Parked can w new text all u = subst (λ (z : World). Executes w [] z) (sym u.0) (executes_none w)
+reply_calls Later can w new text all u = subst (λ (z : World). Executes w [] z) (sym u.0) (executes_none w)
+
+pub line_calls : (requests : List Request) (can : Mishaps) (w new : World) (text all : List ℕ) → LineRuns can w text requests all new → Executes w (on_lines requests) new
+line_calls [] can w new text all u = subst (λ (z : World). Executes w [] z) (sym u.0) (executes_none w)
+line_calls (request ∷ requests) can w new text all (reply, mid, some, after, u, told, more) =
+    executes_join w after new (on_line request) (on_lines requests)
+    (executes_idle w mid after (on_line request) (unit_calls can w mid request reply u) (reply_calls reply can mid after text some told))
+    (line_calls requests can after new some all more)
 
 -- ---- some first requests
 
@@ -163,8 +190,8 @@ reached_on image new p = reached_call p.on new (Opened (Some 1)) p.opens (record
 
 pub reached_message : (m : Message) (can : Mishaps) (w new : World) (text : List ℕ) → MessageRuns can w m text new → Reached w → Reached new
 reached_message Message.Power can w new text m r = reached_on m.1.disk.bytes new m.3
-reached_message Message.Overlong can w new text m r = let e = units_calls m.0 can w new [] m.2 m.3 in reached_calls e.entries w new e.calls r
-reached_message (Message.Units bytes) can w new text m r = let e = units_calls m.0 can w new [] m.2 m.3 in reached_calls e.entries w new e.calls r
+reached_message Message.Overlong can w new text m r = let e = line_calls m.0 can w new [] m.2 m.3 in reached_calls e.entries w new e.calls r
+reached_message (Message.Units bytes) can w new text m r = let e = line_calls m.0 can w new [] m.2 m.3 in reached_calls e.entries w new e.calls r
 
 pub reached_runs : (ms : List Message) (can : Mishaps) (w new : World) (text : List ℕ) → Runs can w ms text new → Reached w → Reached new
 reached_runs [] can w new text q r = subst Reached (sym q.0) r

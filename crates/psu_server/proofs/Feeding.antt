@@ -9,13 +9,13 @@ use Rattle.psu_items.specs.Image.{EachStands}
 use Rattle.psu_items.specs.Map.{Item}
 use Rattle.psu_exec.specs.World.{World}
 use Rattle.psu_exec.specs.declared.exec.Exec.{Exec}
-use Rattle.psu_exec.specs.declared.request.Request.{Request}
+use Rattle.psu_tree.specs.declared.unit_request.Request.{Request}
 use Rattle.psu_server.specs.Failures.{failures_of}
 use Rattle.psu_server.specs.Jobs.{IsExplained}
 use Rattle.psu_server.specs.Lines.{Message, Asks, message_now, message_of, coming, too_much, has, is_power, power_line}
 use Rattle.psu_server.specs.Lives.{born, disk_at, world_of, units_in, IsLeftBy, PowersOn}
 use Rattle.psu_server.specs.Progress.{AreFirst, Fed, GoesOn, Halts, Stopped, Stops, StopsHere}
-use Rattle.psu_server.specs.Runs.{Mishaps, Flushes, MessageRuns, Reopens, Runs, UnitsRun}
+use Rattle.psu_server.specs.Runs.{Mishaps, Flushes, MessageRuns, Reopens, Runs, LineRuns}
 use Rattle.psu_server.specs.Script.{line_text}
 use Rattle.psu_server.specs.Within.{IsLater}
 use Rattle.psu_server.specs.declared.run_cause.RunCause.{RunCause}
@@ -23,8 +23,9 @@ use Rattle.psu_server.specs.declared.run_cause.RunCause.TheVariants.{Write, Memo
 use Rattle.psu_server.specs.declared.run_fault.RunFault.{RunFault}
 use Rattle.psu_server.proofs.Calls.{Executes, executes_none, flush_calls, job_calls}
 use Rattle.psu_server.proofs.Cuts.{plain_message, power_message, coming_end, found_parts, whole_tail}
-use Rattle.psu_server.proofs.UnitEnds.{goes_as, goes_then, halts_for_memory, has_executed}
-use Rattle.psu_server.proofs.MessageEnds.{units_executed}
+use Rattle.psu_server.proofs.UnitEnds.{HasExecuted, goes_as, goes_then, halts_for_memory, has_executed}
+use Rattle.psu_server.proofs.MessageEnds.{line_executed as executed}
+use Rattle.psu_server.proofs.Places.{asked_on_lines}
 use Rattle.psu_server.proofs.Within.{later_on, later_same, within_as, within_at, within_here, within_later}
 
 -- ---- what a message came to
@@ -33,21 +34,21 @@ abbrev pub ToldLine : {D A : Type 0} {G : Ghosts D} → Message → Exec D A G �
 ToldLine m old new old_text new_text = (text : List ℕ) × (new_text ≡ old_text ++ text) × GoesOn old new (λ can w v. MessageRuns can w m text v)
 
 told_as : {D A : Type 0} {G : Ghosts D} (m : Message) (requests : List Request) (old new : Exec D A G) (start all shown old_text new_text : List ℕ) → Asks m requests → is_power m ≡ false
-    → start ≡ [] → shown ≡ all → new_text ≡ old_text ++ line_text shown → GoesOn old new (λ can w v. UnitsRun can w start requests all v) → ToldLine m old new old_text new_text
+    → start ≡ [] → shown ≡ all → new_text ≡ old_text ++ line_text shown → GoesOn old new (λ can w v. LineRuns can w start requests all v) → ToldLine m old new old_text new_text
 told_as m requests old new start all shown old_text new_text asks plain n d e goes = (
   line_text all,
   e ∙ ap (λ (z : List ℕ). old_text ++ line_text z) d,
-  goes_as old new (λ can w v. UnitsRun can w start requests all v) (λ can w v. MessageRuns can w m (line_text all) v) goes
-      (λ can w v u. by m plain asks can w v (subst (λ (z : List ℕ). UnitsRun can w z requests all v) n u)),
+  goes_as old new (λ can w v. LineRuns can w start requests all v) (λ can w v. MessageRuns can w m (line_text all) v) goes
+      (λ can w v u. by m plain asks can w v (subst (λ (z : List ℕ). LineRuns can w z requests all v) n u)),
 )
   where
-    by : (m : Message) → is_power m ≡ false → Asks m requests → (can : Mishaps) (w v : World) → UnitsRun can w [] requests all v → MessageRuns can w m (line_text all) v
+    by : (m : Message) → is_power m ≡ false → Asks m requests → (can : Mishaps) (w v : World) → LineRuns can w [] requests all v → MessageRuns can w m (line_text all) v
     by Message.Power p asks can w v u = cc
     by Message.Overlong p asks can w v u = (requests, asks, all, u, refl)
     by (Message.Units bytes) p asks can w v u = (requests, asks, all, u, refl)
 
 pub told_over : {D A : Type 0} {G : Ghosts D} (over : Bool) (line : List ℕ) (old new : Exec D A G) (start all shown old_text new_text : List ℕ) → over ≡ true → start ≡ []
-    → shown ≡ all → new_text ≡ old_text ++ line_text shown → GoesOn old new (λ can w v. UnitsRun can w start (too_much ∷ []) all v) → ToldLine (message_now over line) old new old_text new_text
+    → shown ≡ all → new_text ≡ old_text ++ line_text shown → GoesOn old new (λ can w v. LineRuns can w start (too_much ∷ []) all v) → ToldLine (message_now over line) old new old_text new_text
 told_over true line old new start all shown old_text new_text o n d e goes = told_as Message.Overlong (too_much ∷ []) old new start all shown old_text new_text refl refl n d e goes
 told_over false line old new start all shown old_text new_text o n d e goes = cc
 
@@ -61,7 +62,7 @@ plain_now false line o short p = by (bytes_eq line power_line) refl where
 
 pub told_units : {D A : Type 0} {G : Ghosts D} (over : Bool) (line bytes : List ℕ) (old new : Exec D A G) (start all shown old_text new_text : List ℕ) → over ≡ false → length line ≤ 65536
     → is_power (message_now over line) ≡ false → bytes ≡ line → start ≡ [] → shown ≡ all → new_text ≡ old_text ++ line_text shown
-    → (requests : List Request) × Asks (Message.Units bytes) requests × GoesOn old new (λ can w v. UnitsRun can w start requests all v) → ToldLine (message_now over line) old new old_text new_text
+    → (requests : List Request) × Asks (Message.Units bytes) requests × GoesOn old new (λ can w v. LineRuns can w start requests all v) → ToldLine (message_now over line) old new old_text new_text
 told_units over line bytes old new start all shown old_text new_text o short p same n d e (requests, asks, goes) =
     let is = plain_now over line o short p in
     subst (λ (m : Message). ToldLine m old new old_text new_text) (sym is)
@@ -78,9 +79,11 @@ asks_units over line bytes requests o short p same asks =
     subst (λ (m : Message). Asks m requests) (sym (plain_now over line o short p)) (subst (λ (z : List ℕ). Asks (Message.Units z) requests) same asks)
 
 -- the units of a line were executed, and its text is refused memory
-pub line_executed : {D A : Type 0} {G : Ghosts D} (old new : Exec D A G) (requests : List Request) (start all : List ℕ) → GoesOn old new (λ can w v. UnitsRun can w start requests all v)
-    → Halts old new (requests ++ []) RunMemory
-line_executed old new requests start all goes = halts_for_memory old new requests [] (units_executed old new requests start all goes)
+pub line_executed : {D A : Type 0} {G : Ghosts D} (old new : Exec D A G) (m : Message) (requests : List Request) (start all : List ℕ) → Asks m requests
+    → GoesOn old new (λ can w v. LineRuns can w start requests all v) → Halts old new requests RunMemory
+line_executed old new m requests start all asks goes =
+    subst (λ (z : List Request). Halts old new z RunMemory) (append-nil requests)
+    (halts_for_memory old new requests [] (subst (λ (z : List Request). HasExecuted old new z) (asked_on_lines m requests asks) (executed old new requests start all goes)))
 
 -- ---- a restart
 

@@ -4,11 +4,12 @@ use Rattle.psu_disk.specs.Disk.{HasFailed}
 use Rattle.psu_disk.specs.declared.disk.Disk.{Ghosts}
 use Rattle.psu_items.specs.declared.commit.UnstartedCause.TheVariants as unstarted
 use Rattle.psu_items.specs.Map.{Item}
-use Rattle.psu_exec.specs.Calls.{JobKind, Commit, Reopen, JobData, JobEnd, Stored, Unstarted, Failed, Reopened, Job, Nothing, Took, GaveBack, Allows, HasWork, job_out, kind_for, stored, GivesBack}
+use Rattle.psu_exec.specs.Calls.{JobKind, Commit, Reopen, JobData, JobEnd, Stored, Unstarted, Failed, Reopened, Job, Nothing, Took, GaveBack, Allows, HasWork, job_out, kind_for, stored}
 use Rattle.psu_exec.specs.Device.{State, Flush, is_whole, is_broken, wait_of}
-use Rattle.psu_exec.specs.Contents.{items_of}
+use Rattle.psu_nv.specs.Contents.{items_of}
 use Rattle.psu_exec.specs.Jobs.{job_data, job_disk, job_home}
 use Rattle.psu_exec.specs.World.{World}
+use Rattle.psu_exec.proofs.Giving.{FlushGives, flush_gives}
 use Rattle.psu_exec.specs.declared.condition.Condition.{Condition}
 use Rattle.psu_exec.specs.declared.condition.Condition.TheVariants.{Whole, Broken, Worn}
 use Rattle.psu_exec.specs.declared.exec.Exec.{Exec}
@@ -72,14 +73,14 @@ nothing_left : (n : ℕ) → n - n ≡ 0
 nothing_left n = omega arith
 
 -- a commit of all that is accepted is stored
-stored_clean : (f taken new : Flush) (limit : ℕ) (map : List Item) → (f.store ≡ Whole) → taken ≡ job_out f → GivesBack taken (Stored limit map) new → new.unflushed ≡ 0
+stored_clean : (f taken new : Flush) (limit : ℕ) (map : List Item) → (f.store ≡ Whole) → taken ≡ job_out f → FlushGives taken (Stored limit map) new → new.unflushed ≡ 0
 stored_clean f taken new limit map whole out gave =
     ap (λ (z : Flush). z.unflushed) (gave ∙ ap stored (out ∙ committing f whole)) ∙ nothing_left f.unflushed
   where
     committing : (f : Flush) → f.store ≡ Whole → job_out f ≡ record f { out = true; held = Some (record { count = f.unflushed; map = items_of f.contents }) }
     committing f w = rw w refl
 
-after_clean : (end : JobEnd) (i : ℕ) (f taken new : Flush) (kind : JobKind) → kind ≡ kind_for f.store → (f.store ≡ Worn → ⊥) → IsClean i f → taken ≡ job_out f → GivesBack taken end new
+after_clean : (end : JobEnd) (i : ℕ) (f taken new : Flush) (kind : JobKind) → kind ≡ kind_for f.store → (f.store ≡ Worn → ⊥) → IsClean i f → taken ≡ job_out f → FlushGives taken end new
     → EndsJob kind end → is_short end ≡ false → (new.store ≡ Broken) ⊎ (new.store ≡ Worn) ⊎ IsClean (i + 1) new
 after_clean (Stored limit map) i f taken new kind is fit clean out gave own long =
     let whole : f.store ≡ Whole = of_kind f.store kind is fit own in
@@ -108,7 +109,7 @@ calm_after {D} {A} {G} since i old taken new j short took there run long why hom
     (λ failed. inl (failed_on since _ _ (subst (λ (n : ℕ). IsLater n (failures_of new)) (sym (ap (λ (z : Option (Home D A G)). failures_at z) there ∙ job_count j)) run.later) failed))
     (λ rest. ⊎_elim (λ worn. absurd (not_worn old.device.flush worn took.0.1)) (λ clean. told new.home refl (after_clean run.finished i old.device.flush taken.device.flush new.device.flush (job_data j).kind
     (ap (λ (d : JobData). d.kind) took.0.2 ∙ kind_out old.device.flush) (λ worn. not_worn old.device.flush worn took.0.1) clean
-    (ap (λ (s : State). s.flush) took.1) run.give.flush run.own (sym run.short_is ∙ long))) rest)
+    (ap (λ (s : State). s.flush) took.1) (flush_gives taken.device new.device run.finished run.give.gives) run.own (sym run.short_is ∙ long))) rest)
     calm
   where
     job_count : (j : AnyJob D A G) → failures_at (let z : Option (Home D A G) = Some (job_home j) in z) ≡ Ghosts.failures G (job_disk j)

@@ -13,6 +13,7 @@ use Rattle.psu_exec.specs.Calls.{JobData, JobEnd, Stored, Unstarted, Failed, Reo
 use Rattle.psu_exec.specs.Device.{State, Flush, count_held, is_open, target, wait_of}
 use Rattle.psu_exec.specs.Jobs.{finished_of, finished_disk, home_of, home_disk, job_data, job_disk, job_home, RunsTo}
 use Rattle.psu_exec.specs.World.{IsTrueOf}
+use Rattle.psu_exec.proofs.Giving.{FlushGives, flush_gives, open_after}
 use Rattle.psu_exec.specs.declared.condition.Condition.{Condition}
 use Rattle.psu_exec.specs.declared.condition.Condition.TheVariants.{Whole, Broken, Worn}
 use Rattle.psu_exec.specs.declared.exec.Exec.{Exec}
@@ -39,23 +40,27 @@ store_after (Unstarted limit before edits unstarted.Worn) = Worn
 store_after (Failed limit before edits cause) = Broken
 store_after (Reopened limit map) = Whole
 
+-- the flush part
+gave : (end : JobEnd) (s new : State) (over : List ℕ) → IsAccepted s end over new → FlushGives s.flush end new.flush
+gave end s new over a = flush_gives s new end a.gives
+
 pub gave_store : (end : JobEnd) (s new : State) (over : List ℕ) → IsAccepted s end over new → new.flush.store ≡ store_after end
-gave_store (Stored limit map) s new over a = ap (λ (f : Flush). f.store) a.flush
-gave_store (Unstarted limit before edits unstarted.Memory) s new over a = ap (λ (f : Flush). f.store) a.flush
-gave_store (Unstarted limit before edits unstarted.Worn) s new over a = ap (λ (f : Flush). f.store) a.flush
-gave_store (Failed limit before edits cause) s new over a = ap (λ (f : Flush). f.store) a.flush
-gave_store (Reopened limit map) s new over a = ⊎_elim (λ all. ap (λ (f : Flush). f.store) all.1) (λ none. ap (λ (f : Flush). f.store) none.1) a.flush
+gave_store (Stored limit map) s new over a = ap (λ (f : Flush). f.store) (gave (Stored limit map) s new over a)
+gave_store (Unstarted limit before edits unstarted.Memory) s new over a = ap (λ (f : Flush). f.store) (gave (Unstarted limit before edits unstarted.Memory) s new over a)
+gave_store (Unstarted limit before edits unstarted.Worn) s new over a = ap (λ (f : Flush). f.store) (gave (Unstarted limit before edits unstarted.Worn) s new over a)
+gave_store (Failed limit before edits cause) s new over a = ap (λ (f : Flush). f.store) (gave (Failed limit before edits cause) s new over a)
+gave_store (Reopened limit map) s new over a = ⊎_elim (λ all. ap (λ (f : Flush). f.store) all.1) (λ none. ap (λ (f : Flush). f.store) none.1) (gave (Reopened limit map) s new over a)
 
 pub gave_home : (end : JobEnd) (s new : State) (over : List ℕ) → IsAccepted s end over new → new.flush.out ≡ false
-gave_home (Stored limit map) s new over a = ap (λ (f : Flush). f.out) a.flush
-gave_home (Unstarted limit before edits unstarted.Memory) s new over a = ap (λ (f : Flush). f.out) a.flush
-gave_home (Unstarted limit before edits unstarted.Worn) s new over a = ap (λ (f : Flush). f.out) a.flush
-gave_home (Failed limit before edits cause) s new over a = ap (λ (f : Flush). f.out) a.flush
-gave_home (Reopened limit map) s new over a = ⊎_elim (λ all. ap (λ (f : Flush). f.out) all.1) (λ none. ap (λ (f : Flush). f.out) none.1) a.flush
+gave_home (Stored limit map) s new over a = ap (λ (f : Flush). f.out) (gave (Stored limit map) s new over a)
+gave_home (Unstarted limit before edits unstarted.Memory) s new over a = ap (λ (f : Flush). f.out) (gave (Unstarted limit before edits unstarted.Memory) s new over a)
+gave_home (Unstarted limit before edits unstarted.Worn) s new over a = ap (λ (f : Flush). f.out) (gave (Unstarted limit before edits unstarted.Worn) s new over a)
+gave_home (Failed limit before edits cause) s new over a = ap (λ (f : Flush). f.out) (gave (Failed limit before edits cause) s new over a)
+gave_home (Reopened limit map) s new over a = ⊎_elim (λ all. ap (λ (f : Flush). f.out) all.1) (λ none. ap (λ (f : Flush). f.out) none.1) (gave (Reopened limit map) s new over a)
 
 -- the session stays open
 pub gave_open : (end : JobEnd) (s new : State) (over : List ℕ) → IsAccepted s end over new → is_open new 1 ≡ is_open s 1
-gave_open end s new over a = ap (λ v. slice_index_or v.open_now 0 false) a.volatile
+gave_open end s new over a = ap (λ (o : List Bool). slice_index_or o 0 false) (open_after s new end a.gives)
 
 -- what a job's end turns each wait into is none where there was none
 pub no_wait_after : (turn : Wait → Wait) (waits : List (Option Wait)) → slice_index_or waits 0 None ≡ None → slice_index_or (map (option_map turn) waits) 0 None ≡ None
@@ -64,13 +69,13 @@ no_wait_after turn (None ∷ waits) h = refl
 no_wait_after turn (Some w ∷ waits) h = cc
 
 pub gave_free : (end : JobEnd) (s new : State) (over : List ℕ) → IsAccepted s end over new → wait_of s.flush 1 ≡ None → wait_of new.flush 1 ≡ None
-gave_free (Stored limit map) s new over a e = ap (λ (f : Flush). wait_of f 1) a.flush ∙ no_wait_after (wait_less (count_held s.flush.held)) s.flush.waits e
-gave_free (Unstarted limit before edits unstarted.Memory) s new over a e = ap (λ (f : Flush). wait_of f 1) a.flush ∙ e
-gave_free (Unstarted limit before edits unstarted.Worn) s new over a e = ap (λ (f : Flush). wait_of f 1) a.flush ∙ no_wait_after wait_cut s.flush.waits e
-gave_free (Failed limit before edits cause) s new over a e = ap (λ (f : Flush). wait_of f 1) a.flush ∙ no_wait_after wait_cut s.flush.waits e
+gave_free (Stored limit map) s new over a e = ap (λ (f : Flush). wait_of f 1) (gave (Stored limit map) s new over a) ∙ no_wait_after (wait_less (count_held s.flush.held)) s.flush.waits e
+gave_free (Unstarted limit before edits unstarted.Memory) s new over a e = ap (λ (f : Flush). wait_of f 1) (gave (Unstarted limit before edits unstarted.Memory) s new over a) ∙ e
+gave_free (Unstarted limit before edits unstarted.Worn) s new over a e = ap (λ (f : Flush). wait_of f 1) (gave (Unstarted limit before edits unstarted.Worn) s new over a) ∙ no_wait_after wait_cut s.flush.waits e
+gave_free (Failed limit before edits cause) s new over a e = ap (λ (f : Flush). wait_of f 1) (gave (Failed limit before edits cause) s new over a) ∙ no_wait_after wait_cut s.flush.waits e
 gave_free (Reopened limit map) s new over a e =
     ⊎_elim (λ all. ap (λ (f : Flush). wait_of f 1) all.1 ∙ no_wait_after (wait_less (count_held s.flush.held)) s.flush.waits e)
-    (λ none. ap (λ (f : Flush). wait_of f 1) none.1 ∙ e) a.flush
+    (λ none. ap (λ (f : Flush). wait_of f 1) none.1 ∙ e) (gave (Reopened limit map) s new over a)
 
 -- ---- the job that is out is the one that runs
 

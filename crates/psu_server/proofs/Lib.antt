@@ -1,5 +1,6 @@
 pub mod Alone
 pub mod Within
+pub mod Places
 pub mod Calls
 pub mod JobEnds
 pub mod FlushEnds
@@ -14,4 +15,7 @@ pub mod Causes
 pub mod Asking
 pub mod Cuts
 pub mod Fronts
+pub mod Readings
 pub mod Scripts
+pub mod OneScript
+pub mod SomeScript

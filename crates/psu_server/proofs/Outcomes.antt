@@ -5,7 +5,7 @@ use Rattle.std.specs.Io.KnownBytes.{Appends}
 use Rattle.psu_disk.specs.Disk.{DiskState}
 use Rattle.psu_disk.specs.declared.disk.Disk.{Ghosts}
 use Rattle.psu_items.specs.Image.{EachStands}
-use Rattle.psu_exec.specs.Contents.{items_of}
+use Rattle.psu_nv.specs.Contents.{items_of}
 use Rattle.psu_exec.specs.World.{World}
 use Rattle.psu_exec.specs.declared.exec.Exec.{Exec}
 use Rattle.psu_server.specs.Failures.{failures_of}

@@ -1,11 +1,13 @@
 -- What a call on session 1 leaves of its wait and of the store.
-use Rattle.std.proofs.Common.{◌≡◌, ℕ, ◌==◌, if◌then◌else◌, Bool, true, false, Option, Some, None, List, [], ◌∷◌, refl, sym, ap, ◌∙◌, subst, inl, inr, slice_index_or, slice_set, decimal}
+use Rattle.std.proofs.Common.{◌≡◌, ℕ, ◌==◌, if◌then◌else◌, Bool, true, false, Option, Some, None, List, [], ◌∷◌, refl, sym, ap, ◌∙◌, subst, inl, inr, slice_index_or, slice_set}
 use Rattle.psu_disk.specs.declared.disk.Disk.{Ghosts}
 use Rattle.psu_exec.specs.Calls.{Executed, Settled, Cleared, Allows, settle_answer, settled}
-use Rattle.psu_exec.specs.Device.{Reply, Done, Answer, Error, Parked, Later, State, Flush, with_wait, wait_of}
+use Rattle.psu_instrument.specs.declared.completion.Completion.{Completion}
+use Rattle.psu_instrument.specs.declared.completion.Completion.TheVariants as completion
+use Rattle.psu_exec.specs.Device.{Reply, Done, Answer, Error, Expand, Parked, Later, State, Flush, answer_complete, completion_in, here, meant, with_wait, wait_of}
 use Rattle.psu_exec.specs.declared.exec.Exec.{Exec}
 use Rattle.psu_exec.specs.declared.home.Home.{Home}
-use Rattle.psu_exec.specs.declared.request.Request.{Request}
+use Rattle.psu_tree.specs.declared.unit_request.Request.{Request}
 use Rattle.psu_exec.specs.declared.wait.Wait.{Wait}
 use Rattle.psu_exec.specs.declared.wait.Wait.TheVariants.{Until, CutOff}
 use Rattle.psu_server.specs.Failures.{failures_at, failures_of}
@@ -31,17 +33,19 @@ no_wait [] = refl
 no_wait (w ∷ ws) = refl
 
 -- the reply to a wait for changes
-abbrev pub until : Bool → Reply
-until b = if b then Answer (decimal 1) else Parked
+abbrev pub until : Completion → Bool → Reply
+until c b = if b then answer_complete c else Parked
 
-over_if : (f : Flush) (b : Bool) → is_final (until b) ≡ true → wait_of (settled f 1 (until b)) 1 ≡ None
-over_if f true final = no_wait f.waits
-over_if f false final = cc
+over_if : (f : Flush) (c : Completion) (b : Bool) → is_final (until c b) ≡ true → wait_of (settled f 1 (until c b)) 1 ≡ None
+over_if f completion.Query true final = no_wait f.waits
+over_if f completion.Wait true final = no_wait f.waits
+over_if f completion.Event true final = no_wait f.waits
+over_if f c false final = cc
 
 pub over_free : (f : Flush) (wait : Option Wait) → is_final (settle_answer wait) ≡ true → wait_of (settled f 1 (settle_answer wait)) 1 ≡ None
 over_free f None final = no_wait f.waits
 over_free f (Some CutOff) final = no_wait f.waits
-over_free f (Some (Until n)) final = over_if f (n == 0) final
+over_free f (Some (Until c n)) final = over_if f c (n == 0) final
 
 -- what is over leaves no wait
 pub settle_free : (s new : State) (reply : Reply) → Allows s (Settled 1 reply) new → is_final reply ≡ true → is_out_of_memory reply ≡ false → wait_of new.flush 1 ≡ None
@@ -52,27 +56,30 @@ settle_free s new reply (opened, inr may, is) final long = let bad = ap is_out_o
 pub clear_free : (s new : State) → Allows s (Cleared 1) new → wait_of new.flush 1 ≡ None
 clear_free s new (opened, is) = ap (λ (z : State). wait_of z.flush 1) is ∙ no_wait s.flush.waits
 
-kept_waits : (waits : List (Option Wait)) (n : ℕ) (reply : Reply) → is_parked reply ≡ false → with_wait waits 1 n reply ≡ waits
-kept_waits waits n Done e = refl
-kept_waits waits n (Answer text) e = refl
-kept_waits waits n (Error error) e = refl
-kept_waits waits n Later e = refl
-kept_waits waits n Parked e = cc
+kept_waits : (waits : List (Option Wait)) (c : Completion) (n : ℕ) (reply : Reply) → is_parked reply ≡ false → with_wait waits 1 c n reply ≡ waits
+kept_waits waits c n Done e = refl
+kept_waits waits c n (Answer text) e = refl
+kept_waits waits c n (Error error) e = refl
+kept_waits waits c n (Expand text) e = refl
+kept_waits waits c n Later e = refl
+kept_waits waits c n Parked e = cc
 
 pub unit_free : (s new : State) (request : Request) (reply : Reply) → Allows s (Executed 1 request reply) new → is_parked reply ≡ false → wait_of s.flush 1 ≡ None → wait_of new.flush 1 ≡ None
 unit_free s new request reply t shut free =
-    ap (λ (z : State). wait_of z.flush 1) t.1.is ∙ ap (λ (waits : List (Option Wait)). slice_index_or waits 0 None) (kept_waits s.flush.waits s.flush.unflushed reply shut) ∙ free
+    ap (λ (z : State). wait_of z.flush 1) t.1.is ∙ ap (λ (waits : List (Option Wait)). slice_index_or waits 0 None) (kept_waits s.flush.waits (completion_in (meant (here s) request.reading)) s.flush.unflushed reply shut) ∙ free
 
 -- ---- and of the store
 
-store_if : (f : Flush) (b : Bool) → (settled f 1 (until b)).store ≡ f.store
-store_if f true = refl
-store_if f false = refl
+store_if : (f : Flush) (c : Completion) (b : Bool) → (settled f 1 (until c b)).store ≡ f.store
+store_if f completion.Query true = refl
+store_if f completion.Wait true = refl
+store_if f completion.Event true = refl
+store_if f c false = refl
 
 answer_store : (f : Flush) (wait : Option Wait) → (settled f 1 (settle_answer wait)).store ≡ f.store
 answer_store f None = refl
 answer_store f (Some CutOff) = refl
-answer_store f (Some (Until n)) = store_if f (n == 0)
+answer_store f (Some (Until c n)) = store_if f c (n == 0)
 
 pub settle_store : (s new : State) (reply : Reply) → Allows s (Settled 1 reply) new → new.flush.store ≡ s.flush.store
 settle_store s new reply (opened, inl may, is) =

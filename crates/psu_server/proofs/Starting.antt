@@ -1,5 +1,6 @@
 -- How a device powers on, and why one doesn't.
-use Rattle.std.proofs.Common.{◌≡◌, ◌≢◌, ◌⊎◌, ℕ, ◌≤◌, ◌^◌, ◌+◌, ◌*◌, true, false, Option, Some, None, List, [], refl, sym, ap, ◌∙◌, subst, inl, inr, arith, ⊎_elim, length}
+use Rattle.std.proofs.Common.{◌≡◌, ◌≢◌, ◌⊎◌, ℕ, ◌≤◌, ◌^◌, ◌+◌, ◌*◌, true, false, Option, Some, None, List, [], refl, sym, ap, ◌∙◌, subst, inl, inr, arith, ⊎_elim, length, nat_le}
+use Rattle.std.proofs.lemmas.Bool.Decides.{nat_tests}
 use Rattle.psu_disk.specs.Disk.{DiskState, HasFailed}
 use Rattle.psu_disk.specs.Ranges.{reads_left}
 use Rattle.psu_disk.specs.declared.disk.Disk.{Ghosts}
@@ -15,11 +16,10 @@ use Rattle.psu_exec.specs.Calls.{Opened, Allows, least_free, opened}
 use Rattle.psu_exec.specs.Jobs.{home_disk}
 use Rattle.psu_exec.specs.Consistent.{IsConsistent}
 use Rattle.psu_exec.specs.Device.{State, Flush, is_open, power_on, wait_of}
-use Rattle.psu_exec.specs.Contents.{items_of, IsContents}
+use Rattle.psu_nv.specs.Contents.{items_of, IsContents, Contents, cost_of, fits}
 use Rattle.psu_exec.specs.World.{World}
 use Rattle.psu_exec.specs.declared.condition.Condition.{Condition}
 use Rattle.psu_exec.specs.declared.condition.Condition.TheVariants.{Whole, Worn}
-use Rattle.psu_exec.specs.declared.contents.Contents.{Contents}
 use Rattle.psu_exec.specs.declared.exec.Exec.{Exec}
 use Rattle.psu_exec.specs.declared.home.Home.{Home}
 use Rattle.psu_exec.specs.declared.home.Home.TheVariants as home
@@ -34,6 +34,7 @@ use Rattle.psu_server.specs.Jobs.{HasReasons, IsExplained}
 use Rattle.psu_server.specs.Lives.{born, disk_at, world_of, PowersOn}
 use Rattle.psu_server.specs.Reasons.{IsHaltedBy, StopsFor}
 use Rattle.psu_server.specs.Within.{IsLater}
+use Rattle.psu_exec.proofs.Changes.{sound_first}
 use Rattle.psu_server.proofs.Calls.{called}
 use Rattle.psu_server.proofs.Within.{failed_before}
 
@@ -62,9 +63,9 @@ is_started s new limit c is t =
     )
 
 pub powers_on : {D A : Type 0} {G : Ghosts D} (image : List ℕ) (store : Store D A G) (on new : Exec D A G) → Stands image store.limit store.items → EachStands (Ghosts.state G store.disk) store.limit store.items
-    → on.device ≡ power_on store.limit on.device.flush.contents → items_of on.device.flush.contents ≡ store.items → IsContents on.device.flush.contents → on.home ≡ Some (home.Whole store)
+    → on.device ≡ power_on store.limit on.device.flush.contents → items_of on.device.flush.contents ≡ store.items → IsContents on.device.flush.contents → fits store.limit on.device.flush.contents ≡ true → on.home ≡ Some (home.Whole store)
     → Allows on.device (Opened (Some 1)) new.device → new.home ≡ on.home → PowersOn image (world_of (born new) new)
-powers_on {D} {A} {G} image store on new stood stands state found sound there opens same =
+powers_on {D} {A} {G} image store on new stood stands state found sound fitting there opens same =
     let s = is_started on.device new.device store.limit on.device.flush.contents state opens in
     let limit : on.device.flush.limit ≡ store.limit = ap (λ (z : State). z.flush.limit) state in
     let here : world_of (born new) new ≡ world_of (record { limit = on.device.flush.limit; start = on.device.flush.contents; history = [] }) new
@@ -76,6 +77,7 @@ powers_on {D} {A} {G} image store on new stood stands state found sound there op
         history = refl;
         mode = refl;
         sound = sound;
+        fitting = subst (λ (n : ℕ). fits n on.device.flush.contents ≡ true) (sym limit) fitting;
         disk = subst (λ (z : Option (Home D A G)). EachStands (disk_at z) on.device.flush.limit (items_of on.device.flush.contents)) (sym there)
             (subst (λ (n : ℕ). EachStands (Ghosts.state G store.disk) n (items_of on.device.flush.contents)) (sym limit)
             (subst (λ (m : List Item). EachStands (Ghosts.state G store.disk) store.limit m) (sym found) stands));
@@ -140,12 +142,12 @@ not_opened cause told image before now why failed quiet memory is =
     subst (λ (t : RunCause). NotStarted image before now t) (sym is) (opened_not cause image before now why failed quiet memory)
 
 powered_not : (cause : PowerCause) (image : List ℕ) (before now limit : ℕ) (map : List Item) → Stands image limit map → now ≡ before
-    → (cause ≡ power.BadItems → (c : Contents) → IsContents c → items_of c ≡ map → ⊥) → NotStarted image before now (cause_of_power cause)
+    → (cause ≡ power.BadItems → (c : Contents) → IsContents c → fits limit c ≡ true → items_of c ≡ map → ⊥) → NotStarted image before now (cause_of_power cause)
 powered_not power.BadItems image before now limit map stands quiet bad = record { limit = limit; map = map; stands = stands; none = bad refl }
 powered_not power.Memory image before now limit map stands quiet bad = (quiet, readable image limit map stands)
 
 pub not_powered : (cause : PowerCause) (told : RunCause) (image : List ℕ) (before now limit : ℕ) (map : List Item) → Stands image limit map → now ≡ before
-    → (cause ≡ power.BadItems → (c : Contents) → IsContents c → items_of c ≡ map → ⊥) → told ≡ cause_of_power cause → NotStarted image before now told
+    → (cause ≡ power.BadItems → (c : Contents) → IsContents c → fits limit c ≡ true → items_of c ≡ map → ⊥) → told ≡ cause_of_power cause → NotStarted image before now told
 not_powered cause told image before now limit map stands quiet bad is =
     subst (λ (t : RunCause). NotStarted image before now t) (sym is) (powered_not cause image before now limit map stands quiet bad)
 
@@ -158,6 +160,15 @@ rooted : (image : List ℕ) (limit : ℕ) (contents : Contents) → Stands image
 rooted image limit contents stands (inl short) = omega (arith, short, stands.holds.room, stands.holds.limit_least)
 rooted image limit contents stands (inr shut) = open_root (counting image) image stands.counts.open_gate shut
 
+-- contents that an image stands for fit
+fits_on : (image : List ℕ) (limit : ℕ) (contents : Contents) → IsContents contents → Stands image limit (items_of contents) → fits limit contents ≡ true
+fits_on image limit contents sound stands =
+    let cheap = stands.holds.cost_fits in
+    let few = sound.most_macros in
+    let one : nat_le (cost_of contents) limit ≡ true = grind (arith, nat_tests, cheap) in
+    let two : nat_le (length contents.macros) 32 ≡ true = grind (arith, nat_tests, few) in
+    rw (one, two) refl
+
 -- an image that stands for contents powers on, but for a failed call or a want of memory
 stands_stops : (before now : ℕ) (image left : List ℕ) (limit : ℕ) (contents : Contents) (cause : RunCause) → IsContents contents
     → Stands image limit (items_of contents) → NotStarted image before now cause → StopsFor before now left cause
@@ -166,7 +177,8 @@ stands_stops before now image left limit contents (Open start.NoRoot) sound stan
 stands_stops before now image left limit contents (Open start.BadRoot) sound stands why = absurd (why.none_stands limit (items_of contents) stands)
 stands_stops before now image left limit contents (Open start.BadVersion) sound stands why = absurd (why.version stands.holds.version)
 stands_stops before now image left limit contents (Open start.BadItems) sound stands why =
-    absurd (why.none contents sound (one_stands image limit why.limit (items_of contents) why.map stands why.stands).1)
+    let one = one_stands image limit why.limit (items_of contents) why.map stands why.stands in
+    absurd (why.none contents sound (subst (λ (n : ℕ). fits n contents ≡ true) one.0 (fits_on image limit contents sound stands)) one.1)
 stands_stops before now image left limit contents Read sound stands why = absurd why
 stands_stops before now image left limit contents Write sound stands why = absurd why
 stands_stops before now image left limit contents Device sound stands why = absurd why
@@ -186,7 +198,7 @@ pub restart_stops : (since before now : ℕ) (disk : DiskState) (left : List ℕ
     → EachStands disk f.limit f.before → NotStarted disk.bytes before now cause → StopsFor since now left cause
 restart_stops since before now disk left cause f later c stands why =
     stops_since since before now left cause later
-    (stands_stops before now disk.bytes left f.limit c.first cause c.sound (subst (λ (m : List Item). Stands disk.bytes f.limit m) c.first_map (stands disk.bytes (reads_left disk))) why)
+    (stands_stops before now disk.bytes left f.limit c.first cause (sound_first c.first c.rest c.sound) (subst (λ (m : List Item). Stands disk.bytes f.limit m) c.first_map (stands disk.bytes (reads_left disk))) why)
 
 -- ---- a fault of the device, by what its disk is
 

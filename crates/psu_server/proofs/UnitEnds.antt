@@ -1,28 +1,30 @@
 -- Units, their waits, and what they leave.
-use Rattle.std.proofs.Common.{◌≡◌, ◌≢◌, ◌⊎◌, ℕ, ◌<◌, ◌==◌, ◌&&◌, nat_le, if◌then◌else◌, Bool, true, false, Option, Some, None, is_some, Result, Ok, Err, List, [], ◌∷◌, ◌++◌, refl, sym, ap, ◌∙◌, subst, inl, inr, arith, ⊎_elim}
+use Rattle.std.proofs.Common.{◌≡◌, ◌≢◌, ◌⊎◌, ℕ, ◌<◌, ◌==◌, ◌&&◌, not, nat_le, if◌then◌else◌, Bool, true, false, Option, Some, None, is_none, List, [], ◌++◌, refl, sym, ap, ◌∙◌, subst, inl, inr, arith, ⊎_elim, append-nil, Ok, Err}
 use Rattle.std.proofs.lemmas.Bool.Decides.{nat_tests}
 use Rattle.psu_disk.specs.Disk.{HasFailed}
 use Rattle.psu_disk.specs.declared.disk.Disk.{Ghosts}
 use Rattle.psu_exec.specs.Calls.{Executed, Settled, Cleared, Allows, settle_answer}
-use Rattle.psu_exec.specs.Device.{Reply, Done, Answer, Error, Parked, Later, State, is_late, is_refused, waits_for, wait_of, answer_read, answer_with, change_of}
+use Rattle.psu_exec.specs.Device.{Reply, Done, Answer, Error, Expand, Parked, Later, State, Flush, MayMean, is_late, is_whole, wait_of, answer_complete, answer_done, answer_meant, here, kept_unless, meant as meaning_of, parks, reads_nonvolatile}
+use Rattle.psu_instrument.specs.Meaning.{Meaning, Refuses, Does, Keeps, Completes}
+use Rattle.psu_instrument.specs.declared.completion.Completion.{Completion}
+use Rattle.psu_instrument.specs.declared.completion.Completion.TheVariants as completion
 use Rattle.psu_exec.specs.Shown.{outcome_of}
 use Rattle.psu_exec.specs.World.{World}
-use Rattle.psu_exec.specs.declared.change.Change.{Change}
-use Rattle.psu_exec.specs.declared.command.Command.{Command}
-use Rattle.psu_exec.specs.declared.command.Command.TheVariants.{PscOn, PscOff, PscQuery, Sre, SreQuery, Ese, EseQuery, EsrQuery, StbQuery, IdnQuery, OpcQuery}
+use Rattle.psu_exec.proofs.Answering.{IsCall, ways}
+use Rattle.psu_nv.specs.Commands as nv
+use Rattle.psu_nv.specs.Contents.{fits}
 use Rattle.psu_exec.specs.declared.condition.Condition.TheVariants.{Worn}
 use Rattle.psu_exec.specs.declared.exec.Exec.{Exec}
 use Rattle.psu_exec.specs.declared.outcome.Outcome.{Outcome}
 use Rattle.psu_exec.specs.declared.outcome.Outcome.TheVariants as outcome
-use Rattle.psu_exec.specs.declared.registers.Registers.{Registers}
-use Rattle.psu_exec.specs.declared.request.Request.{Request}
+use Rattle.psu_tree.specs.declared.unit_request.Request.{Request}
 use Rattle.psu_exec.specs.declared.wait.Wait.{Wait}
 use Rattle.psu_exec.specs.declared.wait.Wait.TheVariants.{Until, CutOff}
 use Rattle.psu_lex.specs.declared.scpi_error.ScpiError.{ScpiError}
 use Rattle.psu_lex.specs.declared.scpi_error.ScpiError.TheVariants.{StorageFault}
 use Rattle.psu_server.specs.Failures.{failures_of}
 use Rattle.psu_server.specs.Jobs.{IsExplained}
-use Rattle.psu_server.specs.Lives.{Life, lived, world_of, Calls}
+use Rattle.psu_server.specs.Lives.{Life, lived, world_of, Calls, on_line}
 use Rattle.psu_server.specs.Progress.{Acted, GoesOn, Halts, WaitEnds}
 use Rattle.psu_server.specs.Reasons.{IsHaltedBy}
 use Rattle.psu_server.specs.Runs.{Mishaps, Acts, Flushes, IsMeant, UnitRuns, is_final, is_later, is_out_of_memory, is_parked}
@@ -116,7 +118,6 @@ cleared_goes old new t there = record {
   later = subst (λ (n : ℕ). IsLater (failures_of old) n) (sym (count_same old new there)) (later_same (failures_of old));
 }
 
--- what was refused for a reply
 abbrev is_refused_for : Reply → Bool
 is_refused_for (Error e) = true
 is_refused_for _ = false
@@ -126,6 +127,7 @@ meant can (Error e) h = λ _. h refl
 meant can Done h = λ e. cc
 meant can (Answer r) h = λ e. cc
 meant can Parked h = λ e. cc
+meant can (Expand text) h = λ e. cc
 meant can Later h = λ e. cc
 
 -- a unit that is executed, with what was refused for it
@@ -181,10 +183,12 @@ flush_settles old mid new reply f t there =
 is_waiting : (wait : Option Wait) → is_final (settle_answer wait) ≡ false → settle_answer wait ≡ Parked
 is_waiting None e = cc
 is_waiting (Some CutOff) e = cc
-is_waiting (Some (Until n)) e = waiting_if (n == 0) e where
-  waiting_if : (b : Bool) → is_final (until b) ≡ false → until b ≡ Parked
-  waiting_if true e = cc
-  waiting_if false e = refl
+is_waiting (Some (Until c n)) e = waiting_if c (n == 0) e where
+  waiting_if : (c : Completion) (b : Bool) → is_final (until c b) ≡ false → until c b ≡ Parked
+  waiting_if completion.Query true e = cc
+  waiting_if completion.Wait true e = cc
+  waiting_if completion.Event true e = cc
+  waiting_if c false e = refl
 
 still_parked : (s new : State) (reply : Reply) → Allows s (Settled 1 reply) new → is_final reply ≡ false → reply ≡ Parked
 still_parked s new reply (opened, inl may, is) final = may ∙ is_waiting (wait_of s.flush 1) (ap is_final (sym may) ∙ final)
@@ -226,6 +230,7 @@ acts_at can Later w v request shut (m, c) = inl (refl, c)
 acts_at can Done w v request shut (m, c) = inr (refl, inl (m, c))
 acts_at can (Answer text) w v request shut (m, c) = inr (refl, inl (m, c))
 acts_at can (Error e) w v request shut (m, c) = inr (refl, inl (m, c))
+acts_at can (Expand text) w v request shut (m, c) = inr (refl, inl (m, c))
 acts_at can Parked w v request shut (m, c) = cc
 
 pub acted_now : {D A : Type 0} {G : Ghosts D} (old new : Exec D A G) (request : Request) (reply : Reply) → Allows old.device (Executed 1 request reply) new.device → new.home ≡ old.home
@@ -240,6 +245,7 @@ parked_call w v request Done e c = cc
 parked_call w v request (Answer text) e c = cc
 parked_call w v request (Error error) e c = cc
 parked_call w v request Later e c = cc
+parked_call w v request (Expand text) e c = cc
 
 pub acted_waited : {D A : Type 0} {G : Ghosts D} (old mid new : Exec D A G) (request : Request) (first reply : Reply) → Allows old.device (Executed 1 request first) mid.device → mid.home ≡ old.home
     → is_parked first ≡ true → GoesOn mid new (WaitEnds reply) → is_final reply ≡ true → is_out_of_memory reply ≡ false → GoesOn old new (Acted request reply)
@@ -248,11 +254,11 @@ acted_waited old mid new request first reply t there parked ends final long =
     (λ can w u v x y. inr (final, inr (long, u, y.0, parked_call w u request first parked x.1, y.1, y.2)))
 
 pub parked_halts : {D A : Type 0} {G : Ghosts D} (old mid new : Exec D A G) (request : Request) (first : Reply) (cause : RunCause) → Allows old.device (Executed 1 request first) mid.device → mid.home ≡ old.home
-    → is_parked first ≡ true → Halts mid new [] cause → Halts old new (request ∷ []) cause
+    → is_parked first ≡ true → Halts mid new [] cause → Halts old new (on_line request) cause
 parked_halts old mid new request first cause t there parked s =
-    halts_after old mid new (request ∷ []) [] cause
-    (has_executed old mid (request ∷ []) (λ can w v. IsMeant can first × Calls w (Executed 1 request first) v) (executed_goes old mid request first t there)
-    (λ can w v x. executes_one w (Executed 1 request Parked) v (parked_call w v request first parked x.1))) s
+    subst (λ (z : List Request). Halts old new z cause) (append-nil (on_line request)) (halts_after old mid new (on_line request) [] cause
+    (has_executed old mid (on_line request) (λ can w v. IsMeant can first × Calls w (Executed 1 request first) v) (executed_goes old mid request first t there)
+    (λ can w v x. executes_one w (Executed 1 request Parked) v (parked_call w v request first parked x.1))) s)
 
 unit_at : (can : Mishaps) (reply : Reply) (w v : World) (request : Request) → is_later reply ≡ false → Acted request reply can w v → UnitRuns can w request reply v
 unit_at can reply w v request over (inl l) = let is = l.0 in cc
@@ -270,6 +276,7 @@ late_call can Done w v request late (inr r) = cc
 late_call can (Answer text) w v request late (inr r) = cc
 late_call can (Error e) w v request late (inr r) = cc
 late_call can Parked w v request late (inr r) = cc
+late_call can (Expand text) w v request late (inr r) = cc
 
 abbrev AfterLate : Request → Mishaps → World → World → Type 0
 AfterLate request can w v = (late : World) × Calls w (Executed 1 request Later) late × Flushes can late v
@@ -289,7 +296,6 @@ unit_later old mid over new request first reply a late f b done =
     goes_then old over new (AfterLate request) (Acted request reply) (λ can w v. UnitRuns can w request reply v) (late_flush old mid over request first a late f) b
     (λ can w u v x y. inr (x.0, u, x.1, x.2, acts_late can reply u v request done y))
 
--- no unit was executed
 late_executed : {D A : Type 0} {G : Ghosts D} (old mid over : Exec D A G) (request : Request) (first : Reply) → GoesOn old mid (Acted request first) → is_later first ≡ true
     → GoesOn mid over Flushes → HasExecuted old over []
 late_executed old mid over request first a late f =
@@ -297,14 +303,14 @@ late_executed old mid over request first a late f =
     (λ can w v x. executes_join w x.0 v [] [] (executes_one w (Executed 1 request Later) x.0 x.1) (flush_calls can x.0 v x.2))
 
 pub late_halts : {D A : Type 0} {G : Ghosts D} (old mid over : Exec D A G) (request : Request) (first : Reply) (cause : RunCause) → GoesOn old mid (Acted request first) → is_later first ≡ true
-    → Halts mid over [] cause → Halts old over (request ∷ []) cause
+    → Halts mid over [] cause → Halts old over (on_line request) cause
 late_halts old mid over request first cause a late s =
-    halts_more old over [] (request ∷ []) cause (halts_after old mid over [] [] cause
+    halts_more old over [] (on_line request) cause (halts_after old mid over [] [] cause
     (has_executed old mid [] (Acted request first) a (λ can w v x. executes_one w (Executed 1 request Later) v (late_call can first w v request late x))) s)
 
 pub later_halts : {D A : Type 0} {G : Ghosts D} (old mid over new : Exec D A G) (request : Request) (first : Reply) (cause : RunCause) → GoesOn old mid (Acted request first) → is_later first ≡ true
-    → GoesOn mid over Flushes → Halts over new (request ∷ []) cause → Halts old new (request ∷ []) cause
-later_halts old mid over new request first cause a late f s = halts_after old over new [] (request ∷ []) cause (late_executed old mid over request first a late f) s
+    → GoesOn mid over Flushes → Halts over new (on_line request) cause → Halts old new (on_line request) cause
+later_halts old mid over new request first cause a late f s = halts_after old over new [] (on_line request) cause (late_executed old mid over request first a late f) s
 
 -- ---- a unit that comes later still, after a flush
 
@@ -323,40 +329,45 @@ never_if : (b : Bool) (one other : Reply) → Never one → Never other → Neve
 never_if true one other p q = p
 never_if false one other p q = q
 
-never_with : (enables : Option (ℕ × ℕ)) (r : Registers) (command : Command) → Never (answer_with enables r command)
-never_with enables r PscOn e = cc
-never_with enables r PscOff e = cc
-never_with enables r PscQuery e = cc
-never_with enables r (Sre n) e = cc
-never_with enables r SreQuery e = cc
-never_with enables r (Ese n) e = cc
-never_with enables r EseQuery e = cc
-never_with enables r EsrQuery e = cc
-never_with enables r StbQuery e = cc
-never_with enables r IdnQuery e = cc
-never_with enables r OpcQuery e = cc
+never_done : (answer : Option (List ℕ)) → Never (answer_done answer)
+never_done None e = cc
+never_done (Some text) e = cc
 
-never_read : (s : State) (change : Option Change) (reading : Result Command ScpiError) → Never (answer_read s change reading)
-never_read s change (Err error) = λ e. cc
-never_read s change (Ok command) =
-    never_if (is_refused s.flush.store command change) (Error StorageFault) _ (λ e. cc)
-    (never_if (waits_for s.flush.unflushed command) Parked _ (λ e. cc) (never_with s.flush.contents.enables s.volatile.registers command))
+never_kept : (error : Option ScpiError) (whole fitting : Bool) → Never (kept_unless error whole fitting)
+never_kept (Some error) whole fitting e = cc
+never_kept None false fitting e = cc
+never_kept None true false e = cc
+never_kept None true true e = cc
 
-late_if : (b : Bool) (reply : Reply) → Never reply → Later ≡ (if b then Later else reply) → b ≡ true
-late_if true reply never e = refl
-late_if false reply never e = absurd (never (sym e))
+never_complete : (c : Completion) → Never (answer_complete c)
+never_complete completion.Query e = cc
+never_complete completion.Wait e = cc
+never_complete completion.Event e = cc
+
+never_meant : (f : Flush) (m : Meaning) → Never (answer_meant f m)
+never_meant f (Refuses error) = λ e. cc
+never_meant f (Does answer new) = never_done answer
+never_meant f (Keeps change) = never_kept (nv.refused f.contents change) (is_whole f.store) (fits f.limit (nv.apply f.contents change))
+never_meant f (Completes c) =
+    never_if (not (is_whole f.store)) (Error StorageFault) _ (λ e. cc) (never_if (parks c && not (f.unflushed == 0)) Parked (answer_complete c) (λ e. cc) (never_complete c))
 
 -- the session waits for nothing, so changes are left
-full_tail : (wait : Option Wait) (n : ℕ) (change : Option Change) → wait ≡ None → is_late wait n change ≡ true → 0 < n
-full_tail None n change free e = some_of n (is_some change) e
-full_tail (Some w) n change free e = cc
+full_tail : (wait : Option Wait) (n : ℕ) (nonvolatile : Bool) → wait ≡ None → is_late wait n nonvolatile ≡ true → 0 < n
+full_tail None n nonvolatile free e = some_of n nonvolatile e
+full_tail (Some w) n nonvolatile free e = cc
+
+never_called : IsCall Later → ⊥
+never_called (Ok text, e) = cc
+never_called (Err error, e) = cc
+
+never_means : (f : Flush) (m : Meaning) → MayMean f m Later → ⊥
+never_means f m (inl is) = never_meant f m (sym is)
+never_means f m (inr short) = let bad = short.0 in cc
 
 late_some : (s new : State) (request : Request) → Allows s (Executed 1 request Later) new → wait_of s.flush 1 ≡ None → 0 < s.flush.unflushed
-late_some s new request t free = elim t.1.may [
-  | inl is ↦ full_tail (wait_of s.flush 1) s.flush.unflushed (change_of s request) free
-      (late_if (is_late (wait_of s.flush 1) s.flush.unflushed (change_of s request)) _ (never_read s (change_of s request) request.reading) is)
-  | inr short ↦ let bad = short.0 in cc
-]
+late_some s new request t free =
+    ⊎_elim (λ late. full_tail (wait_of s.flush 1) s.flush.unflushed (reads_nonvolatile request.reading (is_none s.flush.contents.enables)) free late.0)
+    (λ now. ⊎_elim (λ call. absurd (never_called call)) (λ means. absurd (never_means s.flush (meaning_of (here s) request.reading) means)) now.1) (ways s 1 request Later t.1.may)
 
 late_halted : {D A : Type 0} {G : Ghosts D} (since : ℕ) (mid new : Exec D A G) (request : Request) (reply : Reply) → Ghosts.honest G → GoesOn mid new (Acted request reply) → is_later reply ≡ true
     → wait_of mid.device.flush 1 ≡ None → HasFailed since (failures_of mid) ⊎ (mid.device.flush.store ≡ Worn) ⊎ (mid.device.flush.unflushed ≡ 0) → IsHaltedBy since new Device
@@ -372,9 +383,9 @@ late_halted since mid new request reply h a late free clean =
 pub still_late_halts : {D A : Type 0} {G : Ghosts D} (old mid over new : Exec D A G) (request : Request) (first reply : Reply) → GoesOn old mid (Acted request first) → is_later first ≡ true
     → GoesOn mid over Flushes → GoesOn over new (Acted request reply) → is_later reply ≡ true → wait_of over.device.flush 1 ≡ None
     → ((since : ℕ) → IsExplained since mid → HasFailed since (failures_of over) ⊎ (over.device.flush.store ≡ Worn) ⊎ (over.device.flush.unflushed ≡ 0))
-    → Halts old new (request ∷ []) Device
+    → Halts old new (on_line request) Device
 still_late_halts old mid over new request first reply a late f b still free clean =
-    halts_here old new [] (request ∷ []) Device
+    halts_here old new [] (on_line request) Device
     (executed_join old over new [] [] (late_executed old mid over request first a late f)
     (has_executed over new [] (Acted request reply) b (λ can w v x. executes_one w (Executed 1 request Later) v (late_call can reply w v request still x))))
     (λ h since e. late_halted since over new request reply h b still free (clean since (a.explained since e))) (λ e. cc)
@@ -385,3 +396,4 @@ parked_of (outcome.Answer text) e = cc
 parked_of (outcome.Error error) e = cc
 parked_of outcome.Parked e = refl
 parked_of outcome.Later e = cc
+parked_of (outcome.Expand text) e = cc

@@ -1,10 +1,9 @@
 -- The cause of a run's end where the disk does not power on, and why a store can't take a commit.
-use Rattle.std.specs.Prelude.{◌≡◌, ℕ, ◌+◌, ◌≤◌, ◌^◌, List}
+use Rattle.std.specs.Prelude.{◌≡◌, ℕ, ◌+◌, ◌≤◌, ◌^◌, List, true}
 use Rattle.psu_disk.specs.Disk.{HasFailed}
 use Rattle.psu_items.specs.Map.{Item}
 use Rattle.psu_items.specs.Image.{counting, number_in, Stands, HasNoRoot, HasBadRoot, HasOtherVersion, HasReadableRoot}
-use Rattle.psu_exec.specs.Contents.{items_of, IsContents}
-use Rattle.psu_exec.specs.declared.contents.Contents.{Contents}
+use Rattle.psu_nv.specs.Contents.{items_of, IsContents, Contents, fits}
 use Rattle.psu_items.specs.declared.open_cause.OpenCause.{OpenCause}
 use Rattle.psu_items.specs.declared.open_cause.OpenCause.TheVariants as refused
 use Rattle.psu_exec.specs.declared.power_fault.PowerCause.{PowerCause}
@@ -24,12 +23,12 @@ abbrev pub cause_of_power : PowerCause → RunCause
 cause_of_power power.BadItems = Open start.BadItems
 cause_of_power power.Memory = Memory
 
--- The image stands for the items of no contents.
+-- The image stands for the items of no contents that fit.
 pub record HasBadItems (image : List ℕ) : Type 0 where
   pub limit : ℕ
   pub map : List Item
   pub stands : Stands image limit map
-  pub none : (contents : Contents) → IsContents contents → items_of contents ≡ map → ⊥
+  pub none : (contents : Contents) → IsContents contents → fits limit contents ≡ true → items_of contents ≡ map → ⊥
 
 -- A disk with this image does not power on for this cause. A failed call says nothing of the image. Memory is wanted only where
 -- no call failed and a root can be read.

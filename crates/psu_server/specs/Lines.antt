@@ -1,9 +1,9 @@
 -- The lines of an input, and the requests of a line.
-use Rattle.std.specs.Prelude.{◌≡◌, ℕ, ◌==◌, ◌||◌, ◌&&◌, not, nat_lt, Bool, true, false, List, [], ◌∷◌, ◌++◌, length, Err, if◌then◌else◌, codes, map}
+use Rattle.std.specs.Prelude.{◌≡◌, ℕ, ◌==◌, ◌||◌, ◌&&◌, not, nat_lt, Bool, true, false, List, [], ◌∷◌, ◌++◌, length, None, Err, if◌then◌else◌, codes, map}
 use Rattle.std.specs.Str.{bytes_eq}
 use Rattle.psu_lex.specs.Message.{Part, IsMessage}
-use Rattle.psu_exec.specs.Reading.{ReadsAs}
-use Rattle.psu_exec.specs.declared.request.Request.{Request}
+use Rattle.psu_tree.specs.Reading as tree
+use Rattle.psu_tree.specs.declared.unit_request.Request.{Request}
 use Rattle.psu_lex.specs.declared.scpi_error.ScpiError.TheVariants.{TooMuchData}
 
 -- a byte goes onto the first part of the rest
@@ -64,18 +64,38 @@ is_power m = false
 abbrev pub is_none_begun : Bool → List ℕ → Bool
 is_none_begun over line = not over && (length line == 0)
 
--- the requests of units, one for each
-abbrev pub AreRequests : List Part → List Request → Type 0
-AreRequests [] requests = requests ≡ []
-AreRequests (unit ∷ units) requests =
-    (request : Request) × (more : List Request) × ReadsAs unit request.reading × AreRequests units more × (requests ≡ request ∷ more)
+-- a unit at a path, in an expansion or outside: as it reads, with the call that it may be and where the path stands behind it
+pub record IsRequest (inside : Bool) (path : List (List ℕ)) (part : Part) (request : Request) (next : List (List ℕ)) : Type 0 where
+  pub reading : tree.Reads path part request.reading
+  pub moves : tree.Moves path part request.reading next
+  pub call : tree.Calls part request.call
+  pub place : request.inside ≡ inside
+
+-- a unit that comes first after a line feed is read from the root of the tree
+abbrev pub path_at : List (List ℕ) → Part → List (List ℕ)
+path_at path part = if part.first then [] else path
+
+-- the requests of units, read one after another from a path, in an expansion or outside
+abbrev pub AreRequests : Bool → List (List ℕ) → List Part → List Request → Type 0
+AreRequests inside path [] requests = requests ≡ []
+AreRequests inside path (part ∷ parts) requests =
+    (request : Request) × (more : List Request) × (next : List (List ℕ))
+    × IsRequest inside (path_at path part) part request next × AreRequests inside next parts more × (requests ≡ request ∷ more)
+
+-- the requests of some bytes, read from the root of the tree
+abbrev pub AreAsked : Bool → List ℕ → List Request → Type 0
+AreAsked inside bytes requests = (units : List Part) × IsMessage bytes units × AreRequests inside [] units requests
+
+-- the requests of an expansion
+abbrev pub AsksInside : List ℕ → List Request → Type 0
+AsksInside bytes requests = AreAsked true bytes requests
 
 -- a line that is too long is one request that has too much data
 abbrev pub too_much : Request
-too_much = record { reading = Err TooMuchData }
+too_much = record { call = None; reading = Err TooMuchData; inside = false }
 
--- the requests of a message: those of its units
+-- the requests of a message
 abbrev pub Asks : Message → List Request → Type 0
 Asks Message.Power requests = requests ≡ []
 Asks Message.Overlong requests = requests ≡ too_much ∷ []
-Asks (Message.Units bytes) requests = (units : List Part) × IsMessage bytes units × AreRequests units requests
+Asks (Message.Units bytes) requests = AreAsked false bytes requests

@@ -4,16 +4,15 @@ use Rattle.psu_disk.specs.Disk.{DiskState, Left}
 use Rattle.psu_disk.specs.declared.disk.Disk.{Ghosts}
 use Rattle.psu_items.specs.Map.{Item}
 use Rattle.psu_items.specs.Image.{Stands, EachStands}
-use Rattle.psu_exec.specs.Contents.{items_of}
+use Rattle.psu_nv.specs.Contents.{items_of, Contents}
 use Rattle.psu_exec.specs.Device.{State}
 use Rattle.psu_exec.specs.Calls.{Entry, Executed, Opened}
 use Rattle.psu_exec.specs.Jobs.{home_disk}
 use Rattle.psu_exec.specs.Headline.{IsPrefix}
 use Rattle.psu_exec.specs.World.{World, Running, Call, PastUnit, Happens, IsStart, after, is_executed, recorded}
-use Rattle.psu_exec.specs.declared.contents.Contents.{Contents}
 use Rattle.psu_exec.specs.declared.exec.Exec.{Exec}
 use Rattle.psu_exec.specs.declared.home.Home.{Home}
-use Rattle.psu_exec.specs.declared.request.Request.{Request}
+use Rattle.psu_tree.specs.declared.unit_request.Request.{Request}
 
 -- What a device at rest does not hold: the limit and the contents that its power-on found, and the units that were executed since.
 pub record Life : Type 0 where
@@ -46,12 +45,16 @@ abbrev pub CallsAll : World → List Entry → World → Type 0
 CallsAll w [] new = new ≡ w
 CallsAll w (entry ∷ entries) new = (mid : World) × Calls w entry mid × CallsAll mid entries new
 
--- the request of a call that executes a unit; a unit that is to come later isn't executed
+-- a request of a line itself; those of an expansion stand in the place of the unit that they came from
+abbrev pub on_line : Request → List Request
+on_line request = if request.inside then [] else request ∷ []
+
+-- the request of a call that executes a unit of a line; a unit that is to come later isn't executed
 abbrev pub unit_in : Entry → List Request
-unit_in (Executed session request reply) = if is_executed reply then request ∷ [] else []
+unit_in (Executed session request reply) = if is_executed reply then on_line request else []
 unit_in entry = []
 
--- the requests that calls executed, in order
+-- the requests of lines that calls executed, in order
 abbrev pub units_in : List Entry → List Request
 units_in [] = []
 units_in (entry ∷ entries) = unit_in entry ++ units_in entries

@@ -3,7 +3,7 @@ use Rattle.std.specs.Prelude.{◌≡◌, ◌≢◌, ◌⊎◌, ℕ, ◌<◌, Lis
 use Rattle.std.specs.Io.KnownBytes.{Appends}
 use Rattle.std.specs.Io.{StartsWith}
 use Rattle.psu_disk.specs.declared.disk.Disk.{Ghosts}
-use Rattle.psu_exec.specs.declared.request.Request.{Request}
+use Rattle.psu_tree.specs.declared.unit_request.Request.{Request}
 use Rattle.psu_exec.specs.Device.{Reply, Later}
 use Rattle.psu_exec.specs.Calls.{Entry, Executed, Settled}
 use Rattle.psu_exec.specs.World.{World}
@@ -27,11 +27,11 @@ pub record GoesOn {D A : Type 0} {G : Ghosts D} (old new : Exec D A G) (P : Mish
   pub explained : (since : ℕ) → IsExplained since old → IsExplained since new
   pub later : IsLater (failures_of old) (failures_of new)
 
--- some first of these requests were executed
+-- some first of these requests of a line were executed, with the expansions that replaced them
 abbrev pub Begins : World → List Request → World → Type 0
 Begins w requests new = (entries : List Entry) × CallsAll w entries new × (more : List Request) × (requests ≡ units_in entries ++ more)
 
--- The device stops for this cause, after some first of these requests.
+-- The device stops for this cause, after some first of these requests of a line.
 pub record Halts {D A : Type 0} {G : Ghosts D} (old new : Exec D A G) (requests : List Request) (cause : RunCause) : Type 0 where
   pub begun : Ghosts.honest G → (life : Life) → (next : Life) × Begins (world_of life old) requests (world_of next new)
   pub explained : (since : ℕ) → IsExplained since old → IsExplained since new
@@ -49,7 +49,7 @@ Acted request reply can w new = ((reply ≡ Later) × Calls w (Executed 1 reques
 
 -- ---- messages
 
--- some first requests of the first of these messages
+-- some first requests of the first of these messages, those of expansions left out
 abbrev pub AreFirst : List Message → List Request → Type 0
 AreFirst [] requests = requests ≡ []
 AreFirst (m ∷ ms) requests = (requests ≡ []) ⊎ ((all : List Request) × (more : List Request) × Asks m all × (all ≡ requests ++ more))

@@ -1,16 +1,19 @@
 -- What `recover` says of an image.
-use Rattle.std.specs.Prelude.{◌≡◌, ℕ, List, ⊤}
-use Rattle.psu_items.specs.Map.{cost}
+use Rattle.std.specs.Prelude.{◌≡◌, ℕ, ◌==◌, if◌then◌else◌, List, [], ◌∷◌, length, map, ⊤}
+use Rattle.psu_items.specs.Map.{Item, cost}
 use Rattle.psu_items.specs.Image.{counting, number_in, HasReadableRoot, Stands, IsRefusal}
 use Rattle.psu_items.specs.declared.open_cause.OpenCause.{OpenCause}
 use Rattle.psu_items.specs.declared.open_cause.OpenCause.TheVariants as opening
-use Rattle.psu_exec.specs.Contents.{items_of, IsContents}
-use Rattle.psu_exec.specs.Registers.{prescribed}
-use Rattle.psu_exec.specs.declared.contents.Contents.{Contents}
+use Rattle.psu_nv.specs.Contents.{items_of, IsContents, Contents}
+use Rattle.psu_nv.specs.declared.file_kind.FileKind.{FileKind}
+use Rattle.psu_nv.specs.declared.file_kind.FileKind.TheVariants as kind
+use Rattle.psu_status.specs.Status.{first_request, prescribed}
+use Rattle.psu_exec.specs.Device.{State}
 use Rattle.psu_exec.specs.declared.power_fault.PowerCause.{PowerCause}
 use Rattle.psu_exec.specs.declared.power_fault.PowerCause.TheVariants as power
 use Rattle.psu_server.specs.Causes.{HasBadItems}
 use Rattle.psu_server.specs.declared.report.Report.{Report}
+use Rattle.psu_server.specs.declared.reported_file.ReportedFile.{ReportedFile}
 use Rattle.psu_server.specs.declared.recover_fault.RecoverFault.{RecoverFault}
 use Rattle.psu_server.specs.declared.recover_fault.RecoverFault.TheVariants.{Device, NoRoot, BadRoot, BadVersion, Memory, BadItems}
 
@@ -25,9 +28,39 @@ abbrev pub recover_power : PowerCause → RecoverFault
 recover_power power.BadItems = BadItems
 recover_power power.Memory = Memory
 
--- The image stands for these contents, and the report tells them: their cost, the enables, and the first service request that
--- is prescribed for them; and the number of the root that counts.
-pub record IsReported (image : List ℕ) (report : Report) : Type 0 where
+-- ---- files
+
+-- a file's name, its type and its size
+pub record Entry : Type 0 where
+  pub name : List ℕ
+  pub kind : FileKind
+  pub size : ℕ
+
+abbrev pub entry_with : List ℕ → FileKind × ℕ → Entry
+entry_with name what = record { name = name; kind = what.0; size = what.1 }
+
+-- the type that a byte stands for: 0 is BIN, 1 STAT, 2 MACR
+abbrev pub kind_of : ℕ → FileKind
+kind_of code = if code == 0 then kind.Binary else (if code == 1 then kind.State else kind.Macro)
+
+-- a file as it is kept: the byte of its type, and then its own bytes
+abbrev pub of_value : List ℕ → FileKind × ℕ
+of_value [] = (kind.Macro, 0)
+of_value (code ∷ bytes) = (kind_of code, length bytes)
+
+abbrev pub entry : Item → Entry
+entry file = entry_with file.key (of_value file.value)
+
+-- a file as it is reported
+abbrev pub told : {A : Type 0} → ReportedFile A → Entry
+told file = entry_with file.name (file.kind, file.size)
+
+-- ---- reports
+
+-- The image stands for these contents, and the report tells them: their cost, the enables, the first service request that is
+-- prescribed for them, how many user data and macros there are, and the files in byte order of their names; and the number of the root
+-- that counts.
+pub record IsReported {A : Type 0} (image : List ℕ) (report : Report A) : Type 0 where
   pub contents : Contents
   pub sound : IsContents contents
   pub stands : Stands image report.limit (items_of contents)
@@ -36,8 +69,21 @@ pub record IsReported (image : List ℕ) (report : Report) : Type 0 where
   pub pages : report.pages ≡ cost (items_of contents)
   pub enables : report.enables ≡ contents.enables
   pub request : report.request ≡ prescribed contents.enables
-  pub user : report.user ≡ 0
-  pub macros : report.macros ≡ 0
+  pub user : report.user ≡ length contents.user
+  pub macros : report.macros ≡ length contents.macros
+  pub files : map told report.files.items ≡ map entry contents.files
+
+-- a report of a device at power-on, with what its store says of the image
+pub record Reports {A : Type 0} (s : State) (version root limit pages : ℕ) (report : Report A) : Type 0 where
+  pub version_is : report.version ≡ version
+  pub root_is : report.root ≡ root
+  pub limit_is : report.limit ≡ limit
+  pub pages_is : report.pages ≡ pages
+  pub enables : report.enables ≡ s.flush.contents.enables
+  pub request : report.request ≡ first_request s.volatile.instrument.status
+  pub user : report.user ≡ length s.flush.contents.user
+  pub macros : report.macros ≡ length s.flush.contents.macros
+  pub files : map told report.files.items ≡ map entry s.flush.contents.files
 
 -- Why an image isn't reported. A failed disk call says nothing of the image. Memory is wanted only where a root can be read.
 abbrev pub IsRecoverRefusal : List ℕ → RecoverFault → Type 0

@@ -1,6 +1,9 @@
 -- The text of a report: a line for each fact. The texts are this project's own.
-use Rattle.std.specs.Prelude.{ℕ, Option, Some, None, List, ◌++◌, codes, decimal}
+use Rattle.std.specs.Prelude.{ℕ, Option, Some, None, List, [], ◌∷◌, ◌++◌, codes, decimal}
+use Rattle.psu_nv.specs.declared.file_kind.FileKind.{FileKind}
+use Rattle.psu_nv.specs.declared.file_kind.FileKind.TheVariants.{Binary, State, Macro}
 use Rattle.psu_server.specs.declared.report.Report.{Report}
+use Rattle.psu_server.specs.declared.reported_file.ReportedFile.{ReportedFile}
 
 abbrev pub image_line : ℕ → ℕ → List ℕ
 image_line version root = codes "image version " ++ decimal version ++ codes " root " ++ decimal root ++ codes "\n"
@@ -20,7 +23,20 @@ abbrev pub request_line : Option ℕ → List ℕ
 request_line None = codes "request none\n"
 request_line (Some byte) = count_line (codes "request ") byte
 
-abbrev pub report_text_of : Report → List ℕ
+abbrev pub kind_text : FileKind → List ℕ
+kind_text Binary = codes "BIN"
+kind_text State = codes "STAT"
+kind_text Macro = codes "MACR"
+
+abbrev pub file_line : List ℕ → FileKind → ℕ → List ℕ
+file_line name kind size = codes "file " ++ name ++ codes "," ++ kind_text kind ++ codes "," ++ decimal size ++ codes "\n"
+
+-- a line for each file
+abbrev pub file_lines : {A : Type 0} → List (ReportedFile A) → List ℕ
+file_lines [] = []
+file_lines (file ∷ files) = file_line file.name file.kind file.size ++ file_lines files
+
+abbrev pub report_text_of : {A : Type 0} → Report A → List ℕ
 report_text_of r =
     image_line r.version r.root ++ pages_line r.pages r.limit ++ enables_line r.enables ++ request_line r.request
-    ++ count_line (codes "user ") r.user ++ count_line (codes "macros ") r.macros
+    ++ count_line (codes "user ") r.user ++ count_line (codes "macros ") r.macros ++ file_lines r.files.items

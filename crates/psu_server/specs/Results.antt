@@ -5,7 +5,7 @@ use Rattle.std.specs.Io.{StartsWith}
 use Rattle.psu_disk.specs.Disk.{DiskState, HasFailed}
 use Rattle.psu_items.specs.Image.{EachStands}
 use Rattle.psu_exec.specs.Calls.{Entry}
-use Rattle.psu_exec.specs.Contents.{items_of}
+use Rattle.psu_nv.specs.Contents.{items_of}
 use Rattle.psu_exec.specs.World.{World}
 use Rattle.psu_server.specs.Lines.{Message, messages}
 use Rattle.psu_server.specs.Lives.{CallsAll, units_in, PowersOn, LeavesPrefix}

@@ -2,12 +2,12 @@
 use Rattle.std.specs.Prelude.{◌≡◌, ◌⊎◌, ℕ, zero, suc, ◌≤◌, Bool, true, false, Some, List, [], ◌∷◌, ◌++◌, ⊤}
 use Rattle.psu_items.specs.declared.commit.UnstartedCause.TheVariants.{Memory}
 use Rattle.psu_items.specs.declared.broken.BrokenCause.TheVariants as broken_cause
-use Rattle.psu_exec.specs.declared.request.Request.{Request}
+use Rattle.psu_tree.specs.declared.unit_request.Request.{Request}
 use Rattle.psu_lex.specs.declared.scpi_error.ScpiError.TheVariants.{OutOfMemory}
-use Rattle.psu_exec.specs.Device.{Reply, Error, Parked, Later, is_broken}
+use Rattle.psu_exec.specs.Device.{Reply, Error, Expand, Parked, Later, is_broken}
 use Rattle.psu_exec.specs.Calls.{JobKind, Commit, Reopen, JobData, JobEnd, Stored, Unstarted, Failed, Reopened, Job, Nothing, Executed, Settled, Took, GaveBack}
 use Rattle.psu_exec.specs.World.{World}
-use Rattle.psu_server.specs.Lines.{Message, Asks, messages}
+use Rattle.psu_server.specs.Lines.{Message, Asks, AsksInside, messages}
 use Rattle.psu_server.specs.Causes.{IsWornOut}
 use Rattle.psu_server.specs.Lives.{Calls, PowersOn}
 use Rattle.psu_server.specs.Script.{with_answer, line_text, IsScript}
@@ -80,6 +80,10 @@ abbrev pub is_later : Reply → Bool
 is_later Later = true
 is_later reply = false
 
+abbrev pub is_expansion : Reply → Bool
+is_expansion (Expand bytes) = true
+is_expansion reply = false
+
 -- the unit is done with
 abbrev pub is_final : Reply → Bool
 is_final Parked = false
@@ -99,11 +103,23 @@ UnitRuns can w request reply new =
     Acts can w request reply new
     ⊎ ((late : World) × (over : World) × Calls w (Executed 1 request Later) late × Flushes can late over × Acts can over request reply new)
 
--- the units of a message, from the answers so far to all of them
+-- the units of an expansion, from the answers so far to all of them; none of them is replaced by another expansion
 abbrev pub UnitsRun : Mishaps → World → List ℕ → List Request → List ℕ → World → Type 0
 UnitsRun can w text [] all new = (new ≡ w) × (all ≡ text)
 UnitsRun can w text (request ∷ more) all new =
     (reply : Reply) × (mid : World) × UnitRuns can w request reply mid × UnitsRun can mid (with_answer text reply) more all new
+
+-- what comes of a unit's reply: it is told, or the expansion that it is is executed in the unit's place
+abbrev pub ReplyRuns : Mishaps → World → List ℕ → Reply → List ℕ → World → Type 0
+ReplyRuns can w text (Expand bytes) all new = (requests : List Request) × AsksInside bytes requests × UnitsRun can w text requests all new
+ReplyRuns can w text reply all new = (new ≡ w) × (all ≡ with_answer text reply)
+
+-- the units of a message, from the answers so far to all of them
+abbrev pub LineRuns : Mishaps → World → List ℕ → List Request → List ℕ → World → Type 0
+LineRuns can w text [] all new = (new ≡ w) × (all ≡ text)
+LineRuns can w text (request ∷ more) all new =
+    (reply : Reply) × (mid : World) × (some : List ℕ) × (after : World)
+    × UnitRuns can w request reply mid × ReplyRuns can mid text reply some after × LineRuns can after some more all new
 
 -- a broken store is opened again, and any other stays as it is
 abbrev pub Reopens : Mishaps → World → World → Type 0
@@ -113,7 +129,7 @@ Reopens can w new = ((is_broken w.state.flush.store ≡ false) × (new ≡ w))
 -- a message with its text; a power loss at rest leaves what a read gives
 abbrev pub MessageRuns : Mishaps → World → Message → List ℕ → World → Type 0
 MessageRuns can w Message.Power text new = (text ≡ []) × (over : World) × Reopens can w over × PowersOn over.disk.bytes new
-MessageRuns can w m text new = (requests : List Request) × Asks m requests × (all : List ℕ) × UnitsRun can w [] requests all new × (text ≡ line_text all)
+MessageRuns can w m text new = (requests : List Request) × Asks m requests × (all : List ℕ) × LineRuns can w [] requests all new × (text ≡ line_text all)
 
 -- the messages of an input with their text
 abbrev pub Runs : Mishaps → World → List Message → List ℕ → World → Type 0

@@ -1,10 +1,13 @@
 -- What a run writes where nothing goes wrong: over the step, and the one reading of each message.
-use Rattle.std.specs.Prelude.{◌≡◌, ℕ, ◌==◌, Bool, true, false, Some, List, [], ◌∷◌, ◌++◌}
-use Rattle.psu_exec.specs.declared.contents.Contents.{Contents}
-use Rattle.psu_exec.specs.declared.request.Request.{Request}
-use Rattle.psu_exec.specs.Device.{Reply, Answer, Parked, Later, State, answer, after_unit, power_on, wait_of}
-use Rattle.psu_exec.specs.Calls.{job_out, stored, settle_answer, after_settle, opened}
-use Rattle.psu_server.specs.Lines.{Message, Asks, messages}
+use Rattle.std.specs.Prelude.{◌≡◌, ℕ, ◌==◌, Bool, true, false, Option, Some, None, List, [], ◌∷◌, ◌++◌, Result}
+use Rattle.psu_lex.specs.Syntax.{Datum}
+use Rattle.psu_lex.specs.declared.scpi_error.ScpiError.{ScpiError}
+use Rattle.psu_nv.specs.Contents.{Contents}
+use Rattle.psu_tree.specs.declared.unit_request.Request.{Request}
+use Rattle.psu_instrument.specs.Macros.{ExpandsAt, HoldsParameters, written}
+use Rattle.psu_exec.specs.Device.{Reply, Answer, Expand, Parked, Later, State, after_unit, answer_call, answer_meant, called, here, is_later, meant, power_on, wait_of}
+use Rattle.psu_exec.specs.Calls.{job_out, with_stored, with_flush, settle_answer, after_settle, opened}
+use Rattle.psu_server.specs.Lines.{Message, Asks, AsksInside, messages}
 
 -- the answers of a message so far, with one more; `;` joins them
 abbrev pub joined : List ℕ → List ℕ → List ℕ
@@ -35,7 +38,7 @@ at_start limit contents = record { state = started limit contents; stored = cont
 -- once a job for the changes that are not flushed is given back as stored; with none of them there is no job
 abbrev pub flushed_by : Bool → Rest → Rest
 flushed_by true r = r
-flushed_by false r = record { state = record r.state { flush = stored (job_out r.state.flush) }; stored = r.state.flush.contents }
+flushed_by false r = record { state = with_stored (with_flush r.state (job_out r.state.flush)); stored = r.state.flush.contents }
 
 abbrev pub flushed : Rest → Rest
 flushed r = flushed_by (r.state.flush.unflushed == 0) r
@@ -57,37 +60,73 @@ abbrev pub after_reply : Rest → Request → Reply → Went
 after_reply r request Parked = waited (flushed (record r { state = after_unit r.state 1 request Parked }))
 after_reply r request reply = record { rest = record r { state = after_unit r.state 1 request reply }; reply = reply }
 
--- a unit that comes later is executed after a flush
-abbrev pub after_first : Rest → Request → Reply → Went
-after_first r request Later = after_reply (flushed r) request (answer (flushed r).state 1 request)
-after_first r request reply = after_reply r request reply
+-- A call of a macro is answered by the expansion of its body with its data as written, or by the error in its place.
+pub record Expands (request : Request) (body : List ℕ) (reply : Reply) : Type 0 where
+  pub parameters : List Datum
+  pub holds : HoldsParameters request.call parameters
+  pub given : Result (List ℕ) ScpiError
+  pub gives : ExpandsAt request.inside body (written parameters) given
+  pub is : reply ≡ answer_call given
 
-abbrev pub unit : Rest → Request → Went
-unit r request = after_first r request (answer r.state 1 request)
+-- a call stands before what the unit reads as
+abbrev pub RepliesCalled : State → Request → Option (List ℕ) → Reply → Type 0
+RepliesCalled s request None reply = reply ≡ answer_meant s.flush (meant (here s) request.reading)
+RepliesCalled s request (Some body) reply = Expands request body reply
+
+abbrev pub RepliesNow : Bool → State → Request → Reply → Type 0
+RepliesNow true s request reply = reply ≡ Later
+RepliesNow false s request reply = RepliesCalled s request (called s request) reply
+
+-- what a unit answers where no memory is refused
+abbrev pub Replies : State → Request → Reply → Type 0
+Replies s request reply = RepliesNow (is_later s 1 request) s request reply
+
+-- a unit that comes later is executed after a flush
+abbrev pub GoesFrom : Rest → Request → Reply → Went → Type 0
+GoesFrom r request Later went = (reply : Reply) × Replies (flushed r).state request reply × (went ≡ after_reply (flushed r) request reply)
+GoesFrom r request reply went = went ≡ after_reply r request reply
+
+-- a unit goes on so
+abbrev pub Goes : Rest → Request → Went → Type 0
+Goes r request went = (reply : Reply) × Replies r.state request reply × GoesFrom r request reply went
 
 -- what was told of a message so far
 pub record Told : Type 0 where
   pub rest : Rest
   pub text : List ℕ
 
-abbrev pub units : Rest → List ℕ → List Request → Told
-units r text [] = record { rest = r; text = text }
-units r text (request ∷ more) = units (unit r request).rest (with_answer text (unit r request).reply) more
+-- the units of an expansion tell this behind the answers so far
+abbrev pub TellsInside : Rest → List ℕ → List Request → Told → Type 0
+TellsInside r text [] told = told ≡ record { rest = r; text = text }
+TellsInside r text (request ∷ more) told =
+    (went : Went) × Goes r request went × TellsInside went.rest (with_answer text went.reply) more told
+
+-- a reply is told, or the expansion that it is is executed in the unit's place
+abbrev pub TellsReply : Rest → List ℕ → Reply → Told → Type 0
+TellsReply r text (Expand bytes) told = (requests : List Request) × AsksInside bytes requests × TellsInside r text requests told
+TellsReply r text reply told = told ≡ record { rest = r; text = with_answer text reply }
+
+-- the units of a message tell this behind the answers so far
+abbrev pub Tells : Rest → List ℕ → List Request → Told → Type 0
+Tells r text [] told = told ≡ record { rest = r; text = text }
+Tells r text (request ∷ more) told =
+    (went : Went) × (some : Told) × Goes r request went × TellsReply went.rest text went.reply some × Tells some.rest some.text more told
 
 -- a power loss at rest, and a restart
 abbrev pub restarted : Rest → Rest
 restarted r = at_start r.state.flush.limit r.stored
 
--- a message with these requests
-abbrev pub message : Rest → Message → List Request → Told
-message r Message.Power requests = record { rest = restarted r; text = [] }
-message r m requests = record { rest = (units r [] requests).rest; text = line_text (units r [] requests).text }
+-- a message with these requests tells this
+abbrev pub TellsMessage : Rest → Message → List Request → Told → Type 0
+TellsMessage r Message.Power requests told = told ≡ record { rest = restarted r; text = [] }
+TellsMessage r m requests told = (all : Told) × Tells r [] requests all × (told ≡ record { rest = all.rest; text = line_text all.text })
 
 -- the text of messages, one after another
 abbrev pub Scripted : Rest → List Message → List ℕ → Type 0
 Scripted r [] text = text ≡ []
 Scripted r (m ∷ ms) text =
-    (requests : List Request) × (more : List ℕ) × Asks m requests × Scripted (message r m requests).rest ms more × (text ≡ (message r m requests).text ++ more)
+    (requests : List Request) × (told : Told) × (more : List ℕ)
+    × Asks m requests × TellsMessage r m requests told × Scripted told.rest ms more × (text ≡ told.text ++ more)
 
 -- what is written for the bytes of an input, on an image of this limit that holds these contents; there is one such text
 abbrev pub IsScript : Contents → ℕ → List ℕ → List ℕ → Type 0

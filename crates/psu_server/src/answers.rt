@@ -17,7 +17,7 @@ pub fn put_answer<A: Allocator + Copy>(
         if !answers.is_empty() {
             answers.push(b';')?;
         }
-        answers.extend_from_slice(text.as_bytes())?;
+        answers.extend_from_slice(text.as_slice())?;
     }
     Ok(())
 }

@@ -1,11 +1,14 @@
 // The laws of the text that a run writes.
 ghost use Rattle.std.specs.Prelude.{ℕ, List, ◌≡◌};
-ghost use Rattle.psu_exec.specs.declared.contents.Contents.{Contents};
+ghost use Rattle.psu_nv.specs.Contents.{Contents};
 ghost use Rattle.psu_server.specs.Runs.{ScriptAlone};
 ghost use Rattle.psu_server.specs.Script.{IsScript};
 
-use psu_exec::{every_unit_reads, one_reading_of_a_unit};
-use psu_lex::laws::{every_list_has_units, one_list_of_units};
+use psu_lex::laws::{
+    every_body_has_an_expansion, every_list_has_units, one_expansion_of_a_body,
+    one_header_of_a_text, one_list_of_units, one_syntax_of_a_unit,
+};
+use psu_tree::laws::{every_unit_reads, one_reading_of_a_unit};
 
 /// Where no memory is refused, no disk call fails and the store isn't worn, the text that may be written is the script.
 pub fn script_is_the_only_text()
@@ -18,6 +21,9 @@ pub fn one_script_of_an_input()
 {
     one_list_of_units();
     one_reading_of_a_unit();
+    one_syntax_of_a_unit();
+    one_header_of_a_text();
+    one_expansion_of_a_body();
 }
 
 /// Every input has a script.
@@ -26,4 +32,5 @@ pub fn every_input_has_a_script()
 {
     every_list_has_units();
     every_unit_reads();
+    every_body_has_an_expansion();
 }

@@ -1,6 +1,6 @@
 // The lines that end in a piece of the input.
 ghost use Rattle.std.specs.Prelude.{◌≡◌, ◌≢◌, ◌++◌, ◌∷◌, [], List, ℕ, OnOk, OnErr, IfOk, IfErr, true, false};
-ghost use Rattle.psu_exec.specs.declared.request.Request.{Request as RequestData};
+ghost use Rattle.psu_tree.specs.declared.unit_request.Request.{Request as RequestData};
 ghost use Rattle.psu_server.specs.Jobs.{IsExplained};
 ghost use Rattle.psu_server.specs.Lines.{Asks, Message, coming, is_power, message_now};
 ghost use Rattle.psu_server.specs.Progress.{Fed, GoesOn, Halts, Stopped, StopsHere};
@@ -57,9 +57,11 @@ pub fn answer_line<D: Disk, A: Allocator + Copy>(
     let mut answers = Vec::new(alloc);
     if lines.is_over {
         let too_much = Request {
+            call: None,
             reading: Err(ScpiError::TooMuchData),
+            inside: false,
         };
-        perform(powered, &too_much, &mut answers)?;
+        perform(alloc, powered, &too_much, &mut answers)?;
         let Ok(()) = put_line(out, &answers) else {
             return Err(RunCause::Memory);
         };

@@ -5,14 +5,14 @@ ghost use Rattle.psu_disk.specs.Disk.{HasFailed};
 ghost use Rattle.psu_items.specs.Map.{Item};
 ghost use Rattle.psu_items.specs.Image.{EachStands};
 ghost use Rattle.psu_exec.specs.Jobs.{home_disk};
-ghost use Rattle.psu_exec.specs.Registers.{first_request};
-ghost use Rattle.psu_server.specs.Recover.{IsReported, IsRecoverRefusal};
+ghost use Rattle.psu_server.specs.Recover.{IsReported, IsRecoverRefusal, Reports};
 
+use crate::listing::files_of;
 use crate::{Examined, RecoverFault, Report};
 use psu_disk::Disk;
 use psu_exec::{Ended, Exec};
 use psu_items::Store;
-use std::alloc::Allocator;
+use std::alloc::{AllocError, Allocator};
 
 /// Opens the image of a disk as a restart does, and so may close an older gate that stands open, and reports the contents that
 /// it finds. The report is of the contents that the image stands for, with the first service request that IEEE 488.2
@@ -20,7 +20,7 @@ use std::alloc::Allocator;
 pub fn recover<D: Disk + Drop, A: Allocator + Copy>(
     alloc: A,
     disk: D,
-) -> Result<Report, RecoverFault>
+) -> Result<Report<A>, RecoverFault>
     ensures found { D.honest → IfOk result (IsReported (D.state disk).bytes) }
     ensures refused { D.honest → IfErr result (IsRecoverRefusal (D.state disk).bytes) }
 {
@@ -30,7 +30,7 @@ pub fn recover<D: Disk + Drop, A: Allocator + Copy>(
 
 /// As `recover`, with the disk: a device fault is told only where a call of the disk failed, and what the disk stood for it stands
 /// for.
-pub fn examine<D: Disk, A: Allocator + Copy>(alloc: A, disk: D) -> Examined<D>
+pub fn examine<D: Disk, A: Allocator + Copy>(alloc: A, disk: D) -> Examined<D, A>
     ensures found { D.honest → IfOk result.found (IsReported (D.state disk).bytes) }
     ensures refused { D.honest → IfErr result.found (IsRecoverRefusal (D.state disk).bytes) }
     ensures device { IfErr result.found (λ e. e ≡ RecoverFault.Device → HasFailed (D.failures disk) (D.failures result.disk)) }
@@ -51,7 +51,7 @@ pub fn examine<D: Disk, A: Allocator + Copy>(alloc: A, disk: D) -> Examined<D>
     let pages = store.items().cost();
     match Exec::power_on(alloc, store) {
         Ok(exec) => Examined {
-            found: Ok(report_of(&exec, version, root, limit, pages)),
+            found: report_of(alloc, &exec, version, root, limit, pages),
             disk: disk_of(exec),
         },
         Err(fault) => Examined {
@@ -75,22 +75,30 @@ fn disk_of<D: Disk, A: Allocator + Copy>(exec: Exec<D, A>) -> D
 
 // The report of a device at power-on.
 fn report_of<D: Disk, A: Allocator + Copy>(
+    alloc: A,
     exec: &Exec<D, A>,
     version: u16,
     root: u64,
     limit: u16,
     pages: u128,
-) -> Report
-    ensures { result ≡ record { version = version; root = root; pages = pages; limit = limit; enables = exec.now.device.flush.contents.enables; request = first_request exec.now.device.volatile.registers; user = 0; macros = 0 } }
+) -> Result<Report<A>, RecoverFault>
+    ensures reports { IfOk result (Reports exec.now.device version root limit pages) }
+    ensures wants { IfErr result (λ e. e ≡ RecoverFault.Memory) }
 {
-    Report {
+    let contents = exec.contents();
+    let files = match files_of(alloc, contents.names()) {
+        Ok(files) => files,
+        Err(AllocError) => return Err(RecoverFault::Memory),
+    };
+    Ok(Report {
         version,
         root,
         pages,
         limit,
-        enables: exec.contents().enables,
+        enables: contents.enables(),
         request: exec.first_request(),
-        user: 0,
-        macros: 0,
-    }
+        user: contents.user().len(),
+        macros: contents.labels().len(),
+        files,
+    })
 }

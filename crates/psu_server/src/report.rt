@@ -1,13 +1,15 @@
 //! What a restart would find in an image.
 ghost use Rattle.std.specs.Prelude.{◌≡◌, IfOk, OnOk, ◌++◌};
-ghost use Rattle.psu_server.specs.Report.{image_line, pages_line, enables_line, request_line, count_line, report_text_of};
+ghost use Rattle.psu_server.specs.Report.{image_line, pages_line, enables_line, request_line, count_line, file_line, file_lines, kind_text, report_text_of};
 
+use crate::ReportedFile;
 use itoa::Buffer;
+use psu_nv::FileKind;
 use std::alloc::{AllocError, Allocator};
 
 /// What a restart would find in an image.
-#[derive(Clone, Copy, Debug, PartialEq, Eq)]
-pub struct Report {
+#[derive(Drop)]
+pub struct Report<A: Allocator + Copy> {
     /// The version of the image's format.
     pub version: u16,
     /// The number of the root that counts.
@@ -21,13 +23,18 @@ pub struct Report {
     /// The status byte of the first service request, if power-on makes one.
     pub request: Option<u8>,
     /// How many bytes of user data are kept.
-    pub user: u8,
+    pub user: usize,
     /// How many macros are defined.
-    pub macros: u8,
+    pub macros: usize,
+    /// The files, in byte order of their names.
+    pub files: Vec<ReportedFile<A>, A>,
 }
 
 /// The report as text, a line for each fact.
-pub fn report_text<A: Allocator + Copy>(alloc: A, report: &Report) -> Result<Vec<u8, A>, AllocError>
+pub fn report_text<A: Allocator + Copy>(
+    alloc: A,
+    report: &Report<A>,
+) -> Result<Vec<u8, A>, AllocError>
     ensures { IfOk result (λ text. text.items ≡ report_text_of report.now) }
 {
     let mut text = Vec::new(alloc);
@@ -37,10 +44,14 @@ pub fn report_text<A: Allocator + Copy>(alloc: A, report: &Report) -> Result<Vec
     put_request(&mut text, report.request)?;
     put_count(&mut text, b"user ", report.user)?;
     put_count(&mut text, b"macros ", report.macros)?;
+    put_files(&mut text, &report.files)?;
     Ok(text)
 }
 
-fn put_image<A: Allocator + Copy>(text: &mut Vec<u8, A>, report: &Report) -> Result<(), AllocError>
+fn put_image<A: Allocator + Copy>(
+    text: &mut Vec<u8, A>,
+    report: &Report<A>,
+) -> Result<(), AllocError>
     ensures { OnOk result (text.new.items ≡ text.old.items ++ image_line report.now.version report.now.root) }
 {
     let mut version = Buffer::new();
@@ -53,7 +64,10 @@ fn put_image<A: Allocator + Copy>(text: &mut Vec<u8, A>, report: &Report) -> Res
     Ok(())
 }
 
-fn put_pages<A: Allocator + Copy>(text: &mut Vec<u8, A>, report: &Report) -> Result<(), AllocError>
+fn put_pages<A: Allocator + Copy>(
+    text: &mut Vec<u8, A>,
+    report: &Report<A>,
+) -> Result<(), AllocError>
     ensures { OnOk result (text.new.items ≡ text.old.items ++ pages_line report.now.pages report.now.limit) }
 {
     let mut pages = Buffer::new();
@@ -96,14 +110,14 @@ fn put_request<A: Allocator + Copy>(
         text.extend_from_slice(b"request none\n")?;
         return Ok(());
     };
-    put_count(text, b"request ", byte)?;
+    put_count(text, b"request ", usize::from(byte))?;
     Ok(())
 }
 
 fn put_count<A: Allocator + Copy>(
     text: &mut Vec<u8, A>,
     words: &[u8],
-    count: u8,
+    count: usize,
 ) -> Result<(), AllocError>
     ensures { OnOk result (text.new.items ≡ text.old.items ++ count_line words.now count) }
 {
@@ -111,5 +125,45 @@ fn put_count<A: Allocator + Copy>(
     text.extend_from_slice(words)?;
     text.extend_from_slice(number.format(count).as_bytes())?;
     text.push(b'\n')?;
+    Ok(())
+}
+
+// The type of a file, as a report writes it.
+fn kind_text(kind: FileKind) -> &'static [u8]
+    ensures { result.now ≡ kind_text kind }
+{
+    match kind {
+        FileKind::Binary => b"BIN",
+        FileKind::State => b"STAT",
+        FileKind::Macro => b"MACR",
+    }
+}
+
+fn put_file<A: Allocator + Copy>(
+    text: &mut Vec<u8, A>,
+    file: &ReportedFile<A>,
+) -> Result<(), AllocError>
+    ensures { OnOk result (text.new.items ≡ text.old.items ++ file_line file.now.name file.now.kind file.now.size) }
+{
+    let mut size = Buffer::new();
+    text.extend_from_slice(b"file ")?;
+    text.extend_from_slice(file.name.as_slice())?;
+    text.push(b',')?;
+    text.extend_from_slice(kind_text(file.kind))?;
+    text.push(b',')?;
+    text.extend_from_slice(size.format(file.size).as_bytes())?;
+    text.push(b'\n')?;
+    Ok(())
+}
+
+fn put_files<A: Allocator + Copy>(
+    text: &mut Vec<u8, A>,
+    files: &[ReportedFile<A>],
+) -> Result<(), AllocError>
+    ensures { OnOk result (text.new.items ≡ text.old.items ++ file_lines files.now) }
+{
+    for file in files {
+        put_file(text, file)?;
+    }
     Ok(())
 }

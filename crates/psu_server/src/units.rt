@@ -1,20 +1,24 @@
 // The units of a message, with the flushes that they wait for.
-ghost use Rattle.std.specs.Prelude.{◌≡◌, ◌∷◌, [], List, IfOk, IfErr, OnOk, true, false};
+ghost use Rattle.std.specs.Prelude.{◌≡◌, ◌∷◌, [], List, IfOk, IfErr, OnOk, IfSome, IfNone, true, false};
 ghost use Rattle.psu_exec.specs.Device.{Reply, is_open, wait_of};
-ghost use Rattle.psu_exec.specs.declared.request.Request.{Request};
+ghost use Rattle.psu_tree.specs.declared.unit_request.Request.{Request};
 ghost use Rattle.psu_exec.specs.Shown.{outcome_of};
-ghost use Rattle.psu_server.specs.Lines.{Message, Asks};
+ghost use Rattle.psu_lex.specs.Message.{part};
+ghost use Rattle.psu_server.specs.Lines.{Message, Asks, AsksInside, IsRequest, path_at};
+ghost use Rattle.psu_server.specs.Lives.{on_line};
 ghost use Rattle.psu_server.specs.Progress.{Acted, GoesOn, Halts, WaitEnds};
-ghost use Rattle.psu_server.specs.Runs.{is_final, is_later, is_out_of_memory, is_parked, UnitRuns, UnitsRun};
+ghost use Rattle.psu_server.specs.Runs.{is_expansion, is_final, is_later, is_out_of_memory, is_parked, LineRuns, UnitRuns, UnitsRun};
 
 use crate::RunCause;
 use crate::answers::put_answer;
 use crate::jobs::flush;
 use crate::powered::Powered;
 use psu_disk::Disk;
-use psu_exec::{Exec, Outcome, Request, ScpiError, Session, every_unit_reads, plain};
+use psu_exec::{Exec, Outcome, ScpiError, Session};
 use psu_lex::laws::every_list_has_units;
-use psu_lex::split;
+use psu_lex::{Unit, split};
+use psu_tree::laws::every_unit_reads;
+use psu_tree::{Path, Request, request};
 use std::alloc::Allocator;
 
 fn is_parked<A: Allocator + Copy>(outcome: &Outcome<A>) -> bool
@@ -96,10 +100,10 @@ fn wait<D: Disk, A: Allocator + Copy>(
 /// Executes a unit; parked, it waits for a flush. It may still come later.
 pub fn act<D: Disk, A: Allocator + Copy>(
     powered: &mut Powered<D, A>,
-    request: &Request,
+    request: &Request<'_>,
 ) -> Result<Outcome<A>, RunCause>
     ensures acted { IfOk result (λ o. GoesOn powered.old.exec powered.new.exec (Acted request.now (outcome_of o))) }
-    ensures halts { IfErr result (Halts powered.old.exec powered.new.exec (request.now ∷ [])) }
+    ensures halts { IfErr result (Halts powered.old.exec powered.new.exec (on_line request.now)) }
 {
     let outcome = powered.exec.execute(powered.session, request);
     if !is_parked(&outcome) {
@@ -112,10 +116,10 @@ pub fn act<D: Disk, A: Allocator + Copy>(
 /// Executes a unit; where it comes later, after a flush.
 pub fn unit<D: Disk, A: Allocator + Copy>(
     powered: &mut Powered<D, A>,
-    request: &Request,
+    request: &Request<'_>,
 ) -> Result<Outcome<A>, RunCause>
     ensures runs { IfOk result (λ o. GoesOn powered.old.exec powered.new.exec (λ can w v. UnitRuns can w request.now (outcome_of o) v)) }
-    ensures halts { IfErr result (Halts powered.old.exec powered.new.exec (request.now ∷ [])) }
+    ensures halts { IfErr result (Halts powered.old.exec powered.new.exec (on_line request.now)) }
 {
     let outcome = act(powered, request)?;
     if !is_later(&outcome) {
@@ -129,17 +133,82 @@ pub fn unit<D: Disk, A: Allocator + Copy>(
     Ok(outcome)
 }
 
-/// Executes a request, and puts its answer to those of its message.
-pub fn perform<D: Disk, A: Allocator + Copy>(
+/// The expansion that an outcome is.
+fn expansion_of<A: Allocator + Copy>(outcome: &Outcome<A>) -> Option<&[u8]>
+    ensures some { IfSome result (λ text. outcome_of outcome.now ≡ Reply.Expand text.now) }
+    ensures none { IfNone result (is_expansion (outcome_of outcome.now) ≡ false) }
+{
+    match outcome {
+        Outcome::Expand(text) => Some(text.as_slice()),
+        _ => None,
+    }
+}
+
+/// A unit as it reads at a path; one that comes first after a line feed is read from the root.
+fn request_at<'a>(path: &mut Path<'a>, unit: &Unit<'a>, inside: bool) -> Request<'a>
+    ensures { IsRequest inside (path_at path.old (part unit.now)) (part unit.now) result path.new }
+{
+    if unit.first {
+        *path = Path::root();
+    }
+    request(path, unit, inside)
+}
+
+/// Executes a request of an expansion, and puts its answer to those of the message.
+fn perform_inside<D: Disk, A: Allocator + Copy>(
     powered: &mut Powered<D, A>,
-    request: &Request,
+    request: &Request<'_>,
     answers: &mut Vec<u8, A>,
 ) -> Result<(), RunCause>
     ensures runs { OnOk result (GoesOn powered.old.exec powered.new.exec
         (λ can w v. UnitsRun can w answers.old.items (request.now ∷ []) answers.new.items v)) }
-    ensures halts { IfErr result (Halts powered.old.exec powered.new.exec (request.now ∷ [])) }
+    ensures halts { IfErr result (Halts powered.old.exec powered.new.exec (on_line request.now)) }
 {
     let outcome = unit(powered, request)?;
+    let Ok(()) = put_answer(answers, &outcome) else {
+        return Err(RunCause::Memory);
+    };
+    Ok(())
+}
+
+/// Executes the units of an expansion in the place of the unit that it replaces.
+fn expansion<D: Disk, A: Allocator + Copy>(
+    alloc: A,
+    powered: &mut Powered<D, A>,
+    bytes: &[u8],
+    answers: &mut Vec<u8, A>,
+) -> Result<(), RunCause>
+    ensures runs { OnOk result ((requests : List Request) × AsksInside bytes.now requests
+        × GoesOn powered.old.exec powered.new.exec (λ can w v. UnitsRun can w answers.old.items requests answers.new.items v)) }
+    ensures halts { IfErr result (Halts powered.old.exec powered.new.exec []) }
+{
+    let Ok(units) = split(alloc, bytes) else {
+        return Err(RunCause::Memory);
+    };
+    let list = units.as_slice();
+    let mut path = Path::root();
+    for unit in list {
+        perform_inside(powered, &request_at(&mut path, unit, true), answers)?;
+    }
+    Ok(())
+}
+
+/// Executes a request of a line, or the expansion that replaces it, and puts what it answers to the answers of its message.
+pub fn perform<D: Disk, A: Allocator + Copy>(
+    alloc: A,
+    powered: &mut Powered<D, A>,
+    request: &Request<'_>,
+    answers: &mut Vec<u8, A>,
+) -> Result<(), RunCause>
+    ensures runs { OnOk result (GoesOn powered.old.exec powered.new.exec
+        (λ can w v. LineRuns can w answers.old.items (request.now ∷ []) answers.new.items v)) }
+    ensures halts { IfErr result (Halts powered.old.exec powered.new.exec (on_line request.now)) }
+{
+    let outcome = unit(powered, request)?;
+    if let Some(bytes) = expansion_of(&outcome) {
+        expansion(alloc, powered, bytes, answers)?;
+        return Ok(());
+    }
     let Ok(()) = put_answer(answers, &outcome) else {
         return Err(RunCause::Memory);
     };
@@ -154,7 +223,7 @@ pub fn message<D: Disk, A: Allocator + Copy>(
     answers: &mut Vec<u8, A>,
 ) -> Result<(), RunCause>
     ensures runs { OnOk result ((requests : List Request) × Asks (Message.Units bytes.now) requests
-        × GoesOn powered.old.exec powered.new.exec (λ can w v. UnitsRun can w answers.old.items requests answers.new.items v)) }
+        × GoesOn powered.old.exec powered.new.exec (λ can w v. LineRuns can w answers.old.items requests answers.new.items v)) }
     ensures halts { IfErr result (λ cause. (requests : List Request) × Asks (Message.Units bytes.now) requests
         × Halts powered.old.exec powered.new.exec requests cause) }
 {
@@ -164,8 +233,9 @@ pub fn message<D: Disk, A: Allocator + Copy>(
         return Err(RunCause::Memory);
     };
     let list = units.as_slice();
+    let mut path = Path::root();
     for unit in list {
-        perform(powered, &plain(unit), answers)?;
+        perform(alloc, powered, &request_at(&mut path, unit, false), answers)?;
     }
     Ok(())
 }

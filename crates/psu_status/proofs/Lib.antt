@@ -1,1 +1,1 @@
-mod FirstRequest
+pub mod FirstRequest

@@ -92,6 +92,13 @@ impl Status {
         events
     }
 
+    /// The event status register, which stays as it is.
+    pub fn event(&self) -> u8
+        ensures { result ≡ self.now.esr }
+    {
+        self.esr
+    }
+
     /// The service request enable register; bit 6 reads 0 (`*SRE?`).
     pub fn sre(&self) -> u8
         ensures { result ≡ self.now.sre }
@@ -134,6 +141,16 @@ impl Status {
         match group {
             Group::Operation => self.operation.condition,
             Group::Questionable => self.questionable.condition,
+        }
+    }
+
+    /// The event register of a group, which stays as it is.
+    pub fn group_event(&self, group: Group) -> u16
+        ensures { result ≡ (group_of self.now group).event }
+    {
+        match group {
+            Group::Operation => self.operation.event,
+            Group::Questionable => self.questionable.event,
         }
     }
 
@@ -226,6 +243,16 @@ impl Status {
         }
         self.esr |= error.event_bit();
         self.errors.push(error);
+    }
+
+    /// The oldest error, which stays in the queue; none where it is empty.
+    pub fn oldest(&self) -> Option<ScpiError>
+        ensures { result ≡ oldest self.now.errors }
+    {
+        match self.errors.as_slice() {
+            [] => None,
+            [oldest, ..] => Some(*oldest),
+        }
     }
 
     /// The oldest error, which leaves the queue; none where it is empty.

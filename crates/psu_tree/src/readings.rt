@@ -97,12 +97,13 @@ fn call_of<'a>(parts: &Syntax<'a>) -> Option<MacroCall<'a>>
     }
 }
 
-// Moves the path to a header's nodes without the last; a common header leaves it.
+// Moves the path to a header's nodes without the last; a common header leaves it, and so does one of a single node.
 fn move_path<'a>(path: &mut Path<'a>, mut words: Words<'a>, mark: Mark)
     ensures { path.new ≡ moved mark path.old (map (λ word. word.now) words.entry.items) }
 {
     match mark {
         Mark::Star => {}
+        Mark::Colon if words.len() == 1 => {}
         Mark::Colon | Mark::Bare => {
             let _last = words.pop();
             path.words = words;
@@ -111,7 +112,7 @@ fn move_path<'a>(path: &mut Path<'a>, mut words: Words<'a>, mark: Mark)
 }
 
 /// A unit as it reads at a path, which moves behind it: to the nodes of its header without the last, unless
-/// the header is common or the reading a fault. A macro's call is given where the header has the form of a
+/// the header is common or has one node, or the reading is a fault. A macro's call is given where the header has the form of a
 /// label, whatever the reading. `inside` says whether the unit stands in an expansion.
 pub fn request<'a>(path: &mut Path<'a>, unit: &Unit<'a>, inside: bool) -> Request<'a>
     ensures reading { Reads path.old (part unit.now) result.reading }

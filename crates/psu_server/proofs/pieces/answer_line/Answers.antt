@@ -1,8 +1,5 @@
-use Rattle.std.proofs.Common.{[], ◌∷◌, subst}
-use Rattle.std.proofs.lemmas.List.{append-nil}
-use Rattle.psu_server.specs.Progress.{Halts}
-use Rattle.psu_server.specs.declared.run_cause.RunCause.TheVariants.{Memory}
-use Rattle.psu_server.specs.Lines.{too_much}
+use Rattle.std.proofs.Common.{[], ◌∷◌, refl}
+use Rattle.psu_server.specs.Lines.{Message, too_much}
 use Rattle.psu_server.proofs.Feeding.{asks_over, asks_units, line_executed, told_over, told_units}
 use Rattle.psu_server.proofs.Fronts.{passed}
 use Rattle.psu_server.proofs.pieces.answer_line.Goals as goal
@@ -11,7 +8,7 @@ pub returns-in_default-clause-halts : goal.returns-in_default-clause-halts
 returns-in_default-clause-halts g c = (
   too_much ∷ [],
   asks_over c.args.lines.now.is_over c.args.lines.now.line.items c.if-lines.true,
-  line_executed c.args.powered.now.exec c.perform.new.powered.exec (too_much ∷ []) c.new-answers.result.items c.perform.new.answers.items c.in_ok-perform.ensures.runs,
+  line_executed c.args.powered.now.exec c.perform.new.powered.exec Message.Overlong (too_much ∷ []) c.new-answers.result.items c.perform.new.answers.items refl c.in_ok-perform.ensures.runs,
 )
 
 pub returns-then-lines-clause-runs : goal.returns-then-lines-clause-runs
@@ -35,8 +32,7 @@ returns-in_default-put_line-clause-halts g c =
     let r = c.in_ok-message.ensures.runs in (
       r.0,
       asks_units c.args.lines.now.is_over c.args.lines.now.line.items c.deref-2.result.now r.0 c.if-lines.false c.args.lines.now.short c.requires c.deref-2.ensures.value r.1,
-      subst (λ z. Halts c.args.powered.now.exec c.message.new.powered.exec z Memory) (append-nil r.0)
-          (line_executed c.args.powered.now.exec c.message.new.powered.exec r.0 c.new-answers.result.items c.message.new.answers.items r.2),
+      line_executed c.args.powered.now.exec c.message.new.powered.exec (Message.Units c.deref-2.result.now) r.0 c.new-answers.result.items c.message.new.answers.items r.1 r.2,
     )
 
 pub returns-clause-runs : goal.returns-clause-runs

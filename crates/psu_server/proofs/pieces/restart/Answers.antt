@@ -25,6 +25,14 @@ returns-in_err-powered-clause-other g c = λ h.
     (not_started_write (g.D.Disk.state c.into_disk.result).bytes (g.D.Disk.failures c.into_disk.result) (g.D.Disk.failures c.in_err-powered.field-0.0.disk) c.in_err-powered.field-0.0.cause
     (c.in_err-powered.ensures.refused h))
 
+pub invariant_of-powered : goal.invariant_of-powered
+invariant_of-powered g c = record {
+  first = c.args.powered.first;
+  «open» = c.reopen.ensures.open ∙ c.args.powered.open;
+  idle = c.reopen.ensures.idle;
+  free = c.reopen.ensures.free c.args.powered.free;
+}
+
 pub invariant_of-powered-2 : goal.invariant_of-powered-2
 invariant_of-powered-2 g c = record {
   first = c.args.powered.first;

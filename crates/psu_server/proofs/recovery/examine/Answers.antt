@@ -1,22 +1,29 @@
-use Rattle.std.proofs.Common.{◌≡◌, ◌∙◌, ℕ, List, refl, sym, ap, subst}
+use Rattle.std.proofs.Common.{◌≡◌, ◌∙◌, ℕ, List, refl, sym, ap, subst, Result, Ok, Err, IfOk, IfErr}
 use Rattle.psu_items.specs.Map.{Item, cost}
 use Rattle.psu_items.specs.Image.{EachStands, HasReadableRoot, IsRefusal, Stands}
 use Rattle.psu_items.specs.declared.open_cause.OpenCause.{OpenCause}
 use Rattle.psu_items.specs.declared.open_cause.OpenCause.TheVariants as opening
-use Rattle.psu_exec.specs.Contents.{items_of}
-use Rattle.psu_exec.specs.Device.{State}
-use Rattle.psu_exec.specs.Registers.{first_request}
-use Rattle.psu_exec.specs.declared.contents.Contents.{Contents}
+use Rattle.psu_nv.specs.Contents.{items_of, Contents}
 use Rattle.psu_exec.specs.declared.power_fault.PowerCause.{PowerCause}
 use Rattle.psu_exec.specs.declared.power_fault.PowerCause.TheVariants as power
 use Rattle.psu_exec.specs.declared.home.Home.TheVariants as home
-use Rattle.psu_exec.proofs.FirstRequest.{first_request-at_power_on}
 use Rattle.psu_server.specs.declared.report.Report.{Report}
 use Rattle.psu_server.specs.declared.recover_fault.RecoverFault.{RecoverFault}
+use Rattle.psu_server.specs.declared.recover_fault.RecoverFault.TheVariants.{Memory}
 use Rattle.psu_server.specs.Causes.{HasBadItems}
-use Rattle.psu_server.specs.Recover.{IsReported, IsRecoverRefusal, recover_open, recover_power}
+use Rattle.psu_server.specs.Recover.{IsReported, IsRecoverRefusal, Reports, recover_open, recover_power}
 use Rattle.psu_server.proofs.Starting.{readable}
 use Rattle.psu_server.proofs.recovery.examine.Goals as goal
+
+-- a report is found where it is one of the device
+found_of : {A : Type 0} (r : Result (Report A) RecoverFault) (image : List ℕ) (P : Report A → Type 0) → IfOk r P → ((report : Report A) → P report → IsReported image report) → IfOk r (IsReported image)
+found_of (Ok report) image P p turn = turn report p
+found_of (Err e) image P p turn = tt
+
+-- the one refusal is for memory
+only_memory : {A : Type 0} (r : Result (Report A) RecoverFault) (P : RecoverFault → Type 0) → IfErr r (λ e. e ≡ Memory) → P Memory → IfErr r P
+only_memory (Ok report) P p q = tt
+only_memory (Err e) P p q = subst P (sym p) q
 
 pub returns-in-Ok-power_on-clause-found : goal.returns-in-Ok-power_on-clause-found
 returns-in-Ok-power_on-clause-found g c = λ h.
@@ -26,20 +33,27 @@ returns-in-Ok-power_on-clause-found g c = λ h.
     let stood : Stands bytes c.in-Ok.store.limit c.in-Ok.store.items = c.in-Ok.ensures.stood h in
     let limit : c.limit-limit.result ≡ c.in-Ok.store.limit = c.limit-limit.ensures.value in
     let pages : c.cost-pages.result ≡ cost (items_of contents) = c.cost-pages.ensures.value ∙ ap cost (c.items.ensures.value ∙ sym found) in
-    let request = ap (λ (s : State). first_request s.volatile.registers) c.in-Ok-power_on.ensures.state ∙ first_request-at_power_on contents.enables in
-    subst (λ (r : Report). IsReported bytes r) (sym c.report_of.ensures)
-    (record {
+    found_of c.report_of.result bytes (λ r. Reports c.in-Ok-power_on.exec.device c.version-version.result c.number-root.result c.limit-limit.result c.cost-pages.result r) c.report_of.ensures.reports (λ r is. record {
       contents = contents;
       sound = c.in-Ok-power_on.ensures.sound;
-      stands = subst (λ (m : List Item). Stands bytes c.limit-limit.result m) (sym found) (subst (λ (l : ℕ). Stands bytes l c.in-Ok.store.items) (sym limit) stood);
-      version = c.version-version.ensures.value;
-      root = c.number-root.ensures.value ∙ c.in-Ok.ensures.number h;
-      pages = pages;
-      enables = refl;
-      request = request;
-      user = refl;
-      macros = refl;
+      stands = subst (λ (l : ℕ). Stands bytes l (items_of contents)) (sym (is.limit_is ∙ limit)) (subst (λ (m : List Item). Stands bytes c.in-Ok.store.limit m) (sym found) stood);
+      version = is.version_is ∙ c.version-version.ensures.value;
+      root = is.root_is ∙ c.number-root.ensures.value ∙ c.in-Ok.ensures.number h;
+      pages = is.pages_is ∙ pages;
+      enables = is.enables;
+      request = is.request ∙ c.in-Ok-power_on.ensures.request;
+      user = is.user;
+      macros = is.macros;
+      files = is.files;
     })
+
+pub returns-in-Ok-power_on-clause-refused : goal.returns-in-Ok-power_on-clause-refused
+returns-in-Ok-power_on-clause-refused g c = λ h.
+    let bytes : List ℕ = (g.D.Disk.state c.args.disk).bytes in
+    only_memory c.report_of.result (IsRecoverRefusal bytes) c.report_of.ensures.wants (readable bytes c.in-Ok.store.limit c.in-Ok.store.items (c.in-Ok.ensures.stood h))
+
+pub returns-in-Ok-power_on-clause-device : goal.returns-in-Ok-power_on-clause-device
+returns-in-Ok-power_on-clause-device g c = only_memory c.report_of.result _ c.report_of.ensures.wants (λ e. cc)
 
 by_open : (image : List ℕ) (cause : OpenCause) → IsRefusal image cause → (cause ≡ opening.Memory → HasReadableRoot image) → IsRecoverRefusal image (recover_open cause)
 by_open image opening.Device is memory = tt

@@ -7,8 +7,8 @@ use Rattle.psu_nv.specs.Costs.{registers_cost}
 use Rattle.psu_nv.proofs.Totals.{parts_total}
 use Rattle.psu_nv.proofs.contents.Contents.cost.Goals as goal
 
-pub returns : goal.returns
-returns g c =
+pub returns-clause-value : goal.returns-clause-value
+returns-clause-value g c =
     let is = c.self.view_is in
     parts_total c.args.self.now _ _ _ _ _ c.total.result
     (subst (λ (k : Contents). AllByRecursion AreSettings k.registers) is c.self.invariant.settings)

@@ -1,0 +1,111 @@
+-- What comes of a command, as the step of its unit.
+use Rattle.std.proofs.Common.{◌≡◌, ◌⊎◌, inl, inr, ℕ, Bool, true, false, cond, Option, Some, None, is_none, Result, Ok, Err, List, refl, sym, ap, subst, ◌∙◌}
+use Rattle.psu_lex.specs.declared.scpi_error.ScpiError.{ScpiError}
+use Rattle.psu_lex.specs.declared.scpi_error.ScpiError.TheVariants.{MediaFull, OutOfMemory}
+use Rattle.psu_nv.specs.Commands as nv
+use Rattle.std.proofs.lemmas.Bool.{cases_Bool}
+use Rattle.psu_nv.specs.Contents.{Contents, IsContents, fits}
+use Rattle.psu_nv.specs.Views.{command_of}
+use Rattle.psu_nv.specs.declared.command.NvCommand.{NvCommand}
+use Rattle.psu_tree.specs.declared.command.Command.{Command}
+use Rattle.psu_tree.specs.declared.unit_request.Request.{Request}
+use Rattle.psu_instrument.specs.Instrument.{Instrument}
+use Rattle.psu_instrument.specs.Meaning.{ActsAs, Meaning, Refuses, Does, Keeps, Completes}
+use Rattle.psu_instrument.specs.declared.act.Act.{Act}
+use Rattle.psu_instrument.specs.declared.act.Act.TheVariants as act
+use Rattle.psu_instrument.specs.declared.completion.Completion.{Completion}
+use Rattle.psu_instrument.specs.declared.completion.Completion.TheVariants as completion
+use Rattle.psu_exec.specs.Device.{Reply, Done, Error, Later, State, Flush, MayMean, Step, AnswersCall, after_meant, called, here, is_late, is_later, reads_nonvolatile, wait_of, is_whole, kept_unless, meant, refused, wants_memory, with_instrument}
+use Rattle.psu_exec.specs.Consistent.{IsConsistent}
+use Rattle.psu_exec.proofs.Answering.{comes_later, is_called, is_meant}
+use Rattle.psu_exec.proofs.Changes.{sound_after}
+
+-- ---- steps
+
+-- the state that is seen
+abbrev pub seen : {s t : State} → s ≡ t → State
+seen {s} {t} e = s
+
+pub kept_sound : (f : Flush) → IsConsistent f → IsContents f.contents
+kept_sound f k = subst IsContents (sym k.made) (sound_after k.first k.rest k.sound)
+
+pub later_step : (s : State) (session : ℕ) (request : Request) → is_later s session request ≡ true → IsConsistent s.flush → Step s session request Later s
+later_step s session request late k = record { may = comes_later s session request late; is = refl; sound = kept_sound s.flush k; fitting = k.fitting }
+
+-- by what the unit reads as
+later_at : (s : State) (session : ℕ) (request : Request) (reading : Result Command ScpiError) (late : Bool) → request.reading ≡ reading
+    → is_late (wait_of s.flush session) s.flush.unflushed (reads_nonvolatile reading (is_none s.flush.contents.enables)) ≡ late → is_later s session request ≡ late
+later_at s session request reading late e h = ap (λ (r : Result Command ScpiError). is_late (wait_of s.flush session) s.flush.unflushed (reads_nonvolatile r (is_none s.flush.contents.enables))) e ∙ h
+
+pub late_step : (s : State) (session : ℕ) (request : Request) (reading : Result Command ScpiError) → request.reading ≡ reading
+    → is_late (wait_of s.flush session) s.flush.unflushed (reads_nonvolatile reading (is_none s.flush.contents.enables)) ≡ true → IsConsistent s.flush → Step s session request Later s
+late_step s session request reading e h k = later_step s session request (later_at s session request reading true e h) k
+
+-- the step of a unit that calls a macro, and of one that calls none
+pub call_step : (s : State) (session : ℕ) (request : Request) (reading : Result Command ScpiError) (reply : Reply) (new : State) → request.reading ≡ reading
+    → is_late (wait_of s.flush session) s.flush.unflushed (reads_nonvolatile reading (is_none s.flush.contents.enables)) ≡ false → (body : List ℕ) × (called s request ≡ Some body) × AnswersCall request body reply
+    → ((session : ℕ) (m : Meaning) → new ≡ after_meant s session m reply) → IsConsistent new.flush → Step s session request reply new
+call_step s session request reading reply new e h call is k = record {
+  may = is_called s session request call.0 reply (later_at s session request reading false e h) call.1 call.2;
+  is = is session (meant (here s) request.reading);
+  sound = kept_sound new.flush k;
+  fitting = k.fitting;
+}
+
+pub step_of : (s : State) (session : ℕ) (request : Request) (reading : Result Command ScpiError) (reply : Reply) (new : State) → request.reading ≡ reading
+    → is_late (wait_of s.flush session) s.flush.unflushed (reads_nonvolatile reading (is_none s.flush.contents.enables)) ≡ false → called s request ≡ None → MayMean s.flush (meant (here s) reading) reply
+    → new ≡ after_meant s session (meant (here s) reading) reply → IsConsistent new.flush → Step s session request reply new
+step_of s session request reading reply new e h calls may is k = record {
+  may = is_meant s session request reply (later_at s session request reading false e h) calls (subst (λ (r : Result Command ScpiError). MayMean s.flush (meant (here s) r) reply) (sym e) may);
+  is = subst (λ (r : Result Command ScpiError). new ≡ after_meant s session (meant (here s) r) reply) (sym e) is;
+  sound = kept_sound new.flush k;
+  fitting = k.fitting;
+}
+
+-- ---- what comes of a command
+
+pub failed : (A : Type 0) (s : State) (session : ℕ) (m : Meaning) (e : ScpiError) (new : Instrument) → ActsAs {A = A} m s.volatile.instrument (Err e) new
+    → MayMean s.flush m (Error e) × (refused (with_instrument s new) e ≡ after_meant s session m (Error e))
+failed A s session (Refuses x) e new h = (inl cc, ap (λ (i : Instrument). refused (with_instrument s i) e) h.1)
+failed A s session (Does None after) e new h = absurd (let bad = h.0 in cc)
+failed A s session (Does (Some text) after) e new (inl h) = absurd (let bad = h.0 in cc)
+failed A s session (Does (Some text) after) e new (inr h) = (inr (let same = h.0 in cc, refl), ap (λ (i : Instrument). refused (with_instrument s i) e) h.1)
+failed A s session (Keeps change) e new h = absurd h
+failed A s session (Completes c) e new h = absurd (let bad = h.0 in cc)
+
+pub keeps : (A : Type 0) (m : Meaning) (i new : Instrument) (change : NvCommand) → ActsAs {A = A} m i (Ok (act.Keep change)) new → (m ≡ Keeps (command_of change)) × (new ≡ i)
+keeps A (Refuses x) i new change h = absurd (let bad = h.0 in cc)
+keeps A (Does None after) i new change h = absurd (let bad = h.0 in cc)
+keeps A (Does (Some text) after) i new change (inl h) = absurd (let bad = h.0 in cc)
+keeps A (Does (Some text) after) i new change (inr h) = absurd (let bad = h.0 in cc)
+keeps A (Keeps other) i new change h = (ap Keeps (sym h.0), h.1)
+keeps A (Completes c) i new change h = absurd (let bad = h.0 in cc)
+
+pub completes : (A : Type 0) (m : Meaning) (i new : Instrument) (c : Completion) → ActsAs {A = A} m i (Ok (act.Complete c)) new → (m ≡ Completes c) × (new ≡ i)
+completes A (Refuses x) i new c h = absurd (let bad = h.0 in cc)
+completes A (Does None after) i new c h = absurd (let bad = h.0 in cc)
+completes A (Does (Some text) after) i new c (inl h) = absurd (let bad = h.0 in cc)
+completes A (Does (Some text) after) i new c (inr h) = absurd (let bad = h.0 in cc)
+completes A (Keeps other) i new c h = absurd h
+completes A (Completes other) i new c h = (cc, h.1)
+
+-- what is done of it afterwards is done of the command
+pub then_done : (s after : State) (session : ℕ) (m n : Meaning) (new : Instrument) (reply : Reply) → m ≡ n → new ≡ s.volatile.instrument → MayMean s.flush n reply → after ≡ after_meant (with_instrument s new) session n reply
+    → MayMean s.flush m reply × (after ≡ after_meant s session m reply)
+then_done s after session m n new reply e same may is = rw e (may, is ∙ ap (λ (i : Instrument). after_meant (with_instrument s i) session n reply) same)
+
+-- ---- changes of what is kept
+
+-- what is not refused fits
+pub fits_of : (limit : ℕ) (c : Contents) (change : nv.Command) → nv.refused c change ≡ None → nv.answer limit c change ≡ None → fits limit (nv.apply c change) ≡ true
+fits_of limit c change found h = elim (cases_Bool (fits limit (nv.apply c change))) [ inl fit ↦ fit | inr full ↦ absurd (let bad = rw (found, full) at h in cc) ]
+
+-- a change that is not made: it doesn't fit, or memory is refused
+pub not_made : (f : Flush) (change : nv.Command) (e : ScpiError) → nv.refused f.contents change ≡ None → is_whole f.store ≡ true
+    → ((e ≡ OutOfMemory) × (fits f.limit (nv.apply f.contents change) ≡ true)) ⊎ ((e ≡ MediaFull) × (fits f.limit (nv.apply f.contents change) ≡ false)) → MayMean f (Keeps change) (Error e)
+not_made f change e found whole (inl m) = inr (ap Error m.0, ap (λ (reply : Reply). wants_memory (Some change) reply) (answers true m.1)) where
+  answers : (b : Bool) → fits f.limit (nv.apply f.contents change) ≡ b → kept_unless (nv.refused f.contents change) (is_whole f.store) (fits f.limit (nv.apply f.contents change)) ≡ kept_unless None true b
+  answers b fit = rw (found, whole, fit) refl
+not_made f change e found whole (inr m) = inl (ap Error m.0 ∙ sym (answers false m.1)) where
+  answers : (b : Bool) → fits f.limit (nv.apply f.contents change) ≡ b → kept_unless (nv.refused f.contents change) (is_whole f.store) (fits f.limit (nv.apply f.contents change)) ≡ kept_unless None true b
+  answers b fit = rw (found, whole, fit) refl

@@ -1,0 +1,92 @@
+-- The common commands that are not of macros. Source: IEEE 488.2, chapter 10.
+use Rattle.std.specs.Prelude.{ℕ, nat_lt, nat_le, Bool, false, if◌then◌else◌, Some, None, is_some, is_none, List, length, codes, decimal}
+use Rattle.psu_lex.specs.Data.{definite_text}
+use Rattle.psu_lex.specs.declared.scpi_error.ScpiError.TheVariants.{CommandProtected, DataOutOfRange, TooMuchData}
+use Rattle.psu_nv.specs.Commands.{ServiceEnable, EventEnable, PowerOnClear, Save, User, settings_at}
+use Rattle.psu_outputs.specs.Outputs.{all_settings, restored}
+use Rattle.psu_outputs.specs.Settings.{reset}
+use Rattle.psu_status.specs.Status as reporting
+use Rattle.psu_tree.specs.declared.enable.Enable.{Enable}
+use Rattle.psu_tree.specs.declared.enable.Enable.TheVariants as enable
+use Rattle.psu_tree.specs.declared.flag.Flag.{Flag}
+use Rattle.psu_tree.specs.declared.flag.Flag.TheVariants as flag
+use Rattle.psu_instrument.specs.Instrument.{with_status, with_sre, with_ese, with_supplies}
+use Rattle.psu_instrument.specs.Meaning.{Situation, Meaning, Refuses, Does, Keeps, answers, says, leaves}
+
+-- `*IDN?`: manufacturer, model, serial number, version
+abbrev pub identity : List ℕ
+identity = codes "EXAMPLE,PSU4,0,1.0"
+
+-- `*TST?`: the self-test finds no fault
+abbrev pub self_test : Situation → Meaning
+self_test s = says s 0
+
+-- ---- status
+
+-- `*CLS`: the event registers, the error queue, and an `*OPC` that waits
+abbrev pub clear_status : Situation → Meaning
+clear_status s = leaves (record s.instrument { status = reporting.cleared s.instrument.status; pending = None })
+
+-- `*ESE`, `*SRE`: kept while the power-on status clear flag is false
+abbrev pub enabled : Situation → Enable → ℕ → Meaning
+enabled s enable.EventStatus bits = if is_some s.contents.enables then Keeps (EventEnable bits) else leaves (with_ese s.instrument bits)
+enabled s enable.ServiceRequest bits = if is_some s.contents.enables then Keeps (ServiceEnable bits) else leaves (with_sre s.instrument bits)
+
+-- `*ESE?`, `*SRE?`
+abbrev pub enables_asked : Situation → Enable → Meaning
+enables_asked s enable.EventStatus = says s s.instrument.status.ese
+enables_asked s enable.ServiceRequest = says s s.instrument.status.sre
+
+-- `*ESR?`, which clears what it reads
+abbrev pub event_status : Situation → Meaning
+event_status s = Does (Some (decimal s.instrument.status.esr)) (with_status s.instrument (record s.instrument.status { esr = 0 }))
+
+-- `*STB?`: MSS in bit 6, and the session's own message available bit
+abbrev pub status_byte : Situation → Meaning
+status_byte s = says s (reporting.status_byte s.instrument.status s.available)
+
+-- ---- flags
+
+-- `*PSC`: while the flag is false the enables are kept, from now on the present ones. `*EMC`: whether calls of macros are expanded.
+-- `DIAGnostic:PUD:PROTect`: whether user data is protected.
+abbrev pub flagged : Situation → Flag → Bool → Meaning
+flagged s flag.PowerOnClear on = Keeps (PowerOnClear (if on then None else Some (s.instrument.status.sre, s.instrument.status.ese)))
+flagged s flag.Macros on = leaves (record s.instrument { expands = on })
+flagged s flag.Protection on = leaves (record s.instrument { protected = on })
+
+abbrev pub digit : Bool → ℕ
+digit on = if on then 1 else 0
+
+-- `*PSC?`, `*EMC?`, `DIAGnostic:PUD:PROTect?`
+abbrev pub flag_asked : Situation → Flag → Meaning
+flag_asked s flag.PowerOnClear = says s (digit (is_none s.contents.enables))
+flag_asked s flag.Macros = says s (digit s.instrument.expands)
+flag_asked s flag.Protection = says s (digit s.instrument.protected)
+
+-- ---- settings
+
+-- `*RST`: the settings, with no trip; macros disabled, and no `*OPC` waiting. Status, protection of user data and loads stay.
+abbrev pub reset_all : Situation → Meaning
+reset_all s = leaves (record (with_supplies s.instrument (restored s.instrument.supplies reset)) { expands = false; pending = None })
+
+-- `*SAV` of the present settings, in a register from 0 to 9
+abbrev pub saved : Situation → ℕ → Meaning
+saved s register = if nat_le 10 register then Refuses DataOutOfRange else Keeps (Save register (all_settings s.instrument.supplies))
+
+-- `*RCL`: the register's settings, with no trip but those that follow from them
+abbrev pub recalled : Situation → ℕ → Meaning
+recalled s register =
+    if nat_le 10 register then Refuses DataOutOfRange
+    else leaves (with_supplies s.instrument (restored s.instrument.supplies (settings_at s.contents.registers register)))
+
+-- ---- user data
+
+-- `*PUD`: at most 63 bytes, and only while they are not protected
+abbrev pub user_data : Situation → List ℕ → Meaning
+user_data s bytes =
+    if nat_lt 63 (length bytes) then Refuses TooMuchData
+    else (if s.instrument.protected then Refuses CommandProtected else Keeps (User bytes))
+
+-- `*PUD?`
+abbrev pub user_data_asked : Situation → Meaning
+user_data_asked s = answers s (definite_text s.contents.user)

@@ -1,0 +1,65 @@
+-- The instrument as its commands see it, without sessions and store.
+use Rattle.std.specs.Prelude.{ℕ, ◌-◌, ◌==◌, nat_le, Bool, true, false, if◌then◌else◌, Option, Some, None, List, replicate}
+use Rattle.psu_lex.specs.declared.scpi_error.ScpiError.{ScpiError}
+use Rattle.psu_nv.specs.Commands as nv
+use Rattle.psu_outputs.specs.Outputs.{reset_supply, conditions}
+use Rattle.psu_outputs.specs.declared.supply.Supply.{Supply}
+use Rattle.psu_status.specs.Registers.{with_condition, fifteen_bits}
+use Rattle.psu_status.specs.Status as reporting
+use Rattle.psu_status.specs.Status.{Reported}
+
+-- what it reports; its four outputs; whether calls of macros are expanded; whether user data is protected; and, where an `*OPC` waits,
+-- how many of the changes that are not flushed it waits for
+pub record Instrument : Type 0 where
+  pub status : Reported
+  pub supplies : List Supply
+  pub expands : Bool
+  pub protected : Bool
+  pub pending : Option ℕ
+
+-- At power-on the outputs are as after `*RST` with loads of 10 ohms, macros are disabled, and user data is protected.
+abbrev pub power_on : Option (ℕ × ℕ) → Instrument
+power_on enables = record { status = reporting.power_on enables; supplies = replicate 4 reset_supply; expands = false; protected = true; pending = None }
+
+abbrev pub with_status : Instrument → Reported → Instrument
+with_status i status = record i { status = status }
+
+-- `*SRE`: bit 6 is ignored
+abbrev pub with_sre : Instrument → ℕ → Instrument
+with_sre i bits = with_status i (record i.status { sre = reporting.without_mss bits })
+
+-- `*ESE`
+abbrev pub with_ese : Instrument → ℕ → Instrument
+with_ese i bits = with_status i (record i.status { ese = bits })
+
+-- other outputs; the condition of QUEStionable follows them, once
+abbrev pub with_supplies : Instrument → List Supply → Instrument
+with_supplies i supplies = record i { status = record i.status { questionable = with_condition i.status.questionable (fifteen_bits (conditions supplies)) }; supplies = supplies }
+
+-- what the instrument takes of a command that is kept: the enable registers
+abbrev pub with_kept : Instrument → nv.Command → Instrument
+with_kept i (nv.ServiceEnable bits) = with_sre i bits
+with_kept i (nv.EventEnable bits) = with_ese i bits
+with_kept i command = i
+
+-- an error is queued, and sets its bit
+abbrev pub with_error : Instrument → ScpiError → Instrument
+with_error i error = with_status i (reporting.with_error i.status error)
+
+-- ---- operation complete
+
+-- bit 0 of the event status register: what `*OPC` waited for is complete
+abbrev pub with_completion : Instrument → Instrument
+with_completion i = record i { status = reporting.raised i.status 1; pending = None }
+
+-- `*OPC` with so many changes that are not flushed: with none it sets its bit at once; a later one takes the place of an earlier
+abbrev pub with_pending : Instrument → ℕ → Instrument
+with_pending i n = if n == 0 then with_completion i else record i { pending = Some n }
+
+-- once so many changes are flushed
+abbrev pub pending_less : Instrument → ℕ → Option ℕ → Instrument
+pending_less i k None = i
+pending_less i k (Some n) = if nat_le n k then with_completion i else record i { pending = Some (n - k) }
+
+abbrev pub with_flushed : Instrument → ℕ → Instrument
+with_flushed i k = pending_less i k i.pending

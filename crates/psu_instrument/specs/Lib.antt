@@ -1,0 +1,9 @@
+pub mod Instrument
+pub mod Meaning
+pub mod Common
+pub mod Reporting
+pub mod Supplies
+pub mod Macros
+pub mod Files
+pub mod Commands
+pub mod Nonvolatile

@@ -1,0 +1,20 @@
+-- What is kept is what the tree calls nonvolatile.
+use Rattle.std.specs.Prelude.{◌≡◌, ◌⊎◌, true, is_none}
+use Rattle.psu_lex.specs.declared.scpi_error.ScpiError.{ScpiError}
+use Rattle.psu_nv.specs.Commands as nv
+use Rattle.psu_tree.specs.Nonvolatile.{is_nonvolatile}
+use Rattle.psu_tree.specs.declared.command.Command.{Command}
+use Rattle.psu_instrument.specs.Commands.{meaning}
+use Rattle.psu_instrument.specs.Meaning.{Situation, Meaning, Refuses, Keeps}
+
+-- a command that is kept is nonvolatile by the table
+abbrev pub KeptAreNonvolatile : Type 0
+KeptAreNonvolatile = (s : Situation) (command : Command) (change : nv.Command) → meaning s command ≡ Keeps change → is_nonvolatile command (is_none s.contents.enables) ≡ true
+
+-- refused, or kept
+abbrev pub IsRefusedOrKept : Meaning → Type 0
+IsRefusedOrKept meaning = ((error : ScpiError) × (meaning ≡ Refuses error)) ⊎ ((change : nv.Command) × (meaning ≡ Keeps change))
+
+-- a nonvolatile command changes what is kept, unless it is refused, and the instrument does nothing else of it
+abbrev pub NonvolatileAreKept : Type 0
+NonvolatileAreKept = (s : Situation) (command : Command) → is_nonvolatile command (is_none s.contents.enables) ≡ true → IsRefusedOrKept (meaning s command)

@@ -1,0 +1,65 @@
+-- Errors and the groups of status registers. Sources: SCPI-1999 volume 1, chapter 9; volume 2, chapters 18 (STATus) and 21 (SYSTem).
+use Rattle.std.specs.Prelude.{ℕ, Option, Some, None, List, ◌++◌, ◌∷◌, length, drop, codes, decimal}
+use Rattle.psu_lex.specs.Errors as errors
+use Rattle.psu_lex.specs.declared.scpi_error.ScpiError.{ScpiError}
+use Rattle.psu_status.specs.Registers.{filter_of, with_filter, fifteen_bits, without_events}
+use Rattle.psu_status.specs.Status as reporting
+use Rattle.psu_status.specs.declared.filter.Filter.{Filter}
+use Rattle.psu_status.specs.declared.filter.Filter.TheVariants as kept
+use Rattle.psu_status.specs.declared.group.Group.{Group}
+use Rattle.psu_status.specs.declared.group.Group.TheVariants as groups
+use Rattle.psu_tree.specs.declared.filter.Filter as named
+use Rattle.psu_tree.specs.declared.filter.Filter.TheVariants as filter
+use Rattle.psu_tree.specs.declared.group.Group as asked
+use Rattle.psu_tree.specs.declared.group.Group.TheVariants as group
+use Rattle.psu_instrument.specs.Instrument.{with_status}
+use Rattle.psu_instrument.specs.Meaning.{Situation, Meaning, Does, answers, says, leaves}
+
+-- ---- errors
+
+-- an error as answered: its number and its text; `0,"No error"` where there is none
+abbrev pub error_text : Option ScpiError → List ℕ
+error_text None = codes "0,\"No error\""
+error_text (Some error) = 45 ∷ (decimal (errors.magnitude error) ++ (codes ",\"" ++ (errors.text error ++ codes "\"")))
+
+-- `SYSTem:ERRor?`: the oldest error, which leaves the queue
+abbrev pub next_error : Situation → Meaning
+next_error s = Does (Some (error_text (reporting.oldest s.instrument.status.errors))) (with_status s.instrument (record s.instrument.status { errors = drop 1 s.instrument.status.errors }))
+
+-- `SYSTem:ERRor:COUNt?`
+abbrev pub error_count : Situation → Meaning
+error_count s = says s (length s.instrument.status.errors)
+
+-- `SYSTem:VERSion?`: the year of the standard
+abbrev pub version : Situation → Meaning
+version s = answers s (codes "1999.0")
+
+-- ---- groups
+
+abbrev pub group_of : asked.Group → Group
+group_of group.Operation = groups.Operation
+group_of group.Questionable = groups.Questionable
+
+abbrev pub filter_kept : named.Filter → Filter
+filter_kept filter.Enable = kept.Enable
+filter_kept filter.Rising = kept.Positive
+filter_kept filter.Falling = kept.Negative
+
+-- `:CONDition?`
+abbrev pub condition : Situation → Group → Meaning
+condition s g = says s (reporting.group_of s.instrument.status g).condition
+
+-- `[:EVENt]?`, which clears what it reads
+abbrev pub events : Situation → Group → Meaning
+events s g = Does (Some (decimal (reporting.group_of s.instrument.status g).event)) (with_status s.instrument (reporting.with_group s.instrument.status g (without_events (reporting.group_of s.instrument.status g))))
+
+-- `:ENABle`, `:PTRansition`, `:NTRansition`: bit 15 is dropped
+abbrev pub filtered : Situation → Group → Filter → ℕ → Meaning
+filtered s g f bits = leaves (with_status s.instrument (reporting.with_group s.instrument.status g (with_filter (reporting.group_of s.instrument.status g) f (fifteen_bits bits))))
+
+abbrev pub filter_asked : Situation → Group → Filter → Meaning
+filter_asked s g f = says s (filter_of (reporting.group_of s.instrument.status g) f)
+
+-- `STATus:PRESet`
+abbrev pub preset : Situation → Meaning
+preset s = leaves (with_status s.instrument (reporting.all_preset s.instrument.status))

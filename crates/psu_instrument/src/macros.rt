@@ -1,0 +1,84 @@
+// Macros.
+ghost use Rattle.std.specs.Prelude.{◌≡◌, ℕ, ◌++◌, Bool, IfOk, OnOk};
+ghost use Rattle.psu_instrument.specs.Instrument.{Instrument as State};
+ghost use Rattle.psu_instrument.specs.Macros.{labels_text, more_labels, on_label, quoted};
+ghost use Rattle.psu_instrument.specs.Meaning.{ActsAs, situation, text_of};
+
+use crate::Act;
+use psu_lex::{Bytes, ScpiError, definite};
+use psu_nv::{Contents, Definition, NvCommand};
+use psu_tree::{OnMacro, Text};
+use std::alloc::{AllocError, Allocator};
+
+// A label or a name; one that can be none is no text.
+pub(crate) fn text_of<'c>(text: &Option<Text<'c>>) -> &'c [u8]
+    ensures { result.now ≡ text_of text.now }
+{
+    match text {
+        Some(text) => text.as_slice(),
+        None => &[],
+    }
+}
+
+// `*GMC?`, `*RMC`.
+pub(crate) fn on_label<'c, A: Allocator + Copy>(
+    alloc: A,
+    contents: &Contents<A>,
+    what: OnMacro,
+    label: &Option<Text<'c>>,
+) -> Result<Act<'c, A>, ScpiError>
+    ensures { (limit : ℕ) (i : State) (available : Bool) → ActsAs (on_label (situation limit contents.now i available) what label.now) i result i }
+{
+    let label = text_of(label);
+    match what {
+        OnMacro::Ask => match contents.body(label) {
+            Some(body) => Ok(Act::Answer(definite(alloc, body)?)),
+            None => Err(ScpiError::MacroHeaderNotFound),
+        },
+        OnMacro::Remove => Ok(Act::Keep(NvCommand::RemoveMacro(label))),
+    }
+}
+
+// Puts a text between quotes behind what is there.
+pub(crate) fn put_quoted<A: Allocator + Copy>(
+    text: &mut Bytes<A>,
+    bytes: &[u8],
+) -> Result<(), AllocError>
+    ensures { OnOk result (text.new ≡ text.old ++ quoted bytes.now) }
+{
+    text.put(b"\"")?;
+    text.put(bytes)?;
+    text.put(b"\"")
+}
+
+// Puts labels that stand behind a first one.
+fn put_more<A: Allocator + Copy>(
+    text: &mut Bytes<A>,
+    labels: &[Definition<A>],
+) -> Result<(), AllocError>
+    ensures { OnOk result (text.new ≡ text.old ++ more_labels labels.now) }
+{
+    for definition in labels {
+        text.put(b",")?;
+        put_quoted(text, definition.label())?;
+    }
+    Ok(())
+}
+
+// The labels as answered.
+pub(crate) fn labels_text<A: Allocator + Copy>(
+    alloc: A,
+    labels: &[Definition<A>],
+) -> Result<Bytes<A>, AllocError>
+    ensures { IfOk result (λ text. text ≡ labels_text labels.now) }
+{
+    let mut text = Bytes::new(alloc);
+    match labels {
+        [] => put_quoted(&mut text, &[])?,
+        [first, others @ ..] => {
+            put_quoted(&mut text, first.label())?;
+            put_more(&mut text, others)?;
+        }
+    }
+    Ok(text)
+}

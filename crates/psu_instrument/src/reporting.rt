@@ -1,0 +1,94 @@
+// Errors and the groups of status registers.
+ghost use Rattle.std.specs.Prelude.{◌≡◌, ℕ, Bool, ◌++◌, IfOk, OnOk};
+ghost use Rattle.psu_nv.specs.Contents.{Contents as Kept};
+ghost use Rattle.psu_status.specs.Registers.{fifteen_bits, with_filter};
+ghost use Rattle.psu_status.specs.Status.{all_preset, with_group};
+ghost use Rattle.psu_status.specs.Status as status;
+ghost use Rattle.psu_instrument.specs.Instrument.{with_status};
+ghost use Rattle.psu_instrument.specs.Meaning.{ActsAs, situation};
+ghost use Rattle.psu_instrument.specs.Reporting.{error_text, events, filter_kept, group_of, next_error};
+
+use crate::{Act, Instrument};
+use psu_lex::{Bytes, ScpiError, whole};
+use psu_status::{Filter, Group};
+use std::alloc::{AllocError, Allocator};
+
+// The group of a header.
+pub(crate) fn group_of(group: psu_tree::Group) -> Group
+    ensures { result ≡ group_of group }
+{
+    match group {
+        psu_tree::Group::Operation => Group::Operation,
+        psu_tree::Group::Questionable => Group::Questionable,
+    }
+}
+
+// The register of a header.
+pub(crate) fn filter_kept(filter: psu_tree::Filter) -> Filter
+    ensures { result ≡ filter_kept filter }
+{
+    match filter {
+        psu_tree::Filter::Enable => Filter::Enable,
+        psu_tree::Filter::Rising => Filter::Positive,
+        psu_tree::Filter::Falling => Filter::Negative,
+    }
+}
+
+// An error as answered.
+fn error_text<A: Allocator + Copy>(
+    alloc: A,
+    error: Option<ScpiError>,
+) -> Result<Bytes<A>, AllocError>
+    ensures { IfOk result (λ text. text ≡ error_text error) }
+{
+    let Some(error) = error else {
+        return Bytes::of(alloc, b"0,\"No error\"");
+    };
+    let mut text = Bytes::of(alloc, b"-")?;
+    text.put_number(error.magnitude() as u128)?;
+    text.put(b",\"")?;
+    text.put(error.text().as_bytes())?;
+    text.put(b"\"")?;
+    Ok(text)
+}
+
+impl Instrument {
+    // `SYSTem:ERRor?`.
+    pub(crate) fn next_error<'c, A: Allocator + Copy>(
+        &mut self,
+        alloc: A,
+    ) -> Result<Act<'c, A>, ScpiError>
+        ensures { (limit : ℕ) (contents : Kept) (available : Bool) → ActsAs (next_error (situation limit contents self.old available)) self.old result self.new }
+    {
+        let text = error_text(alloc, self.status.oldest())?;
+        let _ = self.status.pop_error();
+        Ok(Act::Answer(text))
+    }
+
+    // `[:EVENt]?`.
+    pub(crate) fn events<'c, A: Allocator + Copy>(
+        &mut self,
+        alloc: A,
+        group: Group,
+    ) -> Result<Act<'c, A>, ScpiError>
+        ensures { (limit : ℕ) (contents : Kept) (available : Bool) → ActsAs (events (situation limit contents self.old available) group) self.old result self.new }
+    {
+        let text = whole(alloc, self.status.group_event(group) as u64)?;
+        let _ = self.status.take_group_events(group);
+        Ok(Act::Answer(text))
+    }
+
+    // `:ENABle`, `:PTRansition`, `:NTRansition`.
+    pub(crate) fn filter(&mut self, group: Group, filter: Filter, bits: u16)
+        ensures { self.new ≡ with_status self.old (with_group self.old.status group (with_filter (status.group_of self.old.status group) filter (fifteen_bits bits))) }
+    {
+        self.status.set_group_filter(group, filter, bits);
+    }
+
+    // `STATus:PRESet`.
+    pub(crate) fn preset(&mut self)
+        ensures { self.new ≡ with_status self.old (all_preset self.old.status) }
+    {
+        self.status.preset();
+    }
+}

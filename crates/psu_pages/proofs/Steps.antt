@@ -1,0 +1,125 @@
+-- One page more is written.
+use Rattle.std.proofs.Common.{◌≡◌, ⊎_elim, inl, inr, ℕ, zero, suc, ◌+◌, ◌*◌, ◌<◌, ◌≤◌, ◌⊎◌, List, [], ◌∷◌, ◌++◌, length, get_or, take, drop, refl, sym, ◌∙◌, ap, subst, arith}
+use Rattle.std.specs.List.{AllByRecursion}
+use Rattle.std.proofs.lemmas.Bool.{cases_lt}
+use Rattle.std.proofs.lemmas.List.{take_more, length-take-le}
+use Rattle.psu_disk.specs.Disk.{DiskState, Left, Range, Holds, SameBut, Follows, LeavesOnly, Elapses}
+use Rattle.psu_disk.specs.Moments.{started, goes_on, and_then, weaken}
+use Rattle.psu_disk.specs.Ranges.{range_same, range_written}
+use Rattle.psu_pages.specs.Image.{page_in, IsNone, AreApart}
+use Rattle.psu_pages.specs.Writing.{Draft, IsOutside, Misses, Reaches, AreWritten}
+use Rattle.psu_pages.specs.Spelling.{draft_of, value_drafts}
+use Rattle.psu_pages.proofs.Lists.{all_join, all_at, all_take, none_before}
+use Rattle.psu_pages.proofs.Filling.{drop_both}
+
+pub misses_refl : (pages x : List ℕ) → Misses pages x x
+misses_refl pages x = record { size = refl; same = λ k out. refl }
+
+pub misses_trans : (pages x y z : List ℕ) → Misses pages x y → Misses pages y z → Misses pages x z
+misses_trans pages x y z first second = record { size = second.size ∙ first.size; same = λ k out. second.same k out ∙ first.same k out }
+
+-- a byte outside of all is outside of one
+pub misses_one : (pages : List ℕ) (i d : ℕ) (x y : List ℕ) → i < length pages → Misses (get_or pages i d ∷ []) x y → Misses pages x y
+misses_one pages i d x y lt misses = record {
+  size = misses.size;
+  same = λ k out. misses.same k (all_at (λ (page : ℕ). (k < 512 * page) ⊎ (512 * page + 512 ≤ k)) pages i d lt out, tt);
+}
+
+pub misses_first : (page : ℕ) (pages x y : List ℕ) → Misses (page ∷ []) x y → Misses (page ∷ pages) x y
+misses_first page pages x y misses = record { size = misses.size; same = λ k out. misses.same k (out.0, tt) }
+
+pub misses_rest : (page : ℕ) (pages x y : List ℕ) → Misses pages x y → Misses (page ∷ pages) x y
+misses_rest page pages x y misses = record { size = misses.size; same = λ k out. misses.same k out.1 }
+
+-- a byte of a page lies in none of the others
+pub page_outside : (pages : List ℕ) (page k : ℕ) → IsNone pages page → 512 * page ≤ k → k < 512 * page + 512 → IsOutside pages k
+page_outside [] page k none ge lt = tt
+page_outside (p ∷ pages) page k none ge lt = (by_order (cases_lt p page), page_outside pages page k none.1 ge lt)
+  where
+    by_order : (p < page) ⊎ (page ≤ p) → (k < 512 * p) ⊎ (512 * p + 512 ≤ k)
+    by_order (inl below) = inr (omega (arith, below, ge))
+    by_order (inr above) = inl (omega (arith, above, none.0, lt))
+
+-- a page that isn't written stays
+pub page_stays : (pages : List ℕ) (page : ℕ) (x y : List ℕ) → 512 * page + 512 ≤ length x → IsNone pages page → Misses pages x y → page_in page y ≡ page_in page x
+page_stays pages page x y fits none misses = range_same (512 * page) 512 x y misses.size fits (λ k ge lt. misses.same k (page_outside pages page k none ge lt))
+
+-- one page is written by one call
+module _ (page at n : ℕ) (is : at ≡ 512 * page) (long : n ≡ 512) where
+  pub one : (x y : List ℕ) → SameBut at n x y → Misses (page ∷ []) x y
+  one x y but = record {
+    size = but.size;
+    same = λ k out. ⊎_elim (λ lt. but.below k (omega (arith, is, lt))) (λ ge. but.above k (omega (arith, is, long, ge))) out.0;
+  }
+
+  pub follows_one : (old new : List ℕ → Type 0) → Follows (SameBut at n) old new → Follows (Misses (page ∷ [])) old new
+  follows_one old new step x l = let from = step x l in (from.0, from.1, one from.0 x from.2)
+
+  pub run_one : {D : Type 0} (moment : D → ℕ) (left_since : D → ℕ → List ℕ → Type 0) (state : D → DiskState) (old new : D) → ((x : List ℕ) → left_since old (moment old) x → Left (state old) x)
+      → Follows (SameBut at n) (Left (state old)) (Left (state new)) → Elapses (moment old) (moment new) (left_since old) (left_since new) (Left (state new))
+      → LeavesOnly moment left_since old new (Reaches (Misses (page ∷ [])) (Left (state old)))
+  run_one moment left_since state old new only_now step time =
+      goes_on moment left_since old old new (Reaches (Misses (page ∷ [])) (Left (state old))) (Left (state new))
+      (started moment left_since old (Reaches (Misses (page ∷ [])) (Left (state old))) (λ x l. (x, only_now x l, misses_refl (page ∷ []) x))) time (follows_one (Left (state old)) (Left (state new)) step)
+
+  pub written_one : (bytes x y : List ℕ) → at + length bytes ≤ length x → length bytes ≡ 512 → Holds at bytes x y → page_in page y ≡ bytes
+  written_one bytes x y fits whole holds = ap (λ (a : ℕ). Range a 512 y) (sym is) ∙ ap (λ (m : ℕ). Range at m y) (sym whole) ∙ range_written at bytes x y fits holds
+
+-- what one run may change, and then another
+module _ (pages : List ℕ) where
+  pub follows_both : (old mid new : List ℕ → Type 0) → Follows (Misses pages) old mid → Follows (Misses pages) mid new → Follows (Misses pages) old new
+  follows_both old mid new first second x l =
+      let from = second x l in
+      let start = first from.0 from.1 in
+      (start.0, start.1, misses_trans pages start.0 from.0 x start.2 from.2)
+
+  pub follows_weaker : (others : List ℕ) (old new : List ℕ → Type 0) → ((x y : List ℕ) → Misses others x y → Misses pages x y) → Follows (Misses others) old new → Follows (Misses pages) old new
+  follows_weaker others old new weaker step x l = let from = step x l in (from.0, from.1, weaker from.0 x from.2)
+
+  module _ {D : Type 0} (moment : D → ℕ) (left_since : D → ℕ → List ℕ → Type 0) (state : D → DiskState) where
+    pub run_none : (old : D) → ((x : List ℕ) → left_since old (moment old) x → Left (state old) x) → LeavesOnly moment left_since old old (Reaches (Misses pages) (Left (state old)))
+    run_none old only_now = started moment left_since old (Reaches (Misses pages) (Left (state old))) (λ x l. (x, only_now x l, misses_refl pages x))
+
+    pub run_weaker : (others : List ℕ) (old new : D) → ((x y : List ℕ) → Misses others x y → Misses pages x y) → LeavesOnly moment left_since old new (Reaches (Misses others) (Left (state old))) → LeavesOnly moment left_since old new (Reaches (Misses pages) (Left (state old)))
+    run_weaker others old new weaker run = weaken moment left_since old new (Reaches (Misses others) (Left (state old))) (Reaches (Misses pages) (Left (state old))) run (λ x reach. (reach.0, reach.1, weaker reach.0 x reach.2))
+
+    pub run_both : (old mid new : D) → LeavesOnly moment left_since old mid (Reaches (Misses pages) (Left (state old))) → Follows (Misses pages) (Left (state old)) (Left (state mid))
+        → LeavesOnly moment left_since mid new (Reaches (Misses pages) (Left (state mid))) → LeavesOnly moment left_since old new (Reaches (Misses pages) (Left (state old)))
+    run_both old mid new first so_far second = and_then moment left_since old mid new (Reaches (Misses pages) (Left (state old))) (Reaches (Misses pages) (Left (state mid))) first second
+        (λ x reach. let start = so_far reach.0 reach.1 in (start.0, start.1, misses_trans pages start.0 reach.0 x start.2 reach.2))
+
+-- pages that are written stay while another one is
+pub drafts_stay : (pages value : List ℕ) (page : ℕ) (x y : List ℕ) → AllByRecursion (λ (p : ℕ). 512 * p + 512 ≤ length x) pages → IsNone pages page → Misses (page ∷ []) x y → AreWritten (value_drafts pages value) x → AreWritten (value_drafts pages value) y
+drafts_stay [] value page x y fits none misses written = tt
+drafts_stay (p ∷ pages) value page x y fits none misses written =
+    (page_stays (page ∷ []) p x y fits.0 (λ same. none.0 (sym same), tt) misses ∙ written.0, drafts_stay pages (drop 512 value) page x y fits.1 none.1 misses written.1)
+
+-- one page more of a value
+drafts_end : (pages value : List ℕ) (page n : ℕ) → n ≡ length pages → value_drafts (pages ++ page ∷ []) value ≡ value_drafts pages value ++ draft_of page (take 512 (drop (512 * n) value)) ∷ []
+drafts_end [] value page n is = ap (λ (v : List ℕ). draft_of page (take 512 v) ∷ []) (sym (ap (λ (m : ℕ). drop m value) (let none : 512 * n ≡ 0 = omega (arith, is) in none) ∙ whole value))
+  where
+    whole : (v : List ℕ) → drop 0 v ≡ v
+    whole [] = refl
+    whole (b ∷ v) = refl
+drafts_end (p ∷ pages) value page zero is = absurd (omega (arith, is))
+drafts_end (p ∷ pages) value page (suc n) is =
+    ap (λ (l : List Draft). draft_of p (take 512 value) ∷ l)
+    (drafts_end pages (drop 512 value) page n (omega (arith, is))
+    ∙ ap (λ (v : List ℕ). value_drafts pages (drop 512 value) ++ draft_of page (take 512 v) ∷ []) (sym (ap (λ (m : ℕ). drop m value) (let same : 512 * suc n ≡ 512 + 512 * n = omega arith in same) ∙ drop_both 512 (512 * n) value)))
+
+pub written_more : (pages value rest : List ℕ) (i d : ℕ) (x y : List ℕ) → i < length pages → AreApart pages → AllByRecursion (λ (p : ℕ). 512 * p + 512 ≤ length x) pages → rest ≡ drop (512 * i) value
+    → Misses (get_or pages i d ∷ []) x y → page_in (get_or pages i d) y ≡ (let draft = draft_of (get_or pages i d) (take 512 rest) in draft.bytes)
+    → AreWritten (value_drafts (take i pages) value) x → AreWritten (value_drafts (take (i + 1) pages) value) y
+written_more pages value rest i d x y lt apart fits is misses here so_far =
+    let page = get_or pages i d in
+    let W : Draft → Type 0 = λ (draft : Draft). page_in draft.page y ≡ draft.bytes in
+    let few : i ≡ length (take i pages) = sym (length-take-le i pages (omega (arith, lt))) in
+    let all : value_drafts (take (i + 1) pages) value ≡ value_drafts (take i pages) value ++ draft_of page (take 512 rest) ∷ [] =
+    ap (λ (ps : List ℕ). value_drafts ps value) (take_more pages i d lt) ∙ drafts_end (take i pages) value page i few ∙ ap (λ (v : List ℕ). value_drafts (take i pages) value ++ draft_of page (take 512 v) ∷ []) (sym is) in
+    subst (AllByRecursion W) (sym all)
+    (all_join W (value_drafts (take i pages) value) (draft_of page (take 512 rest) ∷ [])
+    (drafts_stay (take i pages) value page x y (all_take (λ (p : ℕ). 512 * p + 512 ≤ length x) i pages fits) (none_before pages i d lt apart) misses so_far)
+    (here, tt))
+
+pub rest_more : (i : ℕ) (value rest after : List ℕ) → rest ≡ drop (512 * i) value → after ≡ drop 512 rest → after ≡ drop (512 * (i + 1)) value
+rest_more i value rest after is next = next ∙ ap (drop 512) is ∙ sym (drop_both (512 * i) 512 value) ∙ ap (λ (m : ℕ). drop m value) (let same : 512 * i + 512 ≡ 512 * (i + 1) = omega arith in same)

@@ -1,0 +1,6 @@
+use Rattle.std.proofs.Common.{◌≡◌, take}
+use Rattle.psu_pages.specs.Free.{free_pages}
+use Rattle.psu_pages.proofs.free_map.FreeMap.first_free.Given as goal
+
+abbrev pub invariant-loop-page : goal.invariant-loop-page
+invariant-loop-page g l = l.pages.items ≡ take l.count (free_pages (take l.page l.free-items))

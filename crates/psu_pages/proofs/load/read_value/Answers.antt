@@ -1,0 +1,23 @@
+use Rattle.std.proofs.Common.{◌++◌, ℕ, List, get_or, sym, ◌∙◌, ap, rules}
+use Rattle.psu_pages.specs.Image.{page_in}
+use Rattle.psu_pages.proofs.Quiet.{bytes_more, quiet_runs}
+use Rattle.psu_pages.proofs.load.read_value.Goals as goal
+
+pub loop-page-preserved : goal.loop-page-preserved
+loop-page-preserved g c =
+    let d = g.D.Disk in
+    let l = c.loop-page in
+    let pages = c.pages-page-items.result.now in
+    let image = (d.state c.args.disk.now).bytes in
+    record {
+      extent = c.read_page.ensures.extent ∙ l.invariant.extent;
+      works = c.read_page.ensures.cause.works (search rules) ∙ l.invariant.works;
+      found = λ h.
+          c.in_ok-extend_from_slice.ensures.items
+          ∙ ap (λ (b : List ℕ). l.value.items ++ b) (c.in_ok-read_page.ensures.bytes h ∙ ap (page_in (get_or pages l.page-index 0)) (l.invariant.seen h))
+          ∙ ap (λ (b : List ℕ). b ++ page_in (get_or pages l.page-index 0) image) (l.invariant.found h)
+          ∙ sym (bytes_more image pages l.page-index 0 c.loop-page-test.true);
+      seen = λ h. c.read_page.ensures.seen h ∙ l.invariant.seen h;
+      left = λ h x i. l.invariant.left h x (c.read_page.ensures.left h x i);
+      time = λ h t. quiet_runs d.state d.moment d.left_since c.args.disk.now l.disk c.read_page.new.disk (l.invariant.time h t) (l.invariant.left h) (c.read_page.ensures.time h t);
+    }

@@ -1,0 +1,104 @@
+use Rattle.std.proofs.Common.{◌≡◌, ◌≤◌, ℕ, List, length, map, sym, ◌∙◌, ap, arith, subst, Err}
+use Rattle.psu_disk.specs.Disk.{Range}
+use Rattle.psu_pages.specs.Image.{head_at, words, Head, AreApart, keys, taken}
+use Rattle.psu_pages.specs.Finding.{AreRoots, IsChosen, CanStand}
+use Rattle.psu_pages.proofs.Numbers.{length_words}
+use Rattle.psu_pages.proofs.Quiet.{quiet_runs}
+use Rattle.psu_pages.proofs.Opening.{scan_refused, roster_of, gates, readable, bad_root, can_stand, within, distinct, bears}
+use Rattle.psu_pages.proofs.open.look.Goals as goal
+
+pub returns-in_default-clause-memory : goal.returns-in_default-clause-memory
+returns-in_default-clause-memory g c = λ h memory.
+    let d = g.D.Disk in
+    let image = (d.state c.args.disk.now).bytes in
+    let are : AreRoots c.in_ok-roots.roots image = c.in_ok-roots.ensures.found h in
+    let sized : length image ≡ c.size.result = g.met.D.Disk.sized h c.args.disk.now ∙ sym (c.size.ensures ∙ c.read_roots.ensures.extent) in
+    let is : IsChosen image c.in-Ok.chosen = c.in-Ok.ensures.chosen image are sized in
+    readable image are.size c.in-Ok.chosen is
+
+pub returns-in-Err-scan-clause-memory : goal.returns-in-Err-scan-clause-memory
+returns-in-Err-scan-clause-memory g c = λ h memory.
+    let d = g.D.Disk in
+    let image = (d.state c.args.disk.now).bytes in
+    let are : AreRoots c.in_ok-roots.roots image = c.in_ok-roots.ensures.found h in
+    let sized : length image ≡ c.size.result = g.met.D.Disk.sized h c.args.disk.now ∙ sym (c.size.ensures ∙ c.read_roots.ensures.extent) in
+    let is : IsChosen image c.in-Ok.chosen = c.in-Ok.ensures.chosen image are sized in
+    readable image are.size c.in-Ok.chosen is
+
+pub returns-in-Err-scan-clause-refused : goal.returns-in-Err-scan-clause-refused
+returns-in-Err-scan-clause-refused g c = λ h.
+    let d = g.D.Disk in
+    let image = (d.state c.args.disk.now).bytes in
+    let are : AreRoots c.in_ok-roots.roots image = c.in_ok-roots.ensures.found h in
+    let sized : length image ≡ c.size.result = g.met.D.Disk.sized h c.args.disk.now ∙ sym (c.size.ensures ∙ c.read_roots.ensures.extent) in
+    let is : IsChosen image c.in-Ok.chosen = c.in-Ok.ensures.chosen image are sized in
+    let names : c.deref.result.now ≡ words c.in-Ok.chosen.count (Range 18 480 c.page.result.now) = c.deref.ensures.value ∙ c.in-Ok-read_words.ensures in
+    let page = c.page.ensures.value image are in
+    let seen = c.read_roots.ensures.seen h in
+    scan_refused image c.in-Err-scan.cause c.in-Err-scan.ensures.cause (λ bad. bad_root image are.size c.in-Ok.chosen is (λ shows.
+    c.in-Err-scan.ensures.none h (ap Err bad) (subst (λ (x : List ℕ). CanStand c.in-Ok.chosen.limit (map (head_at x) c.deref.result.now)) (sym seen) (can_stand image are.size c.in-Ok.chosen is c.page.result.now c.deref.result.now page names shows))))
+
+pub returns-then-not-stand_together-clause-refused : goal.returns-then-not-stand_together-clause-refused
+returns-then-not-stand_together-clause-refused g c = λ h.
+    let d = g.D.Disk in
+    let image = (d.state c.args.disk.now).bytes in
+    let are : AreRoots c.in_ok-roots.roots image = c.in_ok-roots.ensures.found h in
+    let sized : length image ≡ c.size.result = g.met.D.Disk.sized h c.args.disk.now ∙ sym (c.size.ensures ∙ c.read_roots.ensures.extent) in
+    let is : IsChosen image c.in-Ok.chosen = c.in-Ok.ensures.chosen image are sized in
+    let names : c.deref.result.now ≡ words c.in-Ok.chosen.count (Range 18 480 c.page.result.now) = c.deref.ensures.value ∙ c.in-Ok-read_words.ensures in
+    let page = c.page.ensures.value image are in
+    let seen = c.read_roots.ensures.seen h in
+    let heads : c.in-Ok-scan.found.heads.items ≡ map (head_at image) c.deref.result.now = c.in-Ok-scan.ensures.found h ∙ ap (λ (x : List ℕ). map (head_at x) c.deref.result.now) seen in
+    let hs = c.in-Ok-scan.found.heads.items in
+    let value = c.deref-2.ensures.value in
+    bad_root image are.size c.in-Ok.chosen is (λ shows.
+    c.stand_together.ensures.no c.if-not-stand_together.true
+    (subst (λ (l : List Head). length (taken l) ≤ c.in-Ok.chosen.limit) (sym value) (within image are.size c.in-Ok.chosen is c.page.result.now c.deref.result.now page names hs heads shows))
+    (subst (λ (l : List Head). AreApart (keys l)) (sym value) (distinct image are.size c.in-Ok.chosen is c.page.result.now c.deref.result.now page names hs heads shows)))
+
+pub returns-then-not-stand_together-clause-time : goal.returns-then-not-stand_together-clause-time
+returns-then-not-stand_together-clause-time g c = λ h t.
+    let d = g.D.Disk in
+    quiet_runs d.state d.moment d.left_since c.args.disk.now c.read_roots.new.disk c.scan.new.disk (c.read_roots.ensures.time h t) (c.read_roots.ensures.left h) (c.scan.ensures.time h t)
+
+pub returns-clause-roster : goal.returns-clause-roster
+returns-clause-roster g c =
+    let hs = c.in-Ok-scan.found.heads.items in
+    let fit = c.in-Ok-scan.ensures.fit in
+    let yes = c.if-not-stand_together.false in
+    roster_of c.in-Ok.chosen.limit hs fit.can_stand (omega (arith, c.in-Ok-scan.ensures.many, ap (λ (l : List ℕ). length l) (c.deref.ensures.value ∙ c.in-Ok-read_words.ensures), length_words c.in-Ok.chosen.count (Range 18 480 c.page.result.now), c.in-Ok.ensures.limit.3))
+    (subst (λ (l : List Head). length (taken l) ≤ c.in-Ok.chosen.limit) c.deref-2.ensures.value (c.stand_together.ensures.within yes))
+    (subst (λ (l : List Head). AreApart (keys l)) c.deref-2.ensures.value (c.stand_together.ensures.distinct yes))
+
+pub returns-clause-found : goal.returns-clause-found
+returns-clause-found g c = λ h.
+    let d = g.D.Disk in
+    let image = (d.state c.args.disk.now).bytes in
+    let are : AreRoots c.in_ok-roots.roots image = c.in_ok-roots.ensures.found h in
+    let sized : length image ≡ c.size.result = g.met.D.Disk.sized h c.args.disk.now ∙ sym (c.size.ensures ∙ c.read_roots.ensures.extent) in
+    let is : IsChosen image c.in-Ok.chosen = c.in-Ok.ensures.chosen image are sized in
+    let names : c.deref.result.now ≡ words c.in-Ok.chosen.count (Range 18 480 c.page.result.now) = c.deref.ensures.value ∙ c.in-Ok-read_words.ensures in
+    let page = c.page.ensures.value image are in
+    let seen = c.read_roots.ensures.seen h in
+    let heads : c.in-Ok-scan.found.heads.items ≡ map (head_at image) c.deref.result.now = c.in-Ok-scan.ensures.found h ∙ ap (λ (x : List ℕ). map (head_at x) c.deref.result.now) seen in
+    bears image are.size c.in-Ok.chosen is c.page.result.now c.deref.result.now page names c.in-Ok-scan.found.heads.items heads (returns-clause-roster g c)
+
+pub returns-clause-gates : goal.returns-clause-gates
+returns-clause-gates g c = λ h.
+    let d = g.D.Disk in
+    let image = (d.state c.args.disk.now).bytes in
+    let are : AreRoots c.in_ok-roots.roots image = c.in_ok-roots.ensures.found h in
+    let sized : length image ≡ c.size.result = g.met.D.Disk.sized h c.args.disk.now ∙ sym (c.size.ensures ∙ c.read_roots.ensures.extent) in
+    let is : IsChosen image c.in-Ok.chosen = c.in-Ok.ensures.chosen image are sized in
+    gates image are.size c.in-Ok.chosen is
+
+pub returns-clause-synced : goal.returns-clause-synced
+returns-clause-synced g c = λ h x l. c.in_ok-roots.ensures.synced h x (c.scan.ensures.left h x l) ∙ sym (c.scan.ensures.seen h)
+
+pub returns-clause-left : goal.returns-clause-left
+returns-clause-left g c = λ h x l. c.read_roots.ensures.left h x (c.scan.ensures.left h x l)
+
+pub returns-clause-time : goal.returns-clause-time
+returns-clause-time g c = λ h t.
+    let d = g.D.Disk in
+    quiet_runs d.state d.moment d.left_since c.args.disk.now c.read_roots.new.disk c.scan.new.disk (c.read_roots.ensures.time h t) (c.read_roots.ensures.left h) (c.scan.ensures.time h t)

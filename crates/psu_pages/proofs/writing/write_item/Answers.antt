@@ -1,0 +1,54 @@
+use Rattle.std.proofs.Common.{◌≡◌, ℕ, List, [], ◌∷◌, sym, ◌∙◌, ap, subst, arith, length}
+use Rattle.psu_disk.specs.Disk.{Left}
+use Rattle.psu_pages.specs.Image.{page_in, pages_of}
+use Rattle.psu_pages.specs.Spelling.{filled, value_drafts}
+use Rattle.psu_pages.specs.Writing.{Misses, AreWritten}
+use Rattle.psu_pages.proofs.Making.{item_written}
+use Rattle.psu_pages.proofs.Steps.{misses_first, misses_rest, page_stays, follows_both, follows_weaker, run_both, run_weaker}
+use Rattle.psu_pages.proofs.writing.write_item.Goals as goal
+
+pub returns-clause-written : goal.returns-clause-written
+returns-clause-written g c = λ h.
+    let d = g.D.Disk in
+    let head = c.args.head.now in
+    let mid = (d.state c.write_page.new.disk).bytes in
+    let new = (d.state c.write_value.new.disk).bytes in
+    let sized : length mid ≡ d.extent c.args.disk.now = g.met.D.Disk.sized h c.write_page.new.disk ∙ c.write_page.ensures.extent in
+    let at_is : c.at.result ≡ head.at = c.at.ensures in
+    let first : page_in head.at mid ≡ filled 512 c.spell.result = ap (λ (p : ℕ). page_in p mid) (sym at_is) ∙ c.in_ok-write_page.ensures.written h in
+    let misses = subst (λ (ps : List ℕ). Misses ps mid new) c.pages.ensures (c.write_value.ensures.seen h) in
+    let stays : page_in head.at new ≡ page_in head.at mid = page_stays head.pages head.at mid new (omega (arith, sized, c.requires.room.0)) c.requires.apart.0 misses in
+    item_written new head c.args.value.now c.requires.is_head c.requires.low (sym c.requires.size)
+    (stays ∙ first ∙ ap (filled 512) c.spell.ensures, subst (λ (ps : List ℕ). AreWritten (value_drafts ps c.args.value.now) new) c.pages.ensures (c.in_ok-write_value.ensures.written h))
+
+pub returns-in_err-write_value-clause-time : goal.returns-in_err-write_value-clause-time
+returns-in_err-write_value-clause-time g c = λ h t.
+    let d = g.D.Disk in
+    let head = c.args.head.now in
+    let first = λ (x y : List ℕ) (m : Misses (c.at.result ∷ []) x y). misses_first head.at head.pages x y (subst (λ (p : ℕ). Misses (p ∷ []) x y) c.at.ensures m) in
+    let rest = λ (x y : List ℕ) (m : Misses c.pages.result.now x y). misses_rest head.at head.pages x y (subst (λ (ps : List ℕ). Misses ps x y) c.pages.ensures m) in
+    run_both (pages_of head) d.moment d.left_since d.state c.args.disk.now c.write_page.new.disk c.write_value.new.disk
+    (run_weaker (pages_of head) d.moment d.left_since d.state (c.at.result ∷ []) c.args.disk.now c.write_page.new.disk first (c.write_page.ensures.time h t))
+    (follows_weaker (pages_of head) (c.at.result ∷ []) (Left (d.state c.args.disk.now)) (Left (d.state c.write_page.new.disk)) first (c.write_page.ensures.left h))
+    (run_weaker (pages_of head) d.moment d.left_since d.state c.pages.result.now c.write_page.new.disk c.write_value.new.disk rest (c.write_value.ensures.time h t))
+
+pub returns-clause-left : goal.returns-clause-left
+returns-clause-left g c = λ h.
+    let d = g.D.Disk in
+    let head = c.args.head.now in
+    let first = λ (x y : List ℕ) (m : Misses (c.at.result ∷ []) x y). misses_first head.at head.pages x y (subst (λ (p : ℕ). Misses (p ∷ []) x y) c.at.ensures m) in
+    let rest = λ (x y : List ℕ) (m : Misses c.pages.result.now x y). misses_rest head.at head.pages x y (subst (λ (ps : List ℕ). Misses ps x y) c.pages.ensures m) in
+    follows_both (pages_of head) (Left (d.state c.args.disk.now)) (Left (d.state c.write_page.new.disk)) (Left (d.state c.write_value.new.disk))
+    (follows_weaker (pages_of head) (c.at.result ∷ []) (Left (d.state c.args.disk.now)) (Left (d.state c.write_page.new.disk)) first (c.write_page.ensures.left h))
+    (follows_weaker (pages_of head) c.pages.result.now (Left (d.state c.write_page.new.disk)) (Left (d.state c.write_value.new.disk)) rest (c.write_value.ensures.left h))
+
+pub returns-clause-time : goal.returns-clause-time
+returns-clause-time g c = λ h t.
+    let d = g.D.Disk in
+    let head = c.args.head.now in
+    let first = λ (x y : List ℕ) (m : Misses (c.at.result ∷ []) x y). misses_first head.at head.pages x y (subst (λ (p : ℕ). Misses (p ∷ []) x y) c.at.ensures m) in
+    let rest = λ (x y : List ℕ) (m : Misses c.pages.result.now x y). misses_rest head.at head.pages x y (subst (λ (ps : List ℕ). Misses ps x y) c.pages.ensures m) in
+    run_both (pages_of head) d.moment d.left_since d.state c.args.disk.now c.write_page.new.disk c.write_value.new.disk
+    (run_weaker (pages_of head) d.moment d.left_since d.state (c.at.result ∷ []) c.args.disk.now c.write_page.new.disk first (c.write_page.ensures.time h t))
+    (follows_weaker (pages_of head) (c.at.result ∷ []) (Left (d.state c.args.disk.now)) (Left (d.state c.write_page.new.disk)) first (c.write_page.ensures.left h))
+    (run_weaker (pages_of head) d.moment d.left_since d.state c.pages.result.now c.write_page.new.disk c.write_value.new.disk rest (c.write_value.ensures.time h t))

@@ -1,0 +1,46 @@
+use Rattle.std.proofs.Common.{◌≡◌, ◌*◌, ◌+◌, ◌≤◌, ℕ, [], ◌∷◌, ◌∙◌, ap, arith, length, get_or, rules}
+use Rattle.std.specs.List.{AllByRecursion}
+use Rattle.psu_disk.specs.Disk.{Left}
+use Rattle.psu_pages.specs.Spelling.{filled}
+use Rattle.psu_pages.proofs.Lists.{all_map}
+use Rattle.psu_pages.proofs.Steps.{misses_trans, misses_one, follows_both, follows_weaker, run_both, run_weaker, written_more, rest_more}
+use Rattle.psu_pages.proofs.writing.write_value.Goals as goal
+
+pub returns-in_err-write_page-clause-left : goal.returns-in_err-write_page-clause-left
+returns-in_err-write_page-clause-left g c = λ h.
+    let d = g.D.Disk in
+    let l = c.loop-page in
+    let pages = c.args.pages.now in
+    follows_both pages (Left (d.state c.args.disk.now)) (Left (d.state l.disk)) (Left (d.state c.write_page.new.disk)) (l.invariant.left h)
+    (follows_weaker pages (get_or pages l.page-index 0 ∷ []) (Left (d.state l.disk)) (Left (d.state c.write_page.new.disk)) (λ x y. misses_one pages l.page-index 0 x y c.loop-page-test.true) (c.write_page.ensures.left h))
+
+pub returns-in_err-write_page-clause-time : goal.returns-in_err-write_page-clause-time
+returns-in_err-write_page-clause-time g c = λ h t.
+    let d = g.D.Disk in
+    let l = c.loop-page in
+    let pages = c.args.pages.now in
+    run_both pages d.moment d.left_since d.state c.args.disk.now l.disk c.write_page.new.disk (l.invariant.time h t) (l.invariant.left h)
+    (run_weaker pages d.moment d.left_since d.state (get_or pages l.page-index 0 ∷ []) l.disk c.write_page.new.disk (λ x y. misses_one pages l.page-index 0 x y c.loop-page-test.true) (c.write_page.ensures.time h t))
+
+pub loop-page-preserved : goal.loop-page-preserved
+loop-page-preserved g c =
+    let d = g.D.Disk in
+    let l = c.loop-page in
+    let pages = c.args.pages.now in
+    let i = l.page-index in
+    let lt = c.loop-page-test.true in
+    record {
+      extent = c.write_page.ensures.extent ∙ l.invariant.extent;
+      works = c.write_page.ensures.cause.works (search rules) ∙ l.invariant.works;
+      rest = rest_more i c.args.value.now l.rest.now _ l.invariant.rest c.first_page.ensures.rest;
+      written = λ h.
+          let sized : length (d.state l.disk).bytes ≡ d.extent c.args.disk.now = g.met.D.Disk.sized h l.disk ∙ l.invariant.extent in
+          let fits : AllByRecursion (λ (p : ℕ). 512 * p + 512 ≤ length (d.state l.disk).bytes) pages = all_map (λ (p : ℕ). 512 * p + 512 ≤ d.extent c.args.disk.now) (λ (p : ℕ). 512 * p + 512 ≤ length (d.state l.disk).bytes) (λ p le. omega (arith, le, sized)) pages c.requires.room in
+          written_more pages c.args.value.now l.rest.now i 0 (d.state l.disk).bytes (d.state c.write_page.new.disk).bytes lt c.requires.apart fits l.invariant.rest (c.write_page.ensures.seen h)
+          (c.in_ok-write_page.ensures.written h ∙ ap (filled 512) (c.of.ensures ∙ c.first_page.ensures.first)) (l.invariant.written h);
+      seen = λ h. misses_trans pages _ _ _ (l.invariant.seen h) (misses_one pages i 0 _ _ lt (c.write_page.ensures.seen h));
+      left = λ h. follows_both pages (Left (d.state c.args.disk.now)) (Left (d.state l.disk)) (Left (d.state c.write_page.new.disk)) (l.invariant.left h)
+          (follows_weaker pages (get_or pages i 0 ∷ []) (Left (d.state l.disk)) (Left (d.state c.write_page.new.disk)) (λ x y. misses_one pages i 0 x y lt) (c.write_page.ensures.left h));
+      time = λ h t. run_both pages d.moment d.left_since d.state c.args.disk.now l.disk c.write_page.new.disk (l.invariant.time h t) (l.invariant.left h)
+          (run_weaker pages d.moment d.left_since d.state (get_or pages i 0 ∷ []) l.disk c.write_page.new.disk (λ x y. misses_one pages i 0 x y lt) (c.write_page.ensures.time h t));
+    }

@@ -1,0 +1,88 @@
+-- What the calls on pages take and give.
+use Rattle.std.specs.Prelude.{◌≡◌, ℕ, ◌+◌, ◌/◌, true, false, List, [], Result, Ok, Err}
+use Rattle.std.specs.List.{AllByRecursion}
+use Rattle.psu_disk.specs.declared.disk.Disk.{Ghosts}
+use Rattle.psu_pages.specs.Free.{is_free, AreClaimed, Marks, HandsOver}
+use Rattle.psu_pages.specs.Image.{other, Head, IsHead, IsInPool, AreApart, AreClear, taken, pages_of}
+use Rattle.psu_pages.specs.declared.pages.Pages.{Pages}
+use Rattle.psu_pages.specs.declared.root.Root.TheVariants.{First}
+use Rattle.psu_pages.specs.declared.format_fault.FormatFault.{FormatFault}
+use Rattle.psu_pages.specs.declared.refused.Refused.{Refused}
+use Rattle.psu_pages.specs.declared.standing.Standing.TheVariants.{One, Both}
+
+-- the head has pages that are claimed and that no root names
+pub record IsPlanned {D A : Type 0} {G : Ghosts D} (pages : Pages D A G) (head : Head) : Type 0 where
+  pub is_head : IsHead head
+  pub pool : AllByRecursion (IsInPool pages.limit) (pages_of head)
+  pub apart : AreApart (pages_of head)
+  pub claimed : AreClaimed pages.free (pages_of head)
+  pub unnamed : AreClear (pages_of head) (taken pages.heads.items)
+  pub unnamed_before : AreClear (pages_of head) (taken pages.older.items)
+
+-- how many pages an item with so many bytes takes
+abbrev pub pages_for : ℕ → ℕ
+pages_for size = 1 + (size + 511) / 512
+
+-- pages that were free were claimed for an item with this key and so many bytes
+pub record HasPlanned {D A : Type 0} {G : Ghosts D} (old new : Pages D A G) (key : List ℕ) (size : ℕ) (head : Head) : Type 0 where
+  pub key_is : head.key ≡ key
+  pub size_is : head.size ≡ size
+  pub planned : IsPlanned new head
+  pub were_free : AllByRecursion (λ (page : ℕ). is_free old.free page ≡ true) (pages_of head)
+  pub claims : Marks false (pages_of head) old.free new.free
+
+-- the disk and its roots are as they were
+pub record HasSameRoots {D A : Type 0} {G : Ghosts D} (old new : Pages D A G) : Type 0 where
+  pub disk : new.disk ≡ old.disk
+  pub root : new.root ≡ old.root
+  pub limit : new.limit ≡ old.limit
+  pub number : new.number ≡ old.number
+  pub standing : new.standing ≡ old.standing
+  pub heads : new.heads ≡ old.heads
+  pub older : new.older ≡ old.older
+
+-- all but the disk, and how the gates stand, is as it was
+pub record HasSameHeads {D A : Type 0} {G : Ghosts D} (old new : Pages D A G) : Type 0 where
+  pub root : new.root ≡ old.root
+  pub limit : new.limit ≡ old.limit
+  pub number : new.number ≡ old.number
+  pub heads : new.heads ≡ old.heads
+  pub older : new.older ≡ old.older
+  pub free : new.free ≡ old.free
+
+-- the next root counts, and names these heads; the gate of the one before stands open
+pub record HasPublished {D A : Type 0} {G : Ghosts D} (old new : Pages D A G) (heads : List Head) : Type 0 where
+  pub root : new.root ≡ other old.root
+  pub number : new.number ≡ old.number + 1
+  pub standing : new.standing ≡ Both
+  pub heads_are : new.heads.items ≡ heads
+  pub older : new.older ≡ old.heads
+  pub free : new.free ≡ old.free
+
+-- the root that counts is the only open one, and the pages are free that the older one alone named
+pub record HasClosed {D A : Type 0} {G : Ghosts D} (old new : Pages D A G) : Type 0 where
+  pub root : new.root ≡ old.root
+  pub number : new.number ≡ old.number
+  pub standing : new.standing ≡ One
+  pub heads : new.heads ≡ old.heads
+  pub older : new.older.items ≡ []
+  pub free : HandsOver (taken old.older.items) (taken old.heads.items) old.free new.free
+
+-- no heads on a fresh disk, and all of the pool is free
+pub record IsFresh {D A : Type 0} {G : Ghosts D} (limit : ℕ) (pages : Pages D A G) : Type 0 where
+  pub root : pages.root ≡ First
+  pub limit_is : pages.limit ≡ limit
+  pub number : pages.number ≡ 1
+  pub standing : pages.standing ≡ One
+  pub heads : pages.heads.items ≡ []
+  pub free : (page : ℕ) → IsInPool limit page → is_free pages.free page ≡ true
+
+-- the disk of formatted pages, or the one handed back
+abbrev pub formatted_disk : {D A : Type 0} {G : Ghosts D} → Result (Pages D A G) (FormatFault D) → D
+formatted_disk (Ok pages) = pages.disk
+formatted_disk (Err e) = e.disk
+
+-- the disk of opened pages, or the one handed back
+abbrev pub opened_disk : {D A : Type 0} {G : Ghosts D} → Result (Pages D A G) (Refused D) → D
+opened_disk (Ok pages) = pages.disk
+opened_disk (Err e) = e.disk

@@ -1,0 +1,48 @@
+-- The bytes that are written for roots and heads.
+use Rattle.std.specs.Prelude.{◌≡◌, ℕ, ◌-◌, ◌<◌, ◌^◌, List, [], ◌∷◌, ◌++◌, length, take, drop, replicate, map}
+use Rattle.std.specs.Int.{w16, w32, w64, to_be_bytes}
+use Rattle.std.specs.List.{AllByRecursion}
+use Rattle.psu_pages.specs.Image.{mark, Head, head_at}
+use Rattle.psu_pages.specs.Free.{IsRoster}
+use Rattle.psu_pages.specs.Writing.{Draft}
+
+-- numbers of two bytes each
+abbrev pub spelled_words : List ℕ → List ℕ
+spelled_words [] = []
+spelled_words (n ∷ ns) = to_be_bytes w16 n ++ spelled_words ns
+
+-- and zeros after bytes, to this length
+abbrev pub filled : ℕ → List ℕ → List ℕ
+filled n bytes = bytes ++ replicate (n - length bytes) 0
+
+-- the pages of the heads that a root names
+abbrev pub names : List Head → List ℕ
+names heads = map (λ (head : Head). head.at) heads
+
+-- what a root says after its gate
+abbrev pub said : ℕ → ℕ → List ℕ → List ℕ
+said limit number pages = mark ++ (to_be_bytes w16 1 ++ (to_be_bytes w16 limit ++ (to_be_bytes w64 number ++ (to_be_bytes w16 (length pages) ++ spelled_words pages))))
+
+-- what a head says
+abbrev pub spelled : Head → List ℕ
+spelled head = length head.key ∷ (head.key ++ (to_be_bytes w32 head.size ++ (to_be_bytes w16 (length head.pages) ++ spelled_words head.pages)))
+
+-- a page with these bytes, and zeros after them
+abbrev pub draft_of : ℕ → List ℕ → Draft
+draft_of page bytes = record { page = page; bytes = filled 512 bytes }
+
+-- a value's pages: 512 bytes on each but the last
+abbrev pub value_drafts : List ℕ → List ℕ → List Draft
+value_drafts [] value = []
+value_drafts (page ∷ pages) value = draft_of page (take 512 value) ∷ value_drafts pages (drop 512 value)
+
+-- the pages of a head and of its value
+abbrev pub head_drafts : Head → List ℕ → List Draft
+head_drafts head value = draft_of head.at (spelled head) ∷ value_drafts head.pages value
+
+-- what is to be said after a root's gate names these heads, which stand on their pages
+pub record IsTold (limit number : ℕ) (heads : List Head) (told image : List ℕ) : Type 0 where
+  pub told_is : told ≡ filled 511 (said limit number (names heads))
+  pub number_fits : number < 2 ^ 64
+  pub roster : IsRoster limit heads
+  pub there : AllByRecursion (λ (head : Head). head_at image head.at ≡ head) heads

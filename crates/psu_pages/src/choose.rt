@@ -1,0 +1,102 @@
+//! The root that counts, and what it says.
+ghost use Rattle.std.specs.Prelude.{◌≡◌, ◌≢◌, ◌+◌, ◌*◌, ◌≤◌, List, ℕ, true, false, length, IfOk, IfErr, OnOk};
+ghost use Rattle.psu_disk.specs.Disk.{Left, Only, LeavesOnly, HasCause};
+ghost use Rattle.psu_pages.specs.declared.standing.Standing.TheVariants.{One, Both, Unsure};
+ghost use Rattle.psu_pages.specs.Finding.{AreRoots, IsChosen, IsChoiceCause, IsChoiceRefusal, page_of};
+
+use crate::gates::make_sure;
+use crate::pick::pick;
+use crate::reading::read_page;
+use crate::words::{check, open_number, words_on};
+use crate::{OpenCause, Root, Standing};
+use psu_disk::{Disk, DiskFault};
+
+/// The pages of the two roots.
+#[derive(Drop)]
+pub struct Roots {
+    pub first: [u8; 512],
+    pub second: [u8; 512],
+}
+
+impl Roots {
+    /// The page of a root.
+    pub fn page(&self, root: Root) -> &[u8]
+        ensures whole { length result.now ≡ 512 }
+        ensures value { (image : List ℕ) → AreRoots self.now image → result.now ≡ page_of root image }
+    {
+        match root {
+            Root::First => &self.first,
+            Root::Second => &self.second,
+        }
+    }
+}
+
+/// The root that counts, its number, whether the other gate is open too, the limit and how many items there are.
+#[derive(Clone, Copy, Debug, Drop)]
+pub struct Chosen {
+    pub root: Root,
+    pub number: u64,
+    pub both: bool,
+    pub limit: u16,
+    pub count: u16,
+}
+
+impl Chosen {
+    /// How the gates stand.
+    pub fn standing(&self) -> Standing
+        ensures one { result ≡ One → self.now.both ≡ false }
+        ensures both { result ≡ Both → self.now.both ≡ true }
+        ensures sure { result ≢ Unsure }
+    {
+        if self.both {
+            Standing::Both
+        } else {
+            Standing::One
+        }
+    }
+}
+
+/// Makes sure of what the disk reads as, and reads its two roots.
+pub fn read_roots<D: Disk>(disk: &mut D) -> Result<Roots, DiskFault>
+    requires { 1024 ≤ D.extent disk.old }
+    ensures extent { D.extent disk.new ≡ D.extent disk.old }
+    ensures cause { HasCause (D.failures disk.old) (D.failures disk.new) result }
+    ensures found { D.honest → IfOk result (λ roots. AreRoots roots (D.state disk.old).bytes) }
+    ensures synced { D.honest → OnOk result (Only (D.state disk.new)) }
+    ensures seen { D.honest → (D.state disk.new).bytes ≡ (D.state disk.old).bytes }
+    ensures left { D.honest → (x : List ℕ) → Left (D.state disk.new) x → Left (D.state disk.old) x }
+    ensures time { D.honest → D.tells → LeavesOnly D.moment D.left_since disk.old disk.new (Left (D.state disk.old)) }
+{
+    let mut roots = Roots {
+        first: [0; 512],
+        second: [0; 512],
+    };
+    make_sure(disk)?;
+    read_page(disk, 0, &mut roots.first)?;
+    read_page(disk, 1, &mut roots.second)?;
+    Ok(roots)
+}
+
+/// The root that counts on a disk of this size.
+pub fn choose(roots: &Roots, size: u64) -> Result<Chosen, OpenCause>
+    ensures limit { IfOk result (λ chosen. (4 ≤ chosen.limit) × (chosen.limit ≤ 480) × (512 * (2 + 2 * chosen.limit) ≤ size) × (chosen.count ≤ 240)) }
+    ensures cause { IfErr result IsChoiceCause }
+    ensures chosen { (image : List ℕ) → AreRoots roots.now image → length image ≡ size → IfOk result (IsChosen image) }
+    ensures refused { (image : List ℕ) → AreRoots roots.now image → length image ≡ size → IfErr result (IsChoiceRefusal image) }
+{
+    let picked = match pick(open_number(&roots.first), open_number(&roots.second)) {
+        Ok(picked) => picked,
+        Err(cause) => return Err(cause),
+    };
+    let words = words_on(roots.page(picked.root));
+    if let Err(cause) = check(&words, size) {
+        return Err(cause);
+    }
+    Ok(Chosen {
+        root: picked.root,
+        number: picked.number,
+        both: picked.both,
+        limit: words.limit,
+        count: words.count,
+    })
+}

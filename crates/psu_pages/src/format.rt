@@ -1,0 +1,76 @@
+//! A disk that is laid out anew.
+ghost use Rattle.std.specs.Prelude.{◌≡◌, ◌≢◌, ◌+◌, ◌*◌, ◌≤◌, [], List, ℕ, true, length, OnOk, IfOk, IfErr};
+ghost use Rattle.psu_disk.specs.Disk.{Left, HasCause, HasFailed};
+ghost use Rattle.psu_pages.specs.Spelling.{IsTold};
+ghost use Rattle.psu_pages.specs.Shown.{items_in, EachBears, EachShut};
+ghost use Rattle.psu_pages.specs.declared.format_fault.FormatCause.TheVariants.{Device as NotWritten, Memory as NoMemory};
+ghost use Rattle.psu_pages.specs.declared.root.Root.TheVariants.{First, Second};
+ghost use Rattle.psu_pages.specs.declared.standing.Standing.TheVariants.{One};
+
+use crate::gates::{CLOSED, OPEN, say, set_gate};
+use crate::pool::pool;
+use crate::root_page::spell_root;
+use crate::{FormatCause, FormatFault, Pages, Root, Standing};
+use psu_disk::{Disk, DiskFault};
+use std::alloc::{AllocError, Allocator};
+
+impl<D: Disk, A: Allocator + Copy> Pages<D, A> {
+    ghost use Rattle.psu_pages.specs.Outcome.{formatted_disk, IsFresh};
+
+    /// No items on a disk, whatever the disk held. The limit is 4 to 480, and the disk has 512 bytes for each of the two roots and
+    /// twice the limit. All memory is taken before the first call of the disk.
+    pub fn format(alloc: A, mut disk: D, limit: u16) -> Result<Pages<D, A>, FormatFault<D>>
+        requires limit_least { 4 ≤ limit }
+        requires limit_most { limit ≤ 480 }
+        requires room { 512 * (2 + 2 * limit) ≤ D.extent disk }
+        ensures fresh { IfOk result (IsFresh limit) }
+        ensures empty { D.honest → IfOk result (λ pages. items_in pages.root (D.state pages.disk).bytes ≡ []) }
+        ensures extent { D.extent (formatted_disk result) ≡ D.extent disk }
+        ensures works { IfOk result (λ pages. D.failures pages.disk ≡ D.failures disk) }
+        ensures later { D.failures disk ≤ D.failures (formatted_disk result) }
+        ensures device { IfErr result (λ e. e.cause ≡ NotWritten → HasFailed (D.failures disk) (D.failures e.disk)) }
+        ensures no_call { IfErr result (λ e. e.cause ≡ NoMemory → e.disk ≡ disk) }
+    {
+        let Ok(free) = pool(alloc, limit) else {
+            return Err(FormatFault {
+                cause: FormatCause::Memory,
+                disk,
+            });
+        };
+        let heads = Vec::new(alloc);
+        let page = spell_root(limit, 1, &heads);
+        match lay_out(&mut disk, page.after_gate()) {
+            Ok(()) => Ok(Pages {
+                disk,
+                root: Root::First,
+                limit,
+                number: 1,
+                standing: Standing::One,
+                heads,
+                older: Vec::new(alloc),
+                free,
+            }),
+            Err(DiskFault) => Err(FormatFault {
+                cause: FormatCause::Device,
+                disk,
+            }),
+        }
+    }
+}
+
+// Makes the first root the only open one, with this after its gate.
+fn lay_out<D: Disk>(disk: &mut D, told: &[u8]) -> Result<(), DiskFault>
+    requires roots { 1024 ≤ D.extent disk.old }
+    requires told { length told.now ≡ 511 }
+    ensures extent { D.extent disk.new ≡ D.extent disk.old }
+    ensures cause { HasCause (D.failures disk.old) (D.failures disk.new) result }
+    ensures borne { D.honest → (limit number : ℕ) → IsTold limit number [] told.now (D.state disk.old).bytes → 4 ≤ limit → limit ≤ 480 → 512 * (2 + 2 * limit) ≤ D.extent disk.old
+        → OnOk result (EachBears (D.state disk.new) First limit number [] []) }
+    ensures shut { D.honest → OnOk result (EachShut (D.state disk.new) Second) }
+{
+    set_gate(disk, Root::First, CLOSED)?;
+    set_gate(disk, Root::Second, CLOSED)?;
+    say(disk, Root::First, told)?;
+    set_gate(disk, Root::First, OPEN)?;
+    Ok(())
+}

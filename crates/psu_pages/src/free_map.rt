@@ -1,0 +1,155 @@
+//! Which pages of a disk are free.
+ghost use Rattle.std.specs.Prelude.{◌≡◌, ◌<◌, ◌≤◌, ◌^◌, ℕ, true, false, length, take, replicate, slice_set, IfOk};
+ghost use Rattle.std.specs.List.{AllByRecursion};
+ghost use Rattle.psu_pages.specs.Free.{is_free, free_pages, AreClaimed, Marks};
+ghost use Rattle.psu_pages.specs.Image.{AreApart, pages_of};
+
+use crate::Head;
+use std::alloc::{AllocError, Allocator};
+use std::marker::Model;
+
+/// The set of the pages that are free, of as many as there are. Contracts see a mark for each page.
+#[derive(Drop)]
+pub struct FreeMap<A: Allocator + Copy> {
+    free: Vec<bool, A>,
+}
+
+impl<A: Allocator + Copy> Model for FreeMap<A> {
+    ghost use Rattle.std.specs.Prelude.{List, Bool};
+
+    ghost Value = { List Bool };
+
+    ghost view = { λ m. m.free.items };
+}
+
+impl<A: Allocator + Copy> FreeMap<A> {
+    /// So many pages, all free. It makes the room for all later calls.
+    pub fn new(alloc: A, pages: u16) -> Result<FreeMap<A>, AllocError>
+        ensures { IfOk result (λ map. map ≡ replicate pages true) }
+    {
+        Ok(FreeMap {
+            free: vec![in alloc; true; pages as usize]?,
+        })
+    }
+
+    /// Whether a page is free.
+    pub fn is_free(&self, page: u16) -> bool
+        requires { page < length self.now }
+        ensures { result ≡ is_free self.now page }
+    {
+        self.free[usize::from(page)]
+    }
+
+    /// Claims a page that is free.
+    pub fn claim(&mut self, page: u16)
+        requires { is_free self.old page ≡ true }
+        ensures { self.new ≡ slice_set self.old page false }
+    {
+        self.keep(page);
+    }
+
+    /// Gives up a page that is claimed.
+    pub fn free(&mut self, page: u16)
+        requires there { page < length self.old }
+        requires claimed { is_free self.old page ≡ false }
+        ensures { self.new ≡ slice_set self.old page true }
+    {
+        self.free[page as usize] = true;
+    }
+
+    /// Claims pages that are free.
+    pub(crate) fn claim_all(&mut self, pages: &[u16])
+        requires free { AllByRecursion (λ page. is_free self.old page ≡ true) pages.now }
+        requires apart { AreApart pages.now }
+        ensures { Marks false pages.now self.old self.new }
+    {
+        for page in pages {
+            self.claim(*page);
+        }
+    }
+
+    /// Gives up pages that are claimed.
+    pub(crate) fn free_all(&mut self, pages: &[u16])
+        requires there { AllByRecursion (λ page. page < length self.old) pages.now }
+        requires claimed { AllByRecursion (λ page. is_free self.old page ≡ false) pages.now }
+        requires apart { AreApart pages.now }
+        ensures { Marks true pages.now self.old self.new }
+    {
+        for page in pages {
+            self.free(*page);
+        }
+    }
+
+    /// Gives up the pages of a head.
+    pub(crate) fn free_head(&mut self, head: &Head<A>)
+        requires there { AllByRecursion (λ page. page < length self.old) (pages_of head.now) }
+        requires claimed { AreClaimed self.old (pages_of head.now) }
+        requires apart { AreApart (pages_of head.now) }
+        ensures { Marks true (pages_of head.now) self.old self.new }
+    {
+        self.free(head.at());
+        self.free_all(head.pages());
+    }
+
+    /// Claims a page, whether or not it is free.
+    pub(crate) fn keep(&mut self, page: u16)
+        requires { page < length self.old }
+        ensures { self.new ≡ slice_set self.old page false }
+    {
+        self.free[page as usize] = false;
+    }
+
+    /// Claims pages, whether or not they are free.
+    pub(crate) fn keep_all(&mut self, pages: &[u16])
+        requires { AllByRecursion (λ page. page < length self.old) pages.now }
+        ensures { Marks false pages.now self.old self.new }
+    {
+        for page in pages {
+            self.keep(*page);
+        }
+    }
+
+    /// Claims a page, unless it isn't free.
+    pub(crate) fn take(&mut self, page: u16) -> bool
+        ensures was { result ≡ is_free self.old page }
+        ensures taken { result ≡ true → self.new ≡ slice_set self.old page false }
+        ensures refused { result ≡ false → self.new ≡ self.old }
+    {
+        let at = page as usize;
+        if at >= self.free.len() || !self.free[at] {
+            return false;
+        }
+        self.free[at] = false;
+        true
+    }
+
+    /// Claims pages in their order, up to the first that isn't free.
+    pub(crate) fn take_all(&mut self, pages: &[u16]) -> bool
+        ensures size { length self.new ≡ length self.old }
+        ensures were_free { result ≡ true → AllByRecursion (λ page. is_free self.old page ≡ true) pages.now }
+        ensures apart { result ≡ true → AreApart pages.now }
+        ensures taken { result ≡ true → Marks false pages.now self.old self.new }
+        ensures refused { result ≡ false → AllByRecursion (λ page. is_free self.old page ≡ true) pages.now → AreApart pages.now → ⊥ }
+    {
+        for page in pages {
+            if !self.take(*page) {
+                return false;
+            }
+        }
+        true
+    }
+
+    /// The first pages that are free: as many as asked for, or all where there are fewer.
+    pub(crate) fn first_free(&self, alloc: A, count: usize) -> Result<Vec<u16, A>, AllocError>
+        requires { length self.now ≤ 2 ^ 16 }
+        ensures { IfOk result (λ pages. pages.items ≡ take count (free_pages self.now)) }
+    {
+        let mut pages = Vec::with_capacity(alloc, count)?;
+        for (page, free) in self.free.iter().enumerate() {
+            if *free && pages.len() < count {
+                pages.push(page as u16)?;
+            }
+        }
+        Ok(pages)
+    }
+}

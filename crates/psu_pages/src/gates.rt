@@ -1,0 +1,74 @@
+//! What is written to a root's page, and made sure of.
+ghost use Rattle.std.specs.Prelude.{◌≡◌, ◌+◌, ◌*◌, ◌≤◌, ◌∷◌, [], List, ℕ, length, OnOk};
+ghost use Rattle.psu_disk.specs.Disk.{Left, Range, Holds, SameBut, Only, Follows, LeavesOnly, HasCause};
+ghost use Rattle.psu_pages.specs.Image.{gate, gate_at};
+ghost use Rattle.psu_pages.specs.Writing.{Reaches};
+
+use crate::Root;
+use psu_disk::{Disk, DiskFault};
+
+/// A gate's byte that is open.
+pub const OPEN: u8 = 165;
+
+/// The byte with which a gate is closed. Every other than [`OPEN`] is closed too.
+pub const CLOSED: u8 = 0;
+
+/// Writes a gate's byte and makes sure of it.
+pub fn set_gate<D: Disk>(disk: &mut D, root: Root, byte: u8) -> Result<(), DiskFault>
+    requires { 1024 ≤ D.extent disk.old }
+    ensures extent { D.extent disk.new ≡ D.extent disk.old }
+    ensures cause { HasCause (D.failures disk.old) (D.failures disk.new) result }
+    ensures done { D.honest → OnOk result (gate root (D.state disk.new).bytes ≡ byte) }
+    ensures seen { D.honest → SameBut (gate_at root) 1 (D.state disk.old).bytes (D.state disk.new).bytes }
+    ensures synced { D.honest → OnOk result (Only (D.state disk.new)) }
+    ensures left { D.honest → Follows (SameBut (gate_at root) 1) (Left (D.state disk.old)) (Left (D.state disk.new)) }
+    ensures time { D.honest → D.tells → LeavesOnly D.moment D.left_since disk.old disk.new (Reaches (SameBut (gate_at root) 1) (Left (D.state disk.old))) }
+{
+    put(disk, root.gate(), &[byte])?;
+    Ok(())
+}
+
+/// Writes what a root says after its gate, and makes sure of all that was written.
+pub fn say<D: Disk>(disk: &mut D, root: Root, told: &[u8]) -> Result<(), DiskFault>
+    requires roots { 1024 ≤ D.extent disk.old }
+    requires told { length told.now ≡ 511 }
+    ensures extent { D.extent disk.new ≡ D.extent disk.old }
+    ensures cause { HasCause (D.failures disk.old) (D.failures disk.new) result }
+    ensures says { D.honest → OnOk result (Range (gate_at root + 1) 511 (D.state disk.new).bytes ≡ told.now) }
+    ensures seen { D.honest → SameBut (gate_at root + 1) 511 (D.state disk.old).bytes (D.state disk.new).bytes }
+    ensures synced { D.honest → OnOk result (Only (D.state disk.new)) }
+    ensures left { D.honest → Follows (SameBut (gate_at root + 1) 511) (Left (D.state disk.old)) (Left (D.state disk.new)) }
+    ensures time { D.honest → D.tells → LeavesOnly D.moment D.left_since disk.old disk.new (Reaches (SameBut (gate_at root + 1) 511) (Left (D.state disk.old))) }
+{
+    put(disk, root.gate() + 1, told)?;
+    Ok(())
+}
+
+// Writes bytes and makes sure of all that was written.
+fn put<D: Disk>(disk: &mut D, at: u64, bytes: &[u8]) -> Result<(), DiskFault>
+    requires { at + length bytes.now ≤ D.extent disk.old }
+    ensures extent { D.extent disk.new ≡ D.extent disk.old }
+    ensures cause { HasCause (D.failures disk.old) (D.failures disk.new) result }
+    ensures done { D.honest → OnOk result (Holds at bytes.now (D.state disk.old).bytes (D.state disk.new).bytes) }
+    ensures seen { D.honest → SameBut at (length bytes.now) (D.state disk.old).bytes (D.state disk.new).bytes }
+    ensures synced { D.honest → OnOk result (Only (D.state disk.new)) }
+    ensures left { D.honest → Follows (SameBut at (length bytes.now)) (Left (D.state disk.old)) (Left (D.state disk.new)) }
+    ensures time { D.honest → D.tells → LeavesOnly D.moment D.left_since disk.old disk.new (Reaches (SameBut at (length bytes.now)) (Left (D.state disk.old))) }
+{
+    disk.write(at, bytes)?;
+    make_sure(disk)?;
+    Ok(())
+}
+
+/// Makes sure of all that was written: after it a power loss leaves what a read gives.
+pub fn make_sure<D: Disk>(disk: &mut D) -> Result<(), DiskFault>
+    ensures extent { D.extent disk.new ≡ D.extent disk.old }
+    ensures cause { HasCause (D.failures disk.old) (D.failures disk.new) result }
+    ensures synced { D.honest → OnOk result (Only (D.state disk.new)) }
+    ensures seen { D.honest → (D.state disk.new).bytes ≡ (D.state disk.old).bytes }
+    ensures left { D.honest → (x : List ℕ) → Left (D.state disk.new) x → Left (D.state disk.old) x }
+    ensures time { D.honest → D.tells → LeavesOnly D.moment D.left_since disk.old disk.new (Left (D.state disk.old)) }
+{
+    disk.sync()?;
+    Ok(())
+}

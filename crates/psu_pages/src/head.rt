@@ -1,0 +1,154 @@
+//! What a head says, how it is read, and how it is spelled.
+ghost use Rattle.std.specs.Prelude.{◌≡◌, ◌*◌, ◌≤◌, ◌+◌, ◌++◌, length, IfOk, IfSome, IsNone};
+ghost use Rattle.std.specs.List.{AllByRecursion};
+ghost use Rattle.psu_pages.specs.Image.{head_on, head_after, words, IsHead};
+ghost use Rattle.psu_pages.specs.Spelling.{spelled, spelled_words};
+
+use crate::page::Page;
+use std::alloc::{AllocError, Allocator};
+use std::marker::Model;
+
+/// The page of an item's head, the item's key, how many bytes its value has, and the pages that hold them.
+#[derive(Drop)]
+pub struct Head<A: Allocator + Copy> {
+    pub(crate) at: u16,
+    pub(crate) key: Vec<u8, A>,
+    pub(crate) size: u32,
+    pub(crate) pages: Vec<u16, A>,
+}
+
+impl<A: Allocator + Copy> Model for Head<A> {
+    ghost use Rattle.psu_pages.specs.Image.{Head, head_of};
+
+    ghost Value = { Head };
+
+    ghost view = { λ h. head_of h.at h.key.items h.size h.pages.items };
+}
+
+impl<A: Allocator + Copy> Head<A> {
+    /// The page that the head is on.
+    pub fn at(&self) -> u16
+        ensures { result ≡ self.now.at }
+    {
+        self.at
+    }
+
+    /// The item's key.
+    pub fn key(&self) -> &[u8]
+        ensures { result.now ≡ self.now.key }
+    {
+        self.key.as_slice()
+    }
+
+    /// How many bytes the value has.
+    pub fn size(&self) -> u32
+        ensures { result ≡ self.now.size }
+    {
+        self.size
+    }
+
+    /// The pages of the value, in their order.
+    pub fn pages(&self) -> &[u16]
+        ensures { result.now ≡ self.now.pages }
+    {
+        self.pages.as_slice()
+    }
+
+    /// The same in memory of its own.
+    pub fn copy(&self, alloc: A) -> Result<Head<A>, AllocError>
+        ensures { IfOk result (λ copy. copy ≡ self.now) }
+    {
+        Ok(Head {
+            at: self.at,
+            key: self.key.to_vec(alloc)?,
+            size: self.size,
+            pages: self.pages.to_vec(alloc)?,
+        })
+    }
+
+    /// The head on a page with these bytes; none where it isn't one.
+    pub(crate) fn on(alloc: A, at: u16, page: &[u8]) -> Result<Option<Head<A>>, AllocError>
+        requires { length page.now ≡ 512 }
+        ensures found { IfOk result (λ found. IfSome found (λ head. (head ≡ head_on at page.now) × IsHead head)) }
+        ensures none { IfOk result (λ found. IsNone found → IsHead (head_on at page.now) → ⊥) }
+    {
+        match page {
+            [] => Ok(None),
+            [n, rest @ ..] => {
+                let n = *n as usize;
+                if n == 0 || n > 33 {
+                    return Ok(None);
+                }
+                let (key, rest) = rest.split_at(n);
+                Head::after(alloc, at, key, rest)
+            }
+        }
+    }
+
+    // The head with this key, by the bytes after it.
+    #[tactic(auto, using(crate::proofs::Numbers::length_words))]
+    fn after(alloc: A, at: u16, key: &[u8], bytes: &[u8]) -> Result<Option<Head<A>>, AllocError>
+        requires key { 1 ≤ length key.now }
+        requires key_most { length key.now ≤ 33 }
+        requires long { 170 ≤ length bytes.now }
+        ensures found { IfOk result (λ found. IfSome found (λ head. (head ≡ head_after at key.now bytes.now) × IsHead head)) }
+        ensures none { IfOk result (λ found. IsNone found → IsHead (head_after at key.now bytes.now) → ⊥) }
+    {
+        let (number, more) = bytes.split_at(4);
+        let size = u32::from_be_bytes([number[0], number[1], number[2], number[3]]);
+        let (number, pages) = more.split_at(2);
+        let count = u16::from_be_bytes([number[0], number[1]]);
+        if size == 0 || size > 33280 {
+            return Ok(None);
+        }
+        if u32::from(count) != (size + 511) / 512 {
+            return Ok(None);
+        }
+        Ok(Some(Head {
+            at,
+            key: key.to_vec(alloc)?,
+            size,
+            pages: read_words(alloc, count, pages)?,
+        }))
+    }
+
+    /// The head as its page has it.
+    pub(crate) fn spell(&self) -> Page
+        requires { IsHead self.now }
+        ensures { result ≡ spelled self.now }
+    {
+        let mut page = Page::new();
+        page.add(&[self.key.len() as u8]);
+        page.add(&self.key);
+        page.add(&self.size.to_be_bytes());
+        page.add(&(self.pages.len() as u16).to_be_bytes());
+        add_words(&mut page, &self.pages);
+        page
+    }
+}
+
+// Puts numbers of two bytes each on a page.
+pub(crate) fn add_words(page: &mut Page, words: &[u16])
+    requires { length page.old + 2 * length words.now ≤ 512 }
+    ensures { page.new ≡ page.old ++ spelled_words words.now }
+{
+    for word in words {
+        page.add(&word.to_be_bytes());
+    }
+}
+
+// Numbers of two bytes each.
+pub(crate) fn read_words<A: Allocator + Copy>(
+    alloc: A,
+    count: u16,
+    bytes: &[u8],
+) -> Result<Vec<u16, A>, AllocError>
+    requires { 2 * count ≤ length bytes.now }
+    ensures { IfOk result (λ numbers. numbers.items ≡ words count bytes.now) }
+{
+    let mut numbers = Vec::new(alloc);
+    for i in 0..count as usize {
+        numbers.push(u16::from_be_bytes([bytes[2 * i], bytes[2 * i + 1]]))?;
+    }
+    Ok(numbers)
+}

@@ -1,0 +1,66 @@
+//! The value of a head.
+ghost use Rattle.std.specs.Prelude.{◌≡◌, ◌≢◌, ◌+◌, ◌*◌, ◌≤◌, List, ℕ, OnOk, IfOk, IfErr, IsErrOf};
+ghost use Rattle.std.specs.List.{AllByRecursion};
+ghost use Rattle.psu_disk.specs.Disk.{Left, LeavesOnly, HasCause, HasFailed};
+ghost use Rattle.psu_pages.specs.Image.{value_in, IsHead, IsInPool, Head as HeadOf};
+ghost use Rattle.psu_pages.specs.declared.page_fault.PageFault.TheVariants.{Device, NoPage};
+
+use crate::reading::read_page;
+use crate::{Head, PageFault, Pages};
+use psu_disk::Disk;
+use std::alloc::Allocator;
+
+/// Reads the value of a head, each of its pages once.
+pub fn read_value<D: Disk, A: Allocator + Copy>(
+    alloc: A,
+    disk: &mut D,
+    head: &Head<A>,
+) -> Result<Vec<u8, A>, PageFault>
+    requires is_head { IsHead head.now }
+    requires room { AllByRecursion (λ page. 512 * page + 512 ≤ D.extent disk.old) head.now.pages }
+    ensures extent { D.extent disk.new ≡ D.extent disk.old }
+    ensures works { OnOk result (D.failures disk.new ≡ D.failures disk.old) }
+    ensures later { D.failures disk.old ≤ D.failures disk.new }
+    ensures device { IsErrOf result Device → HasFailed (D.failures disk.old) (D.failures disk.new) }
+    ensures quiet { IfErr result (λ cause. cause ≢ Device → D.failures disk.new ≡ D.failures disk.old) }
+    ensures pages { IfErr result (λ cause. cause ≢ NoPage) }
+    ensures found { D.honest → IfOk result (λ value. value.items ≡ value_in (D.state disk.old).bytes head.now) }
+    ensures seen { D.honest → (D.state disk.new).bytes ≡ (D.state disk.old).bytes }
+    ensures left { D.honest → (x : List ℕ) → Left (D.state disk.new) x → Left (D.state disk.old) x }
+    ensures time { D.honest → D.tells → LeavesOnly D.moment D.left_since disk.old disk.new (Left (D.state disk.old)) }
+{
+    let mut value = Vec::with_capacity(alloc, 512 * head.pages().len())?;
+    for page in head.pages() {
+        let mut bytes = [0; 512];
+        read_page(disk, *page, &mut bytes)?;
+        value.extend_from_slice(&bytes)?;
+    }
+    value.truncate(head.size() as usize);
+    Ok(value)
+}
+
+impl<D: Disk, A: Allocator + Copy> Pages<D, A> {
+    ghost use Rattle.psu_pages.specs.Outcome.{IsPlanned, HasSameHeads};
+
+    /// Reads the value of a head that stands on its page.
+    pub fn load(&mut self, alloc: A, head: &Head<A>) -> Result<Vec<u8, A>, PageFault>
+        requires is_head { IsHead head.now }
+        requires pool { AllByRecursion (IsInPool self.old.limit) head.now.pages }
+        ensures extent { D.extent self.new.disk ≡ D.extent self.old.disk }
+        ensures works { OnOk result (D.failures self.new.disk ≡ D.failures self.old.disk) }
+        ensures later { D.failures self.old.disk ≤ D.failures self.new.disk }
+        ensures device { IsErrOf result Device → HasFailed (D.failures self.old.disk) (D.failures self.new.disk) }
+        ensures quiet { IfErr result (λ cause. cause ≢ Device → D.failures self.new.disk ≡ D.failures self.old.disk) }
+        ensures pages { IfErr result (λ cause. cause ≢ NoPage) }
+
+        ensures found { D.honest → IfOk result (λ value. value.items ≡ value_in (D.state self.old.disk).bytes head.now) }
+        ensures same { HasSameHeads self.old self.new }
+        ensures standing { self.new.standing ≡ self.old.standing }
+        ensures planned { (other : HeadOf) → IsPlanned self.old other → IsPlanned self.new other }
+        ensures seen { D.honest → (D.state self.new.disk).bytes ≡ (D.state self.old.disk).bytes }
+        ensures left { D.honest → (x : List ℕ) → Left (D.state self.new.disk) x → Left (D.state self.old.disk) x }
+        ensures time { D.honest → D.tells → LeavesOnly D.moment D.left_since self.old.disk self.new.disk (Left (D.state self.old.disk)) }
+    {
+        read_value(alloc, &mut self.disk, head)
+    }
+}

@@ -1,0 +1,116 @@
+//! What a disk holds, after a power loss or without one.
+ghost use Rattle.std.specs.Prelude.{◌≡◌, ◌≢◌, ◌+◌, ◌*◌, ◌<◌, ◌≤◌, [], List, ℕ, OnOk, IfOk, IfErr, IsErrOf};
+ghost use Rattle.psu_disk.specs.Disk.{Left, Only, LeavesOnly, HasFailed};
+ghost use Rattle.psu_pages.specs.Finding.{AreFit, IsRefusal, HasReadableRoot, HasGates};
+ghost use Rattle.psu_pages.specs.Free.{IsRoster};
+ghost use Rattle.psu_pages.specs.Shown.{items_in, Bears};
+ghost use Rattle.psu_pages.specs.declared.open_cause.OpenCause.TheVariants.{Device, Memory};
+ghost use Rattle.psu_pages.specs.declared.standing.Standing.TheVariants.{Unsure};
+
+use crate::checks::stand_together;
+use crate::choose::{Chosen, choose, read_roots};
+use crate::head::read_words;
+use crate::scan::scan;
+use crate::{FreeMap, Head, OpenCause, Pages, Refused, Standing};
+use psu_disk::Disk;
+use std::alloc::Allocator;
+
+// The root that counts, with its heads.
+#[derive(Drop)]
+struct Opened<A: Allocator + Copy> {
+    chosen: Chosen,
+    heads: Vec<Head<A>, A>,
+    free: FreeMap<A>,
+}
+
+impl<D: Disk, A: Allocator + Copy> Pages<D, A> {
+    ghost use Rattle.psu_pages.specs.Outcome.{opened_disk};
+
+    /// The items that a disk stands for. It begins with a sync, and reads the two roots and the pages of the heads, each once. An
+    /// older gate that stands open is left open. Nothing is written.
+    pub fn open(alloc: A, mut disk: D) -> Result<Pages<D, A>, Refused<D>>
+        ensures found { D.honest → IfOk result (λ pages. Bears pages.root pages.limit pages.number pages.heads.items (items_in pages.root (D.state disk).bytes) (D.state disk).bytes) }
+        ensures sure { IfOk result (λ pages. pages.standing ≢ Unsure) }
+        ensures fit { IfOk result (λ pages. AreFit pages.limit pages.heads.items pages.free) }
+        ensures none_older { IfOk result (λ pages. pages.older.items ≡ []) }
+        ensures refused { D.honest → IfErr result (λ e. IsRefusal (D.state disk).bytes e.cause) }
+        ensures extent { D.extent (opened_disk result) ≡ D.extent disk }
+        ensures works { IfOk result (λ pages. D.failures pages.disk ≡ D.failures disk) }
+        ensures later { D.failures disk ≤ D.failures (opened_disk result) }
+        ensures device { IfErr result (λ e. e.cause ≡ Device → HasFailed (D.failures disk) (D.failures e.disk)) }
+        ensures quiet { IfErr result (λ e. e.cause ≢ Device → D.failures e.disk ≡ D.failures disk) }
+        ensures memory { D.honest → IfErr result (λ e. e.cause ≡ Memory → HasReadableRoot (D.state disk).bytes) }
+        ensures synced { D.honest → IfOk result (λ pages. Only (D.state pages.disk)) }
+        ensures seen { D.honest → (D.state (opened_disk result)).bytes ≡ (D.state disk).bytes }
+        ensures left { D.honest → (x : List ℕ) → Left (D.state (opened_disk result)) x → Left (D.state disk) x }
+        ensures time { D.honest → D.tells → LeavesOnly D.moment D.left_since disk (opened_disk result) (Left (D.state disk)) }
+    {
+        if disk.size() < 1024 {
+            return Err(Refused {
+                cause: OpenCause::NoRoot,
+                disk,
+            });
+        }
+        match look(alloc, &mut disk) {
+            Ok(
+                Opened {
+                    chosen,
+                    heads,
+                    free,
+                },
+            ) => Ok(Pages {
+                disk,
+                root: chosen.root,
+                limit: chosen.limit,
+                number: chosen.number,
+                standing: chosen.standing(),
+                heads,
+                older: Vec::new(alloc),
+                free,
+            }),
+            Err(cause) => Err(Refused { cause, disk }),
+        }
+    }
+}
+
+// Finds the root that counts, and reads its heads.
+fn look<D: Disk, A: Allocator + Copy>(alloc: A, disk: &mut D) -> Result<Opened<A>, OpenCause>
+    requires { 1024 ≤ D.extent disk.old }
+    ensures extent { D.extent disk.new ≡ D.extent disk.old }
+    ensures works { OnOk result (D.failures disk.new ≡ D.failures disk.old) }
+    ensures later { D.failures disk.old ≤ D.failures disk.new }
+    ensures device { IsErrOf result Device → HasFailed (D.failures disk.old) (D.failures disk.new) }
+    ensures quiet { IfErr result (λ cause. cause ≢ Device → D.failures disk.new ≡ D.failures disk.old) }
+    ensures memory { D.honest → IsErrOf result Memory → HasReadableRoot (D.state disk.old).bytes }
+    ensures limit { IfOk result (λ o. (4 ≤ o.chosen.limit) × (o.chosen.limit ≤ 480) × (512 * (2 + 2 * o.chosen.limit) ≤ D.extent disk.old)) }
+    ensures roster { IfOk result (λ o. IsRoster o.chosen.limit o.heads.items) }
+    ensures fit { IfOk result (λ o. AreFit o.chosen.limit o.heads.items o.free) }
+    ensures found { D.honest → IfOk result (λ o. Bears o.chosen.root o.chosen.limit o.chosen.number o.heads.items (items_in o.chosen.root (D.state disk.old).bytes) (D.state disk.old).bytes) }
+    ensures gates { D.honest → IfOk result (λ o. HasGates o.chosen.root o.chosen.number o.chosen.both (D.state disk.old).bytes) }
+    ensures refused { D.honest → IfErr result (IsRefusal (D.state disk.old).bytes) }
+    ensures synced { D.honest → OnOk result (Only (D.state disk.new)) }
+    ensures seen { D.honest → (D.state disk.new).bytes ≡ (D.state disk.old).bytes }
+    ensures left { D.honest → (x : List ℕ) → Left (D.state disk.new) x → Left (D.state disk.old) x }
+    ensures time { D.honest → D.tells → LeavesOnly D.moment D.left_since disk.old disk.new (Left (D.state disk.old)) }
+{
+    let roots = read_roots(disk)?;
+    let chosen = match choose(&roots, disk.size()) {
+        Ok(chosen) => chosen,
+        Err(cause) => return Err(cause),
+    };
+    let Ok(names) = read_words(alloc, chosen.count, &roots.page(chosen.root)[18..498]) else {
+        return Err(OpenCause::Memory);
+    };
+    let found = match scan(alloc, disk, chosen.limit, &names) {
+        Ok(found) => found,
+        Err(cause) => return Err(cause),
+    };
+    if !stand_together(&found.heads, chosen.limit) {
+        return Err(OpenCause::BadRoot);
+    }
+    Ok(Opened {
+        chosen,
+        heads: found.heads,
+        free: found.free,
+    })
+}

@@ -1,0 +1,70 @@
+//! A page as it is put together.
+ghost use Rattle.std.specs.Prelude.{◌≡◌, ◌+◌, ◌≤◌, ◌++◌, [], length, drop};
+ghost use Rattle.psu_pages.specs.Spelling.{filled};
+
+use std::marker::Model;
+
+/// The first bytes of a page, and zeros after them. Contracts see the first bytes alone.
+#[derive(Drop)]
+pub struct Page {
+    bytes: [u8; 512],
+    used: usize,
+}
+
+impl Model for Page {
+    ghost use Rattle.std.specs.Prelude.{◌≡◌, ℕ, ◌-◌, ◌≤◌, List, take, drop, replicate};
+
+    ghost Value = { List ℕ };
+
+    ghost view = { λ p. take p.used p.bytes };
+
+    ghost invariant = { λ p. (p.used ≤ 512) × (drop p.used p.bytes ≡ replicate (512 - p.used) 0) };
+}
+
+impl Page {
+    /// A page of zeros.
+    pub fn new() -> Page
+        ensures { result ≡ [] }
+    {
+        Page {
+            bytes: [0; 512],
+            used: 0,
+        }
+    }
+
+    /// A page that begins with these bytes.
+    pub fn of(bytes: &[u8]) -> Page
+        requires { length bytes.now ≤ 512 }
+        ensures { result ≡ bytes.now }
+    {
+        let mut page = Page::new();
+        page.add(bytes);
+        page
+    }
+
+    /// Puts bytes after those that there are.
+    pub fn add(&mut self, bytes: &[u8])
+        requires { length self.old + length bytes.now ≤ 512 }
+        ensures { self.new ≡ self.old ++ bytes.now }
+    {
+        let end = self.used + bytes.len();
+        self.bytes[self.used..end].copy_from_slice(bytes);
+        self.used = end;
+    }
+
+    /// The whole page.
+    pub fn bytes(&self) -> &[u8]
+        ensures value { result.now ≡ filled 512 self.now }
+        ensures whole { length result.now ≡ 512 }
+    {
+        &self.bytes
+    }
+
+    /// The whole page but for its first byte.
+    pub fn after_gate(&self) -> &[u8]
+        ensures value { result.now ≡ drop 1 (filled 512 self.now) }
+        ensures whole { length result.now ≡ 511 }
+    {
+        &self.bytes()[1..]
+    }
+}

@@ -1,0 +1,98 @@
+//! Items in the pages of a disk.
+ghost use Rattle.std.specs.Prelude.{◌≡◌, ◌≢◌, ◌+◌, ◌*◌, ◌≤◌, ◌<◌, ◌^◌, [], List, ℕ, false, length, IfOk, OnOk, IfErr};
+ghost use Rattle.std.specs.List.{AllByRecursion};
+ghost use Rattle.psu_disk.specs.Disk.{Left};
+ghost use Rattle.psu_pages.specs.Free.{is_free, AreClaimed, IsRoster};
+ghost use Rattle.psu_pages.specs.Image.{other, taken, counting, number_in, version_in, head_at};
+ghost use Rattle.psu_pages.specs.Shown.{items_in, EachBears, EachShut, EachLower};
+ghost use Rattle.psu_pages.specs.Single.{AreClaimed-IsProp, IsRoster-IsProp, Bears-IsProp};
+ghost use Rattle.std.proofs.Props.{props};
+ghost use Rattle.psu_pages.specs.declared.root.Root.TheVariants.{First};
+ghost use Rattle.psu_pages.specs.declared.standing.Standing.TheVariants.{One, Both, Unsure};
+
+use crate::root_page::VERSION;
+use crate::{FreeMap, Head, Root, Standing};
+use psu_disk::Disk;
+use std::alloc::Allocator;
+
+/// Items in the pages of a disk. While its gates stand for sure, whatever a power loss leaves of the disk shows the items of the
+/// heads, and no page of them is free.
+#[derive(Drop)]
+pub struct Pages<D: Disk, A: Allocator + Copy> {
+    pub(crate) disk: D,
+    pub(crate) root: Root,
+    pub(crate) limit: u16,
+    pub(crate) number: u64,
+    pub(crate) standing: Standing,
+    pub(crate) heads: Vec<Head<A>, A>,
+    pub(crate) older: Vec<Head<A>, A>,
+    pub(crate) free: FreeMap<A>,
+    ghost limit_least: { 4 ≤ limit },
+    ghost limit_most: { limit ≤ 480 },
+    ghost room: { 512 * (2 + 2 * limit) ≤ D.extent disk },
+    ghost sized: { length free ≡ 2 + 2 * limit },
+    ghost first_kept: { is_free free 0 ≡ false },
+    ghost second_kept: { is_free free 1 ≡ false },
+    ghost roster: { IsRoster limit heads.items } by { IsRoster-IsProp limit heads.items },
+    ghost claimed: { AreClaimed free (taken heads.items) } by { AreClaimed-IsProp free (taken heads.items) },
+    ghost older_roster: { IsRoster limit older.items } by { IsRoster-IsProp limit older.items },
+    ghost older_claimed: { AreClaimed free (taken older.items) } by { AreClaimed-IsProp free (taken older.items) },
+    ghost none_older: { standing ≡ One → older.items ≡ [] },
+    ghost bears: { D.honest → standing ≢ Unsure → EachBears (D.state disk) root limit number heads.items (items_in root (D.state disk).bytes) } by { Prim.hlevel (props, Bears-IsProp) },
+    ghost shut: { D.honest → standing ≡ One → EachShut (D.state disk) (other root) },
+    ghost lower: { D.honest → standing ≡ Both → EachLower (D.state disk) (other root) number },
+}
+
+impl<D: Disk, A: Allocator + Copy> Pages<D, A> {
+    /// The heads of the root that counts, in the order in which it names them.
+    pub fn heads(&self) -> &[Head<A>]
+        ensures value { result.now ≡ self.now.heads.items }
+        ensures roster { IsRoster self.now.limit result.now }
+        ensures claimed { AreClaimed self.now.free (taken result.now) }
+        ensures there { D.honest → self.now.standing ≢ Unsure → AllByRecursion (λ head. head_at (D.state self.now.disk).bytes head.at ≡ head) result.now }
+        ensures bears { D.honest → self.now.standing ≢ Unsure → EachBears (D.state self.now.disk) self.now.root self.now.limit self.now.number result.now (items_in self.now.root (D.state self.now.disk).bytes) }
+    {
+        &self.heads
+    }
+
+    /// How many pages the items may take.
+    pub fn limit(&self) -> u16
+        ensures value { result ≡ self.now.limit }
+        ensures least { 4 ≤ result }
+        ensures most { result ≤ 480 }
+        ensures room { 512 * (2 + 2 * result) ≤ D.extent self.now.disk }
+    {
+        self.limit
+    }
+
+    /// The number of the root that counts, which rises by 1 with each root that is published.
+    pub fn number(&self) -> u64
+        ensures value { result ≡ self.now.number }
+        ensures stands { D.honest → self.now.standing ≢ Unsure → (image : List ℕ) → Left (D.state self.now.disk) image → number_in (counting image) image ≡ result }
+    {
+        self.number
+    }
+
+    /// The version of the image's format.
+    pub fn version(&self) -> u16
+        ensures value { result ≡ 1 }
+        ensures stands { D.honest → self.now.standing ≢ Unsure → (image : List ℕ) → Left (D.state self.now.disk) image → version_in (counting image) image ≡ result }
+    {
+        VERSION
+    }
+
+    /// How the gates stand.
+    pub fn standing(&self) -> Standing
+        ensures { result ≡ self.now.standing }
+    {
+        self.standing
+    }
+
+    /// The disk, with the items on it.
+    pub fn into_disk(self) -> D
+        ensures value { result ≡ self.disk }
+        ensures bears { D.honest → self.standing ≢ Unsure → EachBears (D.state result) self.root self.limit self.number self.heads.items (items_in self.root (D.state result).bytes) }
+    {
+        self.disk
+    }
+}

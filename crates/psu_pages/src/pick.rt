@@ -1,0 +1,56 @@
+//! Which of the two roots counts.
+ghost use Rattle.std.specs.Prelude.{◌≡◌, Some, IfOk, IfErr};
+ghost use Rattle.psu_pages.specs.Finding.{IsPicked, IsNonePicked};
+
+use crate::{OpenCause, Root};
+
+/// The root that counts, its number, and whether the other gate is open too.
+#[derive(Clone, Copy, Debug, Drop)]
+pub struct Picked {
+    pub root: Root,
+    pub number: u64,
+    pub both: bool,
+}
+
+/// The root that counts, by the numbers of the roots whose gate is open.
+pub fn pick(first: Option<u64>, second: Option<u64>) -> Result<Picked, OpenCause>
+    ensures picked { IfOk result (λ p. IsPicked first second p.root p.number p.both) }
+    ensures none { IfErr result (IsNonePicked first second) }
+{
+    match (first, second) {
+        (None, None) => Err(OpenCause::NoRoot),
+        (Some(number), None) => Ok(Picked {
+            root: Root::First,
+            number,
+            both: false,
+        }),
+        (None, Some(number)) => Ok(Picked {
+            root: Root::Second,
+            number,
+            both: false,
+        }),
+        (Some(first), Some(second)) => between(first, second),
+    }
+}
+
+// The root that counts of two that are open.
+fn between(first: u64, second: u64) -> Result<Picked, OpenCause>
+    ensures picked { IfOk result (λ p. IsPicked (Some first) (Some second) p.root p.number p.both) }
+    ensures none { IfErr result (IsNonePicked (Some first) (Some second)) }
+{
+    if first == second {
+        return Err(OpenCause::BadRoot);
+    }
+    if first < second {
+        return Ok(Picked {
+            root: Root::Second,
+            number: second,
+            both: true,
+        });
+    }
+    Ok(Picked {
+        root: Root::First,
+        number: first,
+        both: true,
+    })
+}

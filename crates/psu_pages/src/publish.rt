@@ -1,0 +1,140 @@
+//! From the items that stand to those of other heads.
+ghost use Rattle.std.specs.Prelude.{◌≡◌, ◌≢◌, ◌+◌, ◌<◌, ◌≤◌, ◌^◌, [], List, ℕ, true, length, map, OnOk, OnErr, IfErr, IsErrOf};
+ghost use Rattle.std.specs.List.{AllByRecursion};
+ghost use Rattle.psu_disk.specs.Disk.{Left, SameBut, Follows, LeavesOnly, HasFailed};
+ghost use Rattle.psu_pages.specs.Free.{is_free, AreClaimed, IsRoster};
+ghost use Rattle.psu_pages.specs.Image.{AreClear, IsNone, IsInPool, gate_at, head_at, other, pages_of, taken, Head as HeadOf};
+ghost use Rattle.psu_pages.specs.Shown.{item_in, items_in, Bears, BearsEither};
+ghost use Rattle.psu_pages.specs.Writing.{Misses, Reaches, IsWritten};
+ghost use Rattle.psu_pages.specs.declared.page_fault.PageFault.TheVariants.{Device};
+ghost use Rattle.psu_pages.specs.declared.standing.Standing.TheVariants.{One, Both, Unsure};
+
+use crate::gates::{CLOSED, set_gate};
+use crate::hand_over::hand_over;
+use crate::root_page::spell_root;
+use crate::switch::switch;
+use crate::writing::write_item;
+use crate::{Head, PageFault, Pages, Standing};
+use psu_disk::{Disk, DiskFault};
+use std::alloc::Allocator;
+use std::mem;
+
+impl<D: Disk, A: Allocator + Copy> Pages<D, A> {
+    ghost use Rattle.psu_pages.specs.Outcome.{IsPlanned, HasSameHeads, HasPublished, HasClosed};
+
+    /// Writes the head of an item that was planned, and its value, each page by one call of the disk.
+    pub fn write_new(&mut self, head: &Head<A>, value: &[u8]) -> Result<(), PageFault>
+        requires planned { IsPlanned self.old head.now }
+        requires size { length value.now ≡ head.now.size }
+        requires sure { self.old.standing ≢ Unsure }
+        ensures extent { D.extent self.new.disk ≡ D.extent self.old.disk }
+        ensures works { OnOk result (D.failures self.new.disk ≡ D.failures self.old.disk) }
+        ensures later { D.failures self.old.disk ≤ D.failures self.new.disk }
+        ensures device { IfErr result (λ cause. (cause ≡ Device) × HasFailed (D.failures self.old.disk) (D.failures self.new.disk)) }
+
+        ensures same { HasSameHeads self.old self.new }
+        ensures standing { OnOk result (self.new.standing ≡ self.old.standing) }
+        ensures planned { (other : HeadOf) → IsPlanned self.old other → IsPlanned self.new other }
+        ensures written { D.honest → OnOk result (IsWritten (D.state self.new.disk).bytes head.now value.now) }
+        ensures others { D.honest → (other : HeadOf) (its : List ℕ) → IsWritten (D.state self.old.disk).bytes other its → AllByRecursion (IsInPool self.old.limit) (pages_of other) → AreClear (pages_of head.now) (pages_of other)
+            → IsWritten (D.state self.new.disk).bytes other its }
+
+        // At every moment the same items stand, and no page but those of the head is written.
+        ensures shown { D.honest → items_in self.new.root (D.state self.new.disk).bytes ≡ items_in self.old.root (D.state self.old.disk).bytes }
+        ensures left { D.honest → (image : List ℕ) → Left (D.state self.new.disk) image
+            → Bears self.old.root self.old.limit self.old.number self.old.heads.items (items_in self.old.root (D.state self.old.disk).bytes) image }
+        ensures time { D.honest → D.tells → LeavesOnly D.moment D.left_since self.old.disk self.new.disk
+            (Bears self.old.root self.old.limit self.old.number self.old.heads.items (items_in self.old.root (D.state self.old.disk).bytes)) }
+        ensures touched { D.honest → Follows (Misses (pages_of head.now)) (Left (D.state self.old.disk)) (Left (D.state self.new.disk)) }
+        ensures touched_time { D.honest → D.tells → LeavesOnly D.moment D.left_since self.old.disk self.new.disk (Reaches (Misses (pages_of head.now)) (Left (D.state self.old.disk))) }
+    {
+        match write_item(&mut self.disk, head, value) {
+            Ok(()) => Ok(()),
+            Err(DiskFault) => {
+                self.standing = Standing::Unsure;
+                Err(PageFault::Device)
+            }
+        }
+    }
+
+    /// Makes a root count that names these heads, in the place of the one that counts. The older one's gate stays open.
+    pub fn publish_root(&mut self, heads: Vec<Head<A>, A>) -> Result<(), PageFault>
+        requires shut { self.old.standing ≡ One }
+        requires number { self.old.number + 1 < 2 ^ 64 }
+        requires roster { IsRoster self.old.limit heads.items }
+        requires claimed { AreClaimed self.old.free (taken heads.items) }
+        requires there { D.honest → AllByRecursion (λ head. head_at (D.state self.old.disk).bytes head.at ≡ head) heads.items }
+        ensures extent { D.extent self.new.disk ≡ D.extent self.old.disk }
+        ensures works { OnOk result (D.failures self.new.disk ≡ D.failures self.old.disk) }
+        ensures later { D.failures self.old.disk ≤ D.failures self.new.disk }
+        ensures device { IfErr result (λ cause. (cause ≡ Device) × HasFailed (D.failures self.old.disk) (D.failures self.new.disk)) }
+
+        ensures published { OnOk result (HasPublished self.old self.new heads.items) }
+        ensures limit { self.new.limit ≡ self.old.limit }
+        ensures planned { (other : HeadOf) → IsPlanned self.old other → AreClear (pages_of other) (taken heads.items) → IsPlanned self.new other }
+        ensures shown { D.honest → OnOk result (items_in self.new.root (D.state self.new.disk).bytes ≡ map (item_in (D.state self.old.disk).bytes) heads.items) }
+
+        // At every moment the items before stand, or those of the heads, and no page but the next root's is written.
+        ensures left { D.honest → (image : List ℕ) → Left (D.state self.new.disk) image
+            → BearsEither (other self.old.root) self.old.limit self.old.number self.old.heads.items (items_in self.old.root (D.state self.old.disk).bytes) heads.items (map (item_in (D.state self.old.disk).bytes) heads.items) image }
+        ensures time { D.honest → D.tells → LeavesOnly D.moment D.left_since self.old.disk self.new.disk
+            (BearsEither (other self.old.root) self.old.limit self.old.number self.old.heads.items (items_in self.old.root (D.state self.old.disk).bytes) heads.items (map (item_in (D.state self.old.disk).bytes) heads.items)) }
+        ensures touched { D.honest → Follows (SameBut (gate_at (other self.old.root)) 512) (Left (D.state self.old.disk)) (Left (D.state self.new.disk)) }
+        ensures touched_time { D.honest → D.tells → LeavesOnly D.moment D.left_since self.old.disk self.new.disk (Reaches (SameBut (gate_at (other self.old.root)) 512) (Left (D.state self.old.disk))) }
+    {
+        let next = self.root.other();
+        let page = spell_root(self.limit, self.number + 1, &heads);
+        match switch(&mut self.disk, next, page.after_gate()) {
+            Ok(()) => {
+                self.root = next;
+                self.number += 1;
+                self.standing = Standing::Both;
+                self.older = mem::replace(&mut self.heads, heads);
+                Ok(())
+            }
+            Err(DiskFault) => {
+                self.standing = Standing::Unsure;
+                Err(PageFault::Device)
+            }
+        }
+    }
+
+    /// Closes the gate of the older root where it stands open, and gives up the pages that it alone names.
+    pub fn close_old(&mut self) -> Result<(), PageFault>
+        requires sure { self.old.standing ≢ Unsure }
+        ensures extent { D.extent self.new.disk ≡ D.extent self.old.disk }
+        ensures works { OnOk result (D.failures self.new.disk ≡ D.failures self.old.disk) }
+        ensures later { D.failures self.old.disk ≤ D.failures self.new.disk }
+        ensures device { IfErr result (λ cause. (cause ≡ Device) × HasFailed (D.failures self.old.disk) (D.failures self.new.disk)) }
+
+        ensures closed { OnOk result (HasClosed self.old self.new) }
+        ensures limit { self.new.limit ≡ self.old.limit }
+        ensures planned { (other : HeadOf) → IsPlanned self.old other → IsPlanned self.new other }
+        ensures none { OnOk result (self.old.standing ≡ One → (self.new.disk ≡ self.old.disk) × (self.new.free ≡ self.old.free)) }
+
+        // At every moment the same items stand, and nothing but the older gate is written.
+        ensures shown { D.honest → OnOk result (items_in self.new.root (D.state self.new.disk).bytes ≡ items_in self.old.root (D.state self.old.disk).bytes) }
+        ensures left { D.honest → (image : List ℕ) → Left (D.state self.new.disk) image
+            → Bears self.old.root self.old.limit self.old.number self.old.heads.items (items_in self.old.root (D.state self.old.disk).bytes) image }
+        ensures time { D.honest → D.tells → LeavesOnly D.moment D.left_since self.old.disk self.new.disk
+            (Bears self.old.root self.old.limit self.old.number self.old.heads.items (items_in self.old.root (D.state self.old.disk).bytes)) }
+        ensures touched { D.honest → Follows (SameBut (gate_at (other self.old.root)) 1) (Left (D.state self.old.disk)) (Left (D.state self.new.disk)) }
+        ensures touched_time { D.honest → D.tells → LeavesOnly D.moment D.left_since self.old.disk self.new.disk (Reaches (SameBut (gate_at (other self.old.root)) 1) (Left (D.state self.old.disk))) }
+    {
+        if self.standing == Standing::One {
+            return Ok(());
+        }
+        match set_gate(&mut self.disk, self.root.other(), CLOSED) {
+            Ok(()) => {
+                hand_over(&mut self.free, &self.older, &self.heads);
+                self.older.clear();
+                self.standing = Standing::One;
+                Ok(())
+            }
+            Err(DiskFault) => {
+                self.standing = Standing::Unsure;
+                Err(PageFault::Device)
+            }
+        }
+    }
+}

@@ -1,0 +1,10 @@
+//! A disk that isn't opened.
+
+use crate::OpenCause;
+
+/// A disk that wasn't opened, and why.
+#[derive(Drop)]
+pub struct Refused<D> {
+    pub cause: OpenCause,
+    pub disk: D,
+}

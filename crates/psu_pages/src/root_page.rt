@@ -1,0 +1,36 @@
+//! What a root says, as its page has it.
+ghost use Rattle.std.specs.Prelude.{◌≡◌, ◌+◌, ◌*◌, ◌≤◌, ◌∷◌, ◌++◌, length};
+ghost use Rattle.psu_pages.specs.Spelling.{said, names, spelled_words};
+
+use crate::Head;
+use crate::gates::CLOSED;
+use crate::page::Page;
+use std::alloc::Allocator;
+
+/// The version of the image's format.
+pub const VERSION: u16 = 1;
+
+/// The page of a root that names these heads, its gate closed.
+pub fn spell_root<A: Allocator + Copy>(limit: u16, number: u64, heads: &[Head<A>]) -> Page
+    requires { length heads.now ≤ 240 }
+    ensures { result ≡ 0 ∷ said limit number (names heads.now) }
+{
+    let mut page = Page::of(&[CLOSED]);
+    page.add(b"PSU");
+    page.add(&VERSION.to_be_bytes());
+    page.add(&limit.to_be_bytes());
+    page.add(&number.to_be_bytes());
+    page.add(&(heads.len() as u16).to_be_bytes());
+    add_names(&mut page, heads);
+    page
+}
+
+// Puts the pages of heads on a page.
+fn add_names<A: Allocator + Copy>(page: &mut Page, heads: &[Head<A>])
+    requires { length page.old + 2 * length heads.now ≤ 512 }
+    ensures { page.new ≡ page.old ++ spelled_words (names heads.now) }
+{
+    for head in heads {
+        page.add(&head.at().to_be_bytes());
+    }
+}

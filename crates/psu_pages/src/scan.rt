@@ -1,0 +1,98 @@
+//! The heads that a root names.
+ghost use Rattle.std.specs.Prelude.{◌≡◌, ◌≢◌, ◌+◌, ◌*◌, ◌≤◌, ◌++◌, ◌∷◌, [], List, ℕ, false, length, map, OnOk, IfOk, IfErr, IsErrOf};
+ghost use Rattle.psu_disk.specs.Disk.{Left, LeavesOnly, HasFailed};
+ghost use Rattle.psu_pages.specs.Image.{head_at, pages_of};
+ghost use Rattle.psu_pages.specs.Free.{Marks};
+ghost use Rattle.psu_pages.specs.Finding.{IsFit, AreFit, CanStand, IsScanCause};
+
+use crate::pool::pool;
+use crate::reading::read_page;
+use crate::{FreeMap, Head, OpenCause};
+use psu_disk::Disk;
+use std::alloc::{AllocError, Allocator};
+
+/// The heads that were read, and the pages that none of them has.
+#[derive(Drop)]
+pub struct Found<A: Allocator + Copy> {
+    pub heads: Vec<Head<A>, A>,
+    pub free: FreeMap<A>,
+}
+
+/// Reads the heads on these pages, each page once.
+pub fn scan<D: Disk, A: Allocator + Copy>(
+    alloc: A,
+    disk: &mut D,
+    limit: u16,
+    names: &[u16],
+) -> Result<Found<A>, OpenCause>
+    requires limit { limit ≤ 480 }
+    requires room { 512 * (2 + 2 * limit) ≤ D.extent disk.old }
+    ensures extent { D.extent disk.new ≡ D.extent disk.old }
+    ensures works { OnOk result (D.failures disk.new ≡ D.failures disk.old) }
+    ensures later { D.failures disk.old ≤ D.failures disk.new }
+    ensures device { IsErrOf result OpenCause.Device → HasFailed (D.failures disk.old) (D.failures disk.new) }
+    ensures quiet { IfErr result (λ cause. cause ≢ OpenCause.Device → D.failures disk.new ≡ D.failures disk.old) }
+    ensures cause { IfErr result IsScanCause }
+    ensures many { IfOk result (λ found. length found.heads.items ≡ length names.now) }
+    ensures fit { IfOk result (λ found. AreFit limit found.heads.items found.free) }
+    ensures found { D.honest → IfOk result (λ found. found.heads.items ≡ map (head_at (D.state disk.old).bytes) names.now) }
+    ensures none { D.honest → IsErrOf result OpenCause.BadRoot → CanStand limit (map (head_at (D.state disk.old).bytes) names.now) → ⊥ }
+    ensures seen { D.honest → (D.state disk.new).bytes ≡ (D.state disk.old).bytes }
+    ensures left { D.honest → (x : List ℕ) → Left (D.state disk.new) x → Left (D.state disk.old) x }
+    ensures time { D.honest → D.tells → LeavesOnly D.moment D.left_since disk.old disk.new (Left (D.state disk.old)) }
+{
+    let mut free = pool(alloc, limit)?;
+    let mut heads = Vec::with_capacity(alloc, names.len())?;
+    for name in names {
+        let head = match read_head(alloc, disk, &mut free, *name) {
+            Ok(head) => head,
+            Err(cause) => return Err(cause),
+        };
+        add(&mut heads, head)?;
+    }
+    Ok(Found { heads, free })
+}
+
+// Reads the head on a page, and claims its pages. A page that isn't free, or that comes twice, is none of a good root.
+fn read_head<D: Disk, A: Allocator + Copy>(
+    alloc: A,
+    disk: &mut D,
+    free: &mut FreeMap<A>,
+    name: u16,
+) -> Result<Head<A>, OpenCause>
+    requires { 512 * length free.old ≤ D.extent disk.old }
+    ensures extent { D.extent disk.new ≡ D.extent disk.old }
+    ensures works { OnOk result (D.failures disk.new ≡ D.failures disk.old) }
+    ensures later { D.failures disk.old ≤ D.failures disk.new }
+    ensures device { IsErrOf result OpenCause.Device → HasFailed (D.failures disk.old) (D.failures disk.new) }
+    ensures quiet { IfErr result (λ cause. cause ≢ OpenCause.Device → D.failures disk.new ≡ D.failures disk.old) }
+    ensures cause { IfErr result IsScanCause }
+    ensures fit { IfOk result (IsFit free.old) }
+    ensures claimed { IfOk result (λ head. Marks false (pages_of head) free.old free.new) }
+    ensures found { D.honest → IfOk result (λ head. head ≡ head_at (D.state disk.old).bytes name) }
+    ensures none { D.honest → IsErrOf result OpenCause.BadRoot → IsFit free.old (head_at (D.state disk.old).bytes name) → ⊥ }
+    ensures seen { D.honest → (D.state disk.new).bytes ≡ (D.state disk.old).bytes }
+    ensures left { D.honest → (x : List ℕ) → Left (D.state disk.new) x → Left (D.state disk.old) x }
+    ensures time { D.honest → D.tells → LeavesOnly D.moment D.left_since disk.old disk.new (Left (D.state disk.old)) }
+{
+    if !free.take(name) {
+        return Err(OpenCause::BadRoot);
+    }
+    let mut page = [0; 512];
+    read_page(disk, name, &mut page)?;
+    let Some(head) = Head::on(alloc, name, &page)? else {
+        return Err(OpenCause::BadRoot);
+    };
+    if !free.take_all(head.pages()) {
+        return Err(OpenCause::BadRoot);
+    }
+    Ok(head)
+}
+
+// Puts a head after the others.
+fn add<A: Allocator + Copy>(heads: &mut Vec<Head<A>, A>, head: Head<A>) -> Result<(), AllocError>
+    ensures { OnOk result (heads.new.items ≡ heads.old.items ++ head ∷ []) }
+{
+    heads.push(head)?;
+    Ok(())
+}

@@ -1,0 +1,40 @@
+//! From the root that counts to the next one.
+ghost use Rattle.std.specs.Prelude.{◌≡◌, ◌+◌, ◌≤◌, List, ℕ, length, map, OnOk};
+ghost use Rattle.psu_disk.specs.Disk.{Left, SameBut, Follows, LeavesOnly, HasCause};
+ghost use Rattle.psu_pages.specs.Image.{Head, gate_at, other};
+ghost use Rattle.psu_pages.specs.Shown.{Item, item_in, EachBears, EachShut, EachLower, BearsEither};
+ghost use Rattle.psu_pages.specs.Spelling.{IsTold};
+ghost use Rattle.psu_pages.specs.Writing.{Reaches};
+
+use crate::Root;
+use crate::gates::{OPEN, say, set_gate};
+use psu_disk::{Disk, DiskFault};
+
+/// Makes the next root count, in the place of the other: what it says is made sure of before its gate opens.
+pub fn switch<D: Disk>(disk: &mut D, next: Root, told: &[u8]) -> Result<(), DiskFault>
+    requires roots { 1024 ≤ D.extent disk.old }
+    requires told { length told.now ≡ 511 }
+    ensures extent { D.extent disk.new ≡ D.extent disk.old }
+    ensures cause { HasCause (D.failures disk.old) (D.failures disk.new) result }
+
+    ensures borne { D.honest → (limit number : ℕ) (before heads : List Head) (items : List Item)
+        → EachBears (D.state disk.old) (other next) limit number before items → EachShut (D.state disk.old) next → IsTold limit (number + 1) heads told.now (D.state disk.old).bytes
+        → OnOk result (EachBears (D.state disk.new) next limit (number + 1) heads (map (item_in (D.state disk.old).bytes) heads)) }
+    ensures lower { D.honest → (limit number : ℕ) (before heads : List Head) (items : List Item)
+        → EachBears (D.state disk.old) (other next) limit number before items → EachShut (D.state disk.old) next → IsTold limit (number + 1) heads told.now (D.state disk.old).bytes
+        → OnOk result (EachLower (D.state disk.new) (other next) (number + 1)) }
+    ensures left { D.honest → (limit number : ℕ) (before heads : List Head) (items : List Item)
+        → EachBears (D.state disk.old) (other next) limit number before items → EachShut (D.state disk.old) next → IsTold limit (number + 1) heads told.now (D.state disk.old).bytes
+        → (image : List ℕ) → Left (D.state disk.new) image → BearsEither next limit number before items heads (map (item_in (D.state disk.old).bytes) heads) image }
+    ensures time { D.honest → D.tells → (limit number : ℕ) (before heads : List Head) (items : List Item)
+        → EachBears (D.state disk.old) (other next) limit number before items → EachShut (D.state disk.old) next → IsTold limit (number + 1) heads told.now (D.state disk.old).bytes
+        → LeavesOnly D.moment D.left_since disk.old disk.new (BearsEither next limit number before items heads (map (item_in (D.state disk.old).bytes) heads)) }
+
+    // No other page is written.
+    ensures touched { D.honest → Follows (SameBut (gate_at next) 512) (Left (D.state disk.old)) (Left (D.state disk.new)) }
+    ensures touched_time { D.honest → D.tells → LeavesOnly D.moment D.left_since disk.old disk.new (Reaches (SameBut (gate_at next) 512) (Left (D.state disk.old))) }
+{
+    say(disk, next, told)?;
+    set_gate(disk, next, OPEN)?;
+    Ok(())
+}

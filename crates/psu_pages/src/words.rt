@@ -1,0 +1,80 @@
+//! What a root's page says.
+ghost use Rattle.std.specs.Prelude.{◌≡◌, ◌+◌, ◌≤◌, ◌==◌, List, ℕ, length, if◌then◌else◌, slice_index, Some, None, OnOk, IfErr};
+ghost use Rattle.std.specs.Int.{w16, w64, from_be_bytes};
+ghost use Rattle.psu_disk.specs.Disk.{Range};
+ghost use Rattle.psu_pages.specs.Finding.{IsSound, IsUnsound};
+
+use crate::OpenCause;
+use crate::gates::OPEN;
+use crate::root_page::VERSION;
+
+/// The words of a root after its gate, without its number and the names of its heads.
+#[derive(Clone, Copy, Debug, Drop)]
+pub struct Words {
+    /// `PSU` in a root of ours.
+    pub mark: [u8; 3],
+    pub version: u16,
+    /// How many pages the items may take.
+    pub limit: u16,
+    /// How many items there are.
+    pub count: u16,
+}
+
+/// The words of a root's page.
+pub fn words_on(page: &[u8]) -> Words
+    requires { length page.now ≡ 512 }
+    ensures mark { result.mark ≡ Range 1 3 page.now }
+    ensures version { result.version ≡ from_be_bytes w16 (Range 4 2 page.now) }
+    ensures limit { result.limit ≡ from_be_bytes w16 (Range 6 2 page.now) }
+    ensures count { result.count ≡ from_be_bytes w16 (Range 16 2 page.now) }
+{
+    Words {
+        mark: [page[1], page[2], page[3]],
+        version: word_at(page, 4),
+        limit: word_at(page, 6),
+        count: word_at(page, 16),
+    }
+}
+
+/// The number of a root's page, where its gate is open.
+pub fn open_number(page: &[u8]) -> Option<u64>
+    requires { length page.now ≡ 512 }
+    ensures { result ≡ (if slice_index page.now 0 == 165 then Some (from_be_bytes w64 (Range 8 8 page.now)) else None) }
+{
+    if page[0] != OPEN {
+        return None;
+    }
+    let (_, rest) = page.split_at(8);
+    let (number, _) = rest.split_at(8);
+    Some(u64::from_be_bytes([
+        number[0], number[1], number[2], number[3], number[4], number[5], number[6], number[7],
+    ]))
+}
+
+// The number of two bytes at a place.
+fn word_at(page: &[u8], at: usize) -> u16
+    requires { at + 2 ≤ length page.now }
+    ensures { result ≡ from_be_bytes w16 (Range at 2 page.now) }
+{
+    let (_, rest) = page.split_at(at);
+    let (number, _) = rest.split_at(2);
+    u16::from_be_bytes([number[0], number[1]])
+}
+
+/// Whether the words are those of a root of ours, on a disk of this size.
+pub fn check(words: &Words, size: u64) -> Result<(), OpenCause>
+    ensures sound { OnOk result (IsSound words.now size) }
+    ensures unsound { IfErr result (IsUnsound words.now size) }
+{
+    if words.mark != *b"PSU" {
+        return Err(OpenCause::BadRoot);
+    }
+    if words.version != VERSION {
+        return Err(OpenCause::BadVersion);
+    }
+    let limit = u64::from(words.limit);
+    if limit < 4 || limit > 480 || size < 512 * (2 + 2 * limit) || words.count > 240 {
+        return Err(OpenCause::BadRoot);
+    }
+    Ok(())
+}

@@ -1,0 +1,174 @@
+// The worked rows of the whole instrument, as inputs of a run on a formatted image and its output.
+use crate::images::written;
+use std::alloc::{AllocError, Global};
+
+// Lines and what they write, each row on a fresh image.
+fn rows(alloc: Global) -> Result<(), &'static str> {
+    let rows = [
+        // Saved settings come back.
+        (
+            "VOLT 5.25;*SAV 3;*OPC?\n!POWER\nVOLT?;*RCL 3;VOLT?\n",
+            "1\n0.000;5.250\n",
+        ),
+        // A register's number is rounded; `COUN?` is read after `SYST:`, where it is undefined.
+        (
+            "*SAV 10\n*SAV 9.4\n*SAV 9.5\nSYST:ERR?;COUN?\nSYST:ERR:COUN?\n",
+            "-222,\"Data out of range\"\n2\n",
+        ),
+        ("\nSYST:ERR?\n", "0,\"No error\"\n"),
+        // The path goes on behind `SOUR2:`, and `:` leads back to the root.
+        (
+            "SOUR2:VOLT 3;CURR 0.5;:SOUR2:CURR?;:CURR?\n",
+            "0.500;0.000\n",
+        ),
+        // User data are protected from power-on.
+        ("*PUD #15hello\nSYST:ERR?\n", "-203,\"Command protected\"\n"),
+        ("*PUD #15ab\nSYST:ERR?\n", "-161,\"Invalid block data\"\n"),
+        ("DIAG:PUD:PROT OFF;*PUD #13a;b;*PUD?\n", "#13a;b\n"),
+        // A label is one whatever its case.
+        (
+            "*DMC \"SETA\",#17VOLT $1\n*DMC \"seta\",#10;*LMC?;SYST:ERR?\n",
+            "\"SETA\";-277,\"Macro redefinition not allowed\"\n",
+        ),
+        // `*OPC` sets its bit once what was saved is flushed; `*WAI` waits for that.
+        ("*SAV 1;*OPC;*ESR?\n*WAI;*ESR?\n", "128\n1\n"),
+        // Bit 6 of SRE reads 0; half a millivolt is rounded up; of `VOLTA` there is none.
+        ("*SRE 255;*SRE?\n", "191\n"),
+        (
+            "volt 5250.5 mv;VOLT?;:VOLTA?;:SYST:ERR?\n",
+            "5.251;-113,\"Undefined header\"\n",
+        ),
+        (
+            "VOLT 60.0004;VOLT?;VOLT 60.0005;VOLT 1E32001;SYST:ERR?;:SYST:ERR?\n",
+            "60.000;-222,\"Data out of range\";-123,\"Exponent too large\"\n",
+        ),
+        // A load of 10 ohms at 12 volts takes more than one ampere: the output is in current limit.
+        (
+            "VOLT 12;CURR 1;OUTP ON;MEAS:VOLT?;:MEAS:CURR?;:STAT:QUES:COND?\n",
+            "10.000;1.000;2\n",
+        ),
+        // An output that trips at once is off, and is not switched on again before it is cleared.
+        (
+            "VOLT:PROT 5;:VOLT:PROT:STAT ON;:CURR 5;:VOLT 6;:OUTP ON;:OUTP?;:VOLT:PROT:TRIP?;:OUTP ON;:SYST:ERR?\n",
+            "0;1;-221,\"Settings conflict\"\n",
+        ),
+        // A file of a state; `LOAD:STAT` is read as `MMEM:LOAD:LOAD:STAT`; a name has no `/`.
+        (
+            "MMEM:STOR:STAT 0,\"S\";:MMEM:CAT?\nMMEM:LOAD:MACR \"M\",\"S\";LOAD:STAT 2,\"S\";:MMEM:DATA \"a/b\",#10;:SYST:ERR?\nSYST:ERR?\n",
+            "1024,130048,\"S,STAT,28\"\n-113,\"Undefined header\"\n-257,\"File name error\"\n",
+        ),
+        // A file is there when power returns.
+        (
+            "MMEM:DATA \"A\",#13xyz;*OPC?\n!POWER\nMMEM:DATA? \"A\";:MMEM:DEL \"B\"\nSYST:ERR?\nMMEM:CAT?\n",
+            "1\n#13xyz\n-256,\"File name not found\"\n1024,130048,\"A,BIN,3\"\n",
+        ),
+    ];
+    for (input, want) in rows {
+        let Some(got) = written(alloc, input.as_bytes()) else {
+            return Err(input);
+        };
+        if got.as_slice() != want.as_bytes() {
+            return Err(input);
+        }
+    }
+    Ok(())
+}
+
+#[test]
+fn rows_of_the_instrument(rt: HostRuntime) {
+    match rows(rt.alloc()) {
+        Ok(()) => {}
+        Err(input) => panic!(rt; "at {input}"),
+    }
+}
+
+// User data have 63 bytes at most.
+#[test]
+fn user_data_of_63_bytes(rt: HostRuntime) {
+    let mut input = Vec::new(rt.alloc());
+    let mut want = Vec::new(rt.alloc());
+    put(
+        &mut input,
+        b"DIAG:PUD:PROT OFF\n*PUD #264",
+        b'x',
+        64,
+        b"\nSYST:ERR?\n",
+    )
+    .expect(&rt, "memory");
+    put(&mut input, b"*PUD #263", b'x', 63, b";*PUD?\n").expect(&rt, "memory");
+    put(&mut want, b"-223,\"Too much data\"\n#263", b'x', 63, b"\n").expect(&rt, "memory");
+    let got = written(rt.alloc(), input.as_slice()).expect(&rt, "the run ends well");
+    assert_eq!(rt; got.as_slice(), want.as_slice());
+}
+
+// Some bytes, a byte so many times, and others.
+fn put(
+    text: &mut Vec<u8>,
+    before: &[u8],
+    byte: u8,
+    count: usize,
+    behind: &[u8],
+) -> Result<(), AllocError> {
+    text.extend_from_slice(before)?;
+    let length = text.len().saturating_add(count);
+    text.resize(length, byte)?;
+    text.extend_from_slice(behind)?;
+    Ok(())
+}
+
+// Contents of 256 pages fit, and a page more does not.
+#[test]
+fn the_last_page_of_the_image(rt: HostRuntime) {
+    let parts: [(&[u8], usize); 10] = [
+        (b"MMEM:DATA \"A\",#532768", 32_768),
+        (b"MMEM:DATA \"B\",#532768", 32_768),
+        (b"MMEM:DATA \"C\",#532768", 32_768),
+        // 66 pages three times, and 58: all of them.
+        (b"MMEM:DATA \"D\",#529183", 29_183),
+        (b"MMEM:DATA \"E\",#10\nSYST:ERR?\nMMEM:CAT?", 0),
+        // A page is left, and a file takes two.
+        (b"MMEM:DATA \"D\",#528671", 28_671),
+        (b"MMEM:DATA \"E\",#10\nSYST:ERR?\nMMEM:CAT?", 0),
+        // Two pages are left.
+        (b"MMEM:DATA \"D\",#528159", 28_159),
+        (b"MMEM:DATA \"E\",#10\nSYST:ERR?\nMMEM:CAT?", 0),
+        (b"*OPC?", 0),
+    ];
+    let mut input = Vec::new(rt.alloc());
+    for (text, count) in parts {
+        put(&mut input, text, b'b', count, b"\n").expect(&rt, "memory");
+    }
+    let want =
+        "-254,\"Media full\"\n131072,0,\"A,BIN,32768\",\"B,BIN,32768\",\"C,BIN,32768\",\"D,BIN,29183\"\n\
+-254,\"Media full\"\n130560,512,\"A,BIN,32768\",\"B,BIN,32768\",\"C,BIN,32768\",\"D,BIN,28671\"\n\
+0,\"No error\"\n131072,0,\"A,BIN,32768\",\"B,BIN,32768\",\"C,BIN,32768\",\"D,BIN,28159\",\"E,BIN,0\"\n1\n";
+    let got = written(rt.alloc(), input.as_slice()).expect(&rt, "the run ends well");
+    assert_eq!(rt; got.as_slice(), want.as_bytes());
+}
+
+// Sixteen errors are kept; the newest of a full queue tells of the overflow.
+#[test]
+fn a_queue_that_overflows(rt: HostRuntime) {
+    let mut input = Vec::new(rt.alloc());
+    let mut want = Vec::new(rt.alloc());
+    for _ in 0..17 {
+        input.extend_from_slice(b"FOO\n").expect(&rt, "memory");
+    }
+    input
+        .extend_from_slice(b"SYST:ERR:COUN?\n*ESR?\n")
+        .expect(&rt, "memory");
+    want.extend_from_slice(b"16\n168\n").expect(&rt, "memory");
+    for _ in 0..15 {
+        want.extend_from_slice(b"-113,\"Undefined header\"\n")
+            .expect(&rt, "memory");
+    }
+    for _ in 0..17 {
+        input
+            .extend_from_slice(b"SYST:ERR?\n")
+            .expect(&rt, "memory");
+    }
+    want.extend_from_slice(b"-350,\"Queue overflow\"\n0,\"No error\"\n")
+        .expect(&rt, "memory");
+    let got = written(rt.alloc(), input.as_slice()).expect(&rt, "the run ends well");
+    assert_eq!(rt; got.as_slice(), want.as_slice());
+}

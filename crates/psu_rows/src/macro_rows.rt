@@ -1,0 +1,140 @@
+// Macros in runs: what a call writes, and where the message that it stands in goes on.
+use crate::images::{formatted, written};
+use psu_disk::MemDisk;
+use psu_exec::{Ended, Exec};
+use psu_items::Store;
+use psu_lex::Unit;
+use psu_server::run;
+use psu_tree::{Path, request};
+use std::alloc::Global;
+use std::process::Abort;
+
+// Lines and what they write, each row on a fresh image.
+fn rows(alloc: Global) -> Result<(), &'static str> {
+    let rows = [
+        // A call is replaced by the macro's body, its parameter in the placeholder's place.
+        ("*DMC \"SETA\",#17VOLT $1;*EMC 1;SETA 3;VOLT?\n", "3.000\n"),
+        // While macros are disabled a label is a header like another.
+        (
+            "*DMC \"SETA\",#17VOLT $1;SETA 3;VOLT?;SYST:ERR?\n",
+            "0.000;-113,\"Undefined header\"\n",
+        ),
+        // No macro is called inside an expansion.
+        (
+            "*DMC \"A\",#11A;*EMC 1;A;:SYST:ERR?\n",
+            "-276,\"Macro recursion error\"\n",
+        ),
+        (
+            "*DMC \"A\",#13B;B;*DMC \"B\",#15*IDN?;*EMC 1;A;B;:SYST:ERR?;:SYST:ERR?;:SYST:ERR?\n",
+            "EXAMPLE,PSU4,0,1.0;-276,\"Macro recursion error\";-276,\"Macro recursion error\";0,\"No error\"\n",
+        ),
+        // A unit of an expansion waits for the flush; the answers before it are kept, and those of the message follow.
+        (
+            "*DMC \"W\",#211*IDN?;*OPC?;*EMC 1;VOLT?;*SAV 1;W;*EMC?\n",
+            "0.000;EXAMPLE,PSU4,0,1.0;1;1\n",
+        ),
+        // The units of an expansion are read from the root, and the message goes on at its own path.
+        (
+            "*DMC \"M\",#219SOUR3:VOLT 1;CURR 2;*EMC 1;SOUR2:VOLT 3;M;CURR 0.5;:SOUR2:CURR?;:SOUR3:CURR?;:SOUR3:VOLT?;:CURR?\n",
+            "0.500;2.000;1.000;0.000\n",
+        ),
+        // A parameter is put in as written, with its quotes.
+        (
+            "*DMC \"N\",#18*GMC? $1;*EMC 1;N \"N\";*GMC? 'N'\n",
+            "#18*GMC? $1;#18*GMC? $1\n",
+        ),
+        // There are as many parameters as the greatest placeholder says.
+        (
+            "*DMC \"SETA\",#17VOLT $1;*EMC 1;SETA;SETA 1,2;SYST:ERR?;:SYST:ERR?;:VOLT?\n",
+            "-274,\"Macro parameter error\";-274,\"Macro parameter error\";0.000\n",
+        ),
+        // A label hides a command, and its body still uses it as read from the root; a query is no call.
+        (
+            "*DMC \"VOLT\",#18:VOLT $1;*EMC 1;VOLT 4;VOLT?;*EMC 0;VOLT 5;VOLT?;SYST:ERR?\n",
+            "4.000;5.000;0,\"No error\"\n",
+        ),
+        // A fault in an expansion is one of its units, and those behind it are executed.
+        (
+            "*DMC \"F\",#210FOO;VOLT 2;*EMC 1;F;VOLT?;SYST:ERR:COUN?\n",
+            "2.000;1\n",
+        ),
+    ];
+    for (input, want) in rows {
+        let Some(got) = written(alloc, input.as_bytes()) else {
+            return Err(input);
+        };
+        if got.as_slice() != want.as_bytes() {
+            return Err(input);
+        }
+    }
+    Ok(())
+}
+
+#[test]
+fn rows_of_macros(rt: HostRuntime) {
+    match rows(rt.alloc()) {
+        Ok(()) => {}
+        Err(input) => panic!(rt; "at {input}"),
+    }
+}
+
+// With 1,023 changes that are not flushed the second change of an expansion comes later: a flush, and then the same unit.
+#[test]
+fn an_expansion_that_fills_the_tail(rt: HostRuntime) {
+    let mut input = Vec::new(rt.alloc());
+    input
+        .extend_from_slice(b"*DMC \"S\",#219VOLT?;*SAV 1;*SAV 2;*EMC 1\n")
+        .expect(&rt, "memory");
+    for _ in 0..1_022 {
+        input.extend_from_slice(b"*SAV 0\n").expect(&rt, "memory");
+    }
+    input
+        .extend_from_slice(b"VOLT 7;S;VOLT?\n!POWER\n*RCL 1;VOLT?\n*RCL 2;VOLT?\n")
+        .expect(&rt, "memory");
+    let got = written(rt.alloc(), input.as_slice()).expect(&rt, "the run ends well");
+    assert_eq!(rt; got.as_slice(), b"7.000;7.000\n7.000\n0.000\n".as_slice());
+}
+
+// An image that holds a macro with a body of two lines.
+fn with_two_lines(rt: &impl Abort, alloc: Global) -> MemDisk<Global> {
+    let Some(disk) = formatted(alloc) else {
+        panic!(rt; "no format");
+    };
+    let Ok(store) = Store::open(alloc, disk) else {
+        panic!(rt; "not opened");
+    };
+    let Ok(mut exec) = Exec::power_on(alloc, store) else {
+        panic!(rt; "no power-on");
+    };
+    let Ok(session) = exec.open_session() else {
+        panic!(rt; "crowded");
+    };
+    let unit = Unit {
+        text: b"*DMC \"L\",#231SOUR2:VOLT 1;VOLT?\nVOLT 2;VOLT?",
+        first: true,
+        fault: None,
+    };
+    exec.execute(session, &request(&mut Path::root(), &unit, false));
+    match exec.take() {
+        Ok(job) => assert!(rt; exec.give_back(job.run()).is_ok()),
+        Err(_) => panic!(rt; "nothing to flush"),
+    }
+    match exec.end() {
+        Ended::Whole(store) => store.into_disk(),
+        Ended::Failed(_) | Ended::Out(_) => panic!(rt; "no store"),
+    }
+}
+
+// A line feed in an expansion leads back to the root, and ends no answer.
+#[test]
+fn an_expansion_of_two_lines(rt: HostRuntime) {
+    let alloc = rt.alloc();
+    let disk = with_two_lines(&rt, alloc);
+    let mut reader = b"*EMC 1;SOUR3:VOLT 3;L;VOLT?;:SOUR2:VOLT?;:VOLT?\n".as_slice();
+    let mut text = Vec::new(alloc);
+    assert!(rt; run(alloc, &mut reader, &mut text, disk).is_ok());
+    assert_eq!(rt;
+        text.as_slice(),
+        b"1.000;2.000;3.000;1.000;2.000\n".as_slice()
+    );
+}

@@ -1,0 +1,95 @@
+-- Every input has a script.
+use Rattle.std.proofs.Common.{ℕ, Bool, true, false, List, [], ◌∷◌, ◌++◌, refl, Option, None, Some, Result, Err}
+use Rattle.psu_lex.specs.Macros.{ExpandsTo}
+use Rattle.psu_lex.specs.declared.scpi_error.ScpiError.{ScpiError}
+use Rattle.psu_lex.specs.declared.scpi_error.ScpiError.TheVariants.{MacroRecursionError}
+use Rattle.psu_tree.specs.declared.unit_request.Request.{Request}
+use Rattle.psu_instrument.specs.Macros.{ExpandsAt, written}
+use Rattle.psu_exec.specs.Device.{Reply, Done, Answer, Error, Expand, Parked, Later, State, answer_call, answer_meant, called, here, is_later, meant}
+use Rattle.psu_server.specs.Lines.{Message}
+use Rattle.psu_server.specs.Script.{Rest, Went, Told, RepliesCalled, RepliesNow, Replies, GoesFrom, Goes, TellsInside, TellsReply, Tells, TellsMessage, Scripted, after_reply, flushed, line_text, restarted, with_answer}
+use Rattle.psu_server.proofs.Readings.{SomeReading}
+use Rattle.psu_server.proofs.Scripts.{AllHold, Holds, SomeUnits, asked_hold, message_holds, some_asked, some_asking}
+
+-- every body has an expansion, or an error in its place
+abbrev pub SomeExpansion : Type 0
+SomeExpansion = (body : List ℕ) (args : List (List ℕ)) → (result : Result (List ℕ) ScpiError) × ExpandsTo body args result
+
+-- what bytes are read as, in some way
+pub record Somes : Type 0 where
+  pub units : SomeUnits
+  pub reading : SomeReading
+  pub expansion : SomeExpansion
+
+some_given : Somes → (inside : Bool) (body : List ℕ) (args : List (List ℕ)) → (given : Result (List ℕ) ScpiError) × ExpandsAt inside body args given
+some_given some true body args = (Err MacroRecursionError, refl)
+some_given some false body args = some.expansion body args
+
+some_called : Somes → (s : State) (request : Request) → Holds request → (body : Option (List ℕ)) → (reply : Reply) × RepliesCalled s request body reply
+some_called some s request holds None = (answer_meant s.flush (meant (here s) request.reading), refl)
+some_called some s request holds (Some body) =
+    let given = some_given some request.inside body (written holds.0) in
+    (answer_call given.0, record { parameters = holds.0; holds = holds.1; given = given.0; gives = given.1; is = refl })
+
+some_now : Somes → (s : State) (request : Request) → Holds request → (late : Bool) → (reply : Reply) × RepliesNow late s request reply
+some_now some s request holds true = (Later, refl)
+some_now some s request holds false = some_called some s request holds (called s request)
+
+some_reply : Somes → (s : State) (request : Request) → Holds request → (reply : Reply) × Replies s request reply
+some_reply some s request holds = some_now some s request holds (is_later s 1 request)
+
+some_from : Somes → (r : Rest) (request : Request) → Holds request → (reply : Reply) → (went : Went) × GoesFrom r request reply went
+some_from some r request holds Later =
+    let reply = some_reply some (flushed r).state request holds in (after_reply (flushed r) request reply.0, (reply.0, reply.1, refl))
+some_from some r request holds Done = (after_reply r request Done, refl)
+some_from some r request holds (Answer text) = (after_reply r request (Answer text), refl)
+some_from some r request holds (Error e) = (after_reply r request (Error e), refl)
+some_from some r request holds (Expand text) = (after_reply r request (Expand text), refl)
+some_from some r request holds Parked = (after_reply r request Parked, refl)
+
+some_unit : Somes → (r : Rest) (request : Request) → Holds request → (went : Went) × Goes r request went
+some_unit some r request holds =
+    let reply = some_reply some r.state request holds in
+    let went = some_from some r request holds reply.0 in
+    (went.0, (reply.0, reply.1, went.1))
+
+some_inside : Somes → (requests : List Request) (r : Rest) (text : List ℕ) → AllHold requests → (told : Told) × TellsInside r text requests told
+some_inside some [] r text hold = (record { rest = r; text = text }, refl)
+some_inside some (request ∷ requests) r text (holds, hold) =
+    let went = some_unit some r request holds in
+    let told = some_inside some requests went.0.rest (with_answer text went.0.reply) hold in
+    (told.0, (went.0, went.1, told.1))
+
+some_told : Somes → (reply : Reply) (r : Rest) (text : List ℕ) → (told : Told) × TellsReply r text reply told
+some_told some (Expand bytes) r text =
+    let asked = some_asked some.units some.reading true bytes in
+    let told = some_inside some asked.0 r text (asked_hold true bytes asked.0 asked.1) in
+    (told.0, (asked.0, asked.1, told.1))
+some_told some Done r text = (record { rest = r; text = with_answer text Done }, refl)
+some_told some (Answer a) r text = (record { rest = r; text = with_answer text (Answer a) }, refl)
+some_told some (Error e) r text = (record { rest = r; text = with_answer text (Error e) }, refl)
+some_told some Parked r text = (record { rest = r; text = with_answer text Parked }, refl)
+some_told some Later r text = (record { rest = r; text = with_answer text Later }, refl)
+
+some_line : Somes → (requests : List Request) (r : Rest) (text : List ℕ) → AllHold requests → (told : Told) × Tells r text requests told
+some_line some [] r text hold = (record { rest = r; text = text }, refl)
+some_line some (request ∷ requests) r text (holds, hold) =
+    let went = some_unit some r request holds in
+    let one = some_told some went.0.reply went.0.rest text in
+    let told = some_line some requests one.0.rest one.0.text hold in
+    (told.0, (went.0, one.0, went.1, one.1, told.1))
+
+some_message : Somes → (m : Message) (requests : List Request) (r : Rest) → AllHold requests → (told : Told) × TellsMessage r m requests told
+some_message some Message.Power requests r hold = (record { rest = restarted r; text = [] }, refl)
+some_message some Message.Overlong requests r hold =
+    let all = some_line some requests r [] hold in (record { rest = all.0.rest; text = line_text all.0.text }, (all.0, all.1, refl))
+some_message some (Message.Units bytes) requests r hold =
+    let all = some_line some requests r [] hold in (record { rest = all.0.rest; text = line_text all.0.text }, (all.0, all.1, refl))
+
+pub some_script : Somes → (ms : List Message) (r : Rest) → (text : List ℕ) × Scripted r ms text
+some_script some [] r = ([], refl)
+some_script some (m ∷ ms) r =
+    let asking = some_asking some.units some.reading m in
+    let told = some_message some m asking.0 r (message_holds m asking.0 asking.1) in
+    let rest = some_script some ms told.0.rest in
+    (told.0.text ++ rest.0, (asking.0, told.0, rest.0, asking.1, told.1, rest.1, refl))
