@@ -18,10 +18,8 @@ use Rattle.psu_nv.specs.Commands.{Command as Change, applied}
 use Rattle.psu_exec.proofs.Events.{prefix_is_left, run_keeps, while_running}
 use Rattle.psu_exec.proofs.Invariant.{kept_at_start}
 use Rattle.psu_server.specs.Lines.{Message}
-use Rattle.psu_server.specs.Lives.{Life, disk_at, world_of, lived, Calls, CallsAll, on_line, unit_in, units_in, PowersOn, IsLeftBy, LeavesPrefix}
-use Rattle.psu_server.specs.Progress.{Begins}
-use Rattle.psu_server.proofs.Places.{none_on_lines, on_lines}
-use Rattle.psu_server.specs.Runs.{Mishaps, JobDone, Jobs, Flushes, Acts, UnitRuns, UnitsRun, ReplyRuns, LineRuns, MessageRuns, Runs, is_final}
+use Rattle.psu_server.specs.Lives.{Life, disk_at, world_of, lived, Calls, CallsAll, unit_in, units_in, PowersOn, IsLeftBy, LeavesPrefix}
+use Rattle.psu_server.specs.Runs.{Mishaps, JobDone, Jobs, Flushes, Acts, Begins, UnitRuns, UnitsBegin, UnitsRun, ReplyBegins, ReplyRuns, LineBegins, LineRuns, MessageRuns, NextBegins, Runs, is_final}
 
 -- ---- one call of the code
 
@@ -79,7 +77,7 @@ pub flush_calls : (can : Mishaps) (w new : World) → Flushes can w new → Exec
 flush_calls can w new f = jobs_calls f.0 can w new f.1
 
 -- a unit that is done with is executed
-final_unit : (request : Request) (reply : Reply) → is_final reply ≡ true → unit_in (Executed 1 request reply) ≡ on_line request
+final_unit : (request : Request) (reply : Reply) → is_final reply ≡ true → unit_in (Executed 1 request reply) ≡ request ∷ []
 final_unit request Done e = refl
 final_unit request (Answer text) e = refl
 final_unit request (Error error) e = refl
@@ -95,39 +93,82 @@ cat_none (x ∷ l) = ap (λ (z : List Request). x ∷ z) (cat_none l)
 pub executes_idle : (w mid new : World) (xs : List Request) → Executes w xs mid → Executes mid [] new → Executes w xs new
 executes_idle w mid new xs p q = executes_as w new (xs ++ []) xs (cat_none xs) (executes_join w mid new xs [] p q)
 
-pub acts_calls : (can : Mishaps) (w new : World) (request : Request) (reply : Reply) → Acts can w request reply new → Executes w (on_line request) new
+pub acts_calls : (can : Mishaps) (w new : World) (request : Request) (reply : Reply) → Acts can w request reply new → Executes w (request ∷ []) new
 acts_calls can w new request reply (final, inl (meant, c)) = executes_as w new _ _ (final_unit request reply final) (executes_one w (Executed 1 request reply) new c)
 acts_calls can w new request reply (final, inr (long, parked, over, c, f, s)) =
-    executes_idle w over new (on_line request) (executes_idle w parked over (on_line request) (executes_one w (Executed 1 request Parked) parked c) (flush_calls can parked over f))
+    executes_idle w over new (request ∷ []) (executes_idle w parked over (request ∷ []) (executes_one w (Executed 1 request Parked) parked c) (flush_calls can parked over f))
     (executes_one over (Settled 1 reply) new s)
 
-pub unit_calls : (can : Mishaps) (w new : World) (request : Request) (reply : Reply) → UnitRuns can w request reply new → Executes w (on_line request) new
+pub unit_calls : (can : Mishaps) (w new : World) (request : Request) (reply : Reply) → UnitRuns can w request reply new → Executes w (request ∷ []) new
 unit_calls can w new request reply (inl a) = acts_calls can w new request reply a
 unit_calls can w new request reply (inr (late, over, c, f, a)) =
-    executes_join w over new [] (on_line request) (executes_join w late over [] [] (executes_one w (Executed 1 request Later) late c) (flush_calls can late over f))
+    executes_join w over new [] (request ∷ []) (executes_join w late over [] [] (executes_one w (Executed 1 request Later) late c) (flush_calls can late over f))
     (acts_calls can over new request reply a)
 
-pub units_calls : (requests : List Request) (can : Mishaps) (w new : World) (text all : List ℕ) → UnitsRun can w text requests all new → Executes w (on_lines requests) new
-units_calls [] can w new text all u = subst (λ (z : World). Executes w [] z) (sym u.0) (executes_none w)
-units_calls (request ∷ requests) can w new text all (reply, mid, u, more) =
-    executes_join w mid new (on_line request) (on_lines requests) (unit_calls can w mid request reply u) (units_calls requests can mid new _ all more)
+-- calls, whatever they execute
+abbrev pub Made : World → World → Type 0
+Made w new = (requests : List Request) × Executes w requests new
 
--- the units of an expansion are none of a line
-pub reply_calls : (reply : Reply) (can : Mishaps) (w new : World) (text all : List ℕ) → ReplyRuns can w text reply all new → Executes w [] new
-reply_calls (Expand bytes) can w new text all (requests, (units, is, asks), u) =
-    executes_as w new (on_lines requests) [] (none_on_lines units [] requests asks) (units_calls requests can w new text all u)
-reply_calls Done can w new text all u = subst (λ (z : World). Executes w [] z) (sym u.0) (executes_none w)
-reply_calls (Answer a) can w new text all u = subst (λ (z : World). Executes w [] z) (sym u.0) (executes_none w)
-reply_calls (Error e) can w new text all u = subst (λ (z : World). Executes w [] z) (sym u.0) (executes_none w)
-reply_calls Parked can w new text all u = subst (λ (z : World). Executes w [] z) (sym u.0) (executes_none w)
-reply_calls Later can w new text all u = subst (λ (z : World). Executes w [] z) (sym u.0) (executes_none w)
+made_none : (w new : World) → new ≡ w → Made w new
+made_none w new same = ([], subst (λ (z : World). Executes w [] z) (sym same) (executes_none w))
 
-pub line_calls : (requests : List Request) (can : Mishaps) (w new : World) (text all : List ℕ) → LineRuns can w text requests all new → Executes w (on_lines requests) new
-line_calls [] can w new text all u = subst (λ (z : World). Executes w [] z) (sym u.0) (executes_none w)
-line_calls (request ∷ requests) can w new text all (reply, mid, some, after, u, told, more) =
-    executes_join w after new (on_line request) (on_lines requests)
-    (executes_idle w mid after (on_line request) (unit_calls can w mid request reply u) (reply_calls reply can mid after text some told))
-    (line_calls requests can after new some all more)
+made_then : (w mid new : World) (requests : List Request) → Executes w requests mid → Made mid new → Made w new
+made_then w mid new requests e m = (requests ++ m.0, executes_join w mid new requests m.0 e m.1)
+
+made_join : (w mid new : World) → Made w mid → Made mid new → Made w new
+made_join w mid new m n = made_then w mid new m.0 m.1 n
+
+units_made : (requests : List Request) (can : Mishaps) (w new : World) (text all : List ℕ) → UnitsRun can w text requests all new → Made w new
+units_made [] can w new text all u = made_none w new u.0
+units_made (request ∷ requests) can w new text all (reply, mid, u, more) =
+    made_then w mid new (request ∷ []) (unit_calls can w mid request reply u) (units_made requests can mid new _ all more)
+
+reply_made : (reply : Reply) (can : Mishaps) (w new : World) (text all : List ℕ) → ReplyRuns can w text reply all new → Made w new
+reply_made (Expand bytes) can w new text all (requests, asks, u) = units_made requests can w new text all u
+reply_made Done can w new text all u = made_none w new u.0
+reply_made (Answer a) can w new text all u = made_none w new u.0
+reply_made (Error e) can w new text all u = made_none w new u.0
+reply_made Parked can w new text all u = made_none w new u.0
+reply_made Later can w new text all u = made_none w new u.0
+
+line_made : (requests : List Request) (can : Mishaps) (w new : World) (text all : List ℕ) → LineRuns can w text requests all new → Made w new
+line_made [] can w new text all u = made_none w new u.0
+line_made (request ∷ requests) can w new text all (reply, mid, some, after, u, told, more) =
+    made_then w mid new (request ∷ []) (unit_calls can w mid request reply u)
+    (made_join mid after new (reply_made reply can mid after text some told) (line_made requests can after new some all more))
+
+-- ---- what has begun, as calls
+
+begins_made : (requests : List Request) (w new : World) → Begins w requests new → Made w new
+begins_made requests w new b = (units_in b.0, record { entries = b.0; calls = b.1; are = refl })
+
+units_begun : (requests : List Request) (can : Mishaps) (w new : World) (text all : List ℕ) → UnitsBegin can w text requests all new → Made w new
+units_begun [] can w new text all u = made_none w new u.0
+units_begun (request ∷ requests) can w new text all (inl (b, is)) = begins_made (request ∷ []) w new b
+units_begun (request ∷ requests) can w new text all (inr (reply, mid, u, more)) =
+    made_then w mid new (request ∷ []) (unit_calls can w mid request reply u) (units_begun requests can mid new _ all more)
+
+reply_begun : (reply : Reply) (can : Mishaps) (w new : World) (text all : List ℕ) → ReplyBegins can w text reply all new → Made w new
+reply_begun (Expand bytes) can w new text all (requests, asks, u) = units_begun requests can w new text all u
+reply_begun Done can w new text all u = made_none w new u.0
+reply_begun (Answer a) can w new text all u = made_none w new u.0
+reply_begun (Error e) can w new text all u = made_none w new u.0
+reply_begun Parked can w new text all u = made_none w new u.0
+reply_begun Later can w new text all u = made_none w new u.0
+
+line_begun : (requests : List Request) (can : Mishaps) (w new : World) (text all : List ℕ) → LineBegins can w text requests all new → Made w new
+line_begun [] can w new text all u = made_none w new u.0
+line_begun (request ∷ requests) can w new text all (inl (b, is)) = begins_made (request ∷ []) w new b
+line_begun (request ∷ requests) can w new text all (inr (inl (reply, mid, u, r))) =
+    made_then w mid new (request ∷ []) (unit_calls can w mid request reply u) (reply_begun reply can mid new text all r)
+line_begun (request ∷ requests) can w new text all (inr (inr (reply, mid, some, after, u, told, more))) =
+    made_then w mid new (request ∷ []) (unit_calls can w mid request reply u)
+    (made_join mid after new (reply_made reply can mid after text some told) (line_begun requests can after new some all more))
+
+next_begun : (ms : List Message) (can : Mishaps) (w new : World) (text : List ℕ) → NextBegins can w ms text new → Made w new
+next_begun [] can w new text n = begins_made [] w new n.0
+next_begun (m ∷ ms) can w new text (inl n) = begins_made [] w new n.0
+next_begun (m ∷ ms) can w new text (inr n) = line_begun n.0 can w new [] text n.2
 
 -- ---- some first requests
 
@@ -185,17 +226,23 @@ pub reached_calls : (entries : List Entry) (w new : World) → CallsAll w entrie
 reached_calls [] w new c r = subst Reached (sym c) r
 reached_calls (entry ∷ entries) w new c r = reached_calls entries c.0 new c.2 (reached_call w c.0 entry c.1 r)
 
+reached_made : (w new : World) → Made w new → Reached w → Reached new
+reached_made w new m r = reached_calls m.1.entries w new m.1.calls r
+
 pub reached_on : (image : List ℕ) (new : World) → PowersOn image new → Reached new
 reached_on image new p = reached_call p.on new (Opened (Some 1)) p.opens (record { first = p.on; events = []; start = p.start; run = refl })
 
 pub reached_message : (m : Message) (can : Mishaps) (w new : World) (text : List ℕ) → MessageRuns can w m text new → Reached w → Reached new
 reached_message Message.Power can w new text m r = reached_on m.1.disk.bytes new m.3
-reached_message Message.Overlong can w new text m r = let e = line_calls m.0 can w new [] m.2 m.3 in reached_calls e.entries w new e.calls r
-reached_message (Message.Units bytes) can w new text m r = let e = line_calls m.0 can w new [] m.2 m.3 in reached_calls e.entries w new e.calls r
+reached_message Message.Overlong can w new text m r = reached_made w new (line_made m.0 can w new [] m.2 m.3) r
+reached_message (Message.Units bytes) can w new text m r = reached_made w new (line_made m.0 can w new [] m.2 m.3) r
 
 pub reached_runs : (ms : List Message) (can : Mishaps) (w new : World) (text : List ℕ) → Runs can w ms text new → Reached w → Reached new
 reached_runs [] can w new text q r = subst Reached (sym q.0) r
 reached_runs (m ∷ ms) can w new text q r = reached_runs ms can q.2 new q.1 q.4 (reached_message m can w q.2 q.0 q.3 r)
+
+pub reached_next : (ms : List Message) (can : Mishaps) (w new : World) (text : List ℕ) → NextBegins can w ms text new → Reached w → Reached new
+reached_next ms can w new text n r = reached_made w new (next_begun ms can w new text n) r
 
 pub prefix_of_reached : (w : World) (image : List ℕ) → Reached w → Left w.disk image → (k : ℕ) × IsPrefix w k × Stands image w.limit (items_of (after w k))
 prefix_of_reached w image r left = prefix_is_left r.first w r.events image r.start r.run left

@@ -1,28 +1,16 @@
 -- The cause of a run's end, from the device's to the run's.
-use Rattle.std.proofs.Common.{◌≡◌, ◌≢◌, ℕ, ◌≤◌, List, length, sym, subst, inl, inr, Option, IfSome}
+use Rattle.std.proofs.Common.{◌≡◌, ℕ, ◌≤◌, List, length, sym, subst, inl, inr, Option, IfSome}
 use Rattle.psu_items.specs.Image.{HasReadableRoot}
 use Rattle.psu_server.specs.declared.start_cause.StartCause.TheVariants as start
 use Rattle.psu_server.specs.Causes.{NotStarted}
 use Rattle.psu_server.specs.declared.run_cause.RunCause.{RunCause}
 use Rattle.psu_server.specs.declared.run_cause.RunCause.TheVariants.{Read, Write, Open, Device, TooLong, Memory as OutOfMemory}
-use Rattle.psu_server.specs.Reasons.{StopsFor, StopsOrWrites, EndsLate, EndsFor}
+use Rattle.psu_server.specs.Reasons.{StopsFor, EndsLate, EndsFor}
 
--- a fault of the device is none of the writer's
-pub not_write : (before now : ℕ) (left : List ℕ) (cause : RunCause) → StopsFor before now left cause → cause ≢ Write
-not_write before now left cause why is = subst (λ (z : RunCause). StopsFor before now left z) is why
+pub is_write : (cause : RunCause) (before now : ℕ) (left : List ℕ) → cause ≡ Write → StopsFor before now left cause
+is_write cause before now left is = subst (λ (z : RunCause). StopsFor before now left z) (sym is) tt
 
-pub is_write : (cause : RunCause) (before now : ℕ) (left : List ℕ) → cause ≡ Write → StopsOrWrites before now left cause
-is_write cause before now left is = subst (λ (z : RunCause). StopsOrWrites before now left z) (sym is) tt
-
-pub or_writes : (before now : ℕ) (left : List ℕ) (cause : RunCause) → StopsFor before now left cause → StopsOrWrites before now left cause
-or_writes before now left (Open cause) why = why
-or_writes before now left Device why = why
-or_writes before now left OutOfMemory why = tt
-or_writes before now left Read why = why
-or_writes before now left Write why = tt
-or_writes before now left TooLong why = why
-
-pub or_ends : (before now : ℕ) (left : List ℕ) (input : Option (List ℕ)) (cause : RunCause) → StopsOrWrites before now left cause → EndsLate before now left input cause
+pub or_ends : (before now : ℕ) (left : List ℕ) (input : Option (List ℕ)) (cause : RunCause) → StopsFor before now left cause → EndsLate before now left input cause
 or_ends before now left input (Open cause) why = why
 or_ends before now left input Device why = why
 or_ends before now left input OutOfMemory why = tt

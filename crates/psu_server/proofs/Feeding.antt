@@ -1,5 +1,5 @@
 -- The lines of a piece, one after another.
-use Rattle.std.proofs.Common.{◌≡◌, ◌≢◌, ℕ, ◌+◌, ◌-◌, ◌≤◌, Bool, true, false, List, [], ◌∷◌, ◌++◌, length, take, drop, refl, sym, ap, ◌∙◌, subst, inl, inr, append_assoc, Some}
+use Rattle.std.proofs.Common.{◌≡◌, ℕ, ◌+◌, ◌-◌, ◌≤◌, Bool, true, false, if◌then◌else◌, List, [], ◌∷◌, ◌++◌, length, take, drop, refl, sym, ap, ◌∙◌, subst, inl, inr, append_assoc, Some}
 use Rattle.std.proofs.lemmas.List.{append-nil}
 use Rattle.std.specs.Str.{bytes_eq}
 use Rattle.memchr.specs.Find.{IsFirstByte, is_byte}
@@ -13,44 +13,74 @@ use Rattle.psu_tree.specs.declared.unit_request.Request.{Request}
 use Rattle.psu_server.specs.Failures.{failures_of}
 use Rattle.psu_server.specs.Jobs.{IsExplained}
 use Rattle.psu_server.specs.Lines.{Message, Asks, message_now, message_of, coming, too_much, has, is_power, power_line}
-use Rattle.psu_server.specs.Lives.{born, disk_at, world_of, units_in, IsLeftBy, PowersOn}
-use Rattle.psu_server.specs.Progress.{AreFirst, Fed, GoesOn, Halts, Stopped, Stops, StopsHere}
-use Rattle.psu_server.specs.Runs.{Mishaps, Flushes, MessageRuns, Reopens, Runs, LineRuns}
+use Rattle.psu_server.specs.Lives.{born, disk_at, world_of, IsLeftBy, PowersOn}
+use Rattle.psu_server.specs.Output.{Says, SaysUntil, Telling, has_answer}
+use Rattle.psu_server.specs.Progress.{Breaks, BreaksOff, Continues, Fed, GoesOn, Halts, Stopped, Stops, StopsHere}
+use Rattle.psu_server.specs.Runs.{Mishaps, none, Begins, Flushes, LineBegins, LineRuns, MessageBegins, MessageRuns, NextBegins, Reopens, Runs}
 use Rattle.psu_server.specs.Script.{line_text}
 use Rattle.psu_server.specs.Within.{IsLater}
 use Rattle.psu_server.specs.declared.run_cause.RunCause.{RunCause}
-use Rattle.psu_server.specs.declared.run_cause.RunCause.TheVariants.{Write, Memory as RunMemory}
+use Rattle.psu_server.specs.declared.run_cause.RunCause.TheVariants.{Memory as RunMemory}
 use Rattle.psu_server.specs.declared.run_fault.RunFault.{RunFault}
-use Rattle.psu_server.proofs.Calls.{Executes, executes_none, flush_calls, job_calls}
+use Rattle.psu_server.proofs.Calls.{Executes, begins_all, executes_none, flush_calls, job_calls}
 use Rattle.psu_server.proofs.Cuts.{plain_message, power_message, coming_end, found_parts, whole_tail}
-use Rattle.psu_server.proofs.UnitEnds.{HasExecuted, goes_as, goes_then, halts_for_memory, has_executed}
-use Rattle.psu_server.proofs.MessageEnds.{line_executed as executed}
-use Rattle.psu_server.proofs.Places.{asked_on_lines}
-use Rattle.psu_server.proofs.Within.{later_on, later_same, within_as, within_at, within_here, within_later}
+use Rattle.psu_server.proofs.MessageEnds.{line_over}
+use Rattle.psu_server.proofs.Telling.{line_end, says_gathered, says_join, says_none, says_still, until_after, until_said}
+use Rattle.psu_server.proofs.UnitEnds.{goes_as, goes_then}
+use Rattle.psu_server.proofs.Within.{later_same, within_as, within_at, within_here, within_later, within_then}
 
 -- ---- what a message came to
 
-abbrev pub ToldLine : {D A : Type 0} {G : Ghosts D} → Message → Exec D A G → Exec D A G → List ℕ → List ℕ → Type 0
-ToldLine m old new old_text new_text = (text : List ℕ) × (new_text ≡ old_text ++ text) × GoesOn old new (λ can w v. MessageRuns can w m text v)
+abbrev pub ToldLine : {D A : Type 0} {G : Ghosts D} → Message → Exec D A G → Exec D A G → Telling → Telling → Type 0
+ToldLine m old new told now = (text : List ℕ) × Says told now text × GoesOn old new (λ can w v. MessageRuns can w m text v)
 
-told_as : {D A : Type 0} {G : Ghosts D} (m : Message) (requests : List Request) (old new : Exec D A G) (start all shown old_text new_text : List ℕ) → Asks m requests → is_power m ≡ false
-    → start ≡ [] → shown ≡ all → new_text ≡ old_text ++ line_text shown → GoesOn old new (λ can w v. LineRuns can w start requests all v) → ToldLine m old new old_text new_text
-told_as m requests old new start all shown old_text new_text asks plain n d e goes = (
-  line_text all,
-  e ∙ ap (λ (z : List ℕ). old_text ++ line_text z) d,
-  goes_as old new (λ can w v. LineRuns can w start requests all v) (λ can w v. MessageRuns can w m (line_text all) v) goes
-      (λ can w v u. by m plain asks can w v (subst (λ (z : List ℕ). LineRuns can w z requests all v) n u)),
-)
+-- its units told these answers, and a line feed ends them
+pub told_line : {D A : Type 0} {G : Ghosts D} (m : Message) (requests : List Request) (old new : Exec D A G) (a b c : Telling) → Asks m requests → is_power m ≡ false → a.begun ≡ false
+    → Continues old new a b (λ text all can w v. LineRuns can w text requests all v) → c.written ≡ b.written → c.gathered ≡ b.gathered ++ (if b.begun then 10 ∷ [] else []) → ToldLine m old new a c
+told_line m requests old new a b c asks plain none p written ended =
+    let f = p [] none in (
+      line_text f.0,
+      until_end f.0 (says_join a b c f.0 (if has_answer f.0 then 10 ∷ [] else []) f.1
+          (says_gathered b c (if has_answer f.0 then 10 ∷ [] else []) written (ended ∙ ap (λ (z : Bool). (let l : List ℕ = if z then 10 ∷ [] else [] in b.gathered ++ l)) f.2))),
+      goes_as old new (λ can w v. LineRuns can w [] requests f.0 v) (λ can w v. MessageRuns can w m (line_text f.0) v) f.3 (λ can w v u. by m plain asks f.0 can w v u),
+    )
   where
-    by : (m : Message) → is_power m ≡ false → Asks m requests → (can : Mishaps) (w v : World) → LineRuns can w [] requests all v → MessageRuns can w m (line_text all) v
-    by Message.Power p asks can w v u = cc
-    by Message.Overlong p asks can w v u = (requests, asks, all, u, refl)
-    by (Message.Units bytes) p asks can w v u = (requests, asks, all, u, refl)
+    until_end : (all : List ℕ) → Says a c (all ++ (if has_answer all then 10 ∷ [] else [])) → Says a c (line_text all)
+    until_end all s = subst (λ (z : List ℕ). Says a c z) (line_end all) s
 
-pub told_over : {D A : Type 0} {G : Ghosts D} (over : Bool) (line : List ℕ) (old new : Exec D A G) (start all shown old_text new_text : List ℕ) → over ≡ true → start ≡ []
-    → shown ≡ all → new_text ≡ old_text ++ line_text shown → GoesOn old new (λ can w v. LineRuns can w start (too_much ∷ []) all v) → ToldLine (message_now over line) old new old_text new_text
-told_over true line old new start all shown old_text new_text o n d e goes = told_as Message.Overlong (too_much ∷ []) old new start all shown old_text new_text refl refl n d e goes
-told_over false line old new start all shown old_text new_text o n d e goes = cc
+    by : (m : Message) → is_power m ≡ false → Asks m requests → (all : List ℕ) (can : Mishaps) (w v : World) → LineRuns can w [] requests all v → MessageRuns can w m (line_text all) v
+    by Message.Power p asks all can w v u = cc
+    by Message.Overlong p asks all can w v u = (requests, asks, all, u, refl)
+    by (Message.Units bytes) p asks all can w v u = (requests, asks, all, u, refl)
+
+abbrev pub BrokenLine : {D A : Type 0} {G : Ghosts D} → Message → Exec D A G → Exec D A G → Telling → Telling → RunCause → Type 0
+BrokenLine m old new told now cause = (part : List ℕ) × SaysUntil cause told now part × Breaks old new (λ can w v. MessageBegins can w m part v) cause
+
+-- a stop among its units
+pub broken_line : {D A : Type 0} {G : Ghosts D} (m : Message) (requests : List Request) (old new : Exec D A G) (a b : Telling) (cause : RunCause) → Asks m requests → a.begun ≡ false
+    → BreaksOff old new a b (λ text all can w v. LineBegins can w text requests all v) cause → BrokenLine m old new a b cause
+broken_line m requests old new a b cause asks none p =
+    let f = p [] none in (
+      f.0,
+      f.1,
+      record {
+        goes = goes_as old new (λ can w v. LineBegins can w [] requests f.0 v) (λ can w v. MessageBegins can w m f.0 v) f.2.goes (λ can w v u. (requests, asks, u));
+        why = f.2.why;
+      },
+    )
+
+-- its line feed is refused memory
+pub line_unended : {D A : Type 0} {G : Ghosts D} (m : Message) (requests : List Request) (old new : Exec D A G) (a b c : Telling) → Asks m requests → a.begun ≡ false
+    → Continues old new a b (λ text all can w v. LineRuns can w text requests all v) → c.written ≡ b.written → c.gathered ≡ b.gathered → BrokenLine m old new a c RunMemory
+line_unended m requests old new a b c asks none p written same =
+    let f = p [] none in (
+      f.0,
+      until_said RunMemory a c f.0 (λ e. cc) (subst (λ (z : List ℕ). Says a c z) (append-nil f.0) (says_join a b c f.0 [] f.1 (says_still b c written same))),
+      record {
+        goes = goes_as old new (λ can w v. LineRuns can w [] requests f.0 v) (λ can w v. MessageBegins can w m f.0 v) f.3 (λ can w v u. (requests, asks, line_over can w v [] f.0 requests u));
+        why = λ h since e. tt;
+      },
+    )
 
 -- a line that isn't over and isn't that of a power loss is a message of units
 plain_now : (over : Bool) (line : List ℕ) → over ≡ false → length line ≤ 65536 → is_power (message_now over line) ≡ false → message_now over line ≡ Message.Units line
@@ -60,15 +90,7 @@ plain_now false line o short p = by (bytes_eq line power_line) refl where
   by true e = let bad = sym (ap is_power (power_message line short e)) ∙ p in cc
   by false e = plain_message line short e
 
-pub told_units : {D A : Type 0} {G : Ghosts D} (over : Bool) (line bytes : List ℕ) (old new : Exec D A G) (start all shown old_text new_text : List ℕ) → over ≡ false → length line ≤ 65536
-    → is_power (message_now over line) ≡ false → bytes ≡ line → start ≡ [] → shown ≡ all → new_text ≡ old_text ++ line_text shown
-    → (requests : List Request) × Asks (Message.Units bytes) requests × GoesOn old new (λ can w v. LineRuns can w start requests all v) → ToldLine (message_now over line) old new old_text new_text
-told_units over line bytes old new start all shown old_text new_text o short p same n d e (requests, asks, goes) =
-    let is = plain_now over line o short p in
-    subst (λ (m : Message). ToldLine m old new old_text new_text) (sym is)
-    (told_as (Message.Units line) requests old new start all shown old_text new_text (subst (λ (z : List ℕ). Asks (Message.Units z) requests) same asks) refl n d e goes)
-
--- the requests of a line that stops
+-- the requests of a line
 pub asks_over : (over : Bool) (line : List ℕ) → over ≡ true → Asks (message_now over line) (too_much ∷ [])
 asks_over true line o = refl
 asks_over false line o = cc
@@ -77,13 +99,6 @@ pub asks_units : (over : Bool) (line bytes : List ℕ) (requests : List Request)
     → Asks (Message.Units bytes) requests → Asks (message_now over line) requests
 asks_units over line bytes requests o short p same asks =
     subst (λ (m : Message). Asks m requests) (sym (plain_now over line o short p)) (subst (λ (z : List ℕ). Asks (Message.Units z) requests) same asks)
-
--- the units of a line were executed, and its text is refused memory
-pub line_executed : {D A : Type 0} {G : Ghosts D} (old new : Exec D A G) (m : Message) (requests : List Request) (start all : List ℕ) → Asks m requests
-    → GoesOn old new (λ can w v. LineRuns can w start requests all v) → Halts old new requests RunMemory
-line_executed old new m requests start all asks goes =
-    subst (λ (z : List Request). Halts old new z RunMemory) (append-nil requests)
-    (halts_for_memory old new requests [] (subst (λ (z : List Request). HasExecuted old new z) (asked_on_lines m requests asks) (executed old new requests start all goes)))
 
 -- ---- a restart
 
@@ -105,18 +120,22 @@ restart_runs old mid new disk before r at starts works same why = record {
   later = subst (λ (n : ℕ). IsLater (failures_of old) n) (sym (works ∙ same)) r.later;
 }
 
+-- calls that execute no unit
+idle_begins : (can : Mishaps) (w v : World) (rest : List Message) → Begins w [] v → NextBegins can w rest [] v
+idle_begins can w v [] b = (b, refl)
+idle_begins can w v (m ∷ ms) b = inl (b, refl)
+
 -- a restart that fails behind the device that was opened again
 pub restart_stops_here : {D A : Type 0} {G : Ghosts D} (old mid : Exec D A G) (disk : DiskState) (fault : RunFault D) (before limit : ℕ) (map : List Item) (rest : List Message) → Ghosts.honest G
     → GoesOn old mid Reopens → disk ≡ disk_at mid.home → before ≡ failures_of mid → before ≤ Ghosts.failures G fault.disk → EachStands disk limit map → EachStands (Ghosts.state G fault.disk) limit map
-    → StopsHere old fault (Message.Power ∷ rest)
+    → StopsHere old fault (Message.Power ∷ rest) []
 restart_stops_here {D} {A} {G} old mid disk fault before limit map rest h r at same rose was is life =
-    let p = has_executed old mid [] Reopens r reopens_calls in
-    let g = p.calls h life in (
+    let g = r.runs h life in (
       world_of g.0 mid,
-      later_on _ _ _ r.later (inl (subst (λ (n : ℕ). n ≤ Ghosts.failures G fault.disk) same rose)),
-      g.1.entries,
-      g.1.calls,
-      inl g.1.are,
+      within_later (failures_of old) (failures_of mid) (Ghosts.failures G fault.disk) (λ can. NextBegins can (world_of life old) (Message.Power ∷ rest) [] (world_of g.0 mid))
+          (inl (subst (λ (n : ℕ). n ≤ Ghosts.failures G fault.disk) same rose))
+          (within_as _ _ (λ can. Reopens can (world_of life old) (world_of g.0 mid)) (λ can. NextBegins can (world_of life old) (Message.Power ∷ rest) [] (world_of g.0 mid)) g.1
+          (λ can x. inl (begins_all (world_of life old) (world_of g.0 mid) [] (reopens_calls can (world_of life old) (world_of g.0 mid) x), refl))),
       inr (limit, map, subst (λ (d : DiskState). EachStands d limit map) at was, is),
     )
 
@@ -125,61 +144,48 @@ restart_stops_here {D} {A} {G} old mid disk fault before limit map rest h r at s
 left_in : (disk : DiskState) (w : World) → disk ≡ w.disk → IsLeftBy w disk
 left_in disk w e = inl (λ image left. subst (λ (d : DiskState). Left d image) e left)
 
-none_of : (xs ys : List Request) → [] ≡ xs ++ ys → xs ≡ []
-none_of [] ys e = refl
-none_of (x ∷ xs) ys e = cc
-
 -- in a message
-pub halts_stop : {D A : Type 0} {G : Ghosts D} (old new : Exec D A G) (fault : RunFault D) (m : Message) (rest : List Message) (requests : List Request) (cause : RunCause) → Ghosts.honest G
-    → Asks m requests → Halts old new requests cause → Ghosts.failures G fault.disk ≡ failures_of new → Ghosts.state G fault.disk ≡ disk_at new.home → StopsHere old fault (m ∷ rest)
-halts_stop {D} {A} {G} old new fault m rest requests cause h asks s same at life =
-    let k = s.begun h life in (
+pub broken_stop : {D A : Type 0} {G : Ghosts D} (old new : Exec D A G) (fault : RunFault D) (m : Message) (rest : List Message) (part : List ℕ) (cause : RunCause) → Ghosts.honest G
+    → Breaks old new (λ can w v. MessageBegins can w m part v) cause → Ghosts.failures G fault.disk ≡ failures_of new → Ghosts.state G fault.disk ≡ disk_at new.home → StopsHere old fault (m ∷ rest) part
+broken_stop {D} {A} {G} old new fault m rest part cause h s same at life =
+    let k = s.goes.runs h life in (
       world_of k.0 new,
-      subst (λ (n : ℕ). IsLater (failures_of old) n) (sym same) s.later,
-      k.1.0,
-      k.1.1,
-      inr (requests, k.1.2, asks, k.1.3),
+      within_at _ _ _ (λ can. NextBegins can (world_of life old) (m ∷ rest) part (world_of k.0 new)) same
+          (within_as _ _ (λ can. MessageBegins can (world_of life old) m part (world_of k.0 new)) (λ can. NextBegins can (world_of life old) (m ∷ rest) part (world_of k.0 new)) k.1 (λ can x. inr x)),
       left_in (Ghosts.state G fault.disk) (world_of k.0 new) at,
     )
 
 -- with no unit begun
 pub halts_idle : {D A : Type 0} {G : Ghosts D} (old new : Exec D A G) (fault : RunFault D) (rest : List Message) (cause : RunCause) → Ghosts.honest G
-    → Halts old new [] cause → Ghosts.failures G fault.disk ≡ failures_of new → Ghosts.state G fault.disk ≡ disk_at new.home → StopsHere old fault rest
+    → Halts old new [] cause → Ghosts.failures G fault.disk ≡ failures_of new → Ghosts.state G fault.disk ≡ disk_at new.home → StopsHere old fault rest []
 halts_idle {D} {A} {G} old new fault rest cause h s same at life =
     let k = s.begun h life in (
       world_of k.0 new,
-      subst (λ (n : ℕ). IsLater (failures_of old) n) (sym same) s.later,
-      k.1.0,
-      k.1.1,
-      first_none rest (none_of (units_in k.1.0) k.1.2 k.1.3),
+      (none, subst (λ (n : ℕ). IsLater (failures_of old) n) (sym same) s.later, (λ e. cc), (λ can cov. idle_begins can (world_of life old) (world_of k.0 new) rest k.1)),
       left_in (Ghosts.state G fault.disk) (world_of k.0 new) at,
     )
-  where
-    first_none : (rest : List Message) → units_in (s.begun h life).1.0 ≡ [] → AreFirst rest (units_in (s.begun h life).1.0)
-    first_none [] e = e
-    first_none (m ∷ ms) e = inl e
 
 pub stops_now : {D A : Type 0} {G : Ghosts D} (exec : Exec D A G) (fault : RunFault D) (rest : List Message) → Ghosts.failures G fault.disk ≡ failures_of exec
-    → Ghosts.state G fault.disk ≡ disk_at exec.home → StopsHere exec fault rest
+    → Ghosts.state G fault.disk ≡ disk_at exec.home → StopsHere exec fault rest []
 stops_now {D} {A} {G} exec fault rest same at life = (
   world_of life exec,
-  subst (λ (n : ℕ). IsLater (failures_of exec) n) (sym same) (later_same (failures_of exec)),
-  [],
-  refl,
-  first_none rest,
+  within_at _ _ _ (λ can. NextBegins can (world_of life exec) rest [] (world_of life exec)) same
+      (within_here _ (λ can. NextBegins can (world_of life exec) rest [] (world_of life exec))
+      (λ can. idle_begins can (world_of life exec) (world_of life exec) rest (begins_all (world_of life exec) (world_of life exec) [] (executes_none (world_of life exec))))),
   left_in (Ghosts.state G fault.disk) (world_of life exec) at,
 )
-  where
-    first_none : (rest : List Message) → AreFirst rest (let none : List Request = [] in none)
-    first_none [] = refl
-    first_none (m ∷ ms) = inl refl
 
-pub stops_then : {D A : Type 0} {G : Ghosts D} (old mid : Exec D A G) (fault : RunFault D) (done rest : List Message) (text : List ℕ) → Ghosts.honest G
-    → GoesOn old mid (λ can w v. Runs can w done text v) → StopsHere mid fault rest → Stops old fault done rest text
-stops_then old mid fault done rest text h goes stop life =
+pub stops_then : {D A : Type 0} {G : Ghosts D} (old mid : Exec D A G) (fault : RunFault D) (done rest : List Message) (text part : List ℕ) → Ghosts.honest G
+    → GoesOn old mid (λ can w v. Runs can w done text v) → StopsHere mid fault rest part → Stops old fault done rest text part
+stops_then {D} {A} {G} old mid fault done rest text part h goes stop life =
     let g = goes.runs h life in
-    let s = stop g.0 in
-    (world_of g.0 mid, s.0, within_later _ _ _ (λ can. Runs can (world_of life old) done text (world_of g.0 mid)) s.1 g.1, s.2, s.3, s.4, s.5)
+    let s = stop g.0 in (
+      world_of g.0 mid,
+      s.0,
+      within_then (failures_of old) (failures_of mid) (Ghosts.failures G fault.disk) (λ can. Runs can (world_of life old) done text (world_of g.0 mid)) (λ can. NextBegins can (world_of g.0 mid) rest part s.0)
+          (λ can. Runs can (world_of life old) done text (world_of g.0 mid) × NextBegins can (world_of g.0 mid) rest part s.0) g.1 s.1 (λ can x y. (x, y)),
+      s.2,
+    )
 
 -- ---- runs of messages
 
@@ -214,17 +220,17 @@ runs_then old mid new text more xs m p q =
 -- ---- the loop over the lines of a piece
 
 -- nothing is read yet
-pub fed_none : {D A : Type 0} {G : Ghosts D} (before : List ℕ → List Message) (exec : Exec D A G) (text : List ℕ) → Fed before [] before exec exec text text
-fed_none before exec text = ([], [], sym (append-nil text), (λ input. refl), runs_none exec)
+pub fed_none : {D A : Type 0} {G : Ghosts D} (before : List ℕ → List Message) (exec : Exec D A G) (t : Telling) → Fed before [] before exec exec t t
+fed_none before exec t = ([], [], says_none t, (λ input. refl), runs_none exec)
 
 -- a line more
-fed_line : {D A : Type 0} {G : Ghosts D} (before mid : List ℕ → List Message) (front part : List ℕ) (over : Bool) (line : List ℕ) (s s1 s2 : Exec D A G) (t0 t1 t2 : List ℕ)
+fed_line : {D A : Type 0} {G : Ghosts D} (before mid : List ℕ → List Message) (front part : List ℕ) (over : Bool) (line : List ℕ) (s s1 s2 : Exec D A G) (t0 t1 t2 : Telling)
     → Fed before front mid s s1 t0 t1 → ((input : List ℕ) → mid (part ++ input) ≡ coming over line input) → has 10 line ≡ false
     → ToldLine (message_now over line) s1 s2 t1 t2 → Fed before (front ++ (part ++ 10 ∷ [])) (coming false []) s s2 t0 t2
 fed_line before mid front part over line s s1 s2 t0 t1 t2 f moved free told = (
   f.0 ++ message_now over line ∷ [],
   f.1 ++ told.0,
-  told.1 ∙ ap (λ (z : List ℕ). z ++ told.0) f.2 ∙ append_assoc t0 f.1 told.0,
+  says_join t0 t1 t2 f.1 told.0 f.2 told.1,
   λ input. ap before (append_assoc front (part ++ 10 ∷ []) input ∙ ap (λ (z : List ℕ). front ++ z) (append_assoc part (10 ∷ []) input))
       ∙ f.3 (part ++ 10 ∷ input) ∙ ap (λ (z : List Message). f.0 ++ z) (moved (10 ∷ input) ∙ coming_end over line input free)
       ∙ sym (append_assoc f.0 (message_now over line ∷ []) (coming false [] input)),
@@ -232,11 +238,11 @@ fed_line before mid front part over line s s1 s2 t0 t1 t2 f moved free told = (
 )
 
 -- what was fed of a piece, of which this is the rest
-abbrev pub FedSo : {D A : Type 0} {G : Ghosts D} → (List ℕ → List Message) → List ℕ → List ℕ → (List ℕ → List Message) → Exec D A G → Exec D A G → List ℕ → List ℕ → Type 0
+abbrev pub FedSo : {D A : Type 0} {G : Ghosts D} → (List ℕ → List Message) → List ℕ → List ℕ → (List ℕ → List Message) → Exec D A G → Exec D A G → Telling → Telling → Type 0
 FedSo before piece rest mid s s1 t0 t1 = (front : List ℕ) × (piece ≡ front ++ rest) × Fed before front mid s s1 t0 t1
 
 -- a step of the loop
-pub feed_step : {D A : Type 0} {G : Ghosts D} (before mid : List ℕ → List Message) (piece rest : List ℕ) (at : ℕ) (over next_over : Bool) (line next : List ℕ) (s s1 s2 : Exec D A G) (t0 t1 t2 : List ℕ)
+pub feed_step : {D A : Type 0} {G : Ghosts D} (before mid : List ℕ → List Message) (piece rest : List ℕ) (at : ℕ) (over next_over : Bool) (line next : List ℕ) (s s1 s2 : Exec D A G) (t0 t1 t2 : Telling)
     → IsFirstByte (is_byte 10) rest (Some at) → FedSo before piece rest mid s s1 t0 t1
     → ((input : List ℕ) → mid (take at rest ++ input) ≡ coming over line input) → has 10 line ≡ false
     → ToldLine (message_now over line) s1 s2 t1 t2 → next_over ≡ false → next ≡ []
@@ -251,11 +257,11 @@ feed_step before mid piece rest at over next_over line next s s1 s2 t0 t1 t2 fou
 )
 
 -- the line of a power loss tells nothing
-pub told_power : {D A : Type 0} {G : Ghosts D} (m : Message) (old new : Exec D A G) (text : List ℕ) → is_power m ≡ true → GoesOn old new (λ can w v. MessageRuns can w Message.Power [] v)
-    → ToldLine m old new text text
-told_power Message.Power old new text p goes = ([], sym (append-nil text), goes)
-told_power Message.Overlong old new text p goes = cc
-told_power (Message.Units bytes) old new text p goes = cc
+pub told_power : {D A : Type 0} {G : Ghosts D} (m : Message) (old new : Exec D A G) (t : Telling) → is_power m ≡ true → GoesOn old new (λ can w v. MessageRuns can w Message.Power [] v)
+    → ToldLine m old new t t
+told_power Message.Power old new t p goes = ([], says_none t, goes)
+told_power Message.Overlong old new t p goes = cc
+told_power (Message.Units bytes) old new t p goes = cc
 
 pub is_power_line : (m : Message) → is_power m ≡ true → m ≡ Message.Power
 is_power_line Message.Power p = refl
@@ -263,7 +269,7 @@ is_power_line Message.Overlong p = cc
 is_power_line (Message.Units bytes) p = cc
 
 -- the rest of the piece has no line feed
-pub feed_end : {D A : Type 0} {G : Ghosts D} (before mid after : List ℕ → List Message) (piece rest : List ℕ) (s s1 : Exec D A G) (t0 t1 : List ℕ)
+pub feed_end : {D A : Type 0} {G : Ghosts D} (before mid after : List ℕ → List Message) (piece rest : List ℕ) (s s1 : Exec D A G) (t0 t1 : Telling)
     → FedSo before piece rest mid s s1 t0 t1 → ((input : List ℕ) → mid (rest ++ input) ≡ after input) → Fed before piece after s s1 t0 t1
 feed_end before mid after piece rest s s1 t0 t1 f moved =
     let g = f.2 in
@@ -271,18 +277,18 @@ feed_end before mid after piece rest s s1 t0 t1 f moved =
     (g.0, g.1, g.2, (λ input. ap before (append_assoc f.0 rest input) ∙ g.3 (rest ++ input) ∙ ap (λ (z : List Message). g.0 ++ z) (moved input)), g.4)
 
 -- a fault after these lines
-pub feed_stops : {D A : Type 0} {G : Ghosts D} (before mid : List ℕ → List Message) (piece rest : List ℕ) (s s1 : Exec D A G) (fault : RunFault D) (t0 t1 t2 : List ℕ) → Ghosts.honest G
-    → FedSo before piece rest mid s s1 t0 t1 → t2 ≡ t1 → fault.cause ≢ Write → ((input : List ℕ) → StopsHere s1 fault (mid (rest ++ input))) → Stopped before piece s fault t0 t2
-feed_stops before mid piece rest s s1 fault t0 t1 t2 h f same own stop =
+pub feed_stops : {D A : Type 0} {G : Ghosts D} (before mid : List ℕ → List Message) (piece rest : List ℕ) (s s1 : Exec D A G) (fault : RunFault D) (t0 t1 t2 : Telling) (part : List ℕ) → Ghosts.honest G
+    → FedSo before piece rest mid s s1 t0 t1 → SaysUntil fault.cause t1 t2 part → ((input : List ℕ) → StopsHere s1 fault (mid (rest ++ input)) part) → Stopped before piece s fault t0 t2
+feed_stops before mid piece rest s s1 fault t0 t1 t2 part h f until stop =
     let g = f.2 in (
-      own,
       g.0,
       g.1,
-      same ∙ g.2,
+      part,
+      until_after fault.cause t0 t1 t2 g.1 part g.2 until,
       λ input. (
         mid (rest ++ input),
         ap before (ap (λ (z : List ℕ). z ++ input) f.1 ∙ append_assoc f.0 rest input) ∙ g.3 (rest ++ input),
-        stops_then s s1 fault g.0 (mid (rest ++ input)) g.1 h g.4 (stop input),
+        stops_then s s1 fault g.0 (mid (rest ++ input)) g.1 part h g.4 (stop input),
       ),
     )
 
@@ -296,8 +302,12 @@ line_first mid rest at over line input found moved free =
 
 -- a stop after a flush
 pub flushed_stops : {D A : Type 0} {G : Ghosts D} (old new : Exec D A G) (fault : RunFault D) → Ghosts.honest G → GoesOn old new Flushes → Ghosts.failures G fault.disk ≡ failures_of new
-    → Ghosts.state G fault.disk ≡ disk_at new.home → StopsHere old fault []
+    → Ghosts.state G fault.disk ≡ disk_at new.home → StopsHere old fault [] []
 flushed_stops {D} {A} {G} old new fault h f same at life =
-    let p = has_executed old new [] Flushes f flush_calls in
-    let g = p.calls h life in
-    (world_of g.0 new, subst (λ (n : ℕ). IsLater (failures_of old) n) (sym same) f.later, g.1.entries, g.1.calls, g.1.are, left_in (Ghosts.state G fault.disk) (world_of g.0 new) at)
+    let g = f.runs h life in (
+      world_of g.0 new,
+      within_at _ _ _ (λ can. NextBegins can (world_of life old) [] [] (world_of g.0 new)) same
+          (within_as _ _ (λ can. Flushes can (world_of life old) (world_of g.0 new)) (λ can. NextBegins can (world_of life old) [] [] (world_of g.0 new)) g.1
+          (λ can x. (begins_all (world_of life old) (world_of g.0 new) [] (flush_calls can (world_of life old) (world_of g.0 new) x), refl))),
+      left_in (Ghosts.state G fault.disk) (world_of g.0 new) at,
+    )

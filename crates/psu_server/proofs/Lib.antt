@@ -1,6 +1,6 @@
 pub mod Alone
 pub mod Within
-pub mod Places
+pub mod Telling
 pub mod Calls
 pub mod JobEnds
 pub mod FlushEnds

@@ -13,12 +13,12 @@ use Rattle.psu_server.specs.Lines.{messages}
 use Rattle.psu_server.specs.Lives.{born, disk_at, world_of, PowersOn}
 use Rattle.psu_server.specs.Progress.{EndsEarly, RanAll}
 use Rattle.psu_server.specs.Results.{WritesFirst, WritesRun}
-use Rattle.psu_server.specs.Runs.{Mishaps, Flushes, Runs}
+use Rattle.psu_server.specs.Runs.{Mishaps, Flushes, NextBegins, Runs}
 use Rattle.psu_server.specs.Within.{Within}
 use Rattle.psu_server.specs.declared.run_cause.RunCause.TheVariants.{Write}
 use Rattle.psu_server.specs.declared.run_fault.RunFault.{RunFault}
 use Rattle.psu_server.proofs.Alone.{script_is_alone}
-use Rattle.psu_server.proofs.Calls.{Reached, flush_calls, flush_running, flushed_stands, leaves_prefix, reached_calls, reached_on, reached_runs}
+use Rattle.psu_server.proofs.Calls.{Reached, flush_calls, flush_running, flushed_stands, leaves_prefix, reached_calls, reached_next, reached_on, reached_runs}
 use Rattle.psu_server.proofs.Reading.{early_here}
 use Rattle.psu_server.proofs.Within.{covers_itself}
 
@@ -40,10 +40,10 @@ pub run_early : {D A : Type 0} {G : Ghosts D} (from u v : Option (List ℕ)) (im
 run_early None u v image s fault before Q starts same p = tt
 run_early {D} {A} {G} (Some input) u v image s fault before Q starts same p =
     let e = p.stops (born s) in
-    let went : Within before (Ghosts.failures G fault.disk) (λ can. Runs can (world_of (born s) s) p.done p.text e.0)
-    = subst (λ (n : ℕ). Within n (Ghosts.failures G fault.disk) (λ can. Runs can (world_of (born s) s) p.done p.text e.0)) same e.2 in
-    let runs : Runs went.0 (world_of (born s) s) p.done p.text e.0 = went.3 went.0 (covers_itself went.0) in
-    let reached : Reached e.1 = reached_calls e.3 e.0 e.1 e.4 (reached_runs p.done went.0 (world_of (born s) s) e.0 p.text runs (reached_on image (world_of (born s) s) starts)) in
+    let went : Within before (Ghosts.failures G fault.disk) (λ can. Runs can (world_of (born s) s) p.done p.text e.0 × NextBegins can e.0 p.rest p.part e.1)
+    = subst (λ (n : ℕ). Within n (Ghosts.failures G fault.disk) (λ can. Runs can (world_of (born s) s) p.done p.text e.0 × NextBegins can e.0 p.rest p.part e.1)) same e.2 in
+    let both = went.3 went.0 (covers_itself went.0) in
+    let reached : Reached e.1 = reached_next p.rest went.0 e.0 e.1 p.part both.1 (reached_runs p.done went.0 (world_of (born s) s) e.0 p.text both.0 (reached_on image (world_of (born s) s) starts)) in
     inr (record {
       gone = went.0;
       failed = went.2;
@@ -54,17 +54,16 @@ run_early {D} {A} {G} (Some input) u v image s fault before Q starts same p =
       is = p.is;
       text = p.text;
       mid = e.0;
-      runs = runs;
+      runs = both.0;
+      part = p.part;
+      last = e.1;
+      begun = both.1;
       front = p.front;
       written = p.appends;
       start_of = p.starts;
       whole = p.whole;
       missing = p.missing;
-      last = e.1;
-      entries = e.3;
-      calls = e.4;
-      begun = e.5;
-      kept = leaves_prefix e.1 (Ghosts.state G fault.disk) reached e.6;
+      kept = leaves_prefix e.1 (Ghosts.state G fault.disk) reached e.3;
     })
 
 -- the run ended well

@@ -11,35 +11,31 @@ use Rattle.psu_exec.specs.declared.exec.Exec.{Exec}
 use Rattle.psu_server.specs.Failures.{failures_of}
 use Rattle.psu_server.specs.Lines.{Message, message_now, coming, has, is_none_begun}
 use Rattle.psu_server.specs.Lives.{disk_at, world_of}
-use Rattle.psu_server.specs.Output.{WritesShort}
+use Rattle.psu_server.specs.Output.{Says, Telling, WritesShort}
 use Rattle.psu_server.specs.declared.run_cause.RunCause.TheVariants.{Write}
 use Rattle.psu_server.specs.declared.run_fault.RunFault.{RunFault}
-use Rattle.psu_server.specs.Runs.{Flushes, Runs}
+use Rattle.psu_server.specs.Runs.{Flushes, NextBegins, Runs}
 use Rattle.psu_server.specs.Progress.{Answered, Answers, EndsEarly, Fed, GoesOn, RanAll, Stopped, Stops, StopsHere}
 use Rattle.psu_server.proofs.Feeding.{runs_all, runs_join, runs_none, stops_now, stops_then}
 use Rattle.psu_server.proofs.Fronts.{starts_after, starts_whole}
 use Rattle.psu_server.proofs.Cuts.{coming_end, coming_last, coming_none}
+use Rattle.psu_server.proofs.Telling.{longer}
 use Rattle.psu_server.proofs.Within.{within_at, within_then}
 
 -- ---- ends
 
-stops_more : {D A : Type 0} {G : Ghosts D} (old mid : Exec D A G) (fault : RunFault D) (xs done rest : List Message) (text more : List ℕ) → Ghosts.honest G
-    → GoesOn old mid (λ can w v. Runs can w xs text v) → Stops mid fault done rest more → Stops old fault (xs ++ done) rest (text ++ more)
-stops_more {D} {A} {G} old mid fault xs done rest text more h goes stop life =
+stops_more : {D A : Type 0} {G : Ghosts D} (old mid : Exec D A G) (fault : RunFault D) (xs done rest : List Message) (text more part : List ℕ) → Ghosts.honest G
+    → GoesOn old mid (λ can w v. Runs can w xs text v) → Stops mid fault done rest more part → Stops old fault (xs ++ done) rest (text ++ more) part
+stops_more {D} {A} {G} old mid fault xs done rest text more part h goes stop life =
     let g = goes.runs h life in
     let s = stop g.0 in (
       s.0,
       s.1,
-      within_then (failures_of old) (failures_of mid) (Ghosts.failures G fault.disk) (λ can. Runs can (world_of life old) xs text (world_of g.0 mid)) (λ can. Runs can (world_of g.0 mid) done more s.0)
-          (λ can. Runs can (world_of life old) (xs ++ done) (text ++ more) s.0) g.1 s.2 (λ can x y. runs_join can (world_of life old) (world_of g.0 mid) s.0 text more xs done x y),
+      within_then (failures_of old) (failures_of mid) (Ghosts.failures G fault.disk) (λ can. Runs can (world_of life old) xs text (world_of g.0 mid))
+          (λ can. Runs can (world_of g.0 mid) done more s.0 × NextBegins can s.0 rest part s.1) (λ can. Runs can (world_of life old) (xs ++ done) (text ++ more) s.0 × NextBegins can s.0 rest part s.1) g.1 s.2
+          (λ can x y. (runs_join can (world_of life old) (world_of g.0 mid) s.0 text more xs done x y.0, y.1)),
       s.3,
-      s.4,
-      s.5,
-      s.6,
     )
-
-longer : (text front more : List ℕ) → length front < length more → length (text ++ front) < length (text ++ more)
-longer text front more less = grind (arith, common_steps, less)
 
 -- nothing is executed, and nothing written
 pub early_here : {D A : Type 0} {G : Ghosts D} (old : Exec D A G) (fault : RunFault D) (due : List Message) (w : Option (List ℕ)) → Ghosts.honest G → fault.cause ≢ Write
@@ -49,7 +45,8 @@ early_here old fault due w h other same at = record {
   rest = due;
   is = refl;
   text = [];
-  stops = stops_then old old fault [] due [] h (runs_none old) (stops_now old fault due same at);
+  part = [];
+  stops = stops_then old old fault [] due [] [] h (runs_none old) (stops_now old fault due same at);
   front = [];
   appends = Appends-nil w;
   starts = refl;
@@ -65,12 +62,13 @@ early_after old mid fault due done more text u v w h is goes p b = record {
   rest = b.rest;
   is = is ∙ ap (λ (z : List Message). done ++ z) b.is ∙ sym (append_assoc done b.done b.rest);
   text = text ++ b.text;
-  stops = stops_more old mid fault done b.done b.rest text b.text h goes b.stops;
+  part = b.part;
+  stops = stops_more old mid fault done b.done b.rest text b.text b.part h goes b.stops;
   front = text ++ b.front;
   appends = Appends-trans u v w text b.front p b.appends;
-  starts = starts_after text b.front b.text b.starts;
-  whole = λ e. ap (λ (z : List ℕ). text ++ z) (b.whole e);
-  missing = λ e. longer text b.front b.text (b.missing e);
+  starts = subst (λ (z : List ℕ). StartsWith z (text ++ b.front)) (sym (append_assoc text b.text b.part)) (starts_after text b.front (b.text ++ b.part) b.starts);
+  whole = λ e. ap (λ (z : List ℕ). text ++ z) (b.whole e) ∙ sym (append_assoc text b.text b.part);
+  missing = λ e. subst (λ (z : List ℕ). length (text ++ b.front) < length z) (sym (append_assoc text b.text b.part)) (longer text b.front (b.text ++ b.part) (b.missing e));
 }
 
 -- ---- pieces
@@ -167,67 +165,82 @@ ran_end_front f mid s s1 fault (Some x) (Some y) (Some z) u v w h r p e q =
     subst (λ (l : List ℕ). EndsEarly s fault (f l) u w) (sym (r.1 ∙ ap (λ (l : List ℕ). r.0 ++ l) (p ∙ e)))
     (early_seen f mid r.0 [] s s1 fault u v w h r.2 q)
 
--- what was gathered of a piece is written
-pub fed_written : {D A : Type 0} {G : Ghosts D} (f mid : List ℕ → List Message) (piece : List ℕ) (s s1 : Exec D A G) (start out shown : List ℕ) (u v : Option (List ℕ))
-    → Fed f piece mid s s1 start out → start ≡ [] → shown ≡ out → Appends u v shown → Answered f piece mid s s1 u v
-fed_written f mid piece s s1 start out shown u v p none d w = (
-  p.0,
-  p.1,
-  subst (Appends u v) (d ∙ p.2 ∙ ap (λ (z : List ℕ). z ++ p.1) none) w,
-  p.3,
-  p.4,
-)
+-- a text that is told from nothing on, and what is gathered of it is written
+said_written : (a b : Telling) (text : List ℕ) (v : Option (List ℕ)) → a.gathered ≡ [] → Says a b text → Appends b.written v b.gathered → Appends a.written v text
+said_written a b text v none says w =
+    subst (λ (z : List ℕ). Appends a.written v z) (says.2 ∙ ap (λ (z : List ℕ). z ++ text) none) (Appends-trans a.written b.written v says.0 b.gathered says.1 w)
 
--- a front of what was gathered of a piece is written, and the device is as it is then
-pub fed_front : {D A : Type 0} {G : Ghosts D} (f mid : List ℕ → List Message) (piece : List ℕ) (s s1 : Exec D A G) (fault : RunFault D) (start out shown : List ℕ) (u v : Option (List ℕ)) → Ghosts.honest G
-    → Fed f piece mid s s1 start out → start ≡ [] → shown ≡ out → WritesShort u v shown → fault.cause ≡ Write
-    → Ghosts.failures G fault.disk ≡ failures_of s1 → Ghosts.state G fault.disk ≡ disk_at s1.home → (input : List ℕ) → EndsEarly s fault (f (piece ++ input)) u v
-fed_front f mid piece s s1 fault start out shown u v h p none d w is same at input = record {
-  done = p.0;
-  rest = mid input;
-  is = p.3 input;
-  text = p.1;
-  stops = stops_then s s1 fault p.0 (mid input) p.1 h p.4 (stops_now s1 fault (mid input) same at);
+-- a front of it is written
+said_short : (a b : Telling) (text : List ℕ) (v : Option (List ℕ)) → a.gathered ≡ [] → Says a b text → WritesShort b.written v b.gathered → WritesShort a.written v text
+said_short a b text v none says w =
+    let all : says.0 ++ b.gathered ≡ text = says.2 ∙ ap (λ (z : List ℕ). z ++ text) none in (
+      says.0 ++ w.0,
+      Appends-trans a.written b.written v says.0 w.0 says.1 w.1,
+      subst (λ (z : List ℕ). StartsWith z (says.0 ++ w.0)) all (starts_after says.0 w.0 b.gathered w.2),
+      subst (λ (z : List ℕ). length (says.0 ++ w.0) < length z) all (longer says.0 w.0 b.gathered w.3),
+    )
+
+-- what was told of a piece is written
+pub fed_written : {D A : Type 0} {G : Ghosts D} (f mid : List ℕ → List Message) (piece : List ℕ) (s s1 : Exec D A G) (a b : Telling) (shown : List ℕ) (v : Option (List ℕ))
+    → Fed f piece mid s s1 a b → a.gathered ≡ [] → shown ≡ b.gathered → Appends b.written v shown → Answered f piece mid s s1 a.written v
+fed_written f mid piece s s1 a b shown v p none d w = (p.0, p.1, said_written a b p.1 v none p.2 (subst (Appends b.written v) d w), p.3, p.4)
+
+early_as : {D A : Type 0} {G : Ghosts D} (s : Exec D A G) (fault : RunFault D) (due done rest : List Message) (text part : List ℕ) (u v : Option (List ℕ)) → due ≡ done ++ rest
+    → Stops s fault done rest text part → WritesShort u v (text ++ part) → fault.cause ≡ Write → EndsEarly s fault due u v
+early_as s fault due done rest text part u v is stops w write = record {
+  done = done;
+  rest = rest;
+  is = is;
+  text = text;
+  part = part;
+  stops = stops;
   front = w.0;
   appends = w.1;
-  starts = subst (λ (z : List ℕ). StartsWith z w.0) (d ∙ p.2 ∙ ap (λ (z : List ℕ). z ++ p.1) none) w.2;
-  whole = λ e. absurd (e is);
-  missing = λ e. subst (λ (z : List ℕ). length w.0 < length z) (d ∙ p.2 ∙ ap (λ (z : List ℕ). z ++ p.1) none) w.3;
+  starts = w.2;
+  whole = λ e. absurd (e write);
+  missing = λ e. w.3;
 }
 
--- a fault in a piece: what was gathered is written
-pub stopped_whole : {D A : Type 0} {G : Ghosts D} (f : List ℕ → List Message) (piece : List ℕ) (s : Exec D A G) (fault : RunFault D) (start out shown : List ℕ) (u v : Option (List ℕ))
-    → Stopped f piece s fault start out → start ≡ [] → shown ≡ out → Appends u v shown → (input : List ℕ) → EndsEarly s fault (f (piece ++ input)) u v
-stopped_whole f piece s fault start out shown u v p none d w input =
-    let text : shown ≡ p.2 = d ∙ p.3 ∙ ap (λ (z : List ℕ). z ++ p.2) none in record {
-      done = p.1;
-      rest = (p.4 input).0;
-      is = (p.4 input).1;
-      text = p.2;
-      stops = (p.4 input).2;
-      front = p.2;
-      appends = subst (Appends u v) text w;
-      starts = starts_whole p.2;
-      whole = λ e. refl;
-      missing = λ e. absurd (p.0 e);
-    }
+-- a front of what was told of a piece is written, and the device is as it is then
+pub fed_front : {D A : Type 0} {G : Ghosts D} (f mid : List ℕ → List Message) (piece : List ℕ) (s s1 : Exec D A G) (fault : RunFault D) (a b : Telling) (shown : List ℕ) (v : Option (List ℕ)) → Ghosts.honest G
+    → Fed f piece mid s s1 a b → a.gathered ≡ [] → shown ≡ b.gathered → WritesShort b.written v shown → fault.cause ≡ Write
+    → Ghosts.failures G fault.disk ≡ failures_of s1 → Ghosts.state G fault.disk ≡ disk_at s1.home → (input : List ℕ) → EndsEarly s fault (f (piece ++ input)) a.written v
+fed_front f mid piece s s1 fault a b shown v h p none d w is same at input =
+    early_as s fault (f (piece ++ input)) p.0 (mid input) p.1 [] a.written v (p.3 input) (stops_then s s1 fault p.0 (mid input) p.1 [] h p.4 (stops_now s1 fault (mid input) same at))
+    (subst (λ (z : List ℕ). WritesShort a.written v z) (sym (append-nil p.1)) (said_short a b p.1 v none p.2 (subst (WritesShort b.written v) d w))) is
+
+-- a fault in a piece: what was told is written
+pub stopped_whole : {D A : Type 0} {G : Ghosts D} (f : List ℕ → List Message) (piece : List ℕ) (s : Exec D A G) (fault : RunFault D) (a b : Telling) (shown : List ℕ) (v : Option (List ℕ))
+    → Stopped f piece s fault a b → a.gathered ≡ [] → fault.cause ≢ Write → shown ≡ b.gathered → Appends b.written v shown → (input : List ℕ) → EndsEarly s fault (f (piece ++ input)) a.written v
+stopped_whole f piece s fault a b shown v p none own d w input = record {
+  done = p.0;
+  rest = (p.4 input).0;
+  is = (p.4 input).1;
+  text = p.1;
+  part = p.2;
+  stops = (p.4 input).2;
+  front = p.1 ++ p.2;
+  appends = said_written a b (p.1 ++ p.2) v none (p.3.whole own) (subst (Appends b.written v) d w);
+  starts = starts_whole (p.1 ++ p.2);
+  whole = λ e. refl;
+  missing = λ e. absurd (own e);
+}
+
+-- the writer failed in it
+pub stopped_short : {D A : Type 0} {G : Ghosts D} (f : List ℕ → List Message) (piece : List ℕ) (s : Exec D A G) (fault : RunFault D) (a b : Telling)
+    → Stopped f piece s fault a b → a.gathered ≡ [] → fault.cause ≡ Write → (input : List ℕ) → EndsEarly s fault (f (piece ++ input)) a.written b.written
+stopped_short f piece s fault a b p none is input =
+    early_as s fault (f (piece ++ input)) p.0 (p.4 input).0 p.1 p.2 a.written b.written (p.4 input).1 (p.4 input).2
+    (subst (λ (z : List ℕ). WritesShort a.written b.written (z ++ (p.1 ++ p.2))) none (p.3.missing is)) is
 
 -- and the writer failed then
-pub stopped_front : {D A : Type 0} {G : Ghosts D} (f : List ℕ → List Message) (piece : List ℕ) (s : Exec D A G) (old fault : RunFault D) (start out shown : List ℕ) (u v : Option (List ℕ))
-    → Stopped f piece s old start out → start ≡ [] → shown ≡ out → WritesShort u v shown → fault.cause ≡ Write → fault.disk ≡ old.disk → (input : List ℕ) → EndsEarly s fault (f (piece ++ input)) u v
-stopped_front {D} {A} {G} f piece s old fault start out shown u v p none d w is same input =
-    let text : shown ≡ p.2 = d ∙ p.3 ∙ ap (λ (z : List ℕ). z ++ p.2) none in record {
-      done = p.1;
-      rest = (p.4 input).0;
-      is = (p.4 input).1;
-      text = p.2;
-      stops = subst (λ (e : D). Stops s (record fault { disk = e }) p.1 (p.4 input).0 p.2) (sym same) (p.4 input).2;
-      front = w.0;
-      appends = w.1;
-      starts = subst (λ (z : List ℕ). StartsWith z w.0) text w.2;
-      whole = λ e. absurd (e is);
-      missing = λ e. subst (λ (z : List ℕ). length w.0 < length z) text w.3;
-    }
+pub stopped_front : {D A : Type 0} {G : Ghosts D} (f : List ℕ → List Message) (piece : List ℕ) (s : Exec D A G) (old fault : RunFault D) (a b : Telling) (shown : List ℕ) (v : Option (List ℕ))
+    → Stopped f piece s old a b → a.gathered ≡ [] → old.cause ≢ Write → shown ≡ b.gathered → WritesShort b.written v shown → fault.cause ≡ Write → fault.disk ≡ old.disk → (input : List ℕ)
+    → EndsEarly s fault (f (piece ++ input)) a.written v
+stopped_front {D} {A} {G} f piece s old fault a b shown v p none own d w is same input =
+    early_as s fault (f (piece ++ input)) p.0 (p.4 input).0 p.1 p.2 a.written v (p.4 input).1
+    (subst (λ (e : D). Stops s (record fault { disk = e }) p.0 (p.4 input).0 p.1 p.2) (sym same) (p.4 input).2)
+    (said_short a b (p.1 ++ p.2) v none (p.3.whole own) (subst (WritesShort b.written v) d w)) is
 
 -- ---- the line that the input ends in, ended
 
@@ -263,17 +276,18 @@ answers_none over line s w none = subst (λ (m : List Message). Answers m s s w 
 
 -- what is answered whole, and then a fault
 pub answers_early : {D A : Type 0} {G : Ghosts D} (due : List Message) (s s1 : Exec D A G) (fault : RunFault D) (u v : Option (List ℕ)) → Ghosts.honest G → Answers due s s1 u v → fault.cause ≢ Write
-    → StopsHere s1 fault [] → EndsEarly s fault due u v
+    → StopsHere s1 fault [] [] → EndsEarly s fault due u v
 answers_early due s s1 fault u v h p other stop = record {
   done = due;
   rest = [];
   is = sym (append-nil due);
   text = p.0;
-  stops = stops_then s s1 fault due [] p.0 h p.2 stop;
+  part = [];
+  stops = stops_then s s1 fault due [] p.0 [] h p.2 stop;
   front = p.0;
   appends = p.1;
-  starts = starts_whole p.0;
-  whole = λ e. refl;
+  starts = subst (λ (z : List ℕ). StartsWith z p.0) (sym (append-nil p.0)) (starts_whole p.0);
+  whole = λ e. sym (append-nil p.0);
   missing = λ e. absurd (other e);
 }
 

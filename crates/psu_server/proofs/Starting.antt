@@ -180,7 +180,7 @@ stands_stops before now image left limit contents (Open start.BadItems) sound st
     let one = one_stands image limit why.limit (items_of contents) why.map stands why.stands in
     absurd (why.none contents sound (subst (λ (n : ℕ). fits n contents ≡ true) one.0 (fits_on image limit contents sound stands)) one.1)
 stands_stops before now image left limit contents Read sound stands why = absurd why
-stands_stops before now image left limit contents Write sound stands why = absurd why
+stands_stops before now image left limit contents Write sound stands why = tt
 stands_stops before now image left limit contents Device sound stands why = absurd why
 stands_stops before now image left limit contents TooLong sound stands why = absurd why
 stands_stops before now image left limit contents Memory sound stands why = tt
@@ -210,7 +210,7 @@ halted_stops since now exec left cause told is same why worn = subst (λ (z : Ru
   by Memory w = tt
   by (Open c) w = absurd w
   by Read w = absurd w
-  by Write w = absurd w
+  by Write w = tt
   by TooLong w = absurd w
 
 pub not_started_write : (image : List ℕ) (before now : ℕ) (cause : RunCause) → NotStarted image before now cause → cause ≢ Write

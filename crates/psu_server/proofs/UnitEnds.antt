@@ -1,5 +1,5 @@
 -- Units, their waits, and what they leave.
-use Rattle.std.proofs.Common.{◌≡◌, ◌≢◌, ◌⊎◌, ℕ, ◌<◌, ◌==◌, ◌&&◌, not, nat_le, if◌then◌else◌, Bool, true, false, Option, Some, None, is_none, List, [], ◌++◌, refl, sym, ap, ◌∙◌, subst, inl, inr, arith, ⊎_elim, append-nil, Ok, Err}
+use Rattle.std.proofs.Common.{◌≡◌, ◌≢◌, ◌⊎◌, ℕ, ◌<◌, ◌==◌, ◌&&◌, not, nat_le, if◌then◌else◌, Bool, true, false, Option, Some, None, is_none, List, [], ◌∷◌, ◌++◌, refl, sym, ap, ◌∙◌, subst, inl, inr, arith, ⊎_elim, append-nil, Ok, Err}
 use Rattle.std.proofs.lemmas.Bool.Decides.{nat_tests}
 use Rattle.psu_disk.specs.Disk.{HasFailed}
 use Rattle.psu_disk.specs.declared.disk.Disk.{Ghosts}
@@ -24,7 +24,7 @@ use Rattle.psu_lex.specs.declared.scpi_error.ScpiError.{ScpiError}
 use Rattle.psu_lex.specs.declared.scpi_error.ScpiError.TheVariants.{StorageFault}
 use Rattle.psu_server.specs.Failures.{failures_of}
 use Rattle.psu_server.specs.Jobs.{IsExplained}
-use Rattle.psu_server.specs.Lives.{Life, lived, world_of, Calls, on_line}
+use Rattle.psu_server.specs.Lives.{Life, lived, world_of, Calls}
 use Rattle.psu_server.specs.Progress.{Acted, GoesOn, Halts, WaitEnds}
 use Rattle.psu_server.specs.Reasons.{IsHaltedBy}
 use Rattle.psu_server.specs.Runs.{Mishaps, Acts, Flushes, IsMeant, UnitRuns, is_final, is_later, is_out_of_memory, is_parked}
@@ -220,7 +220,7 @@ halts_cleared old mid new cause s t there =
     still_halted since Memory w = tt
     still_halted since (Open cause) w = absurd w
     still_halted since Read w = absurd w
-    still_halted since Write w = absurd w
+    still_halted since Write w = tt
     still_halted since TooLong w = absurd w
 
 -- ---- units
@@ -254,10 +254,10 @@ acted_waited old mid new request first reply t there parked ends final long =
     (λ can w u v x y. inr (final, inr (long, u, y.0, parked_call w u request first parked x.1, y.1, y.2)))
 
 pub parked_halts : {D A : Type 0} {G : Ghosts D} (old mid new : Exec D A G) (request : Request) (first : Reply) (cause : RunCause) → Allows old.device (Executed 1 request first) mid.device → mid.home ≡ old.home
-    → is_parked first ≡ true → Halts mid new [] cause → Halts old new (on_line request) cause
+    → is_parked first ≡ true → Halts mid new [] cause → Halts old new (request ∷ []) cause
 parked_halts old mid new request first cause t there parked s =
-    subst (λ (z : List Request). Halts old new z cause) (append-nil (on_line request)) (halts_after old mid new (on_line request) [] cause
-    (has_executed old mid (on_line request) (λ can w v. IsMeant can first × Calls w (Executed 1 request first) v) (executed_goes old mid request first t there)
+    subst (λ (z : List Request). Halts old new z cause) (append-nil (request ∷ [])) (halts_after old mid new (request ∷ []) [] cause
+    (has_executed old mid (request ∷ []) (λ can w v. IsMeant can first × Calls w (Executed 1 request first) v) (executed_goes old mid request first t there)
     (λ can w v x. executes_one w (Executed 1 request Parked) v (parked_call w v request first parked x.1))) s)
 
 unit_at : (can : Mishaps) (reply : Reply) (w v : World) (request : Request) → is_later reply ≡ false → Acted request reply can w v → UnitRuns can w request reply v
@@ -303,14 +303,14 @@ late_executed old mid over request first a late f =
     (λ can w v x. executes_join w x.0 v [] [] (executes_one w (Executed 1 request Later) x.0 x.1) (flush_calls can x.0 v x.2))
 
 pub late_halts : {D A : Type 0} {G : Ghosts D} (old mid over : Exec D A G) (request : Request) (first : Reply) (cause : RunCause) → GoesOn old mid (Acted request first) → is_later first ≡ true
-    → Halts mid over [] cause → Halts old over (on_line request) cause
+    → Halts mid over [] cause → Halts old over (request ∷ []) cause
 late_halts old mid over request first cause a late s =
-    halts_more old over [] (on_line request) cause (halts_after old mid over [] [] cause
+    halts_more old over [] (request ∷ []) cause (halts_after old mid over [] [] cause
     (has_executed old mid [] (Acted request first) a (λ can w v x. executes_one w (Executed 1 request Later) v (late_call can first w v request late x))) s)
 
 pub later_halts : {D A : Type 0} {G : Ghosts D} (old mid over new : Exec D A G) (request : Request) (first : Reply) (cause : RunCause) → GoesOn old mid (Acted request first) → is_later first ≡ true
-    → GoesOn mid over Flushes → Halts over new (on_line request) cause → Halts old new (on_line request) cause
-later_halts old mid over new request first cause a late f s = halts_after old over new [] (on_line request) cause (late_executed old mid over request first a late f) s
+    → GoesOn mid over Flushes → Halts over new (request ∷ []) cause → Halts old new (request ∷ []) cause
+later_halts old mid over new request first cause a late f s = halts_after old over new [] (request ∷ []) cause (late_executed old mid over request first a late f) s
 
 -- ---- a unit that comes later still, after a flush
 
@@ -383,9 +383,9 @@ late_halted since mid new request reply h a late free clean =
 pub still_late_halts : {D A : Type 0} {G : Ghosts D} (old mid over new : Exec D A G) (request : Request) (first reply : Reply) → GoesOn old mid (Acted request first) → is_later first ≡ true
     → GoesOn mid over Flushes → GoesOn over new (Acted request reply) → is_later reply ≡ true → wait_of over.device.flush 1 ≡ None
     → ((since : ℕ) → IsExplained since mid → HasFailed since (failures_of over) ⊎ (over.device.flush.store ≡ Worn) ⊎ (over.device.flush.unflushed ≡ 0))
-    → Halts old new (on_line request) Device
+    → Halts old new (request ∷ []) Device
 still_late_halts old mid over new request first reply a late f b still free clean =
-    halts_here old new [] (on_line request) Device
+    halts_here old new [] (request ∷ []) Device
     (executed_join old over new [] [] (late_executed old mid over request first a late f)
     (has_executed over new [] (Acted request reply) b (λ can w v x. executes_one w (Executed 1 request Later) v (late_call can reply w v request still x))))
     (λ h since e. late_halted since over new request reply h b still free (clean since (a.explained since e))) (λ e. cc)

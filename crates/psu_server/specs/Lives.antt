@@ -45,16 +45,12 @@ abbrev pub CallsAll : World → List Entry → World → Type 0
 CallsAll w [] new = new ≡ w
 CallsAll w (entry ∷ entries) new = (mid : World) × Calls w entry mid × CallsAll mid entries new
 
--- a request of a line itself; those of an expansion stand in the place of the unit that they came from
-abbrev pub on_line : Request → List Request
-on_line request = if request.inside then [] else request ∷ []
-
--- the request of a call that executes a unit of a line; a unit that is to come later isn't executed
+-- the request of a call that executes a unit; a unit that is to come later isn't executed
 abbrev pub unit_in : Entry → List Request
-unit_in (Executed session request reply) = if is_executed reply then on_line request else []
+unit_in (Executed session request reply) = if is_executed reply then request ∷ [] else []
 unit_in entry = []
 
--- the requests of lines that calls executed, in order
+-- the requests that calls executed, in order
 abbrev pub units_in : List Entry → List Request
 units_in [] = []
 units_in (entry ∷ entries) = unit_in entry ++ units_in entries

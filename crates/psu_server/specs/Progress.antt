@@ -1,19 +1,20 @@
 -- How far a run has come: what each of its parts has executed and told.
-use Rattle.std.specs.Prelude.{◌≡◌, ◌≢◌, ◌⊎◌, ℕ, ◌<◌, List, [], ◌∷◌, ◌++◌, length, Option}
+use Rattle.std.specs.Prelude.{◌≡◌, ◌≢◌, ◌⊎◌, ℕ, ◌<◌, List, ◌++◌, length, Option}
 use Rattle.std.specs.Io.KnownBytes.{Appends}
 use Rattle.std.specs.Io.{StartsWith}
 use Rattle.psu_disk.specs.declared.disk.Disk.{Ghosts}
 use Rattle.psu_tree.specs.declared.unit_request.Request.{Request}
 use Rattle.psu_exec.specs.Device.{Reply, Later}
-use Rattle.psu_exec.specs.Calls.{Entry, Executed, Settled}
+use Rattle.psu_exec.specs.Calls.{Executed, Settled}
 use Rattle.psu_exec.specs.World.{World}
 use Rattle.psu_exec.specs.declared.exec.Exec.{Exec}
 use Rattle.psu_server.specs.Failures.{failures_of}
 use Rattle.psu_server.specs.Jobs.{IsExplained}
-use Rattle.psu_server.specs.Lines.{Message, Asks}
-use Rattle.psu_server.specs.Lives.{Life, world_of, Calls, CallsAll, units_in, IsLeftBy}
+use Rattle.psu_server.specs.Lines.{Message}
+use Rattle.psu_server.specs.Lives.{Life, world_of, Calls, IsLeftBy}
+use Rattle.psu_server.specs.Output.{Telling, Says, SaysUntil, has_answer}
 use Rattle.psu_server.specs.Reasons.{IsHaltedBy}
-use Rattle.psu_server.specs.Runs.{Mishaps, Acts, Flushes, Runs}
+use Rattle.psu_server.specs.Runs.{Mishaps, Acts, Begins, Flushes, NextBegins, Runs}
 use Rattle.psu_server.specs.Within.{IsLater, Within}
 use Rattle.psu_server.specs.declared.run_cause.RunCause.{RunCause}
 use Rattle.psu_server.specs.declared.run_cause.RunCause.TheVariants.{Write}
@@ -27,11 +28,7 @@ pub record GoesOn {D A : Type 0} {G : Ghosts D} (old new : Exec D A G) (P : Mish
   pub explained : (since : ℕ) → IsExplained since old → IsExplained since new
   pub later : IsLater (failures_of old) (failures_of new)
 
--- some first of these requests of a line were executed, with the expansions that replaced them
-abbrev pub Begins : World → List Request → World → Type 0
-Begins w requests new = (entries : List Entry) × CallsAll w entries new × (more : List Request) × (requests ≡ units_in entries ++ more)
-
--- The device stops for this cause, after some first of these requests of a line.
+-- The device stops for this cause, after some first of these requests.
 pub record Halts {D A : Type 0} {G : Ghosts D} (old new : Exec D A G) (requests : List Request) (cause : RunCause) : Type 0 where
   pub begun : Ghosts.honest G → (life : Life) → (next : Life) × Begins (world_of life old) requests (world_of next new)
   pub explained : (since : ℕ) → IsExplained since old → IsExplained since new
@@ -47,36 +44,52 @@ WaitEnds reply can w new = (over : World) × Flushes can w over × Calls over (S
 abbrev pub Acted : Request → Reply → Mishaps → World → World → Type 0
 Acted request reply can w new = ((reply ≡ Later) × Calls w (Executed 1 request Later) new) ⊎ Acts can w request reply new
 
+-- ---- what is told of a line
+
+-- what may happen between some answers of a line and these and more
+abbrev pub Way : Type 1
+Way = List ℕ → List ℕ → Mishaps → World → World → Type 0
+
+-- Behind the answers of its line so far, which are any that there may be, the device went on and told more.
+abbrev pub Continues : {D A : Type 0} {G : Ghosts D} → Exec D A G → Exec D A G → Telling → Telling → Way → Type 0
+Continues old new told now P = (text : List ℕ) → told.begun ≡ has_answer text
+    → (more : List ℕ) × Says told now more × (now.begun ≡ has_answer (text ++ more)) × GoesOn old new (P text (text ++ more))
+
+-- The device went on until a fault.
+pub record Breaks {D A : Type 0} {G : Ghosts D} (old new : Exec D A G) (P : Mishaps → World → World → Type 0) (cause : RunCause) : Type 0 where
+  pub goes : GoesOn old new P
+  pub why : Ghosts.honest G → (since : ℕ) → IsExplained since old → IsHaltedBy since new cause
+
+-- Behind the answers of its line so far the device went on, and more was to be told, until a fault.
+abbrev pub BreaksOff : {D A : Type 0} {G : Ghosts D} → Exec D A G → Exec D A G → Telling → Telling → Way → RunCause → Type 0
+BreaksOff old new told now P cause = (text : List ℕ) → told.begun ≡ has_answer text
+    → (more : List ℕ) × SaysUntil cause told now more × Breaks old new (P text (text ++ more)) cause
+
 -- ---- messages
 
--- some first requests of the first of these messages, those of expansions left out
-abbrev pub AreFirst : List Message → List Request → Type 0
-AreFirst [] requests = requests ≡ []
-AreFirst (m ∷ ms) requests = (requests ≡ []) ⊎ ((all : List Request) × (more : List Request) × Asks m all × (all ≡ requests ++ more))
+-- A run ended early: of these messages the first may have begun, and `part` is what was to be told of it.
+abbrev pub StopsHere : {D A : Type 0} {G : Ghosts D} → Exec D A G → RunFault D → List Message → List ℕ → Type 0
+StopsHere {D} {A} {G} old fault rest part = (life : Life) → (last : World)
+    × Within (failures_of old) (Ghosts.failures G fault.disk) (λ can. NextBegins can (world_of life old) rest part last) × IsLeftBy last (Ghosts.state G fault.disk)
 
--- A run ended early: of these messages some first units were executed.
-abbrev pub StopsHere : {D A : Type 0} {G : Ghosts D} → Exec D A G → RunFault D → List Message → Type 0
-StopsHere {D} {A} {G} old fault rest = (life : Life) → (last : World) × IsLater (failures_of old) (Ghosts.failures G fault.disk)
-    × (entries : List Entry) × CallsAll (world_of life old) entries last × AreFirst rest (units_in entries) × IsLeftBy last (Ghosts.state G fault.disk)
+-- A run ended early: these messages were executed, and of those after them the first may have begun.
+abbrev pub Stops : {D A : Type 0} {G : Ghosts D} → Exec D A G → RunFault D → List Message → List Message → List ℕ → List ℕ → Type 0
+Stops {D} {A} {G} old fault done rest text part = (life : Life) → (mid : World) × (last : World)
+    × Within (failures_of old) (Ghosts.failures G fault.disk) (λ can. Runs can (world_of life old) done text mid × NextBegins can mid rest part last)
+    × IsLeftBy last (Ghosts.state G fault.disk)
 
--- A run ended early: these messages were executed, and of those after them some first units.
-abbrev pub Stops : {D A : Type 0} {G : Ghosts D} → Exec D A G → RunFault D → List Message → List Message → List ℕ → Type 0
-Stops {D} {A} {G} old fault done rest text = (life : Life) → (mid : World) × (last : World)
-    × Within (failures_of old) (Ghosts.failures G fault.disk) (λ can. Runs can (world_of life old) done text mid)
-    × (entries : List Entry) × CallsAll mid entries last × AreFirst rest (units_in entries) × IsLeftBy last (Ghosts.state G fault.disk)
-
--- The messages before the piece are those that end in it, and those after it. They were executed, and their text gathered.
-abbrev pub Fed : {D A : Type 0} {G : Ghosts D} → (List ℕ → List Message) → List ℕ → (List ℕ → List Message) → Exec D A G → Exec D A G → List ℕ → List ℕ → Type 0
-Fed before piece after old new old_text new_text =
-    (done : List Message) × (text : List ℕ) × (new_text ≡ old_text ++ text)
+-- The messages before the piece are those that end in it, and those after it. They were executed, and their text told.
+abbrev pub Fed : {D A : Type 0} {G : Ghosts D} → (List ℕ → List Message) → List ℕ → (List ℕ → List Message) → Exec D A G → Exec D A G → Telling → Telling → Type 0
+Fed before piece after old new told now =
+    (done : List Message) × (text : List ℕ) × Says told now text
     × ((input : List ℕ) → before (piece ++ input) ≡ done ++ after input)
     × GoesOn old new (λ can w v. Runs can w done text v)
 
 -- the same up to a fault
-abbrev pub Stopped : {D A : Type 0} {G : Ghosts D} → (List ℕ → List Message) → List ℕ → Exec D A G → RunFault D → List ℕ → List ℕ → Type 0
-Stopped before piece old fault old_text new_text =
-    (fault.cause ≢ Write) × (done : List Message) × (text : List ℕ) × (new_text ≡ old_text ++ text)
-    × ((input : List ℕ) → (rest : List Message) × (before (piece ++ input) ≡ done ++ rest) × Stops old fault done rest text)
+abbrev pub Stopped : {D A : Type 0} {G : Ghosts D} → (List ℕ → List Message) → List ℕ → Exec D A G → RunFault D → Telling → Telling → Type 0
+Stopped before piece old fault told now =
+    (done : List Message) × (text : List ℕ) × (part : List ℕ) × SaysUntil fault.cause told now (text ++ part)
+    × ((input : List ℕ) → (rest : List Message) × (before (piece ++ input) ≡ done ++ rest) × Stops old fault done rest text part)
 
 -- the messages that end in the piece were executed, and the writer gained their text
 abbrev pub Answered : {D A : Type 0} {G : Ghosts D} → (List ℕ → List Message) → List ℕ → (List ℕ → List Message) → Exec D A G → Exec D A G → Option (List ℕ) → Option (List ℕ) → Type 0
@@ -90,18 +103,20 @@ abbrev pub Answers : {D A : Type 0} {G : Ghosts D} → List Message → Exec D A
 Answers due old new old_written new_written =
     (text : List ℕ) × Appends old_written new_written text × GoesOn old new (λ can w v. Runs can w due text v)
 
--- A run ended early. What the executed messages told is written; where the writer failed, a front of it, and some of it is missing.
+-- A run ended early. What the executed messages told is written, and what was told of the next one; where the writer failed, a
+-- front of it, and some of it is missing.
 pub record EndsEarly {D A : Type 0} {G : Ghosts D} (old : Exec D A G) (fault : RunFault D) (due : List Message) (old_written new_written : Option (List ℕ)) : Type 0 where
   pub done : List Message
   pub rest : List Message
   pub is : due ≡ done ++ rest
   pub text : List ℕ
-  pub stops : Stops old fault done rest text
+  pub part : List ℕ
+  pub stops : Stops old fault done rest text part
   pub front : List ℕ
   pub appends : Appends old_written new_written front
-  pub starts : StartsWith text front
-  pub whole : fault.cause ≢ Write → front ≡ text
-  pub missing : fault.cause ≡ Write → length front < length text
+  pub starts : StartsWith (text ++ part) front
+  pub whole : fault.cause ≢ Write → front ≡ text ++ part
+  pub missing : fault.cause ≡ Write → length front < length (text ++ part)
 
 -- The messages were executed and told, and then all that was accepted is flushed.
 pub record RanAll {D A : Type 0} {G : Ghosts D} (old : Exec D A G) (due : List Message) (disk : D) (old_written new_written : Option (List ℕ)) : Type 0 where

@@ -14,37 +14,32 @@ use Rattle.psu_server.specs.Failures.{failures_of}
 -- ---- the device that is powered on
 
 -- A unit or a flush can't be ended only where the disk failed, or where there is no number for a commit. A want of memory can't
--- be seen.
+-- be seen, nor that a writer fails.
 abbrev pub IsHaltedBy : {D A : Type 0} {G : Ghosts D} → ℕ → Exec D A G → RunCause → Type 0
 IsHaltedBy since exec Device = HasFailed since (failures_of exec) ⊎ (exec.device.flush.store ≡ Worn)
 IsHaltedBy since exec Memory = ⊤
 IsHaltedBy since exec (Open cause) = ⊥
 IsHaltedBy since exec Read = ⊥
-IsHaltedBy since exec Write = ⊥
+IsHaltedBy since exec Write = ⊤
 IsHaltedBy since exec TooLong = ⊥
 
 -- A fault of the device. A restart fails, and a unit or the last flush can't be ended, only where the disk failed; these two also
--- where there is no number for a commit. A want of memory can't be seen.
+-- where there is no number for a commit. A want of memory can't be seen, nor that a writer fails.
 abbrev pub StopsFor : ℕ → ℕ → List ℕ → RunCause → Type 0
 StopsFor before now left (Open cause) = HasFailed before now
 StopsFor before now left Device = HasFailed before now ⊎ IsWornOut left
 StopsFor before now left Memory = ⊤
 StopsFor before now left Read = ⊥
-StopsFor before now left Write = ⊥
+StopsFor before now left Write = ⊤
 StopsFor before now left TooLong = ⊥
 
 -- ---- the run
-
--- a fault of the device, or of the writer
-abbrev pub StopsOrWrites : ℕ → ℕ → List ℕ → RunCause → Type 0
-StopsOrWrites before now left Write = ⊤
-StopsOrWrites before now left cause = StopsFor before now left cause
 
 -- once power is on; an input of fewer bytes than a run may make reads is never too long
 abbrev pub EndsLate : ℕ → ℕ → List ℕ → Option (List ℕ) → RunCause → Type 0
 EndsLate before now left input TooLong = IfSome input (λ bytes. 1048576 ≤ length bytes)
 EndsLate before now left input Read = ⊤
-EndsLate before now left input cause = StopsOrWrites before now left cause
+EndsLate before now left input cause = StopsFor before now left cause
 
 -- Why a run ends early: `found` is the image at its start, `left` the one at its end, and the input what the reader had. An input
 -- of fewer bytes than a run may make reads is never too long. Memory is wanted only where a root could be read. That a reader or a

@@ -4,13 +4,11 @@ use Rattle.std.specs.Io.KnownBytes.{Appends}
 use Rattle.std.specs.Io.{StartsWith}
 use Rattle.psu_disk.specs.Disk.{DiskState, HasFailed}
 use Rattle.psu_items.specs.Image.{EachStands}
-use Rattle.psu_exec.specs.Calls.{Entry}
 use Rattle.psu_nv.specs.Contents.{items_of}
 use Rattle.psu_exec.specs.World.{World}
 use Rattle.psu_server.specs.Lines.{Message, messages}
-use Rattle.psu_server.specs.Lives.{CallsAll, units_in, PowersOn, LeavesPrefix}
-use Rattle.psu_server.specs.Progress.{AreFirst}
-use Rattle.psu_server.specs.Runs.{Mishaps, none, Flushes, Runs}
+use Rattle.psu_server.specs.Lives.{PowersOn, LeavesPrefix}
+use Rattle.psu_server.specs.Runs.{Mishaps, none, Flushes, NextBegins, Runs}
 use Rattle.psu_server.specs.Script.{IsScript}
 use Rattle.psu_server.specs.declared.run_cause.RunCause.{RunCause}
 use Rattle.psu_server.specs.declared.run_cause.RunCause.TheVariants.{Write}
@@ -33,9 +31,10 @@ pub record WritesRun (image input : List ℕ) (old_count new_count : ℕ) (old_w
   pub flushed : over.state.flush.unflushed ≡ 0
   pub kept : EachStands disk over.limit (items_of over.state.flush.contents)
 
--- A run that ended early: some first lines of the input were executed, and their text is written whole, but where the writer
--- failed: then some of it is missing. Of the next line some first units were executed. Each image that may be left of the disk
--- stands for the contents after a front of all these units that holds every unit before a `*OPC?` that was answered.
+-- A run that ended early: some first lines of the input were executed, and of the next line some first units. The text of the
+-- lines and what was told of the next one are written, but where the writer failed: then some of that is missing. Each image that
+-- may be left of the disk stands for the contents after a front of all these units that holds every unit before a `*OPC?` that was
+-- answered.
 pub record WritesFirst (cause : RunCause) (image input : List ℕ) (old_count new_count : ℕ) (old_written new_written : Option (List ℕ)) (disk : DiskState) : Type 0 where
   pub gone : Mishaps
   pub failed : gone.failed ≡ true → HasFailed old_count new_count
@@ -47,13 +46,12 @@ pub record WritesFirst (cause : RunCause) (image input : List ℕ) (old_count ne
   pub text : List ℕ
   pub mid : World
   pub runs : Runs gone first done text mid
+  pub part : List ℕ
+  pub last : World
+  pub begun : NextBegins gone mid rest part last
   pub front : List ℕ
   pub written : Appends old_written new_written front
-  pub start_of : StartsWith text front
-  pub whole : cause ≢ Write → front ≡ text
-  pub missing : cause ≡ Write → length front < length text
-  pub last : World
-  pub entries : List Entry
-  pub calls : CallsAll mid entries last
-  pub begun : AreFirst rest (units_in entries)
+  pub start_of : StartsWith (text ++ part) front
+  pub whole : cause ≢ Write → front ≡ text ++ part
+  pub missing : cause ≡ Write → length front < length (text ++ part)
   pub kept : LeavesPrefix last disk

@@ -5,11 +5,11 @@ use Rattle.psu_items.specs.declared.broken.BrokenCause.TheVariants as broken_cau
 use Rattle.psu_tree.specs.declared.unit_request.Request.{Request}
 use Rattle.psu_lex.specs.declared.scpi_error.ScpiError.TheVariants.{OutOfMemory}
 use Rattle.psu_exec.specs.Device.{Reply, Error, Expand, Parked, Later, is_broken}
-use Rattle.psu_exec.specs.Calls.{JobKind, Commit, Reopen, JobData, JobEnd, Stored, Unstarted, Failed, Reopened, Job, Nothing, Executed, Settled, Took, GaveBack}
+use Rattle.psu_exec.specs.Calls.{Entry, JobKind, Commit, Reopen, JobData, JobEnd, Stored, Unstarted, Failed, Reopened, Job, Nothing, Executed, Settled, Took, GaveBack}
 use Rattle.psu_exec.specs.World.{World}
 use Rattle.psu_server.specs.Lines.{Message, Asks, AsksInside, messages}
 use Rattle.psu_server.specs.Causes.{IsWornOut}
-use Rattle.psu_server.specs.Lives.{Calls, PowersOn}
+use Rattle.psu_server.specs.Lives.{Calls, CallsAll, PowersOn, units_in}
 use Rattle.psu_server.specs.Script.{with_answer, line_text, IsScript}
 
 -- what may go wrong: memory refused inside a unit, a failed disk call, a store whose root number is the last
@@ -136,6 +136,43 @@ abbrev pub Runs : Mishaps → World → List Message → List ℕ → World → 
 Runs can w [] text new = (new ≡ w) × (text ≡ [])
 Runs can w (m ∷ ms) text new =
     (first : List ℕ) × (more : List ℕ) × (mid : World) × MessageRuns can w m first mid × Runs can mid ms more new × (text ≡ first ++ more)
+
+-- ---- what has begun
+
+-- some first of these requests were executed, and other calls were made
+abbrev pub Begins : World → List Request → World → Type 0
+Begins w requests new = (entries : List Entry) × CallsAll w entries new × (more : List Request) × (requests ≡ units_in entries ++ more)
+
+-- some first units of an expansion, from the answers so far to all of them, and of the next one all but its answer
+abbrev pub UnitsBegin : Mishaps → World → List ℕ → List Request → List ℕ → World → Type 0
+UnitsBegin can w text [] all new = (new ≡ w) × (all ≡ text)
+UnitsBegin can w text (request ∷ more) all new =
+    (Begins w (request ∷ []) new × (all ≡ text))
+    ⊎ ((reply : Reply) × (mid : World) × UnitRuns can w request reply mid × UnitsBegin can mid (with_answer text reply) more all new)
+
+-- of the expansion that a unit is replaced by some first units
+abbrev pub ReplyBegins : Mishaps → World → List ℕ → Reply → List ℕ → World → Type 0
+ReplyBegins can w text (Expand bytes) all new = (requests : List Request) × AsksInside bytes requests × UnitsBegin can w text requests all new
+ReplyBegins can w text reply all new = (new ≡ w) × (all ≡ text)
+
+-- some first units of a message, from the answers so far to all of them, and of the next one all but its answer, or some first
+-- units of its expansion
+abbrev pub LineBegins : Mishaps → World → List ℕ → List Request → List ℕ → World → Type 0
+LineBegins can w text [] all new = (new ≡ w) × (all ≡ text)
+LineBegins can w text (request ∷ more) all new =
+    (Begins w (request ∷ []) new × (all ≡ text))
+    ⊎ ((reply : Reply) × (mid : World) × UnitRuns can w request reply mid × ReplyBegins can mid text reply all new)
+    ⊎ ((reply : Reply) × (mid : World) × (some : List ℕ) × (after : World)
+    × UnitRuns can w request reply mid × ReplyRuns can mid text reply some after × LineBegins can after some more all new)
+
+-- a message that has begun, with what is told of it
+abbrev pub MessageBegins : Mishaps → World → Message → List ℕ → World → Type 0
+MessageBegins can w m text new = (requests : List Request) × Asks m requests × LineBegins can w [] requests text new
+
+-- the first of these messages has begun, or none: then no unit was executed
+abbrev pub NextBegins : Mishaps → World → List Message → List ℕ → World → Type 0
+NextBegins can w [] text new = Begins w [] new × (text ≡ [])
+NextBegins can w (m ∷ ms) text new = (Begins w [] new × (text ≡ [])) ⊎ MessageBegins can w m text new
 
 -- where nothing goes wrong, what may be written is the script
 abbrev pub ScriptAlone : Type 0

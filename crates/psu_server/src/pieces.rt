@@ -1,13 +1,14 @@
 // The lines that end in a piece of the input.
-ghost use Rattle.std.specs.Prelude.{◌≡◌, ◌≢◌, ◌++◌, ◌∷◌, [], List, ℕ, OnOk, OnErr, IfOk, IfErr, true, false};
-ghost use Rattle.psu_tree.specs.declared.unit_request.Request.{Request as RequestData};
+ghost use Rattle.std.specs.Prelude.{◌≡◌, ◌≢◌, ◌∷◌, [], List, ℕ, OnOk, IfOk, IfErr, true, false};
 ghost use Rattle.psu_server.specs.Jobs.{IsExplained};
+ghost use Rattle.psu_tree.specs.declared.unit_request.Request.{Request as RequestData};
 ghost use Rattle.psu_server.specs.Lines.{Asks, Message, coming, is_power, message_now};
-ghost use Rattle.psu_server.specs.Progress.{Fed, GoesOn, Halts, Stopped, StopsHere};
+ghost use Rattle.psu_server.specs.Output.{Says, SaysUntil, telling};
+ghost use Rattle.psu_server.specs.Progress.{Breaks, BreaksOff, Continues, Fed, GoesOn, Stopped, StopsHere};
 ghost use Rattle.psu_server.specs.Reasons.{StopsFor};
-ghost use Rattle.psu_server.specs.Runs.{MessageRuns};
+ghost use Rattle.psu_server.specs.Runs.{LineBegins, LineRuns, MessageBegins, MessageRuns};
 
-use crate::answers::put_line;
+use crate::gathered::Gathered;
 use crate::jobs::reopen;
 use crate::lines::Lines;
 use crate::powered::Powered;
@@ -17,6 +18,7 @@ use memchr::memchr;
 use psu_disk::Disk;
 use psu_exec::{Request, ScpiError};
 use std::alloc::Allocator;
+use std::io::Write;
 
 /// A power loss at rest, and a restart: what is not flushed is lost. A broken store is opened again before it.
 pub fn restart<D: Disk, A: Allocator + Copy>(
@@ -24,7 +26,7 @@ pub fn restart<D: Disk, A: Allocator + Copy>(
     powered: Powered<D, A>,
 ) -> Result<Powered<D, A>, RunFault<D>>
     ensures runs { IfOk result (λ p. GoesOn powered.exec p.exec (λ can w v. MessageRuns can w Message.Power [] v)) }
-    ensures stops { D.honest → IfErr result (λ f. (rest : List Message) → StopsHere powered.exec f (Message.Power ∷ rest)) }
+    ensures stops { D.honest → IfErr result (λ f. (rest : List Message) → StopsHere powered.exec f (Message.Power ∷ rest) []) }
     ensures other { D.honest → IfErr result (λ f. f.cause ≢ RunCause.Write) }
     ensures caused { D.honest → IfErr result (λ f. (since : ℕ) → IsExplained since powered.exec → StopsFor since (D.failures f.disk) (D.state f.disk).bytes f.cause) }
 {
@@ -38,56 +40,75 @@ pub fn restart<D: Disk, A: Allocator + Copy>(
     Ok(powered)
 }
 
-/// Executes the message of a line that has ended and isn't the one of a power loss, and puts its text. The next line begins.
-pub fn answer_line<D: Disk, A: Allocator + Copy>(
+/// Executes the message of a line that has ended and isn't the one of a power loss, and tells its text. The next line begins.
+pub fn answer_line<W: Write, D: Disk, A: Allocator + Copy>(
     alloc: A,
     powered: &mut Powered<D, A>,
     lines: &mut Lines<A>,
-    out: &mut Vec<u8, A>,
+    gathered: &mut Gathered<A>,
+    writer: &mut W,
 ) -> Result<(), RunCause>
-    requires { is_power (message_now lines.old.is_over lines.old.line.items) ≡ false }
-    ensures runs { OnOk result ((text : List ℕ) × (out.new.items ≡ out.old.items ++ text)
+    requires power { is_power (message_now lines.old.is_over lines.old.line.items) ≡ false }
+    requires begun { gathered.old.begun ≡ false }
+    ensures runs { OnOk result ((text : List ℕ) × Says (telling (W.contents writer.old) gathered.old) (telling (W.contents writer.new) gathered.new) text
         × GoesOn powered.old.exec powered.new.exec (λ can w v. MessageRuns can w (message_now lines.old.is_over lines.old.line.items) text v)) }
+    ensures begun { OnOk result (gathered.new.begun ≡ false) }
     ensures over { OnOk result (lines.new.is_over ≡ false) }
     ensures empty { OnOk result (lines.new.line.items ≡ []) }
-    ensures same { OnErr result (out.new.items ≡ out.old.items) }
-    ensures halts { IfErr result (λ cause. (requests : List RequestData) × Asks (message_now lines.old.is_over lines.old.line.items) requests
-        × Halts powered.old.exec powered.new.exec requests cause) }
+    ensures breaks { IfErr result (λ cause. (part : List ℕ) × SaysUntil cause (telling (W.contents writer.old) gathered.old) (telling (W.contents writer.new) gathered.new) part
+        × Breaks powered.old.exec powered.new.exec (λ can w v. MessageBegins can w (message_now lines.old.is_over lines.old.line.items) part v) cause) }
 {
-    let mut answers = Vec::new(alloc);
-    if lines.is_over {
-        let too_much = Request {
-            call: None,
-            reading: Err(ScpiError::TooMuchData),
-            inside: false,
-        };
-        perform(alloc, powered, &too_much, &mut answers)?;
-        let Ok(()) = put_line(out, &answers) else {
-            return Err(RunCause::Memory);
-        };
-        lines.clear();
-        return Ok(());
-    }
-    message(alloc, powered, &lines.line, &mut answers)?;
-    let Ok(()) = put_line(out, &answers) else {
+    execute_line(alloc, powered, lines, gathered, writer)?;
+    let Ok(()) = gathered.end_line() else {
         return Err(RunCause::Memory);
     };
     lines.clear();
     Ok(())
 }
 
-/// Executes the lines that end in a piece of the input, and puts their text.
-pub fn feed<D: Disk, A: Allocator + Copy>(
+// Executes the message of a line that has ended and isn't the one of a power loss, and tells its answers.
+fn execute_line<W: Write, D: Disk, A: Allocator + Copy>(
+    alloc: A,
+    powered: &mut Powered<D, A>,
+    lines: &Lines<A>,
+    gathered: &mut Gathered<A>,
+    writer: &mut W,
+) -> Result<(), RunCause>
+    requires { is_power (message_now lines.now.is_over lines.now.line.items) ≡ false }
+    ensures runs { OnOk result ((requests : List RequestData) × Asks (message_now lines.now.is_over lines.now.line.items) requests
+        × Continues powered.old.exec powered.new.exec (telling (W.contents writer.old) gathered.old) (telling (W.contents writer.new) gathered.new)
+        (λ text all can w v. LineRuns can w text requests all v)) }
+    ensures breaks { IfErr result (λ cause. (requests : List RequestData) × Asks (message_now lines.now.is_over lines.now.line.items) requests
+        × BreaksOff powered.old.exec powered.new.exec (telling (W.contents writer.old) gathered.old) (telling (W.contents writer.new) gathered.new)
+        (λ text all can w v. LineBegins can w text requests all v) cause) }
+{
+    if lines.is_over {
+        let too_much = Request {
+            call: None,
+            reading: Err(ScpiError::TooMuchData),
+            inside: false,
+        };
+        perform(alloc, powered, &too_much, gathered, writer)?;
+        return Ok(());
+    }
+    message(alloc, powered, &lines.line, gathered, writer)?;
+    Ok(())
+}
+
+/// Executes the lines that end in a piece of the input, and tells their text.
+pub fn feed<W: Write, D: Disk, A: Allocator + Copy>(
     alloc: A,
     powered: Powered<D, A>,
     lines: &mut Lines<A>,
     piece: &[u8],
-    out: &mut Vec<u8, A>,
+    gathered: &mut Gathered<A>,
+    writer: &mut W,
 ) -> Result<Powered<D, A>, RunFault<D>>
-    ensures fed { IfOk result (λ p. Fed (coming lines.old.is_over lines.old.line.items) piece.now
-        (coming lines.new.is_over lines.new.line.items) powered.exec p.exec out.old.items out.new.items) }
+    requires { gathered.old.begun ≡ false }
+    ensures fed { IfOk result (λ p. Fed (coming lines.old.is_over lines.old.line.items) piece.now (coming lines.new.is_over lines.new.line.items)
+        powered.exec p.exec (telling (W.contents writer.old) gathered.old) (telling (W.contents writer.new) gathered.new)) }
     ensures stopped { D.honest → IfErr result (λ f. Stopped (coming lines.old.is_over lines.old.line.items) piece.now
-        powered.exec f out.old.items out.new.items) }
+        powered.exec f (telling (W.contents writer.old) gathered.old) (telling (W.contents writer.new) gathered.new)) }
     ensures caused { D.honest → IfErr result (λ f. (since : ℕ) → IsExplained since powered.exec → StopsFor since (D.failures f.disk) (D.state f.disk).bytes f.cause) }
 {
     let mut powered = powered;
@@ -102,7 +123,7 @@ pub fn feed<D: Disk, A: Allocator + Copy>(
             powered = restart(alloc, powered)?;
             continue;
         }
-        match answer_line(alloc, &mut powered, lines, out) {
+        match answer_line(alloc, &mut powered, lines, gathered, writer) {
             Ok(()) => {}
             Err(cause) => return Err(powered.fault(cause)),
         }

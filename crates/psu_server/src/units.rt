@@ -5,12 +5,12 @@ ghost use Rattle.psu_tree.specs.declared.unit_request.Request.{Request};
 ghost use Rattle.psu_exec.specs.Shown.{outcome_of};
 ghost use Rattle.psu_lex.specs.Message.{part};
 ghost use Rattle.psu_server.specs.Lines.{Message, Asks, AsksInside, IsRequest, path_at};
-ghost use Rattle.psu_server.specs.Lives.{on_line};
-ghost use Rattle.psu_server.specs.Progress.{Acted, GoesOn, Halts, WaitEnds};
-ghost use Rattle.psu_server.specs.Runs.{is_expansion, is_final, is_later, is_out_of_memory, is_parked, LineRuns, UnitRuns, UnitsRun};
+ghost use Rattle.psu_server.specs.Output.{telling};
+ghost use Rattle.psu_server.specs.Progress.{Acted, BreaksOff, Continues, GoesOn, Halts, WaitEnds};
+ghost use Rattle.psu_server.specs.Runs.{is_expansion, is_final, is_later, is_out_of_memory, is_parked, LineBegins, LineRuns, UnitRuns, UnitsBegin, UnitsRun};
 
 use crate::RunCause;
-use crate::answers::put_answer;
+use crate::gathered::Gathered;
 use crate::jobs::flush;
 use crate::powered::Powered;
 use psu_disk::Disk;
@@ -20,6 +20,7 @@ use psu_lex::{Unit, split};
 use psu_tree::laws::every_unit_reads;
 use psu_tree::{Path, Request, request};
 use std::alloc::Allocator;
+use std::io::Write;
 
 fn is_parked<A: Allocator + Copy>(outcome: &Outcome<A>) -> bool
     ensures { result ≡ is_parked (outcome_of outcome.now) }
@@ -103,7 +104,7 @@ pub fn act<D: Disk, A: Allocator + Copy>(
     request: &Request<'_>,
 ) -> Result<Outcome<A>, RunCause>
     ensures acted { IfOk result (λ o. GoesOn powered.old.exec powered.new.exec (Acted request.now (outcome_of o))) }
-    ensures halts { IfErr result (Halts powered.old.exec powered.new.exec (on_line request.now)) }
+    ensures halts { IfErr result (Halts powered.old.exec powered.new.exec (request.now ∷ [])) }
 {
     let outcome = powered.exec.execute(powered.session, request);
     if !is_parked(&outcome) {
@@ -119,7 +120,7 @@ pub fn unit<D: Disk, A: Allocator + Copy>(
     request: &Request<'_>,
 ) -> Result<Outcome<A>, RunCause>
     ensures runs { IfOk result (λ o. GoesOn powered.old.exec powered.new.exec (λ can w v. UnitRuns can w request.now (outcome_of o) v)) }
-    ensures halts { IfErr result (Halts powered.old.exec powered.new.exec (on_line request.now)) }
+    ensures halts { IfErr result (Halts powered.old.exec powered.new.exec (request.now ∷ [])) }
 {
     let outcome = act(powered, request)?;
     if !is_later(&outcome) {
@@ -154,78 +155,37 @@ fn request_at<'a>(path: &mut Path<'a>, unit: &Unit<'a>, inside: bool) -> Request
     request(path, unit, inside)
 }
 
-/// Executes a request of an expansion, and puts its answer to those of the message.
-fn perform_inside<D: Disk, A: Allocator + Copy>(
+/// Executes a request of an expansion, and tells its answer.
+fn perform_inside<W: Write, D: Disk, A: Allocator + Copy>(
     powered: &mut Powered<D, A>,
     request: &Request<'_>,
-    answers: &mut Vec<u8, A>,
+    gathered: &mut Gathered<A>,
+    writer: &mut W,
 ) -> Result<(), RunCause>
-    ensures runs { OnOk result (GoesOn powered.old.exec powered.new.exec
-        (λ can w v. UnitsRun can w answers.old.items (request.now ∷ []) answers.new.items v)) }
-    ensures halts { IfErr result (Halts powered.old.exec powered.new.exec (on_line request.now)) }
+    ensures runs { OnOk result (Continues powered.old.exec powered.new.exec (telling (W.contents writer.old) gathered.old) (telling (W.contents writer.new) gathered.new)
+        (λ text all can w v. UnitsRun can w text (request.now ∷ []) all v)) }
+    ensures breaks { IfErr result (BreaksOff powered.old.exec powered.new.exec (telling (W.contents writer.old) gathered.old) (telling (W.contents writer.new) gathered.new)
+        (λ text all can w v. UnitsBegin can w text (request.now ∷ []) all v)) }
 {
     let outcome = unit(powered, request)?;
-    let Ok(()) = put_answer(answers, &outcome) else {
-        return Err(RunCause::Memory);
-    };
+    gathered.tell(&outcome, writer)?;
     Ok(())
 }
 
 /// Executes the units of an expansion in the place of the unit that it replaces.
-fn expansion<D: Disk, A: Allocator + Copy>(
+fn expansion<W: Write, D: Disk, A: Allocator + Copy>(
     alloc: A,
     powered: &mut Powered<D, A>,
     bytes: &[u8],
-    answers: &mut Vec<u8, A>,
+    gathered: &mut Gathered<A>,
+    writer: &mut W,
 ) -> Result<(), RunCause>
     ensures runs { OnOk result ((requests : List Request) × AsksInside bytes.now requests
-        × GoesOn powered.old.exec powered.new.exec (λ can w v. UnitsRun can w answers.old.items requests answers.new.items v)) }
-    ensures halts { IfErr result (Halts powered.old.exec powered.new.exec []) }
-{
-    let Ok(units) = split(alloc, bytes) else {
-        return Err(RunCause::Memory);
-    };
-    let list = units.as_slice();
-    let mut path = Path::root();
-    for unit in list {
-        perform_inside(powered, &request_at(&mut path, unit, true), answers)?;
-    }
-    Ok(())
-}
-
-/// Executes a request of a line, or the expansion that replaces it, and puts what it answers to the answers of its message.
-pub fn perform<D: Disk, A: Allocator + Copy>(
-    alloc: A,
-    powered: &mut Powered<D, A>,
-    request: &Request<'_>,
-    answers: &mut Vec<u8, A>,
-) -> Result<(), RunCause>
-    ensures runs { OnOk result (GoesOn powered.old.exec powered.new.exec
-        (λ can w v. LineRuns can w answers.old.items (request.now ∷ []) answers.new.items v)) }
-    ensures halts { IfErr result (Halts powered.old.exec powered.new.exec (on_line request.now)) }
-{
-    let outcome = unit(powered, request)?;
-    if let Some(bytes) = expansion_of(&outcome) {
-        expansion(alloc, powered, bytes, answers)?;
-        return Ok(());
-    }
-    let Ok(()) = put_answer(answers, &outcome) else {
-        return Err(RunCause::Memory);
-    };
-    Ok(())
-}
-
-/// Executes the units of a message.
-pub fn message<D: Disk, A: Allocator + Copy>(
-    alloc: A,
-    powered: &mut Powered<D, A>,
-    bytes: &[u8],
-    answers: &mut Vec<u8, A>,
-) -> Result<(), RunCause>
-    ensures runs { OnOk result ((requests : List Request) × Asks (Message.Units bytes.now) requests
-        × GoesOn powered.old.exec powered.new.exec (λ can w v. LineRuns can w answers.old.items requests answers.new.items v)) }
-    ensures halts { IfErr result (λ cause. (requests : List Request) × Asks (Message.Units bytes.now) requests
-        × Halts powered.old.exec powered.new.exec requests cause) }
+        × Continues powered.old.exec powered.new.exec (telling (W.contents writer.old) gathered.old) (telling (W.contents writer.new) gathered.new)
+        (λ text all can w v. UnitsRun can w text requests all v)) }
+    ensures breaks { IfErr result (λ cause. (requests : List Request) × AsksInside bytes.now requests
+        × BreaksOff powered.old.exec powered.new.exec (telling (W.contents writer.old) gathered.old) (telling (W.contents writer.new) gathered.new)
+        (λ text all can w v. UnitsBegin can w text requests all v) cause) }
 {
     every_list_has_units();
     every_unit_reads();
@@ -235,7 +195,68 @@ pub fn message<D: Disk, A: Allocator + Copy>(
     let list = units.as_slice();
     let mut path = Path::root();
     for unit in list {
-        perform(alloc, powered, &request_at(&mut path, unit, false), answers)?;
+        perform_inside(
+            powered,
+            &request_at(&mut path, unit, true),
+            gathered,
+            writer,
+        )?;
+    }
+    Ok(())
+}
+
+/// Executes a request of a line, or the expansion that replaces it, and tells what it answers.
+pub fn perform<W: Write, D: Disk, A: Allocator + Copy>(
+    alloc: A,
+    powered: &mut Powered<D, A>,
+    request: &Request<'_>,
+    gathered: &mut Gathered<A>,
+    writer: &mut W,
+) -> Result<(), RunCause>
+    ensures runs { OnOk result (Continues powered.old.exec powered.new.exec (telling (W.contents writer.old) gathered.old) (telling (W.contents writer.new) gathered.new)
+        (λ text all can w v. LineRuns can w text (request.now ∷ []) all v)) }
+    ensures breaks { IfErr result (BreaksOff powered.old.exec powered.new.exec (telling (W.contents writer.old) gathered.old) (telling (W.contents writer.new) gathered.new)
+        (λ text all can w v. LineBegins can w text (request.now ∷ []) all v)) }
+{
+    let outcome = unit(powered, request)?;
+    if let Some(bytes) = expansion_of(&outcome) {
+        expansion(alloc, powered, bytes, gathered, writer)?;
+        return Ok(());
+    }
+    gathered.tell(&outcome, writer)?;
+    Ok(())
+}
+
+/// Executes the units of a message, and tells what they answer.
+pub fn message<W: Write, D: Disk, A: Allocator + Copy>(
+    alloc: A,
+    powered: &mut Powered<D, A>,
+    bytes: &[u8],
+    gathered: &mut Gathered<A>,
+    writer: &mut W,
+) -> Result<(), RunCause>
+    ensures runs { OnOk result ((requests : List Request) × Asks (Message.Units bytes.now) requests
+        × Continues powered.old.exec powered.new.exec (telling (W.contents writer.old) gathered.old) (telling (W.contents writer.new) gathered.new)
+        (λ text all can w v. LineRuns can w text requests all v)) }
+    ensures breaks { IfErr result (λ cause. (requests : List Request) × Asks (Message.Units bytes.now) requests
+        × BreaksOff powered.old.exec powered.new.exec (telling (W.contents writer.old) gathered.old) (telling (W.contents writer.new) gathered.new)
+        (λ text all can w v. LineBegins can w text requests all v) cause) }
+{
+    every_list_has_units();
+    every_unit_reads();
+    let Ok(units) = split(alloc, bytes) else {
+        return Err(RunCause::Memory);
+    };
+    let list = units.as_slice();
+    let mut path = Path::root();
+    for unit in list {
+        perform(
+            alloc,
+            powered,
+            &request_at(&mut path, unit, false),
+            gathered,
+            writer,
+        )?;
     }
     Ok(())
 }

@@ -1,7 +1,6 @@
 use Rattle.std.proofs.Common.{◌≡◌, ◌∙◌, ◌==◌, ℕ, [], arith, false, sym, true}
 use Rattle.std.proofs.lemmas.Bool.Decides.{nat_tests}
 use Rattle.psu_server.specs.Lines.{coming}
-use Rattle.psu_server.proofs.Causes.{or_writes}
 use Rattle.psu_server.proofs.Feeding.{flushed_stops, halts_idle}
 use Rattle.psu_server.proofs.Fronts.{passed}
 use Rattle.psu_server.proofs.Reading.{answers_early, answers_flushed}
@@ -48,9 +47,8 @@ pub returns-in-Err-clause-caused : goal.returns-in-Err-clause-caused
 returns-in-Err-clause-caused g c = λ h since why.
     let halts = c.in-Err.ensures.halts in
     let now = c.in_ok-powered.ensures.whole.2.explained since why in
-    or_writes since (g.D.Disk.failures c.fault.result.disk) (g.D.Disk.state c.fault.result.disk).bytes c.fault.result.cause
-    (halted_stops since (g.D.Disk.failures c.fault.result.disk) c.flush.new.exec (g.D.Disk.state c.fault.result.disk).bytes c.in-Err.cause c.fault.result.cause c.fault.ensures.cause
-    c.fault.ensures.failures (halts.why h since now) (c.fault.ensures.reason h since (halts.explained since now)))
+    halted_stops since (g.D.Disk.failures c.fault.result.disk) c.flush.new.exec (g.D.Disk.state c.fault.result.disk).bytes c.in-Err.cause c.fault.result.cause c.fault.ensures.cause
+    c.fault.ensures.failures (halts.why h since now) (c.fault.ensures.reason h since (halts.explained since now))
 
 pub returns-then-not-is_flushed-clause-early : goal.returns-then-not-is_flushed-clause-early
 returns-then-not-is_flushed-clause-early g c = λ h.
@@ -63,10 +61,9 @@ pub returns-then-not-is_flushed-clause-caused : goal.returns-then-not-is_flushed
 returns-then-not-is_flushed-clause-caused g c = λ h since why.
     let fault = c.fault-then-not-is_flushed.result in
     let now = c.in_ok-powered.ensures.whole.2.explained since why in
-    or_writes since (g.D.Disk.failures fault.disk) (g.D.Disk.state fault.disk).bytes fault.cause
-    (left_stops since (g.D.Disk.failures fault.disk) c.flush.new.exec (g.D.Disk.state fault.disk).bytes fault.cause c.fault-then-not-is_flushed.ensures.cause c.fault-then-not-is_flushed.ensures.failures
+    left_stops since (g.D.Disk.failures fault.disk) c.flush.new.exec (g.D.Disk.state fault.disk).bytes fault.cause c.fault-then-not-is_flushed.ensures.cause c.fault-then-not-is_flushed.ensures.failures
     (c.in-Ok.ensures.clean since now) (some_left c.flush.new.exec.device.flush.unflushed (sym c.is_flushed.ensures ∙ c.if-not-is_flushed.true))
-    (c.fault-then-not-is_flushed.ensures.reason h since (c.in-Ok.ensures.flushes.explained since now)))
+    (c.fault-then-not-is_flushed.ensures.reason h since (c.in-Ok.ensures.flushes.explained since now))
 
 pub returns-clause-whole : goal.returns-clause-whole
 returns-clause-whole g c = λ h.

@@ -1,14 +1,20 @@
 use Rattle.std.proofs.Common.{◌∙◌, ◌++◌, ◌∷◌, ◌+◌, arith, drop, false, refl, [], ap, subst, sym}
 use Rattle.psu_server.specs.Lines.{Message, coming, message_now}
+use Rattle.psu_server.specs.Output.{telling}
 use Rattle.psu_server.specs.Progress.{StopsHere}
 use Rattle.psu_server.proofs.Cuts.{free_all, free_before}
-use Rattle.psu_server.proofs.Feeding.{fed_none, feed_end, feed_step, feed_stops, halts_stop, is_power_line, line_first, stops_now, told_power}
+use Rattle.psu_server.proofs.Feeding.{broken_stop, fed_none, feed_end, feed_step, feed_stops, is_power_line, line_first, stops_now, told_power}
 use Rattle.psu_server.proofs.Fronts.{passed}
 use Rattle.psu_server.proofs.Starting.{halted_stops}
+use Rattle.psu_server.proofs.Telling.{not_write, until_for, until_none}
 use Rattle.psu_server.proofs.pieces.feed.Goals as goal
 
 pub loop-at-init : goal.loop-at-init
-loop-at-init g c = record { within = omega arith; fed = ([], refl, fed_none _ c.args.powered.exec c.args.out.now.items) }
+loop-at-init g c = record {
+  within = omega arith;
+  begun = c.requires;
+  fed = ([], refl, fed_none _ c.args.powered.exec (telling (g.W.Write.contents c.args.writer.now) c.args.gathered.now));
+}
 
 pub extend-requires : goal.extend-requires
 extend-requires g c = free_before 10 c.loop-at.rest.now c.in-Some.at c.in-Some.ensures
@@ -19,14 +25,16 @@ extend-requires-2 g c = free_all 10 c.loop-at.rest.now c.in_default.ensures
 pub returns-in_default-extend-clause-stopped : goal.returns-in_default-extend-clause-stopped
 returns-in_default-extend-clause-stopped g c = λ h.
     feed_stops (coming c.args.lines.now.is_over c.args.lines.now.line.items) (coming c.loop-at.lines.is_over c.loop-at.lines.line.items) c.args.piece.now c.loop-at.rest.now
-    c.args.powered.exec c.loop-at.powered.exec c.fault.result c.args.out.now.items c.loop-at.out.items c.loop-at.out.items h c.loop-at.invariant.fed refl (λ e. let bad = sym c.fault.ensures.cause ∙ e in cc)
+    c.args.powered.exec c.loop-at.powered.exec c.fault.result _ _ _ [] h c.loop-at.invariant.fed
+    (until_none c.fault.result.cause (telling (g.W.Write.contents c.loop-at.writer) c.loop-at.gathered) (not_write c.fault.result.cause c.fault.ensures.cause))
     (λ input. stops_now c.loop-at.powered.exec c.fault.result _ c.fault.ensures.failures c.fault.ensures.state)
 
 pub returns-in_default-extend-2-clause-stopped : goal.returns-in_default-extend-2-clause-stopped
 returns-in_default-extend-2-clause-stopped g c = λ h.
     let fault = c.fault-in_default-extend-2.result in
     feed_stops (coming c.args.lines.now.is_over c.args.lines.now.line.items) (coming c.loop-at.lines.is_over c.loop-at.lines.line.items) c.args.piece.now c.loop-at.rest.now
-    c.args.powered.exec c.loop-at.powered.exec fault c.args.out.now.items c.loop-at.out.items c.loop-at.out.items h c.loop-at.invariant.fed refl (λ e. let bad = sym c.fault-in_default-extend-2.ensures.cause ∙ e in cc)
+    c.args.powered.exec c.loop-at.powered.exec fault _ _ _ [] h c.loop-at.invariant.fed
+    (until_none fault.cause (telling (g.W.Write.contents c.loop-at.writer) c.loop-at.gathered) (not_write fault.cause c.fault-in_default-extend-2.ensures.cause))
     (λ input. stops_now c.loop-at.powered.exec fault _ c.fault-in_default-extend-2.ensures.failures c.fault-in_default-extend-2.ensures.state)
 
 pub returns-in_err-powered-clause-stopped : goal.returns-in_err-powered-clause-stopped
@@ -38,8 +46,9 @@ returns-in_err-powered-clause-stopped g c = λ h.
     let power = is_power_line (message_now over line) (sym c.is_power.ensures ∙ c.if-is_power.true) in
     passed c.from_residual.result fault _ c.from_residual.ensures.1
     (feed_stops (coming c.args.lines.now.is_over c.args.lines.now.line.items) mid c.args.piece.now c.loop-at.rest.now
-    c.args.powered.exec c.loop-at.powered.exec fault c.args.out.now.items c.loop-at.out.items c.loop-at.out.items h c.loop-at.invariant.fed refl (c.in_err-powered.ensures.other h)
-    (λ input. subst (λ z. StopsHere c.loop-at.powered.exec fault z)
+    c.args.powered.exec c.loop-at.powered.exec fault _ _ _ [] h c.loop-at.invariant.fed
+    (until_none fault.cause (telling (g.W.Write.contents c.loop-at.writer) c.loop-at.gathered) (c.in_err-powered.ensures.other h))
+    (λ input. subst (λ z. StopsHere c.loop-at.powered.exec fault z [])
     (sym (line_first mid c.loop-at.rest.now c.in-Some.at over line input c.in-Some.ensures c.in-Ok.ensures c.extend.new.self.free ∙ ap (λ (m : Message). m ∷ coming false [] (drop (c.in-Some.at + 1) c.loop-at.rest.now ++ input)) power))
     (c.in_err-powered.ensures.stops h (coming false [] (drop (c.in-Some.at + 1) c.loop-at.rest.now ++ input)))))
 
@@ -54,45 +63,50 @@ returns-in-Err-clause-stopped g c = λ h.
     let over = c.extend.new.self.is_over in
     let line = c.extend.new.self.line.items in
     let mid = coming c.loop-at.lines.is_over c.loop-at.lines.line.items in
-    let s = c.in-Err.ensures.halts in
-    feed_stops (coming c.args.lines.now.is_over c.args.lines.now.line.items) mid c.args.piece.now c.loop-at.rest.now
-    c.args.powered.exec c.loop-at.powered.exec fault c.args.out.now.items c.loop-at.out.items c.answer_line.new.out.items h c.loop-at.invariant.fed c.in-Err.ensures.same
-    (λ e. s.2.own (sym c.fault-in-Err.ensures.cause ∙ e))
-    (λ input. subst (λ z. StopsHere c.loop-at.powered.exec fault z)
+    let s = c.in-Err.ensures.breaks in
+    feed_stops (coming c.args.lines.now.is_over c.args.lines.now.line.items) mid c.args.piece.now c.loop-at.rest.now c.args.powered.exec c.loop-at.powered.exec fault _ _ _ s.0 h c.loop-at.invariant.fed
+    (until_for fault.cause c.in-Err.cause _ _ s.0 c.fault-in-Err.ensures.cause s.1)
+    (λ input. subst (λ z. StopsHere c.loop-at.powered.exec fault z s.0)
     (sym (line_first mid c.loop-at.rest.now c.in-Some.at over line input c.in-Some.ensures c.in-Ok.ensures c.extend.new.self.free))
-    (halts_stop c.loop-at.powered.exec c.answer_line.new.powered.exec fault (message_now over line) (coming false [] (drop (c.in-Some.at + 1) c.loop-at.rest.now ++ input)) s.0 c.in-Err.cause h s.1 s.2
+    (broken_stop c.loop-at.powered.exec c.answer_line.new.powered.exec fault (message_now over line) (coming false [] (drop (c.in-Some.at + 1) c.loop-at.rest.now ++ input)) s.0 c.in-Err.cause h s.2
     c.fault-in-Err.ensures.failures c.fault-in-Err.ensures.state))
 
 pub returns-in-Err-clause-caused : goal.returns-in-Err-clause-caused
 returns-in-Err-clause-caused g c = λ h since why.
     let fault = c.fault-in-Err.result in
-    let halts = c.in-Err.ensures.halts.2 in
+    let breaks = c.in-Err.ensures.breaks.2 in
     let now = c.loop-at.invariant.fed.2.4.explained since why in
     halted_stops since (g.D.Disk.failures fault.disk) c.answer_line.new.powered.exec (g.D.Disk.state fault.disk).bytes c.in-Err.cause fault.cause c.fault-in-Err.ensures.cause
-    c.fault-in-Err.ensures.failures (halts.why h since now) (c.fault-in-Err.ensures.reason h since (halts.explained since now))
+    c.fault-in-Err.ensures.failures (breaks.why h since now) (c.fault-in-Err.ensures.reason h since (breaks.goes.explained since now))
 
 pub returns-clause-fed : goal.returns-clause-fed
 returns-clause-fed g c =
     feed_end (coming c.args.lines.now.is_over c.args.lines.now.line.items) (coming c.loop-at.lines.is_over c.loop-at.lines.line.items)
-    (coming c.extend-2.new.self.is_over c.extend-2.new.self.line.items) c.args.piece.now c.loop-at.rest.now c.args.powered.exec c.loop-at.powered.exec c.args.out.now.items c.loop-at.out.items
+    (coming c.extend-2.new.self.is_over c.extend-2.new.self.line.items) c.args.piece.now c.loop-at.rest.now c.args.powered.exec c.loop-at.powered.exec
+    (telling (g.W.Write.contents c.args.writer.now) c.args.gathered.now) (telling (g.W.Write.contents c.loop-at.writer) c.loop-at.gathered)
     c.loop-at.invariant.fed c.in-Ok-extend.ensures
 
 pub loop-at-preserved-then-is_power : goal.loop-at-preserved-then-is_power
 loop-at-preserved-then-is_power g c = record {
   within = grind arith;
+  begun = c.loop-at.invariant.begun;
   fed = feed_step (coming c.args.lines.now.is_over c.args.lines.now.line.items) (coming c.loop-at.lines.is_over c.loop-at.lines.line.items)
       c.args.piece.now c.loop-at.rest.now c.in-Some.at c.extend.new.self.is_over c.clear.new.self.is_over c.extend.new.self.line.items c.clear.new.self.line.items
-      c.args.powered.exec c.loop-at.powered.exec c.in_ok-powered.powered.exec c.args.out.now.items c.loop-at.out.items c.loop-at.out.items c.in-Some.ensures c.loop-at.invariant.fed c.in-Ok.ensures
+      c.args.powered.exec c.loop-at.powered.exec c.in_ok-powered.powered.exec
+      (telling (g.W.Write.contents c.args.writer.now) c.args.gathered.now) (telling (g.W.Write.contents c.loop-at.writer) c.loop-at.gathered) (telling (g.W.Write.contents c.loop-at.writer) c.loop-at.gathered) c.in-Some.ensures c.loop-at.invariant.fed c.in-Ok.ensures
       c.extend.new.self.free
-      (told_power (message_now c.extend.new.self.is_over c.extend.new.self.line.items) c.loop-at.powered.exec c.in_ok-powered.powered.exec c.loop-at.out.items
+      (told_power (message_now c.extend.new.self.is_over c.extend.new.self.line.items) c.loop-at.powered.exec c.in_ok-powered.powered.exec (telling (g.W.Write.contents c.loop-at.writer) c.loop-at.gathered)
       (sym c.is_power.ensures ∙ c.if-is_power.true) c.in_ok-powered.ensures.runs) c.clear.ensures.over c.clear.ensures.empty;
 }
 
 pub loop-at-preserved : goal.loop-at-preserved
 loop-at-preserved g c = record {
   within = grind arith;
+  begun = c.in-Ok-answer_line.ensures.begun;
   fed = feed_step (coming c.args.lines.now.is_over c.args.lines.now.line.items) (coming c.loop-at.lines.is_over c.loop-at.lines.line.items)
       c.args.piece.now c.loop-at.rest.now c.in-Some.at c.extend.new.self.is_over c.answer_line.new.lines.is_over c.extend.new.self.line.items c.answer_line.new.lines.line.items
-      c.args.powered.exec c.loop-at.powered.exec c.answer_line.new.powered.exec c.args.out.now.items c.loop-at.out.items c.answer_line.new.out.items c.in-Some.ensures c.loop-at.invariant.fed c.in-Ok.ensures
+      c.args.powered.exec c.loop-at.powered.exec c.answer_line.new.powered.exec
+      (telling (g.W.Write.contents c.args.writer.now) c.args.gathered.now) (telling (g.W.Write.contents c.loop-at.writer) c.loop-at.gathered)
+      (telling (g.W.Write.contents c.answer_line.new.writer) c.answer_line.new.gathered) c.in-Some.ensures c.loop-at.invariant.fed c.in-Ok.ensures
       c.extend.new.self.free c.in-Ok-answer_line.ensures.runs c.in-Ok-answer_line.ensures.over c.in-Ok-answer_line.ensures.empty;
 }

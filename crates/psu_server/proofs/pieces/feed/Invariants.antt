@@ -1,13 +1,15 @@
-use Rattle.std.proofs.Common.{◌≤◌, length}
+use Rattle.std.proofs.Common.{◌≡◌, ◌≤◌, false, length}
 use Rattle.psu_server.specs.Lines.{coming}
+use Rattle.psu_server.specs.Output.{telling}
 use Rattle.psu_server.proofs.Feeding.{FedSo}
 use Rattle.psu_server.proofs.pieces.feed.Given as goal
 
 abbrev pub invariant-loop-at : goal.invariant-loop-at
 invariant-loop-at g l = record {
   within : length l.rest ≤ length l.piece;
+  begun : l.gathered.begun ≡ false;
   fed : FedSo (coming l.initial.lines.is_over l.initial.lines.line.items) l.piece l.rest (coming l.lines.is_over l.lines.line.items)
-      l.initial.powered.exec l.powered.exec l.initial.out.items l.out.items;
+      l.initial.powered.exec l.powered.exec (telling (g.W.Write.contents l.initial.writer) l.initial.gathered) (telling (g.W.Write.contents l.writer) l.gathered);
 }
 
 abbrev pub decreases-loop-at : goal.decreases-loop-at
