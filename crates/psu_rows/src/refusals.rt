@@ -5,7 +5,7 @@ ghost use Rattle.psu_exec.specs.Device.{is_open};
 use crate::images::least;
 use bumpalo::Bump;
 use psu_disk::MemDisk;
-use psu_exec::{Condition, Exec, NoJob, Outcome, ScpiError, Session};
+use psu_exec::{Condition, Exec, Job, NoJob, Outcome, ScpiError, Session};
 use psu_items::Store;
 use psu_lex::Unit;
 use psu_tree::{Path, request};
@@ -14,6 +14,7 @@ use std::process::Abort;
 use std::test::Fail;
 
 type Power<'a> = Exec<MemDisk<Global>, &'a Bump<Global>>;
+type Taken<'a> = Job<MemDisk<Global>, &'a Bump<Global>>;
 
 fn powered_on<'a>(rt: &impl Abort, arena: &'a Bump<Global>, disk: MemDisk<Global>) -> Power<'a> {
     let store = match Store::open(arena, disk) {
@@ -49,7 +50,35 @@ fn leave(rt: &impl Abort, arena: &Bump<Global>, left: usize) {
     }
 }
 
-// Whether a take with so much memory was refused; then another is not, and its end answers the wait.
+// Takes a job, where memory isn't refused for it; else nothing has changed.
+fn taken<'a>(rt: &impl Abort, exec: &mut Power<'a>, session: Session) -> Option<Taken<'a>>
+    requires { is_open exec.old.device session ≡ true }
+    ensures { is_open exec.new.device session ≡ true }
+{
+    match exec.take() {
+        Ok(job) => Some(job),
+        Err(cause) => {
+            assert!(rt; matches!(cause, NoJob::Memory));
+            assert!(rt; matches!(exec.condition(), Condition::Whole));
+            assert!(rt; !exec.is_flushed());
+            assert!(rt; matches!(exec.settle(session), Outcome::Parked));
+            None
+        }
+    }
+}
+
+// The job's end answers the wait.
+fn end<'a>(rt: &impl Abort, exec: &mut Power<'a>, session: Session, job: Taken<'a>)
+    requires { is_open exec.old.device session ≡ true }
+{
+    assert!(rt; exec.give_back(job.run()).is_ok());
+    match exec.settle(session) {
+        Outcome::Answer(text) => assert_eq!(rt; text.as_slice(), "1".as_bytes()),
+        _ => panic!(rt; "no answer"),
+    }
+}
+
+// Whether a take with so much memory was refused; then another is not.
 fn take_is_refused(rt: &impl Abort, alloc: Global, left: usize) -> bool {
     let Ok(arena) = Bump::try_with_capacity(alloc, 20_000) else {
         panic!(rt; "no arena");
@@ -62,27 +91,17 @@ fn take_is_refused(rt: &impl Abort, alloc: Global, left: usize) -> bool {
     assert!(rt; matches!(outcome(&mut exec, session, b"*PSC 0"), Outcome::Done));
     assert!(rt; matches!(outcome(&mut exec, session, b"*OPC?"), Outcome::Parked));
     leave(rt, &arena, left);
-    let (job, refused) = match exec.take() {
-        Ok(job) => (job, false),
-        Err(cause) => {
-            assert!(rt; matches!(cause, NoJob::Memory));
-            assert!(rt; matches!(exec.condition(), Condition::Whole));
-            assert!(rt; !exec.is_flushed());
-            assert!(rt; matches!(exec.settle(session), Outcome::Parked));
-            arena.set_allocation_limit(None);
-            match exec.take() {
-                Ok(job) => (job, true),
-                Err(_) => panic!(rt; "no job"),
-            }
-        }
-    };
+    let first = taken(rt, &mut exec, session);
     arena.set_allocation_limit(None);
-    assert!(rt; exec.give_back(job.run()).is_ok());
-    match exec.settle(session) {
-        Outcome::Answer(text) => assert_eq!(rt; text.as_slice(), "1".as_bytes()),
-        _ => panic!(rt; "no answer"),
+    if let Some(job) = first {
+        end(rt, &mut exec, session, job);
+        return false;
     }
-    refused
+    match taken(rt, &mut exec, session) {
+        Some(job) => end(rt, &mut exec, session, job),
+        None => panic!(rt; "no job"),
+    }
+    true
 }
 
 #[test]
