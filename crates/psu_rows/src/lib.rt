@@ -12,6 +12,8 @@ mod decoding;
 #[cfg(test)]
 mod devices;
 #[cfg(test)]
+mod failing_disks;
+#[cfg(test)]
 mod faults;
 #[cfg(test)]
 mod files;
@@ -24,11 +26,17 @@ mod headers;
 #[cfg(test)]
 mod hislip;
 #[cfg(test)]
+mod hostile_images;
+#[cfg(test)]
+mod hostile_lines;
+#[cfg(test)]
 mod images;
 #[cfg(test)]
 mod instrument_rows;
 #[cfg(test)]
 mod locks;
+#[cfg(test)]
+mod long_answers;
 #[cfg(test)]
 mod losses;
 #[cfg(test)]
@@ -39,6 +47,8 @@ mod maps;
 mod memory;
 #[cfg(test)]
 mod messages;
+#[cfg(test)]
+mod outcomes;
 #[cfg(test)]
 mod outputs;
 #[cfg(test)]

@@ -68,6 +68,7 @@ fn take_is_refused(rt: &impl Abort, alloc: Global, left: usize) -> bool {
             assert!(rt; matches!(cause, NoJob::Memory));
             assert!(rt; matches!(exec.condition(), Condition::Whole));
             assert!(rt; !exec.is_flushed());
+            assert!(rt; exec.is_open(session));
             assert!(rt; matches!(exec.settle(session), Outcome::Parked));
             arena.set_allocation_limit(None);
             match exec.take() {
@@ -78,6 +79,7 @@ fn take_is_refused(rt: &impl Abort, alloc: Global, left: usize) -> bool {
     };
     arena.set_allocation_limit(None);
     assert!(rt; exec.give_back(job.run()).is_ok());
+    assert!(rt; exec.is_open(session));
     match exec.settle(session) {
         Outcome::Answer(text) => assert_eq!(rt; text.as_slice(), "1".as_bytes()),
         _ => panic!(rt; "no answer"),
