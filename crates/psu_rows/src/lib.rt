@@ -60,6 +60,8 @@ mod reports;
 #[cfg(test)]
 mod rows;
 #[cfg(test)]
+mod scarce_lines;
+#[cfg(test)]
 mod sessions;
 #[cfg(test)]
 mod status;
