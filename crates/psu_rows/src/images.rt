@@ -33,7 +33,11 @@ fn image(alloc: Global, size: u64, limit: u16) -> Option<MemDisk<Global>> {
 
 /// What a run on a formatted image writes, where it ends without a fault.
 pub fn written(alloc: Global, input: &[u8]) -> Option<Vec<u8>> {
-    let disk = formatted(alloc)?;
+    written_on(alloc, formatted(alloc)?, input)
+}
+
+/// What a run on this disk writes, where it ends without a fault.
+pub fn written_on(alloc: Global, disk: MemDisk<Global>, input: &[u8]) -> Option<Vec<u8>> {
     let mut reader = input;
     let mut text = Vec::new(alloc);
     match run(alloc, &mut reader, &mut text, disk) {

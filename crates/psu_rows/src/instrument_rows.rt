@@ -1,5 +1,5 @@
 // The worked rows of the whole instrument, as inputs of a run on a formatted image and its output.
-use crate::images::written;
+use crate::images::{least, written, written_on};
 use std::alloc::{AllocError, Global};
 
 // Lines and what they write, each row on a fresh image.
@@ -27,8 +27,8 @@ fn rows(alloc: Global) -> Result<(), &'static str> {
         ("DIAG:PUD:PROT OFF;*PUD #13a;b;*PUD?\n", "#13a;b\n"),
         // A label is one whatever its case.
         (
-            "*DMC \"SETA\",#17VOLT $1\n*DMC \"seta\",#10;*LMC?;SYST:ERR?\n",
-            "\"SETA\";-277,\"Macro redefinition not allowed\"\n",
+            "*DMC \"SETA\",#17VOLT $1;*EMC 1;SETA 3;VOLT?\n*DMC \"seta\",#10;*LMC?;SYST:ERR?\n",
+            "3.000\n\"SETA\";-277,\"Macro redefinition not allowed\"\n",
         ),
         // `*OPC` sets its bit once what was saved is flushed; `*WAI` waits for that.
         ("*SAV 1;*OPC;*ESR?\n*WAI;*ESR?\n", "128\n1\n"),
@@ -144,6 +144,18 @@ fn the_last_page_of_the_image(rt: HostRuntime) {
 0,\"No error\"\n131072,0,\"A,BIN,32768\",\"B,BIN,32768\",\"C,BIN,32768\",\"D,BIN,28159\",\"E,BIN,0\"\n1\n";
     let got = written(rt.alloc(), input.as_slice()).expect(&rt, "the run ends well");
     assert_eq!(rt; got.as_slice(), want.as_bytes());
+}
+
+// Two registers fill an image of four pages; one that holds the settings of `*RST` again takes none.
+#[test]
+fn two_registers_on_four_pages(rt: HostRuntime) {
+    let input =
+        b"VOLT 1\n*SAV 0\n*SAV 1\n*SAV 2\nSYST:ERR?\nVOLT 0\n*SAV 0\nVOLT 1\n*SAV 2\nSYST:ERR?\n\
+VOLT 3;*RCL 2;VOLT?;*RCL 1;VOLT?;*RCL 0;VOLT?\n";
+    let want = b"-254,\"Media full\"\n0,\"No error\"\n1.000;1.000;0.000\n";
+    let image = least(rt.alloc()).expect(&rt, "an image");
+    let got = written_on(rt.alloc(), image, input).expect(&rt, "the run ends well");
+    assert_eq!(rt; got.as_slice(), want.as_slice());
 }
 
 // Sixteen errors are kept; the newest of a full queue tells of the overflow.

@@ -12,6 +12,8 @@ mod decoding;
 #[cfg(test)]
 mod devices;
 #[cfg(test)]
+mod failing_disks;
+#[cfg(test)]
 mod faults;
 #[cfg(test)]
 mod files;
@@ -24,11 +26,17 @@ mod headers;
 #[cfg(test)]
 mod hislip;
 #[cfg(test)]
+mod hostile_images;
+#[cfg(test)]
+mod hostile_lines;
+#[cfg(test)]
 mod images;
 #[cfg(test)]
 mod instrument_rows;
 #[cfg(test)]
 mod locks;
+#[cfg(test)]
+mod long_answers;
 #[cfg(test)]
 mod losses;
 #[cfg(test)]
@@ -40,6 +48,8 @@ mod memory;
 #[cfg(test)]
 mod messages;
 #[cfg(test)]
+mod outcomes;
+#[cfg(test)]
 mod outputs;
 #[cfg(test)]
 mod readings;
@@ -49,6 +59,8 @@ mod refusals;
 mod reports;
 #[cfg(test)]
 mod rows;
+#[cfg(test)]
+mod scarce_lines;
 #[cfg(test)]
 mod sessions;
 #[cfg(test)]

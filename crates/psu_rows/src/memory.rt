@@ -1,100 +1,362 @@
-// Each allocation of the first row refused in turn: each unit gives its answer or -225, or the run ends for want of memory.
-use crate::images::least;
+// Each allocation of five rows refused in turn: each unit gives its answer or -225, or the run ends for want of memory. What the disk
+// then holds is what a front of the accepted changes made, all of them where `*OPC?` was answered.
+use crate::images::{least, written_on};
 use bumpalo::Bump;
-use psu_exec::Exec;
-use psu_items::Store;
 use psu_server::{RunCause, run};
-use std::alloc::Global;
+use std::alloc::{AllocError, Global};
+use std::process::Abort;
 
-const INPUT: &[u8] = b"*PSC 0;*SRE 32;*ESE 128;*OPC?\n!POWER\n*STB?;*ESR?;*STB?\n";
+/// What may come of a row where some of its units are refused memory: the lines, each with its alternatives, "" for a line that
+/// is not written; and what the changes that were accepted make of the image, one after another.
+#[derive(Clone, Copy)]
+struct Story<'a> {
+    lines: &'a [&'a [&'a str]],
+    kept: &'a [&'a str],
+}
 
-const OUTPUT: &[u8] = b"1\n96;128;0\n";
+/// Lines of a run, and those that ask the image afterwards what it holds.
+#[derive(Clone, Copy)]
+struct Row<'a> {
+    input: &'a str,
+    output: &'a str,
+    question: &'a str,
+    stories: &'a [Story<'a>],
+}
 
 /// How a run ended.
+#[derive(Clone, Copy, PartialEq, Eq)]
 enum End {
-    /// All of it was answered as where memory is ample.
+    /// As where memory is ample.
     Whole,
-    /// Some units were refused memory.
+    /// Well, with units that were refused memory.
     Partly,
-    /// The run ended for want of memory.
+    /// For want of memory.
     Refused,
-    /// Anything else.
-    Wrong,
 }
 
-// The enables that an image keeps at a prefix of the first line's commands.
-fn keeps_a_prefix(alloc: Global, disk: psu_disk::MemDisk<Global>) -> bool {
-    let Ok(store) = Store::open(alloc, disk) else {
-        return false;
-    };
-    let Ok(exec) = Exec::power_on(alloc, store) else {
-        return false;
-    };
-    matches!(
-        exec.contents().enables(),
-        None | Some((0, 0)) | Some((32, 0)) | Some((0, 128)) | Some((32, 128))
-    )
-}
-
-// The run with so many bytes of memory left.
-fn with_bytes(alloc: Global, left: usize) -> Option<End> {
-    let arena = Bump::try_with_capacity(alloc, 40_000).ok()?;
-    let first = arena
-        .try_alloc_slice_fill_clone(arena.chunk_capacity(), 0u8)
-        .ok()?;
-    if first.is_empty() {
+// What stands behind a line and its end.
+fn behind<'a>(text: &'a [u8], line: &[u8]) -> Option<&'a [u8]> {
+    let length = line.len();
+    if length == 0 || text.len() <= length || !text.starts_with(line) || text[length] != b'\n' {
         return None;
     }
-    let second = arena.try_alloc(0u8).ok()?;
+    Some(&text[length + 1..])
+}
+
+// What stands behind the one of these lines that a text begins with.
+fn behind_one<'a>(text: &'a [u8], lines: &[&str]) -> Option<&'a [u8]> {
+    for line in lines {
+        if let Some(rest) = behind(text, line.as_bytes()) {
+            return Some(rest);
+        }
+    }
+    None
+}
+
+// Whether one of these texts is a text.
+fn has(texts: &[&str], text: &[u8]) -> bool {
+    for one in texts {
+        if one.as_bytes() == text {
+            return true;
+        }
+    }
+    false
+}
+
+impl Story<'_> {
+    // Whether a text is its lines; of a run that ended early, those before the end.
+    fn tells(&self, text: &[u8], whole: bool) -> bool {
+        let mut rest = text;
+        for line in self.lines {
+            match behind_one(rest, line) {
+                Some(left) => rest = left,
+                None if has(line, b"") => {}
+                None => return !whole && rest.is_empty(),
+            }
+        }
+        rest.is_empty()
+    }
+
+    // Whether an image that holds this may be left: all of it where the run ended well or `*OPC?` was answered.
+    fn leaves(&self, held: &[u8], all: bool) -> bool {
+        match self.kept.last() {
+            Some(last) if all => last.as_bytes() == held,
+            _ => has(self.kept, held),
+        }
+    }
+}
+
+// Takes so many bytes of an arena, most of them in blocks.
+fn take(arena: &Bump<Global>, count: usize) -> Result<(), AllocError> {
+    arena.try_alloc_slice_fill_clone(count % 1_024, 0u8)?;
+    arena.try_alloc_slice_fill_clone(count / 1_024, [0u64; 128])?;
+    Ok(())
+}
+
+/// An arena that takes nothing back: it has a second chunk, with room for a run.
+pub fn arena(alloc: Global) -> Result<Bump<Global>, AllocError> {
+    let arena = Bump::try_with_capacity(alloc, 45_000)?;
+    take(&arena, arena.chunk_capacity())?;
+    let second = arena.try_alloc(0u8)?;
     *second = 1;
-    arena.set_allocation_limit(Some(arena.allocated_bytes()));
-    let spare = arena.chunk_capacity();
-    if spare < left {
-        return None;
-    }
-    arena.try_alloc_slice_fill_clone(spare - left, 0u8).ok()?;
-    let mut reader = INPUT;
-    let mut output = Vec::new(alloc);
-    let (ended, disk) = match run(&arena, &mut reader, &mut output, least(alloc)?) {
-        Ok(disk) => (None, disk),
-        Err(fault) => (Some(fault.cause), fault.disk),
-    };
-    if !keeps_a_prefix(alloc, disk) {
-        return Some(End::Wrong);
-    }
-    Some(match ended {
-        None if output.as_slice() == OUTPUT => End::Whole,
-        None if output.is_empty() || output.starts_with(b"1\n") || is_answers(&output) =>
-            End::Partly,
-        Some(RunCause::Memory) if OUTPUT.starts_with(output.as_slice()) => End::Refused,
-        _ => End::Wrong,
-    })
+    Ok(arena)
 }
 
-// Whether a text has digits, separators and ends alone.
-fn is_answers(text: &[u8]) -> bool {
-    text.iter()
-        .all(|byte| matches!(*byte, b'0'..=b'9' | b';' | b'\n'))
+/// Leaves so many bytes of an arena, and no more to come.
+pub fn leave(arena: &Bump<Global>, left: usize) -> Result<(), AllocError> {
+    arena.set_allocation_limit(Some(arena.allocated_bytes()));
+    take(arena, arena.chunk_capacity().saturating_sub(left))
+}
+
+impl Row<'_> {
+    // Whether one of the stories tells this text and leaves an image that holds this.
+    fn allows(&self, text: &[u8], held: &[u8], whole: bool) -> bool {
+        let all = whole || text.starts_with(b"1\n");
+        for story in self.stories {
+            if story.tells(text, whole) && story.leaves(held, all) {
+                return true;
+            }
+        }
+        false
+    }
+
+    // How the row ends with so many bytes of memory.
+    fn run_with(&self, rt: &impl Abort, alloc: Global, left: usize) -> End {
+        let arena = arena(alloc).expect(rt, "an arena");
+        leave(&arena, left).expect(rt, "room");
+        assert_eq!(rt; arena.chunk_capacity(), left);
+        let image = least(alloc).expect(rt, "an image");
+        let mut reader = self.input.as_bytes();
+        let mut text = Vec::new(alloc);
+        let (ended, disk) = match run(&arena, &mut reader, &mut text, image) {
+            Ok(disk) => (None, disk),
+            Err(fault) => (Some(fault.cause), fault.disk),
+        };
+        let told = text.as_slice();
+        assert!(rt;
+            matches!(ended, None | Some(RunCause::Memory)),
+            "{ended:?} at {left}"
+        );
+        let held = written_on(alloc, disk, self.question.as_bytes()).expect(rt, "the image opens");
+        assert!(rt;
+            self.allows(told, held.as_slice(), ended.is_none()),
+            "{told:?} at {left}"
+        );
+        match ended {
+            Some(_) => End::Refused,
+            None if told == self.output.as_bytes() => End::Whole,
+            None => End::Partly,
+        }
+    }
+
+    // Less and less of its memory refused, until all of it is there. The buffer of a piece has 65,536 bytes.
+    fn run_with_all(&self, rt: &impl Abort, alloc: Global) {
+        let mut refused = 0u32;
+        let mut partly = 0u32;
+        for left in (0..2_000usize).step_by(8) {
+            let end = self.run_with(rt, alloc, left);
+            assert!(rt; end == End::Refused, "at {left}");
+        }
+        for left in (65_536..75_536usize).step_by(8) {
+            match self.run_with(rt, alloc, left) {
+                End::Whole => {
+                    assert!(rt; refused > 200, "{refused} refused, {partly} in part");
+                    return;
+                }
+                End::Partly => partly = partly.saturating_add(1),
+                End::Refused => refused = refused.saturating_add(1),
+            }
+        }
+        assert!(rt; false, "{refused} refused, and {partly} in part");
+    }
+}
+
+const FAULT: &str = "-225,\"Out of memory\"";
+
+// The enables: with them kept an answer that is refused sets EXE (16) beside PON (128), and status byte bit 2 (4).
+#[test]
+fn enables_with_little_memory(rt: HostRuntime) {
+    let row = Row {
+        input: "*PSC 0;*SRE 32;*ESE 128;*OPC?\n!POWER\n*STB?;*ESR?;*STB?\n",
+        output: "1\n96;128;0\n",
+        question: "*PSC?;*SRE?;*ESE?\n",
+        stories: &[Story {
+            lines: &[
+                &["1"],
+                &[
+                    "96;128;0", "96;128", "96;100", "96", "144;4", "144", "100", "",
+                ],
+            ],
+            kept: &["1;0;0\n", "0;0;0\n", "0;32;0\n", "0;32;128\n"],
+        }],
+    };
+    row.run_with_all(&rt, rt.alloc());
 }
 
 #[test]
-fn each_allocation_refused(rt: HostRuntime) {
-    let mut whole = 0u32;
-    let mut refused = 0u32;
-    // The first allocations are small, then comes the buffer of a piece.
-    for step in 0..320usize {
-        let left = if step < 20 {
-            step * 16
-        } else {
-            65_536 + (step - 20) * 16
-        };
-        match with_bytes(rt.alloc(), left).expect(&rt, "memory for the arena") {
-            End::Whole => whole = whole.saturating_add(1),
-            End::Partly => {}
-            End::Refused => refused = refused.saturating_add(1),
-            End::Wrong => assert!(rt; false, "at {left} bytes"),
-        }
-    }
-    assert!(rt; refused > 20, "{refused} refused");
-    assert!(rt; whole > 0, "{whole} whole");
+fn a_register_with_little_memory(rt: HostRuntime) {
+    let row = Row {
+        input: "VOLT 5.25;*SAV 3;*OPC?\n!POWER\nVOLT?;*RCL 3;VOLT?\n",
+        output: "1\n0.000;5.250\n",
+        question: "*RCL 3;VOLT?\n",
+        stories: &[Story {
+            lines: &[&["1"], &["0.000;5.250", "0.000", "5.250", ""]],
+            kept: &["0.000\n", "5.250\n"],
+        }],
+    };
+    row.run_with_all(&rt, rt.alloc());
+}
+
+// The definition, its call, and the answers may each be refused; the error queue tells the first of it.
+#[test]
+fn a_macro_with_little_memory(rt: HostRuntime) {
+    let defined = ["\"\"\n", "\"SETA\";#17VOLT $1\n"];
+    let row = Row {
+        input: "*DMC \"SETA\",#17VOLT $1;*EMC 1;SETA 3;VOLT?\n*DMC \"seta\",#10;*LMC?;SYST:ERR?\n",
+        output: "3.000\n\"SETA\";-277,\"Macro redefinition not allowed\"\n",
+        question: "*LMC?;*GMC? \"SETA\"\n",
+        stories: &[
+            Story {
+                lines: &[
+                    &["3.000"],
+                    &[
+                        "\"SETA\";-277,\"Macro redefinition not allowed\"",
+                        "-277,\"Macro redefinition not allowed\"",
+                        "\"SETA\";-225,\"Out of memory\"",
+                        "\"SETA\"",
+                        FAULT,
+                        "",
+                    ],
+                ],
+                kept: &defined,
+            },
+            // The call or its answer is refused.
+            Story {
+                lines: &[
+                    &["0.000", ""],
+                    &["\"SETA\";-225,\"Out of memory\"", "\"SETA\"", FAULT, ""],
+                ],
+                kept: &defined,
+            },
+            // The definition is refused, and the other one is not.
+            Story {
+                lines: &[
+                    &["0.000", ""],
+                    &["\"seta\";-225,\"Out of memory\"", "\"seta\"", FAULT, ""],
+                ],
+                kept: &["\"\"\n", "\"seta\";#10\n"],
+            },
+            // Both are.
+            Story {
+                lines: &[
+                    &["0.000", ""],
+                    &["\"\";-225,\"Out of memory\"", "\"\"", FAULT, ""],
+                ],
+                kept: &["\"\"\n"],
+            },
+        ],
+    };
+    row.run_with_all(&rt, rt.alloc());
+}
+
+#[test]
+fn a_file_with_little_memory(rt: HostRuntime) {
+    let kept = ["0,2048\n", "1024,1024,\"A,BIN,3\";#13xyz\n"];
+    let row = Row {
+        input: "MMEM:DATA \"A\",#13xyz;*OPC?\n!POWER\nMMEM:DATA? \"A\";:MMEM:DEL \"B\"\nSYST:ERR?\nMMEM:CAT?\n",
+        output: "1\n#13xyz\n-256,\"File name not found\"\n1024,1024,\"A,BIN,3\"\n",
+        question: "MMEM:CAT?;:MMEM:DATA? \"A\"\n",
+        stories: &[
+            Story {
+                lines: &[
+                    &["1"],
+                    &["#13xyz"],
+                    &["-256,\"File name not found\"", FAULT, ""],
+                    &["1024,1024,\"A,BIN,3\"", ""],
+                ],
+                kept: &kept,
+            },
+            // The file's answer is refused.
+            Story {
+                lines: &[&["1"], &[""], &[FAULT, ""], &["1024,1024,\"A,BIN,3\"", ""]],
+                kept: &kept,
+            },
+            // The file is: then nothing is pending, and no such file is found.
+            Story {
+                lines: &[
+                    &["1", ""],
+                    &[""],
+                    &["-256,\"File name not found\"", FAULT, ""],
+                    &["0,2048", ""],
+                ],
+                kept: &["0,2048\n"],
+            },
+        ],
+    };
+    row.run_with_all(&rt, rt.alloc());
+}
+
+#[test]
+fn a_state_with_little_memory(rt: HostRuntime) {
+    let kept = [
+        "\"\";0,2048\n",
+        "\"\";1024,1024,\"S,STAT,28\"\n",
+        "\"M\";2048,0,\"S,STAT,28\"\n",
+    ];
+    let row = Row {
+        input: "MMEM:STOR:STAT 0,\"S\";:MMEM:CAT?\nMMEM:LOAD:MACR \"M\",\"S\";LOAD:STAT 2,\"S\";:MMEM:DATA \"a/b\",#10;:SYST:ERR?\nSYST:ERR?\n",
+        output: "1024,1024,\"S,STAT,28\"\n-113,\"Undefined header\"\n-257,\"File name error\"\n",
+        question: "*LMC?;:MMEM:CAT?\n",
+        stories: &[
+            Story {
+                lines: &[
+                    &["1024,1024,\"S,STAT,28\""],
+                    &["-113,\"Undefined header\""],
+                    &["-257,\"File name error\"", FAULT, ""],
+                ],
+                kept: &kept,
+            },
+            // The error's answer is refused.
+            Story {
+                lines: &[
+                    &["1024,1024,\"S,STAT,28\""],
+                    &[""],
+                    &["-113,\"Undefined header\"", ""],
+                ],
+                kept: &kept,
+            },
+            // The macro is.
+            Story {
+                lines: &[
+                    &["1024,1024,\"S,STAT,28\""],
+                    &[FAULT, ""],
+                    &["-113,\"Undefined header\"", FAULT, ""],
+                ],
+                kept: &[kept[0], kept[1]],
+            },
+            // The catalog is, and perhaps the macro.
+            Story {
+                lines: &[
+                    &[""],
+                    &[FAULT, ""],
+                    &["-113,\"Undefined header\"", FAULT, ""],
+                ],
+                kept: &kept,
+            },
+            Story {
+                lines: &[&[""], &[FAULT, ""], &[FAULT, ""]],
+                kept: &[kept[0], kept[1]],
+            },
+            // The file is.
+            Story {
+                lines: &[
+                    &["0,2048", ""],
+                    &[FAULT, ""],
+                    &["-256,\"File name not found\"", FAULT, ""],
+                ],
+                kept: &[kept[0]],
+            },
+        ],
+    };
+    row.run_with_all(&rt, rt.alloc());
 }

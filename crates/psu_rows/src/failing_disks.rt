@@ -1,0 +1,149 @@
+// Runs on disks that stop or fail once: what is written, and what a restart finds.
+use crate::images::{least, written_on};
+use psu_disk::{Choice, FailOnce, Fuse, MemDisk};
+use psu_items::Store;
+use psu_server::{RunCause, StartCause, run};
+use std::alloc::Global;
+use std::process::Abort;
+
+/// What a run came to: its text, why it ended early, and the disk without what made it fail.
+#[derive(Drop)]
+struct Ended {
+    text: Vec<u8>,
+    cause: Option<RunCause>,
+    disk: MemDisk<Global>,
+}
+
+// A run on a disk that stops after so many calls.
+fn run_on_fuse(rt: &impl Abort, alloc: Global, input: &[u8], calls: u64) -> Ended {
+    let image = least(alloc).expect(rt, "an image");
+    let mut reader = input;
+    let mut text = Vec::new(alloc);
+    let (cause, disk) = match run(alloc, &mut reader, &mut text, Fuse::new(image, calls)) {
+        Ok(disk) => (None, disk),
+        Err(fault) => (Some(fault.cause), fault.disk),
+    };
+    Ended {
+        text,
+        cause,
+        disk: disk.into_inner(),
+    }
+}
+
+// A run on a disk of which one call fails.
+fn run_on_failing(rt: &impl Abort, alloc: Global, input: &[u8], call: u64) -> Ended {
+    let image = least(alloc).expect(rt, "an image");
+    let mut reader = input;
+    let mut text = Vec::new(alloc);
+    let (cause, disk) = match run(alloc, &mut reader, &mut text, FailOnce::new(image, call)) {
+        Ok(disk) => (None, disk),
+        Err(fault) => (Some(fault.cause), fault.disk),
+    };
+    Ended {
+        text,
+        cause,
+        disk: disk.into_inner(),
+    }
+}
+
+// Whether the image that a loss leaves has the file; it has that or nothing.
+fn has_file(rt: &impl Abort, alloc: Global, mut disk: MemDisk<Global>, choice: Choice) -> bool {
+    disk.lose(choice);
+    let held = written_on(alloc, disk, b"MMEM:CAT?;:MMEM:DATA? \"A\"\n").expect(
+        rt,
+        "the image opens after a loss",
+    );
+    let has = held.as_slice() == b"1024,1024,\"A,BIN,3\";#13xyz\n".as_slice();
+    assert!(rt;
+        has || held.as_slice() == b"0,2048\n".as_slice(),
+        "{held:?}"
+    );
+    has
+}
+
+// The disk stops after each number of calls, and power is lost: the file is there or not, and it is where that was confirmed.
+#[test]
+fn a_disk_that_stops_leaves_the_file_or_none(rt: HostRuntime) {
+    let choices = [
+        Choice::Old,
+        Choice::New,
+        Choice::Fill(0),
+        Choice::Fill(0xa5),
+        Choice::Fill(0xff),
+    ];
+    let mut in_commit = 0u32;
+    let mut kept_unconfirmed = 0u32;
+    for calls in 0..24u64 {
+        for choice in choices {
+            let input = b"MMEM:DATA \"A\",#13xyz;*OPC?\n";
+            let Ended { text, cause, disk } = run_on_fuse(&rt, rt.alloc(), input, calls);
+            let text = text.as_slice();
+            let has = has_file(&rt, rt.alloc(), disk, choice);
+            match cause {
+                None => assert!(rt; text == b"1\n".as_slice() && has, "{text:?} after {calls}"),
+                Some(RunCause::Device) => {
+                    assert!(rt; text.is_empty(), "{text:?} after {calls}");
+                    in_commit = in_commit.saturating_add(1);
+                    kept_unconfirmed = kept_unconfirmed.saturating_add(u32::from(has));
+                }
+                Some(RunCause::Open(StartCause::Device)) => {
+                    assert!(rt; text.is_empty() && !has, "{text:?} after {calls}");
+                }
+                Some(cause) => panic!(&rt; "{cause} after {calls}"),
+            }
+        }
+    }
+    // Two writes and three syncs at least, each with five losses; after the last write it may be there.
+    assert!(rt; in_commit >= 25, "{in_commit} in the commit");
+    assert!(rt; kept_unconfirmed > 0 && kept_unconfirmed < in_commit);
+}
+
+// The bytes of a register: output 1 at 1 volt, the rest as after `*RST`.
+const SAVED: [u8; 28] = [
+    3, 0xe8, 0, 0, 0xea, 0x60, 0, 0, 0, 0, 0, 0xea, 0x60, 0, 0, 0, 0, 0, 0xea, 0x60, 0, 0, 0, 0, 0,
+    0xea, 0x60, 0,
+];
+
+// Whether the image opens and has register 1 as saved.
+fn has_register(rt: &impl Abort, alloc: Global, disk: MemDisk<Global>) -> bool {
+    match Store::open(alloc, disk) {
+        Ok(store) => store.items().get(&[2, 1]) == Some(SAVED.as_slice()),
+        Err(_) => panic!(rt; "not opened"),
+    }
+}
+
+// Each call of the first commit fails once: the wait ends with -320, the store is opened again, and the save is flushed.
+#[test]
+fn a_commit_that_fails_once_is_made_again(rt: HostRuntime) {
+    let mut broken = 0u32;
+    let mut whole = 0u32;
+    for call in 0..40u64 {
+        let input = b"VOLT 1;*SAV 1;*OPC?\nSYST:ERR?\n*OPC?\n";
+        let Ended { text, cause, disk } = run_on_failing(&rt, rt.alloc(), input, call);
+        let text = text.as_slice();
+        let has = has_register(&rt, rt.alloc(), disk);
+        match cause {
+            None if text == b"-320,\"Storage fault\"\n1\n".as_slice() => {
+                assert!(rt; has && whole == 0, "at call {call}");
+                broken = broken.saturating_add(1);
+            }
+            None => {
+                assert!(rt;
+                    text == b"1\n0,\"No error\"\n1\n".as_slice(),
+                    "{text:?} at call {call}"
+                );
+                assert!(rt; has, "at call {call}");
+                whole = whole.saturating_add(1);
+            }
+            Some(cause) => {
+                assert!(rt;
+                    cause == RunCause::Open(StartCause::Device),
+                    "{cause} at {call}"
+                );
+                assert!(rt; text.is_empty() && !has && broken == 0, "at call {call}");
+            }
+        }
+    }
+    // Two writes and three syncs at least.
+    assert!(rt; broken >= 5 && whole > 0, "{broken} broken, {whole} whole");
+}
