@@ -63,15 +63,26 @@ fn has(texts: &[&str], text: &[u8]) -> bool {
     false
 }
 
+// Whether a text is a front of one of these lines.
+fn is_front_of_one(text: &[u8], lines: &[&str]) -> bool {
+    for line in lines {
+        if line.as_bytes().starts_with(text) {
+            return true;
+        }
+    }
+    false
+}
+
 impl Story<'_> {
-    // Whether a text is its lines; of a run that ended early, those before the end.
+    // Whether a text is its lines; of a run that ended early, those before the end, and perhaps a front of the next.
     fn tells(&self, text: &[u8], whole: bool) -> bool {
         let mut rest = text;
         for line in self.lines {
             match behind_one(rest, line) {
                 Some(left) => rest = left,
+                None if !whole && is_front_of_one(rest, line) => return true,
                 None if has(line, b"") => {}
-                None => return !whole && rest.is_empty(),
+                None => return false,
             }
         }
         rest.is_empty()

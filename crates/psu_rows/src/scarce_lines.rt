@@ -46,6 +46,16 @@ struct Case<'a> {
 }
 
 impl Case<'_> {
+    // Whether a text has all that stands before the line, and then a front of what may be written.
+    fn begins(&self, text: &[u8]) -> bool {
+        for output in self.outputs {
+            if output.as_bytes().starts_with(text) {
+                return text.starts_with(self.told_before.as_bytes());
+            }
+        }
+        false
+    }
+
     // Which of the outputs is written with so many bytes; none where the run ends for want of memory.
     fn run_with(&self, rt: &impl Abort, alloc: Global, left: usize) -> Option<usize> {
         let arena = arena(alloc).expect(rt, "an arena");
@@ -64,7 +74,7 @@ impl Case<'_> {
         let image = least(alloc).expect(rt, "an image");
         if let Err(fault) = run(&arena, &mut reader, &mut text, image) {
             assert_eq!(rt; fault.cause, RunCause::Memory, "at {left}");
-            assert_eq!(rt; text.as_slice(), self.told_before.as_bytes(), "at {left}");
+            assert!(rt; self.begins(text.as_slice()), "{text:?} at {left}");
             return None;
         }
         for (number, output) in self.outputs.iter().enumerate() {
