@@ -46,6 +46,17 @@ fn run_on_failing(rt: &impl Abort, alloc: Global, input: &[u8], call: u64) -> En
     }
 }
 
+// The five ways in which a loss may leave what was not synced.
+fn choices() -> [Choice; 5] {
+    [
+        Choice::Old,
+        Choice::New,
+        Choice::Fill(0),
+        Choice::Fill(0xa5),
+        Choice::Fill(0xff),
+    ]
+}
+
 // Whether the image that a loss leaves has the file; it has that or nothing.
 fn has_file(rt: &impl Abort, alloc: Global, mut disk: MemDisk<Global>, choice: Choice) -> bool {
     disk.lose(choice);
@@ -64,17 +75,10 @@ fn has_file(rt: &impl Abort, alloc: Global, mut disk: MemDisk<Global>, choice: C
 // The disk stops after each number of calls, and power is lost: the file is there or not, and it is where that was confirmed.
 #[test]
 fn a_disk_that_stops_leaves_the_file_or_none(rt: HostRuntime) {
-    let choices = [
-        Choice::Old,
-        Choice::New,
-        Choice::Fill(0),
-        Choice::Fill(0xa5),
-        Choice::Fill(0xff),
-    ];
     let mut in_commit = 0u32;
     let mut kept_unconfirmed = 0u32;
     for calls in 0..24u64 {
-        for choice in choices {
+        for choice in choices() {
             let input = b"MMEM:DATA \"A\",#13xyz;*OPC?\n";
             let Ended { text, cause, disk } = run_on_fuse(&rt, rt.alloc(), input, calls);
             let text = text.as_slice();
@@ -146,4 +150,80 @@ fn a_commit_that_fails_once_is_made_again(rt: HostRuntime) {
     }
     // Two writes and three syncs at least.
     assert!(rt; broken >= 5 && whole > 0, "{broken} broken, {whole} whole");
+}
+
+// What register 1 holds once power is back, in volts.
+fn volts_of(rt: &impl Abort, alloc: Global, disk: MemDisk<Global>) -> usize {
+    let question = b"*RCL 1;VOLT?\n";
+    let held = written_on(alloc, disk, question).expect(rt, "the image opens after a loss");
+    let levels = ["0.000\n", "1.000\n", "2.000\n", "3.000\n"];
+    for (volts, level) in levels.iter().enumerate() {
+        if level.as_bytes() == held.as_slice() {
+            return volts;
+        }
+    }
+    panic!(rt; "{held:?}")
+}
+
+// Three saves one after another, each confirmed: of those before a stop none is lost, and at most one more is there.
+#[test]
+fn confirmed_saves_outlast_a_stop(rt: HostRuntime) {
+    let mut ahead = 0u32;
+    for calls in 0..36u64 {
+        for choice in choices() {
+            let input = b"VOLT 1;*SAV 1;*OPC?\nVOLT 2;*SAV 1;*OPC?\nVOLT 3;*SAV 1;*OPC?\n";
+            let Ended {
+                text,
+                cause,
+                mut disk,
+            } = run_on_fuse(&rt, rt.alloc(), input, calls);
+            let text = text.as_slice();
+            assert!(rt; b"1\n1\n1\n".starts_with(text), "{text:?} after {calls}");
+            assert!(rt;
+                cause.is_none() == (text.len() == 6),
+                "{text:?} after {calls}"
+            );
+            disk.lose(choice);
+            let volts = volts_of(&rt, rt.alloc(), disk);
+            let confirmed = text.len() / 2;
+            assert!(rt; volts == confirmed || volts == confirmed.saturating_add(1));
+            ahead = ahead.saturating_add(u32::from(volts > confirmed));
+        }
+    }
+    assert!(rt; ahead > 0, "none was ahead");
+}
+
+// A call that fails at any time round a loss of power: the flush goes on behind a commit that failed, so the register is there once
+// a unit told of its end, by `1` or by -320.
+#[test]
+fn a_loss_after_a_call_that_failed(rt: HostRuntime) {
+    let mut seen = [0u32; 4];
+    for call in 0..40u64 {
+        let input = b"VOLT 1;*SAV 1;*OPC?\n!POWER\n*RCL 1;VOLT?\n";
+        let Ended { text, cause, disk } = run_on_failing(&rt, rt.alloc(), input, call);
+        let opened = match cause {
+            None => true,
+            Some(RunCause::Open(StartCause::Device)) => false,
+            Some(cause) => panic!(&rt; "{cause} at {call}"),
+        };
+        let ways = [
+            (false, "", 0usize),
+            (true, "1.000\n", 1),
+            (false, "1\n", 1),
+            (true, "1\n1.000\n", 1),
+        ];
+        let volts = volts_of(&rt, rt.alloc(), disk);
+        let mut found = false;
+        for (way, (ends, told, wanted)) in ways.iter().enumerate() {
+            if opened == *ends && volts == *wanted && text.as_slice() == told.as_bytes() {
+                seen[way] = seen[way].saturating_add(1);
+                found = true;
+            }
+        }
+        assert!(rt; found, "{text:?} at {call}");
+    }
+    assert!(rt;
+        seen[0] > 0 && seen[1] >= 5 && seen[2] > 0 && seen[3] > 0,
+        "{seen:?}"
+    );
 }

@@ -1,9 +1,9 @@
 // The worked rows of the whole instrument, as inputs of a run on a formatted image and its output.
-use crate::images::{least, written, written_on};
-use std::alloc::{AllocError, Global};
+use crate::images::{least, run_rows, written, written_on};
+use std::alloc::AllocError;
 
-// Lines and what they write, each row on a fresh image.
-fn rows(alloc: Global) -> Result<(), &'static str> {
+#[test]
+fn rows_of_the_instrument(rt: HostRuntime) {
     let rows = [
         // Saved settings come back.
         (
@@ -63,23 +63,7 @@ fn rows(alloc: Global) -> Result<(), &'static str> {
             "1\n#13xyz\n-256,\"File name not found\"\n1024,130048,\"A,BIN,3\"\n",
         ),
     ];
-    for (input, want) in rows {
-        let Some(got) = written(alloc, input.as_bytes()) else {
-            return Err(input);
-        };
-        if got.as_slice() != want.as_bytes() {
-            return Err(input);
-        }
-    }
-    Ok(())
-}
-
-#[test]
-fn rows_of_the_instrument(rt: HostRuntime) {
-    match rows(rt.alloc()) {
-        Ok(()) => {}
-        Err(input) => panic!(rt; "at {input}"),
-    }
+    run_rows(&rt, rt.alloc(), &rows);
 }
 
 // User data have 63 bytes at most.

@@ -6,6 +6,8 @@ mod answers;
 #[cfg(test)]
 mod commands;
 #[cfg(test)]
+mod common_rows;
+#[cfg(test)]
 mod contents;
 #[cfg(test)]
 mod decoding;
@@ -15,6 +17,8 @@ mod devices;
 mod failing_disks;
 #[cfg(test)]
 mod faults;
+#[cfg(test)]
+mod file_rows;
 #[cfg(test)]
 mod files;
 #[cfg(test)]
@@ -39,6 +43,8 @@ mod locks;
 mod long_answers;
 #[cfg(test)]
 mod losses;
+#[cfg(test)]
+mod macro_faults;
 #[cfg(test)]
 mod macro_rows;
 #[cfg(test)]
@@ -69,6 +75,8 @@ mod status;
 mod stores;
 #[cfg(test)]
 mod streams;
+#[cfg(test)]
+mod supply_rows;
 #[cfg(test)]
 mod tree;
 #[cfg(test)]

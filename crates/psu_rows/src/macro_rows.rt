@@ -1,5 +1,5 @@
 // Macros in runs: what a call writes, and where the message that it stands in goes on.
-use crate::images::{formatted, written};
+use crate::images::{formatted, run_rows, written};
 use psu_disk::MemDisk;
 use psu_exec::{Ended, Exec};
 use psu_items::Store;
@@ -9,8 +9,8 @@ use psu_tree::{Path, request};
 use std::alloc::Global;
 use std::process::Abort;
 
-// Lines and what they write, each row on a fresh image.
-fn rows(alloc: Global) -> Result<(), &'static str> {
+#[test]
+fn rows_of_macros(rt: HostRuntime) {
     let rows = [
         // A call is replaced by the macro's body, its parameter in the placeholder's place.
         ("*DMC \"SETA\",#17VOLT $1;*EMC 1;SETA 3;VOLT?\n", "3.000\n"),
@@ -59,23 +59,7 @@ fn rows(alloc: Global) -> Result<(), &'static str> {
             "2.000;1\n",
         ),
     ];
-    for (input, want) in rows {
-        let Some(got) = written(alloc, input.as_bytes()) else {
-            return Err(input);
-        };
-        if got.as_slice() != want.as_bytes() {
-            return Err(input);
-        }
-    }
-    Ok(())
-}
-
-#[test]
-fn rows_of_macros(rt: HostRuntime) {
-    match rows(rt.alloc()) {
-        Ok(()) => {}
-        Err(input) => panic!(rt; "at {input}"),
-    }
+    run_rows(&rt, rt.alloc(), &rows);
 }
 
 // With 1,023 changes that are not flushed the second change of an expansion comes later: a flush, and then the same unit.

@@ -1,0 +1,154 @@
+// Definitions of macros in runs, and the faults of their commands and calls.
+use crate::images::{run_rows, written};
+use std::alloc::{AllocError, Global};
+
+#[test]
+fn definitions_and_their_faults(rt: HostRuntime) {
+    let rows = [
+        // A label is a letter, then letters, digits or `_`, 12 bytes at most.
+        (
+            "*DMC \"1A\",#10;*DMC \"ABCDEFGHIJKLM\",#10;*DMC \"\",#10;*DMC \"*CLS\",#10;*DMC \"A:B\",#10;*DMC \"ABCDEFGHIJ_9\",#10;*LMC?\n\
+SYST:ERR?;:SYST:ERR?;:SYST:ERR?;:SYST:ERR?;:SYST:ERR?;:SYST:ERR?\n",
+            "\"ABCDEFGHIJ_9\"\n\
+-273,\"Illegal macro label\";-273,\"Illegal macro label\";-273,\"Illegal macro label\";-273,\"Illegal macro label\";-273,\"Illegal macro label\";0,\"No error\"\n",
+        ),
+        // In order of definition, as written; what is removed can be defined again.
+        (
+            "*DMC \"B\",#10;*DMC \"a\",#11x;*LMC?;*RMC \"b\";*DMC \"b\",#10;*LMC?;*PMC;*LMC?\n",
+            "\"B\",\"a\";\"a\",\"b\";\"\"\n",
+        ),
+        (
+            "*GMC? \"X\";*RMC \"X\";*GMC? \"1\";*RMC \"\";:SYST:ERR?;:SYST:ERR?;:SYST:ERR?;:SYST:ERR?\n",
+            "-278,\"Macro header not found\";-278,\"Macro header not found\";-278,\"Macro header not found\";-278,\"Macro header not found\"\n",
+        ),
+        // A reset disables macros and keeps them; a loss of power too.
+        (
+            "*DMC \"A\",#15*IDN?;*EMC 1;A;*RST;A;:SYST:ERR?;*LMC?\n",
+            "EXAMPLE,PSU4,0,1.0;-113,\"Undefined header\";\"A\"\n",
+        ),
+        (
+            "*DMC \"A\",#15*IDN?;*EMC 1;*OPC?\n!POWER\n*EMC?;*LMC?;*GMC? \"A\"\n",
+            "1\n0;\"A\";#15*IDN?\n",
+        ),
+    ];
+    run_rows(&rt, rt.alloc(), &rows);
+}
+
+#[test]
+fn calls_and_their_parameters(rt: HostRuntime) {
+    let rows = [
+        // Inside a block or a string no placeholder is looked for.
+        (
+            "*DMC \"S\",#214*DMC \"T\",#12$1;*EMC 1;S;*GMC? \"T\"\n",
+            "#12$1\n",
+        ),
+        (
+            "*DMC \"S\",#214*DMC \"T\",#12$1;*EMC 1;S 5;:SYST:ERR?;*LMC?\n",
+            "-274,\"Macro parameter error\";\"S\"\n",
+        ),
+        // One digit is the placeholder's; a `$` before anything else is left.
+        ("*DMC \"V\",#18VOLT $12;*EMC 1;V 1;VOLT?\n", "12.000\n"),
+        (
+            "*DMC \"V\",#18VOLT $$1;*EMC 1;V 1;:SYST:ERR?;*DMC \"W\",#17VOLT $0;W;:SYST:ERR?\n",
+            "-102,\"Syntax error\";-102,\"Syntax error\"\n",
+        ),
+        // The greatest placeholder says how many parameters there are, though the others are not used.
+        (
+            "*DMC \"V\",#17VOLT $2;*EMC 1;V 1,2;VOLT?;V 3;:SYST:ERR?;:VOLT?\n",
+            "2.000;-274,\"Macro parameter error\";2.000\n",
+        ),
+        (
+            "*DMC \"V\",#17VOLT $9;*EMC 1;V 1,2,3,4,5,6,7,8,9;VOLT?;V 1,2,3,4,5,6,7,8,9,10;SYST:ERR?\n",
+            "9.000;-274,\"Macro parameter error\"\n",
+        ),
+        // Parameters keep their suffix, and lose the white space round them.
+        (
+            "*DMC \"V\",#215VOLT $1;CURR $2;*EMC 1;V  5250 mV , 1 A;VOLT?;CURR?\n",
+            "5.250;1.000\n",
+        ),
+        // A call whose own data have a fault of numbers is still a call; one with a fault of syntax is none.
+        (
+            "*DMC \"V\",#15*IDN?;*DMC \"P\",#13$1?;*EMC 1;P 1E32001;V 5V,;:SYST:ERR?;:SYST:ERR?\n",
+            "-102,\"Syntax error\";-102,\"Syntax error\"\n",
+        ),
+        // A label in front of `:` or behind it, and a query, are none.
+        (
+            "*DMC \"V\",#15*IDN?;*EMC 1;:V;V?;V:V;SYST:ERR?;:SYST:ERR?;:SYST:ERR?;:SYST:ERR?\n",
+            "-113,\"Undefined header\";-113,\"Undefined header\";-113,\"Undefined header\";0,\"No error\"\n",
+        ),
+        // White space alone, and an empty body, are expansions without units.
+        (
+            "*DMC \"E\",#10;*DMC \"F\",#13 ; ;*EMC 1;E;VOLT?;F;*OPC?;:SYST:ERR?\n",
+            "0.000;1;0,\"No error\"\n",
+        ),
+        // What is wrong in an expansion takes no more than the expansion.
+        (
+            "*DMC \"Q\",#14FOO\";*EMC 1;Q;*IDN?;:SYST:ERR?;*DMC \"R\",#17FOO #15;R;*IDN?;:SYST:ERR?\n",
+            "EXAMPLE,PSU4,0,1.0;-151,\"Invalid string data\";EXAMPLE,PSU4,0,1.0;-161,\"Invalid block data\"\n",
+        ),
+    ];
+    run_rows(&rt, rt.alloc(), &rows);
+}
+
+// A definition with a body of so many bytes.
+fn definition(alloc: Global, length: usize, behind: &[u8]) -> Result<Vec<u8>, AllocError> {
+    let mut input = b"*DMC \"M\",#4".to_vec(alloc)?;
+    let digits = [
+        b'0' + (length / 1_000 % 10) as u8,
+        b'0' + (length / 100 % 10) as u8,
+        b'0' + (length / 10 % 10) as u8,
+        b'0' + (length % 10) as u8,
+    ];
+    input.extend_from_slice(&digits)?;
+    let end = input.len().saturating_add(length);
+    input.resize(end, b';')?;
+    input.extend_from_slice(behind)?;
+    Ok(input)
+}
+
+// A body has 1,024 bytes at most; that is looked at before the label is found.
+#[test]
+fn bodies_of_1024_bytes(rt: HostRuntime) {
+    let rows: [(usize, &[u8], &str); 3] = [
+        (1_024, b";*LMC?;:SYST:ERR?\n", "\"M\";0,\"No error\"\n"),
+        (
+            1_025,
+            b";*LMC?;:SYST:ERR?\n",
+            "\"\";-275,\"Macro definition too long\"\n",
+        ),
+        (
+            1_024,
+            b";:MMEM:STOR:MACR \"M\",\"F\";:MMEM:LOAD:MACR \"N\",\"F\";*LMC?;:SYST:ERR?\n",
+            "\"M\",\"N\";0,\"No error\"\n",
+        ),
+    ];
+    for (length, behind, want) in rows {
+        let input = definition(rt.alloc(), length, behind).expect(&rt, "memory");
+        let got = written(rt.alloc(), &input).expect(&rt, "the run ends well");
+        assert!(rt; got.as_slice() == want.as_bytes(), "at {length}: {got:?}");
+    }
+}
+
+// There are 32 macros at most: one more does not fit, whatever its label, unless it is wrong before that.
+#[test]
+fn thirty_two_macros(rt: HostRuntime) {
+    let mut input = Vec::new(rt.alloc());
+    for first in b"ABCD" {
+        for second in b"ABCDEFGH" {
+            input.extend_from_slice(b"*DMC \"").expect(&rt, "memory");
+            input
+                .extend_from_slice(&[*first, *second])
+                .expect(&rt, "memory");
+            input.extend_from_slice(b"\",#10\n").expect(&rt, "memory");
+        }
+    }
+    input
+        .extend_from_slice(
+            b"SYST:ERR?;*DMC \"E\",#10;*DMC \"aa\",#10;*DMC \"1\",#10\nSYST:ERR?;:SYST:ERR?;:SYST:ERR?\n*RMC \"dh\";*DMC \"E\",#10;*GMC? \"e\"\n",
+        )
+        .expect(&rt, "memory");
+    let want = "0,\"No error\"\n\
+-254,\"Media full\";-277,\"Macro redefinition not allowed\";-273,\"Illegal macro label\"\n#10\n";
+    let got = written(rt.alloc(), &input).expect(&rt, "the run ends well");
+    assert!(rt; got.as_slice() == want.as_bytes(), "{got:?}");
+}
