@@ -1,6 +1,8 @@
 // Lines that ask for more than a piece holds: their answers are written whole and in order.
-use crate::images::written;
+use crate::images::{formatted, written};
+use psu_server::run;
 use std::alloc::{AllocError, Global};
+use std::io::{self, Write};
 
 const LENGTH: usize = 32_768;
 
@@ -72,4 +74,41 @@ fn answers_round_the_length_of_a_piece(rt: HostRuntime) {
 #[test]
 fn four_hundred_files_in_one_line(rt: HostRuntime) {
     assert!(rt; is_right(rt.alloc(), 400).expect(&rt, "memory"));
+}
+
+/// A writer that knows how much it was given, and the most at once.
+#[derive(Drop)]
+struct Measuring {
+    all: usize,
+    most: usize,
+}
+
+impl Write for Measuring {
+    fn write(&mut self, buf: &[u8]) -> io::Result<usize> {
+        self.all = self.all.saturating_add(buf.len());
+        self.most = self.most.max(buf.len());
+        Ok(buf.len())
+    }
+
+    fn flush(&mut self) -> io::Result<()> {
+        Ok(())
+    }
+}
+
+// What a run gathers is 64 KiB and one answer at most, also in the midst of a line.
+#[test]
+fn a_long_line_is_written_in_parts(rt: HostRuntime) {
+    let file = file(rt.alloc()).expect(&rt, "memory");
+    let mut input = storing(rt.alloc(), file.as_slice()).expect(&rt, "memory");
+    let want = asking(rt.alloc(), file.as_slice(), 400, &mut input).expect(&rt, "memory");
+    let mut reader = input.as_slice();
+    let mut writer = Measuring { all: 0, most: 0 };
+    let disk = formatted(rt.alloc()).expect(&rt, "an image");
+    assert!(rt; run(rt.alloc(), &mut reader, &mut writer, disk).is_ok());
+    assert_eq!(rt; writer.all, want.len());
+    assert!(rt;
+        writer.most <= 65_536 + 32_768 + 16,
+        "{} at once",
+        writer.most
+    );
 }

@@ -14,6 +14,7 @@ use std::process::Abort;
 use std::test::Fail;
 
 type Power<'a> = Exec<MemDisk<Global>, &'a Bump<Global>>;
+
 type Taken<'a> = Job<MemDisk<Global>, &'a Bump<Global>>;
 
 fn powered_on<'a>(rt: &impl Abort, arena: &'a Bump<Global>, disk: MemDisk<Global>) -> Power<'a> {
