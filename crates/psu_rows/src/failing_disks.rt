@@ -227,3 +227,57 @@ fn a_loss_after_a_call_that_failed(rt: HostRuntime) {
         "{seen:?}"
     );
 }
+
+// A pending `*OPC` is no wait: it outlasts the broken store, and its bit (1) is set once the save is flushed, beside DDE (8) of the
+// wait that ended and PON (128).
+#[test]
+fn a_pending_completion_outlasts_a_broken_store(rt: HostRuntime) {
+    let mut broken = 0u32;
+    for call in 0..24u64 {
+        let input = b"*SAV 1;*OPC;*OPC?\n*ESR?;:SYST:ERR?\n";
+        let Ended {
+            text,
+            cause,
+            disk: _,
+        } = run_on_failing(&rt, rt.alloc(), input, call);
+        let text = text.as_slice();
+        if text == b"137;-320,\"Storage fault\"\n".as_slice() {
+            broken = broken.saturating_add(1);
+        } else if cause.is_none() {
+            assert!(rt;
+                text == b"1\n129;0,\"No error\"\n".as_slice(),
+                "{text:?} at {call}"
+            );
+        } else {
+            assert!(rt; text.is_empty() && broken == 0, "{text:?} at {call}");
+        }
+    }
+    assert!(rt; broken >= 5, "{broken} broken");
+}
+
+// While the store is broken, what would change it and what would wait for it is -320, behind what the unit itself is refused for; the
+// rest goes on, with what was accepted before.
+#[test]
+fn a_broken_store_refuses_changes(rt: HostRuntime) {
+    let input =
+        b"VOLT 1;*SAV 1;*OPC?\nSYST:ERR?\n*SAV 2;*OPC;*WAI;*OPC?;*SRE 4;*SRE?;:SYST:ERR:COUN?;*CLS\n\
+*PUD #10;:MMEM:DEL \"X\";DATA \"A\",#10;:SYST:ERR?;:SYST:ERR?;:SYST:ERR?\n\
+VOLT 2;*RCL 1;VOLT?;*SAV 10;SYST:ERR?;:MMEM:CAT?\n";
+    let want = b"-320,\"Storage fault\"\n4;4\n\
+-203,\"Command protected\";-256,\"File name not found\";-320,\"Storage fault\"\n\
+1.000;-222,\"Data out of range\";1024,1024\n";
+    let mut broken = 0u32;
+    for calls in 0..24u64 {
+        let Ended {
+            text,
+            cause,
+            disk: _,
+        } = run_on_fuse(&rt, rt.alloc(), input, calls);
+        let text = text.as_slice();
+        if cause == Some(RunCause::Device) && !text.starts_with(b"1\n") {
+            assert!(rt; text == want.as_slice(), "{text:?} after {calls}");
+            broken = broken.saturating_add(1);
+        }
+    }
+    assert!(rt; broken >= 5, "{broken} broken");
+}

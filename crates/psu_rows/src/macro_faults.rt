@@ -66,6 +66,13 @@ fn calls_and_their_parameters(rt: HostRuntime) {
             "*DMC \"V\",#215VOLT $1;CURR $2;*EMC 1;V  5250 mV , 1 A;VOLT?;CURR?\n",
             "5.250;1.000\n",
         ),
+    ];
+    run_rows(&rt, rt.alloc(), &rows);
+}
+
+#[test]
+fn calls_and_what_is_none(rt: HostRuntime) {
+    let rows = [
         // A call whose own data have a fault of numbers is still a call; one with a fault of syntax is none.
         (
             "*DMC \"V\",#15*IDN?;*DMC \"P\",#13$1?;*EMC 1;P 1E32001;V 5V,;:SYST:ERR?;:SYST:ERR?\n",
