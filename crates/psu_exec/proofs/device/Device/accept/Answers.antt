@@ -1,4 +1,4 @@
-use Rattle.std.proofs.Common.{◌≡◌, ap, sym, ◌∙◌}
+use Rattle.std.proofs.Common.{ap, sym, ◌∙◌}
 use Rattle.psu_nv.specs.Commands.{refused}
 use Rattle.psu_nv.specs.Views.{command_of}
 use Rattle.psu_exec.specs.Device.{State, is_whole}

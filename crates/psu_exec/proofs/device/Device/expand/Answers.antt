@@ -1,4 +1,4 @@
-use Rattle.std.proofs.Common.{◌≡◌, ℕ, List, Option, Some, None, Result, Ok, Err, refl, sym, ap, subst}
+use Rattle.std.proofs.Common.{◌≡◌, ℕ, List, Some, Result, Ok, Err, refl, sym, ap, subst}
 use Rattle.psu_lex.specs.declared.scpi_error.ScpiError.{ScpiError}
 use Rattle.psu_instrument.specs.Macros.{UnitGives, written}
 use Rattle.psu_exec.specs.Device.{State, called}

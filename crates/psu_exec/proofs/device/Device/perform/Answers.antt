@@ -1,4 +1,4 @@
-use Rattle.std.proofs.Common.{◌≡◌, ℕ, ◌<◌, ap, sym, subst, true, false, is_none}
+use Rattle.std.proofs.Common.{◌≡◌, sym, subst, false, is_none}
 use Rattle.psu_nv.specs.Views.{command_of}
 use Rattle.psu_tree.specs.Nonvolatile.{is_nonvolatile}
 use Rattle.psu_instrument.specs.Commands.{meaning}
