@@ -1,0 +1,4 @@
+pub mod Image
+pub mod Finding
+pub mod Standing
+pub mod Outcome

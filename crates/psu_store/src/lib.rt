@@ -1,0 +1,9 @@
+//! An ordered map from byte keys to byte values in the pages of a disk that may lose power at any moment.
+#![tactic(auto)]
+
+mod format;
+mod laws;
+mod store;
+
+pub use laws::one_map;
+pub use store::Store;
