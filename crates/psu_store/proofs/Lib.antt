@@ -1,1 +1,5 @@
 pub mod Standing
+pub mod Reading
+pub mod Taking
+pub mod Opening
+pub mod Opened

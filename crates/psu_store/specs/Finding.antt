@@ -6,6 +6,8 @@ use Rattle.psu_items.specs.declared.open_cause.OpenCause.{OpenCause}
 use Rattle.psu_items.specs.declared.open_cause.OpenCause.TheVariants.{Device, NoRoot, BadRoot, BadVersion, Memory}
 use Rattle.psu_pages.specs.declared.open_cause.OpenCause.{OpenCause as PagesCause}
 use Rattle.psu_pages.specs.declared.open_cause.OpenCause.TheVariants as unopened
+use Rattle.psu_pages.specs.declared.page_fault.PageFault.{PageFault}
+use Rattle.psu_pages.specs.declared.page_fault.PageFault.TheVariants as unread
 use Rattle.psu_pages.specs.declared.root.Root.{Root}
 use Rattle.psu_pages.specs.Image.{other, gate_at, Counts}
 use Rattle.psu_store.specs.Image.{counting, number_in, RootHolds}
@@ -22,9 +24,15 @@ abbrev pub IsOldOrSame : DiskState → List ℕ → Type 0
 IsOldOrSame old image = Left old image ⊎ SameRoots old.bytes image
 
 -- why a disk isn't opened, by why its pages aren't
-abbrev pub cause_of : PagesCause → OpenCause
-cause_of unopened.Device = Device
-cause_of unopened.NoRoot = NoRoot
-cause_of unopened.BadRoot = BadRoot
-cause_of unopened.BadVersion = BadVersion
-cause_of unopened.Memory = Memory
+abbrev pub cause_of_pages : PagesCause → OpenCause
+cause_of_pages unopened.Device = Device
+cause_of_pages unopened.NoRoot = NoRoot
+cause_of_pages unopened.BadRoot = BadRoot
+cause_of_pages unopened.BadVersion = BadVersion
+cause_of_pages unopened.Memory = Memory
+
+-- why a disk isn't opened, by why its pages aren't read, for which none are claimed
+abbrev pub IsUnread : PageFault → OpenCause → Type 0
+IsUnread unread.NoPage cause = ⊥
+IsUnread unread.Device cause = cause ≡ Device
+IsUnread unread.Memory cause = cause ≡ Memory

@@ -1,12 +1,11 @@
 -- What the bytes of an image of version 1 stand for: the map of the items that the root shows that counts.
-use Rattle.std.specs.Prelude.{◌≡◌, ◌≢◌, ℕ, ◌<◌, ◌⊎◌, List, length, map, ⊤}
+use Rattle.std.specs.Prelude.{ℕ, ◌⊎◌, List, map, ⊤}
 use Rattle.psu_disk.specs.Disk.{DiskState, Left}
 use Rattle.psu_items.specs.Map.{Item, item_of, IsSorted}
 use Rattle.psu_items.specs.Area.{IsMapOf}
 use Rattle.psu_items.specs.declared.open_cause.OpenCause.{OpenCause}
 use Rattle.psu_items.specs.declared.open_cause.OpenCause.TheVariants.{Device, NoRoot, BadRoot, BadVersion, Memory}
 use Rattle.psu_pages.specs.declared.root.Root.{Root}
-use Rattle.psu_pages.specs.declared.root.Root.TheVariants.{First, Second}
 use Rattle.psu_pages.specs.Image as pages
 use Rattle.psu_pages.specs.Shown as shown
 use Rattle.psu_pages.specs.Finding as finding
@@ -14,6 +13,10 @@ use Rattle.psu_pages.specs.Finding as finding
 -- an item that a root shows, as an item of a map
 abbrev pub as_item : shown.Item → Item
 as_item i = item_of i.key i.value
+
+-- the items of heads, in their order
+abbrev pub listed : List ℕ → List pages.Head → List Item
+listed image heads = map as_item (map (shown.item_in image) heads)
 
 -- the items that a root shows
 abbrev pub shown_in : Root → List ℕ → List Item

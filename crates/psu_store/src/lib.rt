@@ -3,6 +3,8 @@
 
 mod format;
 mod laws;
+mod open;
+mod read;
 mod store;
 
 pub use laws::one_map;
