@@ -3,3 +3,4 @@ pub mod Reading
 pub mod Taking
 pub mod Opening
 pub mod Opened
+pub mod Laying

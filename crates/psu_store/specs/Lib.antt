@@ -2,3 +2,4 @@ pub mod Image
 pub mod Finding
 pub mod Standing
 pub mod Outcome
+pub mod Layout

@@ -2,9 +2,12 @@
 #![tactic(auto)]
 
 mod format;
+mod kept;
 mod laws;
+mod layout;
 mod open;
 mod read;
+mod slot;
 mod store;
 
 pub use laws::one_map;

@@ -1,0 +1,110 @@
+//! Which heads the next root is to name: those that stand where an item stays as it is, and new ones for all others.
+ghost use Rattle.std.specs.Prelude.{◌≡◌, ◌+◌, ◌<◌, ◌++◌, ◌∷◌, [], true, ℕ, length, OnOk, IfOk, IsErrOf, vec_len, vec_capacity};
+ghost use Rattle.std.specs.List.{AllByRecursion};
+ghost use Rattle.psu_items.specs.Map.{Item};
+ghost use Rattle.psu_items.specs.Area.{Fits, CanHold};
+ghost use Rattle.psu_pages.specs.Image.{taken, AreApart, Head as HeadOf};
+ghost use Rattle.psu_pages.specs.Outcome.{IsPlanned, HasSameRoots};
+ghost use Rattle.psu_store.specs.Layout.{heads_of, IsSlot, IsSlotFor, AreSlots};
+ghost use Rattle.psu_store.specs.declared.slot.Slot.{Slot as SlotOf};
+
+use crate::kept::{Cursor, kept};
+use crate::slot::Slot;
+use psu_disk::Disk;
+use psu_items::{Items, Pair};
+use psu_pages::{PageFault, Pages};
+use std::alloc::Allocator;
+
+/// Claims the pages of all items that don't stand already. Where that is refused, what was claimed is given up.
+pub fn lay_out<D: Disk, A: Allocator + Copy>(
+    alloc: A,
+    pages: &mut Pages<D, A>,
+    before: &Items<A>,
+    target: &Items<A>,
+) -> Result<Vec<Slot<A>, A>, PageFault>
+    requires { AllByRecursion Fits target.now }
+    ensures roots { HasSameRoots pages.old pages.new }
+    ensures laid { IfOk result (λ slots. AreSlots pages.new before.now target.now target.now slots.items) }
+{
+    let mut slots = Vec::new(alloc);
+    match fill(alloc, pages, before, target, &mut slots) {
+        Ok(()) => Ok(slots),
+        Err(fault) => {
+            give_up(pages, slots);
+            Err(fault)
+        }
+    }
+}
+
+// A slot for each item, in the order of keys.
+fn fill<D: Disk, A: Allocator + Copy>(
+    alloc: A,
+    pages: &mut Pages<D, A>,
+    before: &Items<A>,
+    target: &Items<A>,
+    slots: &mut Vec<Slot<A>, A>,
+) -> Result<(), PageFault>
+    requires fits { AllByRecursion Fits target.now }
+    requires none { slots.old.items ≡ [] }
+    ensures roots { HasSameRoots pages.old pages.new }
+    ensures filled { OnOk result (AreSlots pages.new before.now target.now target.now slots.new.items) }
+    ensures planned { AllByRecursion (λ (slot : SlotOf A). slot.is_new ≡ true → IsPlanned pages.new slot.head) slots.new.items }
+    ensures apart { AreApart (taken (heads_of slots.new.items)) }
+{
+    let mut cursor = Cursor::new();
+    for pair in target.pairs() {
+        slots.reserve(1)?;
+        let slot = slot_for(alloc, pages, before, &mut cursor, pair)?;
+        add(slots, slot);
+    }
+    Ok(())
+}
+
+// The slot of an item.
+fn slot_for<D: Disk, A: Allocator + Copy>(
+    alloc: A,
+    pages: &mut Pages<D, A>,
+    before: &Items<A>,
+    cursor: &mut Cursor,
+    pair: &Pair<A>,
+) -> Result<Slot<A>, PageFault>
+    requires { Fits pair.now }
+    ensures roots { HasSameRoots pages.old pages.new }
+    ensures others { (other : HeadOf) → IsPlanned pages.old other → IsPlanned pages.new other }
+    ensures slot { IfOk result (IsSlotFor pages.old pages.new before.now pair.now) }
+{
+    if let Some(at) = kept(cursor, pages.heads(), before.pairs(), pair) {
+        return Ok(Slot {
+            head: pages.heads()[at].copy(alloc)?,
+            is_new: false,
+        });
+    }
+    Ok(Slot {
+        head: pages.plan(alloc, pair.key(), pair.value().len() as u32)?,
+        is_new: true,
+    })
+}
+
+// Puts a slot after the others.
+fn add<A: Allocator + Copy>(slots: &mut Vec<Slot<A>, A>, slot: Slot<A>)
+    requires { vec_len slots.old < vec_capacity slots.old }
+    ensures { slots.new.items ≡ slots.old.items ++ slot ∷ [] }
+{
+    match slots.push(slot) {
+        Ok(()) => {}
+        Err(_) => unreachable!(),
+    }
+}
+
+// Gives up the pages of slots that were planned.
+fn give_up<D: Disk, A: Allocator + Copy>(pages: &mut Pages<D, A>, mut slots: Vec<Slot<A>, A>)
+    requires planned { AllByRecursion (λ (slot : SlotOf A). slot.is_new ≡ true → IsPlanned pages.old slot.head) slots.items }
+    requires apart { AreApart (taken (heads_of slots.items)) }
+    ensures roots { HasSameRoots pages.old pages.new }
+{
+    while let Some(slot) = slots.pop() {
+        if slot.is_new {
+            pages.unplan(slot.head);
+        }
+    }
+}
