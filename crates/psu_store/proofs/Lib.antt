@@ -4,3 +4,4 @@ pub mod Taking
 pub mod Opening
 pub mod Opened
 pub mod Laying
+pub mod Writing

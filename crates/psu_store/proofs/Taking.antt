@@ -30,15 +30,22 @@ Closes {D} {A} {G} pages = Reaches (SameBut (gate_at (other pages.root)) 1) (Lef
 
 -- the heads and what they show are as they were
 module _ {D A : Type 0} {G : Ghosts D} (old mid : Pages D A G) (same : HasSameHeads old mid) where
-  pub bears_back : (Ghosts.state G mid.disk).bytes ≡ (Ghosts.state G old.disk).bytes → (image : List ℕ) → BearsOf mid image → BearsOf old image
-  bears_back seen image bears =
-      let items : items_in mid.root (Ghosts.state G mid.disk).bytes ≡ items_in old.root (Ghosts.state G old.disk).bytes = ap (λ (r : Root). items_in r (Ghosts.state G mid.disk).bytes) same.root ∙ ap (items_in old.root) seen in
+  pub bears_on : items_in mid.root (Ghosts.state G mid.disk).bytes ≡ items_in old.root (Ghosts.state G old.disk).bytes → (image : List ℕ) → BearsOf mid image → BearsOf old image
+  bears_on items image bears =
       let heads : mid.heads.items ≡ old.heads.items = ap (λ v. v.items) same.heads in
       subst (λ (is : List Item). Bears old.root old.limit old.number old.heads.items is image) items
       (subst (λ (hs : List Head). Bears old.root old.limit old.number hs (items_in mid.root (Ghosts.state G mid.disk).bytes) image) heads
       (subst (λ (n : ℕ). Bears old.root old.limit n mid.heads.items (items_in mid.root (Ghosts.state G mid.disk).bytes) image) same.number
       (subst (λ (n : ℕ). Bears old.root n mid.number mid.heads.items (items_in mid.root (Ghosts.state G mid.disk).bytes) image) same.limit
       (subst (λ (r : Root). Bears r mid.limit mid.number mid.heads.items (items_in mid.root (Ghosts.state G mid.disk).bytes) image) same.root bears))))
+
+  pub bears_on_run : (new : D) → items_in mid.root (Ghosts.state G mid.disk).bytes ≡ items_in old.root (Ghosts.state G old.disk).bytes
+      → LeavesOnly (Ghosts.moment G) (Ghosts.left_since G) old.disk mid.disk (BearsOf old) → LeavesOnly (Ghosts.moment G) (Ghosts.left_since G) mid.disk new (BearsOf mid)
+      → LeavesOnly (Ghosts.moment G) (Ghosts.left_since G) old.disk new (BearsOf old)
+  bears_on_run new items first second = and_then (Ghosts.moment G) (Ghosts.left_since G) old.disk mid.disk new (BearsOf old) (BearsOf mid) first second (bears_on items)
+
+  pub bears_back : (Ghosts.state G mid.disk).bytes ≡ (Ghosts.state G old.disk).bytes → (image : List ℕ) → BearsOf mid image → BearsOf old image
+  bears_back seen = bears_on (ap (λ (r : Root). items_in r (Ghosts.state G mid.disk).bytes) same.root ∙ ap (items_in old.root) seen)
 
   pub closes_back : ((x : List ℕ) → Left (Ghosts.state G mid.disk) x → Left (Ghosts.state G old.disk) x) → (x : List ℕ) → Closes mid x → Closes old x
   closes_back fewer x reaches = (reaches.0, fewer reaches.0 reaches.1, subst (λ (r : Root). SameBut (gate_at (other r)) 1 reaches.0 x) same.root reaches.2)
@@ -73,3 +80,7 @@ pub not_device : (fault : PageFault) (cause : OpenCause) → IsUnread fault caus
 not_device unread.NoPage cause is not = absurd is
 not_device unread.Device cause is not = absurd (not is)
 not_device unread.Memory cause is not = λ same. cc
+
+-- step by step
+pub same_on : {D A : Type 0} {G : Ghosts D} (old mid new : Pages D A G) → HasSameHeads old mid → HasSameHeads mid new → HasSameHeads old new
+same_on old mid new first second = record { root = second.root ∙ first.root; limit = second.limit ∙ first.limit; number = second.number ∙ first.number; heads = second.heads ∙ first.heads; older = second.older ∙ first.older; free = second.free ∙ first.free }

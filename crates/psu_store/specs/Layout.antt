@@ -58,3 +58,12 @@ pub record AreSlots {D A : Type 0} {G : Ghosts D} (pages : Pages D A G) (before 
   pub keys_are : keys (heads_of slots) ≡ keys_in items
   pub each : AllByRecursion (IsSlot pages before target) slots
   pub apart : AreApart (taken (heads_of slots))
+
+-- a slot's key is one of the map, and its head is one of a value of this length
+pub record IsSized {A : Type 0} (target : List Item) (slot : Slot A) : Type 0 where
+  pub has : get target slot.head.key ≡ Some (value_at target slot.head.key)
+  pub size_is : slot.head.size ≡ length (value_at target slot.head.key)
+
+-- a head that isn't new stands on its page, and its pages hold the value that the target has
+abbrev pub StandsWritten : {A : Type 0} → List ℕ → List Item → Slot A → Type 0
+StandsWritten image target slot = slot.is_new ≡ false → IsWritten image slot.head (value_at target slot.head.key)

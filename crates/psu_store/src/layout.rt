@@ -1,5 +1,5 @@
 //! Which heads the next root is to name: those that stand where an item stays as it is, and new ones for all others.
-ghost use Rattle.std.specs.Prelude.{◌≡◌, ◌+◌, ◌<◌, ◌++◌, ◌∷◌, [], true, ℕ, length, OnOk, IfOk, IsErrOf, vec_len, vec_capacity};
+ghost use Rattle.std.specs.Prelude.{◌≡◌, ◌+◌, ◌<◌, ◌≤◌, ◌++◌, ◌∷◌, [], true, ℕ, length, OnOk, IfOk, IsErrOf, vec_len, vec_capacity};
 ghost use Rattle.std.specs.List.{AllByRecursion};
 ghost use Rattle.psu_items.specs.Map.{Item};
 ghost use Rattle.psu_items.specs.Area.{Fits, CanHold};
@@ -12,8 +12,15 @@ use crate::kept::{Cursor, kept};
 use crate::slot::Slot;
 use psu_disk::Disk;
 use psu_items::{Items, Pair};
-use psu_pages::{PageFault, Pages};
+use psu_pages::{Head, PageFault, Pages};
 use std::alloc::Allocator;
+
+/// The slots of the next root, and room for their heads.
+#[derive(Drop)]
+pub struct Layout<A: Allocator + Copy> {
+    pub slots: Vec<Slot<A>, A>,
+    pub heads: Vec<Head<A>, A>,
+}
 
 /// Claims the pages of all items that don't stand already. Where that is refused, what was claimed is given up.
 pub fn lay_out<D: Disk, A: Allocator + Copy>(
@@ -21,14 +28,16 @@ pub fn lay_out<D: Disk, A: Allocator + Copy>(
     pages: &mut Pages<D, A>,
     before: &Items<A>,
     target: &Items<A>,
-) -> Result<Vec<Slot<A>, A>, PageFault>
+) -> Result<Layout<A>, PageFault>
     requires { AllByRecursion Fits target.now }
     ensures roots { HasSameRoots pages.old pages.new }
-    ensures laid { IfOk result (λ slots. AreSlots pages.new before.now target.now target.now slots.items) }
+    ensures laid { IfOk result (λ layout. AreSlots pages.new before.now target.now target.now layout.slots.items) }
+    ensures room { IfOk result (λ layout. (layout.heads.items ≡ []) × (length target.now ≤ vec_capacity layout.heads)) }
 {
+    let heads = Vec::with_capacity(alloc, target.pairs().len())?;
     let mut slots = Vec::new(alloc);
     match fill(alloc, pages, before, target, &mut slots) {
-        Ok(()) => Ok(slots),
+        Ok(()) => Ok(Layout { slots, heads }),
         Err(fault) => {
             give_up(pages, slots);
             Err(fault)

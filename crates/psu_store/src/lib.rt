@@ -6,6 +6,7 @@ mod kept;
 mod laws;
 mod layout;
 mod open;
+mod put;
 mod read;
 mod slot;
 mod store;
