@@ -93,7 +93,7 @@ module _ {A : Type 0} where
   rest_apart slots s apart = apart_left (taken (heads_of slots)) (pages_of s.head) (subst (λ (l : List ℕ). AreApart l) (pages_more slots s) apart)
 
 -- what holds of all pages of heads holds of those of one of them
-one_all : (P : ℕ → Type 0) (heads : List Head) (head : Head) → IsOneOf heads head → AllByRecursion P (taken heads) → AllByRecursion P (pages_of head)
+pub one_all : (P : ℕ → Type 0) (heads : List Head) (head : Head) → IsOneOf heads head → AllByRecursion P (taken heads) → AllByRecursion P (pages_of head)
 one_all P heads head one all = subst (λ (h : Head). AllByRecursion P (pages_of h)) one.2 (taken_all P heads one.0 head one.1 all)
 
 one_apart : (heads : List Head) (head : Head) → IsOneOf heads head → AreApart (taken heads) → AreApart (pages_of head)
@@ -134,7 +134,7 @@ module _ {D A : Type 0} {G : Ghosts D} (old new : Pages D A G) (roots : HasSameR
         stands = λ e. ap (get before) is.key_is ∙ is.stands e ∙ sym has;
       }
 
-  claimed_one : (o : Slot A) → IsSlot old before target o → AreClaimed old.free (pages_of o.head)
+  pub claimed_one : (o : Slot A) → IsSlot old before target o → AreClaimed old.free (pages_of o.head)
   claimed_one o is = by_kind o.is_new refl
     where
       by_kind : (b : Bool) → o.is_new ≡ b → AreClaimed old.free (pages_of o.head)

@@ -5,3 +5,7 @@ pub mod Opening
 pub mod Opened
 pub mod Laying
 pub mod Writing
+pub mod Putting
+pub mod Recovering
+pub mod Roster
+pub mod Committing

@@ -20,7 +20,7 @@ all_drop P (suc n) [] all = tt
 all_drop P (suc n) (x ∷ xs) all = all_drop P n xs all.1
 
 -- what is written is the target
-all_own : (items : List Item) → IsSorted items → AllByRecursion (λ (i : Item). get items i.key ≡ Some i.value) items
+pub all_own : (items : List Item) → IsSorted items → AllByRecursion (λ (i : Item). get items i.key ≡ Some i.value) items
 all_own [] sorted = tt
 all_own (i ∷ items) sorted = (
   ap (λ (b : Bool). cond b (Some i.value) (get items i.key)) (same_true i.key i.key refl),

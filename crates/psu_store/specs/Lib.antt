@@ -3,3 +3,4 @@ pub mod Finding
 pub mod Standing
 pub mod Outcome
 pub mod Layout
+pub mod Recovering

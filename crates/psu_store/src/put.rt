@@ -42,7 +42,8 @@ pub fn put<D: Disk, A: Allocator + Copy>(
     ensures works { OnOk result (D.failures pages.new.disk ≡ D.failures pages.old.disk) }
     ensures device { IfErr result (λ cause. HasFailed (D.failures pages.old.disk) (D.failures pages.new.disk)) }
     ensures shows { OnOk result (ShowsMap pages.new target.now) }
-    ensures words { OnOk result ((pages.new.limit ≡ pages.old.limit) × (pages.new.number ≡ pages.old.number + 1)) }
+    ensures limit { pages.new.limit ≡ pages.old.limit }
+    ensures number { OnOk result (pages.new.number ≡ pages.old.number + 1) }
     ensures left { D.honest → (before : List Item) → ShowsMap pages.old before → EachIsEither (D.state pages.new.disk) pages.old.limit before target.now }
     ensures time { D.honest → D.tells → (before : List Item) → ShowsMap pages.old before → LeavesOnly D.moment D.left_since pages.old.disk pages.new.disk (IsEither pages.old.limit before target.now) }
 {
