@@ -9,7 +9,7 @@ use Rattle.psu_items.specs.Batch.{Edit, changed}
 use Rattle.psu_pages.specs.declared.pages.Pages.{Pages}
 use Rattle.psu_pages.specs.declared.root.Root.{Root}
 use Rattle.psu_pages.specs.Outcome.{HasSameRoots}
-use Rattle.psu_store.specs.Image.{shown_in, Stands, EachStands, IsEither, EachIsEither}
+use Rattle.psu_store.specs.Image.{shown_in, Stands, EachStands, IsEither}
 use Rattle.psu_store.specs.Standing.{MapOn, ShowsMap, on_pages}
 use Rattle.psu_store.proofs.Standing.{pages_stand}
 

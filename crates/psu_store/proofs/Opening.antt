@@ -1,24 +1,23 @@
 -- What is found at an opening, and what it leaves.
-use Rattle.std.proofs.Common.{◌≡◌, ◌≢◌, ◌⊎◌, inl, inr, ⊎_elim, ℕ, List, Result, Ok, Err, IfOk, IfErr, map, refl, sym, ◌∙◌, ap, subst, arith}
+use Rattle.std.proofs.Common.{◌≡◌, inl, inr, ⊎_elim, ℕ, List, Result, Ok, Err, IfOk, IfErr, map, refl, sym, ◌∙◌, ap, subst, arith}
 use Rattle.psu_disk.specs.Disk.{DiskState, Left, Only, SameBut, LeavesOnly}
 use Rattle.psu_disk.specs.Moments.{and_then, weaken}
-use Rattle.psu_disk.specs.Ranges.{reads_left, same_but_refl}
+use Rattle.psu_disk.specs.Ranges.{reads_left}
 use Rattle.psu_disk.specs.declared.disk.Disk.{Ghosts}
 use Rattle.psu_items.specs.Map.{Item, IsSorted}
 use Rattle.psu_items.specs.Area.{IsMapOf}
-use Rattle.psu_items.specs.declared.open_cause.OpenCause.{OpenCause}
 use Rattle.psu_pages.specs.declared.open_cause.OpenCause.{OpenCause as PagesCause}
 use Rattle.psu_pages.specs.declared.open_cause.OpenCause.TheVariants.{Device, NoRoot, BadRoot, BadVersion, Memory}
 use Rattle.psu_pages.specs.declared.pages.Pages.{Pages}
 use Rattle.psu_pages.specs.declared.root.Root.{Root}
-use Rattle.psu_pages.specs.Image.{Head, other, gate_at, number_in, heads_in, Counts}
+use Rattle.psu_pages.specs.Image.{Head, other, gate_at, number_in, Counts}
 use Rattle.psu_pages.specs.Shown.{items_in, Shows, Bears}
 use Rattle.psu_pages.specs.Shown as shown
 use Rattle.psu_pages.specs.Finding as finding
 use Rattle.psu_pages.proofs.Bearing.{counting_is}
-use Rattle.psu_store.specs.Image.{as_item, listed, shown_in, counting, RootHolds, Stands, EachStands, IsEither, EachIsEither, IsRefusal, HasReadableRoot}
+use Rattle.psu_store.specs.Image.{as_item, listed, counting, RootHolds, Stands, EachStands, IsEither, EachIsEither, IsRefusal, HasReadableRoot}
 use Rattle.psu_store.specs.Finding.{SameRoots, IsOldOrSame, cause_of_pages}
-use Rattle.psu_store.proofs.Standing.{stands_at, one_stands}
+use Rattle.psu_store.proofs.Standing.{stands_at}
 use Rattle.psu_store.proofs.Taking.{BearsOf, Closes}
 
 pub ok_map : {T E : Type 0} (r : Result T E) (P Q : T → Type 0) → ((x : T) → P x → Q x) → IfOk r P → IfOk r Q

@@ -1,5 +1,5 @@
 -- From the map that stands to the target: what each moment of a commit leaves.
-use Rattle.std.proofs.Common.{◌≡◌, ◌⊎◌, inl, inr, ⊎_elim, ℕ, List, [], ◌∷◌, length, map, suc, refl, sym, ◌∙◌, ap, subst}
+use Rattle.std.proofs.Common.{◌≡◌, inl, inr, ⊎_elim, ℕ, List, [], ◌∷◌, length, map, suc, refl, sym, ◌∙◌, ap, subst}
 use Rattle.std.specs.List.{AllByRecursion}
 use Rattle.psu_disk.specs.Disk.{LeavesOnly}
 use Rattle.psu_disk.specs.Moments.{and_then, weaken}
@@ -76,9 +76,9 @@ module _ {D A : Type 0} {G : Ghosts D} (old mid : Pages D A G) (before target : 
 
     pub from_either : (x : List ℕ) → Switches x → IsEither old.limit before target x
     from_either x either = subst (λ (n : ℕ). IsEither n before target x) same.limit (⊎_elim
-      (λ st. inl (from_shown x mid.limit (items_in mid.root (Ghosts.state G mid.disk).bytes) before shows.sorted of_before st))
-      (λ st. inr (from_shown x mid.limit (map (item_in (Ghosts.state G mid.disk).bytes) heads) target sorted of_target st))
-      (either_stands (other mid.root) mid.limit mid.number mid.heads.items (items_in mid.root (Ghosts.state G mid.disk).bytes) heads (map (item_in (Ghosts.state G mid.disk).bytes) heads) x either))
+        (λ st. inl (from_shown x mid.limit (items_in mid.root (Ghosts.state G mid.disk).bytes) before shows.sorted of_before st))
+        (λ st. inr (from_shown x mid.limit (map (item_in (Ghosts.state G mid.disk).bytes) heads) target sorted of_target st))
+        (either_stands (other mid.root) mid.limit mid.number mid.heads.items (items_in mid.root (Ghosts.state G mid.disk).bytes) heads (map (item_in (Ghosts.state G mid.disk).bytes) heads) x either))
 
     pub run_two : (new : D) → LeavesOnly (Ghosts.moment G) (Ghosts.left_since G) old.disk mid.disk (BearsOf old) → LeavesOnly (Ghosts.moment G) (Ghosts.left_since G) mid.disk new Switches → LeavesOnly (Ghosts.moment G) (Ghosts.left_since G) old.disk new (IsEither old.limit before target)
     run_two new first second = and_then (Ghosts.moment G) (Ghosts.left_since G) old.disk mid.disk new (IsEither old.limit before target) Switches (run_one first) second from_either

@@ -1,5 +1,5 @@
 -- Items that are read one by one.
-use Rattle.std.proofs.Common.{◌≡◌, ℕ, ◌+◌, ◌-◌, ◌<◌, List, get_or, length, drop, Some, sym, ◌∙◌, ap, subst, bytes_eq, cond, Option, arith}
+use Rattle.std.proofs.Common.{◌≡◌, ℕ, ◌+◌, ◌-◌, ◌<◌, List, get_or, length, drop, Some, sym, ◌∙◌, ap, subst, bytes_eq, cond, arith}
 use Rattle.std.proofs.lemmas.List.{drop_more}
 use Rattle.psu_disk.specs.declared.disk.Disk.{Ghosts}
 use Rattle.psu_items.specs.Map.{Item, get, Sets}

@@ -1,5 +1,5 @@
 -- Slots of a target are what a root may name, and those that aren't new hold its values already.
-use Rattle.std.proofs.Common.{◌≡◌, ◌≢◌, ℕ, zero, suc, ◌+◌, ◌*◌, ◌/◌, ◌<◌, ◌≤◌, List, [], ◌∷◌, ◌++◌, length, get_or, Option, Bool, true, false, Some, cond, refl, sym, ◌∙◌, ap, subst, arith, length-append}
+use Rattle.std.proofs.Common.{◌≡◌, ℕ, zero, suc, ◌+◌, ◌/◌, ◌<◌, List, [], ◌∷◌, ◌++◌, length, get_or, Option, Bool, true, false, Some, cond, refl, sym, ◌∙◌, ap, subst, arith, length-append}
 use Rattle.std.specs.List.{AllByRecursion}
 use Rattle.psu_disk.specs.Ranges.{reads_left}
 use Rattle.psu_disk.specs.declared.disk.Disk.{Ghosts}
@@ -10,14 +10,13 @@ use Rattle.psu_pages.specs.declared.pages.Pages.{Pages}
 use Rattle.psu_pages.specs.Image.{Head, IsHead, IsNone, IsInPool, AreApart, value_in, head_at, pages_of, taken, keys}
 use Rattle.psu_pages.specs.Free.{is_free, AreClaimed, IsRoster}
 use Rattle.psu_pages.specs.Shown.{item_of}
-use Rattle.psu_pages.specs.Writing.{IsWritten}
 use Rattle.psu_pages.proofs.Lists.{all_at, all_map}
 use Rattle.psu_pages.proofs.Taken.{key_differs}
 use Rattle.psu_pages.proofs.Bearing.{heads_there}
 use Rattle.psu_store.specs.Image.{listed}
 use Rattle.psu_store.specs.Standing.{ShowsMap}
 use Rattle.psu_store.specs.declared.slot.Slot.{Slot}
-use Rattle.psu_store.specs.Layout.{IsOneOf, heads_of, keys_in, value_of, value_at, IsSlot, AreSlots, IsSized, StandsWritten}
+use Rattle.psu_store.specs.Layout.{heads_of, keys_in, value_of, value_at, IsSlot, AreSlots, IsSized, StandsWritten}
 use Rattle.psu_store.proofs.Standing.{surely}
 use Rattle.psu_store.proofs.Laying.{join_pages, one_all}
 use Rattle.psu_store.proofs.Writing.{all_own}

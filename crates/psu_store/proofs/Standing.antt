@@ -1,8 +1,7 @@
 -- What pages bear is what their image stands for.
-use Rattle.std.proofs.Common.{◌≡◌, ◌≢◌, ℕ, List, map, sym, ◌∙◌, ap, subst}
-use Rattle.psu_disk.specs.Disk.{DiskState, Left}
+use Rattle.std.proofs.Common.{◌≡◌, ◌≢◌, ℕ, List, map, sym, ◌∙◌, subst}
+use Rattle.psu_disk.specs.Disk.{DiskState}
 use Rattle.psu_disk.specs.declared.disk.Disk.{Ghosts}
-use Rattle.psu_disk.specs.Ranges.{reads_left}
 use Rattle.psu_items.specs.Map.{Item, IsSorted}
 use Rattle.psu_items.specs.Area.{IsMapOf}
 use Rattle.psu_items.proofs.Maps.{same_map}
@@ -14,7 +13,7 @@ use Rattle.psu_pages.specs.Image.{Head, Counts}
 use Rattle.psu_pages.specs.Shown.{Shows, Bears, EachBears, items_in}
 use Rattle.psu_pages.specs.Shown as shown
 use Rattle.psu_pages.proofs.Bearing.{counting_is}
-use Rattle.psu_store.specs.Image.{as_item, shown_in, counting, RootHolds, Stands, EachStands}
+use Rattle.psu_store.specs.Image.{as_item, RootHolds, Stands, EachStands}
 use Rattle.psu_store.specs.Standing.{MapOn, ShowsMap, on_pages}
 
 -- the root that counts is the one that counts

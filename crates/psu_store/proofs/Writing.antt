@@ -1,5 +1,5 @@
 -- Slots are written one by one.
-use Rattle.std.proofs.Common.{◌≡◌, ◌≢◌, ℕ, zero, suc, ◌+◌, ◌<◌, List, [], ◌∷◌, ◌++◌, length, get_or, take, drop, map, Bool, true, false, Some, cond, refl, sym, ◌∙◌, ap, subst, arith}
+use Rattle.std.proofs.Common.{◌≡◌, ℕ, zero, suc, ◌+◌, ◌<◌, List, [], ◌∷◌, length, get_or, take, drop, map, Bool, Some, cond, refl, sym, ◌∙◌, ap, subst, arith}
 use Rattle.std.specs.List.{AllByRecursion}
 use Rattle.std.proofs.lemmas.List.{take_more, drop_more}
 use Rattle.psu_items.specs.Map.{Item, item_of, get, Before, IsSorted}
@@ -8,7 +8,7 @@ use Rattle.psu_pages.specs.Image.{Head, IsNone, IsInPool, AreApart, AreClear, pa
 use Rattle.psu_pages.specs.Shown.{item_in}
 use Rattle.psu_pages.specs.Shown as shown
 use Rattle.psu_pages.specs.Writing.{IsWritten}
-use Rattle.psu_pages.proofs.Lists.{all_at, all_map, all_take, all_join, apart_right, apart_clear, clear_swap}
+use Rattle.psu_pages.proofs.Lists.{all_at, all_take, all_join, apart_right, apart_clear, clear_swap}
 use Rattle.psu_store.specs.Image.{as_item, listed}
 use Rattle.psu_store.specs.declared.slot.Slot.{Slot}
 use Rattle.psu_store.specs.Layout.{heads_of, keys_in, value_of, value_at, StandsWritten}

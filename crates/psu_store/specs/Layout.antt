@@ -1,5 +1,5 @@
 -- What the next root is to name.
-use Rattle.std.specs.Prelude.{◌≡◌, ℕ, ◌<◌, true, false, List, [], ◌∷◌, length, map, slice_index_or, Option, Some, None}
+use Rattle.std.specs.Prelude.{◌≡◌, ℕ, ◌<◌, true, false, List, [], length, map, slice_index_or, Option, Some, None}
 use Rattle.std.specs.List.{AllByRecursion}
 use Rattle.psu_disk.specs.declared.disk.Disk.{Ghosts}
 use Rattle.psu_items.specs.Map.{Item, get}

@@ -4,3 +4,4 @@ pub mod Standing
 pub mod Outcome
 pub mod Layout
 pub mod Recovering
+pub mod Recovered

@@ -3,7 +3,6 @@ use Rattle.std.specs.List.{AllByRecursion}
 use Rattle.psu_pages.specs.Image.{taken, AreApart}
 use Rattle.psu_pages.specs.Outcome.{IsPlanned, HasSameRoots}
 use Rattle.psu_store.specs.Layout.{heads_of}
-use Rattle.psu_store.specs.declared.slot.Slot.{Slot}
 use Rattle.psu_store.proofs.layout.give_up.Given as goal
 
 -- the pages of the slots that are left are claimed for them alone

@@ -1,8 +1,3 @@
-use Rattle.std.proofs.Common.{◌≡◌, ◌≢◌, ◌∙◌, ap, List, sym, subst}
-use Rattle.psu_items.specs.Map.{Item}
-use Rattle.psu_items.specs.Area.{IsMapOf}
-use Rattle.psu_pages.specs.Shown.{items_in}
-use Rattle.psu_pages.specs.Shown as shown
 use Rattle.psu_store.proofs.Taking.{shown_back, not_device}
 use Rattle.psu_store.proofs.open.take_up.Goals as goal
 

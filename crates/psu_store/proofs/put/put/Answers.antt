@@ -1,8 +1,6 @@
-use Rattle.std.proofs.Common.{◌≡◌, ◌∙◌, ℕ, List, true, sym, ap, subst, arith, refl}
+use Rattle.std.proofs.Common.{◌≡◌, ◌∙◌, ℕ, true, sym, subst, arith}
 use Rattle.std.specs.List.{AllByRecursion}
 use Rattle.psu_disk.specs.Disk.{HasFailed}
-use Rattle.psu_items.specs.Map.{Item}
-use Rattle.psu_pages.specs.Image.{Head}
 use Rattle.psu_pages.specs.Outcome.{IsPlanned}
 use Rattle.psu_store.specs.Image.{listed}
 use Rattle.psu_store.proofs.Opening.{err_any}

@@ -1,6 +1,6 @@
 use Rattle.std.proofs.Common.{◌≡◌, ◌∙◌, ap, get_or, List, sym, subst}
 use Rattle.std.specs.List.{AllByRecursion}
-use Rattle.psu_pages.specs.Image.{Head, taken, IsInPool, pages_of}
+use Rattle.psu_pages.specs.Image.{Head, IsInPool, pages_of}
 use Rattle.psu_pages.proofs.Taken.{taken_all}
 use Rattle.psu_store.proofs.Reading.{read_more}
 use Rattle.psu_store.proofs.read.read_item.Goals as goal

@@ -1,4 +1,4 @@
-use Rattle.std.proofs.Common.{◌≡◌, ◌≤◌, ◌+◌, ◌-◌, ◌∙◌, ap, get_or, ℕ, List, [], length, drop, refl, sym, subst, arith}
+use Rattle.std.proofs.Common.{◌≡◌, ◌∙◌, ap, ℕ, List, [], length, drop, refl, sym, subst, arith}
 use Rattle.std.proofs.lemmas.List.{drop_all}
 use Rattle.psu_items.specs.Map.{Item}
 use Rattle.psu_items.specs.Area.{IsMapOf}

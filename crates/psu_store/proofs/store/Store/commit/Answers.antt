@@ -1,4 +1,4 @@
-use Rattle.std.proofs.Common.{◌≡◌, ◌∙◌, ◌+◌, ◌≤◌, ℕ, List, refl, sym, ap, subst, arith}
+use Rattle.std.proofs.Common.{◌∙◌, ◌+◌, ◌≤◌, ℕ, List, refl, sym, subst, arith}
 use Rattle.psu_items.specs.Map.{Item, IsSorted}
 use Rattle.psu_items.proofs.Maps.{sorted-changed}
 use Rattle.psu_items.specs.Area.{CanHold}

@@ -1,11 +1,7 @@
-use Rattle.std.proofs.Common.{◌≡◌, ◌⊎◌, inr, ◌∙◌, ap, List, ℕ, refl}
+use Rattle.std.proofs.Common.{inr, refl}
 use Rattle.psu_disk.specs.Moments.{weaken}
-use Rattle.psu_disk.specs.Ranges.{reads_left}
-
-use Rattle.psu_items.specs.Area.{IsMapOf}
-use Rattle.psu_store.specs.Image.{listed, Stands, IsRefusal, HasReadableRoot}
+use Rattle.psu_store.specs.Image.{Stands}
 use Rattle.psu_store.specs.Finding.{IsOldOrSame}
-use Rattle.psu_store.specs.Standing.{MapOn}
 use Rattle.psu_store.specs.Outcome.{opened_disk}
 use Rattle.psu_store.proofs.Opening.{err_any, readable, closed, closed_run, still_stands, pages_refused}
 use Rattle.psu_store.proofs.Opened.{found_stood, found_number, found_one}
