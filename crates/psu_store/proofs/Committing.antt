@@ -1,6 +1,6 @@
 -- A commit, in the words of its callers.
 use Rattle.std.proofs.Common.{◌≡◌, inl, true, false, ℕ, List, sym, ◌∙◌, ap, subst}
-use Rattle.psu_disk.specs.Disk.{DiskState, Left, LeavesOnly, HasFailed}
+use Rattle.psu_disk.specs.Disk.{DiskState, Left, Follows, LeavesOnly, HasFailed}
 use Rattle.psu_disk.specs.Moments.{started}
 use Rattle.psu_disk.specs.declared.disk.Disk.{Ghosts}
 use Rattle.psu_items.specs.Map.{Item}
@@ -9,6 +9,8 @@ use Rattle.psu_items.specs.Batch.{Edit, changed}
 use Rattle.psu_pages.specs.declared.pages.Pages.{Pages}
 use Rattle.psu_pages.specs.declared.root.Root.{Root}
 use Rattle.psu_pages.specs.Outcome.{HasSameRoots}
+use Rattle.psu_pages.specs.Writing.{Reaches}
+use Rattle.psu_store.specs.Writing.{SameBehind}
 use Rattle.psu_store.specs.Image.{shown_in, Stands, EachStands, IsEither}
 use Rattle.psu_store.specs.Standing.{MapOn, ShowsMap, on_pages}
 use Rattle.psu_store.proofs.Standing.{pages_stand}
@@ -55,6 +57,13 @@ module _ {D A : Type 0} {G : Ghosts D} (old new : Pages D A G) (roots : HasSameR
     where
       seen : D → ℕ → ℕ → MapOn D
       seen d limit number = record { disk = d; limit = limit; number = number; items = m }
+
+  -- what is behind stays, seen from before
+  pub behind_back : (last : D) → Follows (SameBehind new.limit) (Left (Ghosts.state G new.disk)) (Left (Ghosts.state G last)) → Follows (SameBehind old.limit) (Left (Ghosts.state G old.disk)) (Left (Ghosts.state G last))
+  behind_back last follows = subst (λ (d : D). Follows (SameBehind old.limit) (Left (Ghosts.state G d)) (Left (Ghosts.state G last))) roots.disk (subst (λ (n : ℕ). Follows (SameBehind n) (Left (Ghosts.state G new.disk)) (Left (Ghosts.state G last))) roots.limit follows)
+
+  pub behind_time_back : (last : D) → LeavesOnly (Ghosts.moment G) (Ghosts.left_since G) new.disk last (Reaches (SameBehind new.limit) (Left (Ghosts.state G new.disk))) → LeavesOnly (Ghosts.moment G) (Ghosts.left_since G) old.disk last (Reaches (SameBehind old.limit) (Left (Ghosts.state G old.disk)))
+  behind_time_back last run = subst (λ (d : D). LeavesOnly (Ghosts.moment G) (Ghosts.left_since G) d last (Reaches (SameBehind old.limit) (Left (Ghosts.state G d)))) roots.disk (subst (λ (n : ℕ). LeavesOnly (Ghosts.moment G) (Ghosts.left_since G) new.disk last (Reaches (SameBehind n) (Left (Ghosts.state G new.disk)))) roots.limit run)
 
   module _ (m made target : List Item) (is : made ≡ target) where
     pub either_back : (x : List ℕ) → IsEither new.limit m made x → IsEither old.limit m target x

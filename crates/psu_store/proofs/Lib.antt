@@ -9,3 +9,4 @@ pub mod Putting
 pub mod Recovering
 pub mod Roster
 pub mod Committing
+pub mod Behind

@@ -5,3 +5,4 @@ pub mod Outcome
 pub mod Layout
 pub mod Recovering
 pub mod Recovered
+pub mod Writing

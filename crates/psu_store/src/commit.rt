@@ -1,9 +1,11 @@
 //! One step of a store: from a map to the map after a batch.
 ghost use Rattle.std.specs.Prelude.{◌≡◌, ◌+◌, ◌≤◌, ◌^◌, ◌↔◌, List, ℕ, IsTrue, IfOk};
-ghost use Rattle.psu_disk.specs.Disk.{Left, LeavesOnly};
+ghost use Rattle.psu_disk.specs.Disk.{Left, Follows, LeavesOnly};
+ghost use Rattle.psu_pages.specs.Writing.{Reaches};
 ghost use Rattle.psu_items.specs.Area.{CanHold};
 ghost use Rattle.psu_items.specs.Batch.{changed};
 ghost use Rattle.psu_store.specs.Image.{EachStands, EachIsEither, IsEither};
+ghost use Rattle.psu_store.specs.Writing.{SameBehind};
 
 use crate::layout::lay_out;
 use crate::put::put;
@@ -49,6 +51,10 @@ impl<D: Disk, A: Allocator + Copy> Store<D, A> {
         ensures left_broken { D.honest → IfBroken result (λ broken. EachIsEither (D.state broken.disk) self.limit self.items (changed self.items batch)) }
         ensures time { D.honest → D.tells
             → LeavesOnly D.moment D.left_since self.disk (disk_of result) (IsEither self.limit self.items (changed self.items batch)) }
+
+        // Behind the roots and the pool each byte stays as it might have been left before.
+        ensures behind { D.honest → Follows (SameBehind self.limit) (Left (D.state self.disk)) (Left (D.state (disk_of result))) }
+        ensures behind_time { D.honest → D.tells → LeavesOnly D.moment D.left_since self.disk (disk_of result) (Reaches (SameBehind self.limit) (Left (D.state self.disk))) }
     {
         if self.is_worn() {
             return Commit::Unstarted(self, batch, UnstartedCause::Worn);

@@ -1,16 +1,17 @@
 //! The writing part of a commit.
 ghost use Rattle.std.specs.Prelude.{◌≡◌, ◌≢◌, ◌+◌, ◌<◌, ◌≤◌, ◌^◌, ◌++◌, ◌∷◌, [], true, false, Some, List, ℕ, length, OnOk, IfErr, vec_len, vec_capacity};
 ghost use Rattle.std.specs.List.{AllByRecursion};
-ghost use Rattle.psu_disk.specs.Disk.{Left, LeavesOnly, HasFailed};
+ghost use Rattle.psu_disk.specs.Disk.{Left, Follows, LeavesOnly, HasFailed};
 ghost use Rattle.psu_items.specs.Map.{Item, IsSorted};
 ghost use Rattle.psu_pages.specs.Free.{AreClaimed, IsRoster};
 ghost use Rattle.psu_pages.specs.Image.{AreApart, AreClear, IsInPool, keys, pages_of, taken, Head as HeadOf};
 ghost use Rattle.psu_pages.specs.Outcome.{IsPlanned, HasSameHeads};
 ghost use Rattle.psu_pages.specs.Shown.{items_in, Bears};
-ghost use Rattle.psu_pages.specs.Writing.{IsWritten};
+ghost use Rattle.psu_pages.specs.Writing.{IsWritten, Reaches};
 ghost use Rattle.psu_store.specs.Image.{IsEither, EachIsEither};
 ghost use Rattle.psu_store.specs.Layout.{heads_of, keys_in, value_at, IsSized, StandsWritten};
 ghost use Rattle.psu_store.specs.Standing.{ShowsMap};
+ghost use Rattle.psu_store.specs.Writing.{SameBehind};
 ghost use Rattle.psu_store.specs.declared.slot.Slot.{Slot as SlotOf};
 ghost use Rattle.psu_pages.specs.declared.page_fault.PageFault.TheVariants.{Device};
 ghost use Rattle.psu_pages.specs.declared.standing.Standing.TheVariants.{One, Unsure};
@@ -46,6 +47,8 @@ pub fn put<D: Disk, A: Allocator + Copy>(
     ensures number { OnOk result (pages.new.number ≡ pages.old.number + 1) }
     ensures left { D.honest → (before : List Item) → ShowsMap pages.old before → EachIsEither (D.state pages.new.disk) pages.old.limit before target.now }
     ensures time { D.honest → D.tells → (before : List Item) → ShowsMap pages.old before → LeavesOnly D.moment D.left_since pages.old.disk pages.new.disk (IsEither pages.old.limit before target.now) }
+    ensures behind { D.honest → Follows (SameBehind pages.old.limit) (Left (D.state pages.old.disk)) (Left (D.state pages.new.disk)) }
+    ensures behind_time { D.honest → D.tells → LeavesOnly D.moment D.left_since pages.old.disk pages.new.disk (Reaches (SameBehind pages.old.limit) (Left (D.state pages.old.disk))) }
 {
     let Layout { slots, heads } = layout;
     write_slots(pages, target, &slots)?;
@@ -78,6 +81,8 @@ fn write_slots<D: Disk, A: Allocator + Copy>(
         → Bears pages.old.root pages.old.limit pages.old.number pages.old.heads.items (items_in pages.old.root (D.state pages.old.disk).bytes) image }
     ensures time { D.honest → D.tells → LeavesOnly D.moment D.left_since pages.old.disk pages.new.disk
         (Bears pages.old.root pages.old.limit pages.old.number pages.old.heads.items (items_in pages.old.root (D.state pages.old.disk).bytes)) }
+    ensures behind { D.honest → Follows (SameBehind pages.old.limit) (Left (D.state pages.old.disk)) (Left (D.state pages.new.disk)) }
+    ensures behind_time { D.honest → D.tells → LeavesOnly D.moment D.left_since pages.old.disk pages.new.disk (Reaches (SameBehind pages.old.limit) (Left (D.state pages.old.disk))) }
 {
     for slot in slots {
         write_slot(pages, target, slot)?;
@@ -110,6 +115,8 @@ fn write_slot<D: Disk, A: Allocator + Copy>(
         → Bears pages.old.root pages.old.limit pages.old.number pages.old.heads.items (items_in pages.old.root (D.state pages.old.disk).bytes) image }
     ensures time { D.honest → D.tells → LeavesOnly D.moment D.left_since pages.old.disk pages.new.disk
         (Bears pages.old.root pages.old.limit pages.old.number pages.old.heads.items (items_in pages.old.root (D.state pages.old.disk).bytes)) }
+    ensures behind { D.honest → Follows (SameBehind pages.old.limit) (Left (D.state pages.old.disk)) (Left (D.state pages.new.disk)) }
+    ensures behind_time { D.honest → D.tells → LeavesOnly D.moment D.left_since pages.old.disk pages.new.disk (Reaches (SameBehind pages.old.limit) (Left (D.state pages.old.disk))) }
 {
     if !slot.is_new {
         return Ok(());

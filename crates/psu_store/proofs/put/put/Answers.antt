@@ -5,6 +5,9 @@ use Rattle.psu_pages.specs.Outcome.{IsPlanned}
 use Rattle.psu_store.specs.Image.{listed}
 use Rattle.psu_store.proofs.Opening.{err_any}
 use Rattle.psu_store.proofs.Putting.{heads_there, heads_list, as_many, from_bears, run_one, from_either, run_two, from_two, run_three, shown_last}
+use Rattle.psu_disk.specs.Disk.{SameBut}
+use Rattle.psu_pages.specs.Image.{gate_at, other}
+use Rattle.psu_store.proofs.Behind.{but_behind, behind_step, behind_step_run, behind_on, behind_run}
 use Rattle.psu_store.proofs.put.put.Goals as goal
 
 pub write_slots-requires-clause-planned : goal.write_slots-requires-clause-planned
@@ -109,3 +112,73 @@ returns-clause-shows g c = record {
       let are : listed (d.state mid.disk).bytes heads ≡ target = heads_list (d.state old.disk).bytes (d.state mid.disk).bytes target c.args.layout.slots.items c.deref.result.now heads c.deref.ensures.value c.name_heads.ensures (c.requires.kept h) (c.in_ok-write_slots.ensures.written h) c.requires.sorted c.requires.keys in
       shown_last mid c.publish_root.new.self c.close_old.new.self target heads are (c.in_ok-publish_root.ensures.shown h) (c.in_ok-close_old.ensures.shown h);
 }
+
+pub returns-in_err-publish_root-clause-behind : goal.returns-in_err-publish_root-clause-behind
+returns-in_err-publish_root-clause-behind g c = λ h.
+    let d = g.D.Disk in
+    let old = c.args.pages.now in
+    let mid = c.write_slots.new.pages in
+    let two = c.publish_root.new.self in
+    let step = behind_step d old.limit mid.disk (SameBut (gate_at (other mid.root)) 512) (λ x y b. but_behind old.limit (other mid.root) 512 x y (omega arith) b) two.disk (c.publish_root.ensures.touched h) in
+    let to_two = behind_on d old.limit old.disk mid.disk (c.write_slots.ensures.behind h) two.disk step in
+    to_two
+
+pub returns-in_err-publish_root-clause-behind_time : goal.returns-in_err-publish_root-clause-behind_time
+returns-in_err-publish_root-clause-behind_time g c = λ h t.
+    let d = g.D.Disk in
+    let old = c.args.pages.now in
+    let mid = c.write_slots.new.pages in
+    let two = c.publish_root.new.self in
+    let step = behind_step d old.limit mid.disk (SameBut (gate_at (other mid.root)) 512) (λ x y b. but_behind old.limit (other mid.root) 512 x y (omega arith) b) two.disk (c.publish_root.ensures.touched h) in
+    let to_two = behind_on d old.limit old.disk mid.disk (c.write_slots.ensures.behind h) two.disk step in
+    let run = behind_step_run d old.limit mid.disk (SameBut (gate_at (other mid.root)) 512) (λ x y b. but_behind old.limit (other mid.root) 512 x y (omega arith) b) two.disk (c.publish_root.ensures.touched_time h t) in
+    let run_two = behind_run d old.limit old.disk mid.disk (c.write_slots.ensures.behind h) two.disk (c.write_slots.ensures.behind_time h t) run in
+    run_two
+
+pub returns-in_err-close_old-clause-behind : goal.returns-in_err-close_old-clause-behind
+returns-in_err-close_old-clause-behind g c = λ h.
+    let d = g.D.Disk in
+    let old = c.args.pages.now in
+    let mid = c.write_slots.new.pages in
+    let two = c.publish_root.new.self in
+    let step = behind_step d old.limit mid.disk (SameBut (gate_at (other mid.root)) 512) (λ x y b. but_behind old.limit (other mid.root) 512 x y (omega arith) b) two.disk (c.publish_root.ensures.touched h) in
+    let to_two = behind_on d old.limit old.disk mid.disk (c.write_slots.ensures.behind h) two.disk step in
+    let last = c.close_old.new.self in
+    behind_on d old.limit old.disk two.disk to_two last.disk (behind_step d old.limit two.disk (SameBut (gate_at (other two.root)) 1) (λ x y b. but_behind old.limit (other two.root) 1 x y (omega arith) b) last.disk (c.close_old.ensures.touched h))
+
+pub returns-in_err-close_old-clause-behind_time : goal.returns-in_err-close_old-clause-behind_time
+returns-in_err-close_old-clause-behind_time g c = λ h t.
+    let d = g.D.Disk in
+    let old = c.args.pages.now in
+    let mid = c.write_slots.new.pages in
+    let two = c.publish_root.new.self in
+    let step = behind_step d old.limit mid.disk (SameBut (gate_at (other mid.root)) 512) (λ x y b. but_behind old.limit (other mid.root) 512 x y (omega arith) b) two.disk (c.publish_root.ensures.touched h) in
+    let to_two = behind_on d old.limit old.disk mid.disk (c.write_slots.ensures.behind h) two.disk step in
+    let run = behind_step_run d old.limit mid.disk (SameBut (gate_at (other mid.root)) 512) (λ x y b. but_behind old.limit (other mid.root) 512 x y (omega arith) b) two.disk (c.publish_root.ensures.touched_time h t) in
+    let run_two = behind_run d old.limit old.disk mid.disk (c.write_slots.ensures.behind h) two.disk (c.write_slots.ensures.behind_time h t) run in
+    let last = c.close_old.new.self in
+    behind_run d old.limit old.disk two.disk to_two last.disk run_two (behind_step_run d old.limit two.disk (SameBut (gate_at (other two.root)) 1) (λ x y b. but_behind old.limit (other two.root) 1 x y (omega arith) b) last.disk (c.close_old.ensures.touched_time h t))
+
+pub returns-clause-behind : goal.returns-clause-behind
+returns-clause-behind g c = λ h.
+    let d = g.D.Disk in
+    let old = c.args.pages.now in
+    let mid = c.write_slots.new.pages in
+    let two = c.publish_root.new.self in
+    let step = behind_step d old.limit mid.disk (SameBut (gate_at (other mid.root)) 512) (λ x y b. but_behind old.limit (other mid.root) 512 x y (omega arith) b) two.disk (c.publish_root.ensures.touched h) in
+    let to_two = behind_on d old.limit old.disk mid.disk (c.write_slots.ensures.behind h) two.disk step in
+    let last = c.close_old.new.self in
+    behind_on d old.limit old.disk two.disk to_two last.disk (behind_step d old.limit two.disk (SameBut (gate_at (other two.root)) 1) (λ x y b. but_behind old.limit (other two.root) 1 x y (omega arith) b) last.disk (c.close_old.ensures.touched h))
+
+pub returns-clause-behind_time : goal.returns-clause-behind_time
+returns-clause-behind_time g c = λ h t.
+    let d = g.D.Disk in
+    let old = c.args.pages.now in
+    let mid = c.write_slots.new.pages in
+    let two = c.publish_root.new.self in
+    let step = behind_step d old.limit mid.disk (SameBut (gate_at (other mid.root)) 512) (λ x y b. but_behind old.limit (other mid.root) 512 x y (omega arith) b) two.disk (c.publish_root.ensures.touched h) in
+    let to_two = behind_on d old.limit old.disk mid.disk (c.write_slots.ensures.behind h) two.disk step in
+    let run = behind_step_run d old.limit mid.disk (SameBut (gate_at (other mid.root)) 512) (λ x y b. but_behind old.limit (other mid.root) 512 x y (omega arith) b) two.disk (c.publish_root.ensures.touched_time h t) in
+    let run_two = behind_run d old.limit old.disk mid.disk (c.write_slots.ensures.behind h) two.disk (c.write_slots.ensures.behind_time h t) run in
+    let last = c.close_old.new.self in
+    behind_run d old.limit old.disk two.disk to_two last.disk run_two (behind_step_run d old.limit two.disk (SameBut (gate_at (other two.root)) 1) (λ x y b. but_behind old.limit (other two.root) 1 x y (omega arith) b) last.disk (c.close_old.ensures.touched_time h t))

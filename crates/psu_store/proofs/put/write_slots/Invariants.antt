@@ -1,10 +1,11 @@
 use Rattle.std.proofs.Common.{◌≡◌, ℕ, List, take, drop}
 use Rattle.std.specs.List.{AllByRecursion}
-use Rattle.psu_disk.specs.Disk.{Left, LeavesOnly}
+use Rattle.psu_disk.specs.Disk.{Left, Follows, LeavesOnly}
 use Rattle.psu_pages.specs.Image.{Head}
 use Rattle.psu_pages.specs.Outcome.{IsPlanned, HasSameHeads}
 use Rattle.psu_pages.specs.Shown.{items_in}
-use Rattle.psu_pages.specs.Writing.{IsWritten}
+use Rattle.psu_pages.specs.Writing.{IsWritten, Reaches}
+use Rattle.psu_store.specs.Writing.{SameBehind}
 use Rattle.psu_store.specs.Layout.{value_at, StandsWritten}
 use Rattle.psu_store.proofs.Taking.{BearsOf}
 use Rattle.psu_store.proofs.put.write_slots.Given as goal
@@ -25,4 +26,6 @@ invariant-loop-slot g l =
       shown : d.honest → items_in (let p = l.pages in p.root) (d.state (let p = l.pages in p.disk)).bytes ≡ items_in old.root (d.state old.disk).bytes;
       left : d.honest → (image : List ℕ) → Left (d.state (let p = l.pages in p.disk)) image → BearsOf old image;
       time : d.honest → d.tells → LeavesOnly d.moment d.left_since old.disk (let p = l.pages in p.disk) (BearsOf old);
+      behind : d.honest → Follows (SameBehind old.limit) (Left (d.state old.disk)) (Left (d.state (let p = l.pages in p.disk)));
+      behind_time : d.honest → d.tells → LeavesOnly d.moment d.left_since old.disk (let p = l.pages in p.disk) (Reaches (SameBehind old.limit) (Left (d.state old.disk)));
     }

@@ -7,7 +7,8 @@ use Rattle.psu_store.specs.Image.{IsEither}
 use Rattle.psu_store.proofs.Standing.{pages_stand}
 use Rattle.psu_store.proofs.Laying.{slots_planned}
 use Rattle.psu_store.proofs.Roster.{slots_sized, slots_claimed, slots_roster, slots_stand}
-use Rattle.psu_store.proofs.Committing.{not_true, none_run, can_back, number_back, items_back, limit_back, failed_back, left_out, still_shows, same_view, either_back, time_back, stands_back}
+use Rattle.psu_store.proofs.Committing.{not_true, none_run, can_back, number_back, items_back, limit_back, failed_back, left_out, still_shows, same_view, either_back, time_back, stands_back, behind_back, behind_time_back}
+use Rattle.psu_store.proofs.Behind.{behind_none, behind_still}
 use Rattle.psu_store.proofs.store.Store.commit.Goals as goal
 
 pub returns-then-is_worn-clause-unstarted : goal.returns-then-is_worn-clause-unstarted
@@ -106,3 +107,33 @@ pub returns-in-Err-clause-time : goal.returns-in-Err-clause-time
 returns-in-Err-clause-time g c = λ h t.
     let s = c.self.inside in
     rw (← c.self.view_is, c.into_disk.ensures.value) (time_back s.pages c.lay_out.new.pages c.lay_out.ensures.roots s.items c.in-Ok.target (changed s.items c.args.batch) c.in-Ok.ensures.value (let p = c.put.new.pages in p.disk) (c.put.ensures.time h t s.items (still_shows s.pages c.lay_out.new.pages c.lay_out.ensures.roots s.items c.self.invariant)))
+
+pub returns-then-is_worn-clause-behind : goal.returns-then-is_worn-clause-behind
+returns-then-is_worn-clause-behind g c = λ h. let s = c.self.inside in rw (← c.self.view_is) (behind_none g.D.Disk s.pages.limit s.pages.disk)
+
+pub returns-then-is_worn-clause-behind_time : goal.returns-then-is_worn-clause-behind_time
+returns-then-is_worn-clause-behind_time g c = λ h t. let s = c.self.inside in rw (← c.self.view_is) (behind_still g.D.Disk s.pages.limit s.pages.disk (g.met.D.Disk.only_now t s.pages.disk))
+
+pub returns-in_default-clause-behind : goal.returns-in_default-clause-behind
+returns-in_default-clause-behind g c = λ h. let s = c.self.inside in rw (← c.self.view_is) (behind_none g.D.Disk s.pages.limit s.pages.disk)
+
+pub returns-in_default-clause-behind_time : goal.returns-in_default-clause-behind_time
+returns-in_default-clause-behind_time g c = λ h t. let s = c.self.inside in rw (← c.self.view_is) (behind_still g.D.Disk s.pages.limit s.pages.disk (g.met.D.Disk.only_now t s.pages.disk))
+
+pub returns-in_default-lay_out-clause-behind : goal.returns-in_default-lay_out-clause-behind
+returns-in_default-lay_out-clause-behind g c = λ h. let s = c.self.inside in rw (← c.self.view_is, c.lay_out.ensures.roots.disk) (behind_none g.D.Disk s.pages.limit s.pages.disk)
+
+pub returns-in_default-lay_out-clause-behind_time : goal.returns-in_default-lay_out-clause-behind_time
+returns-in_default-lay_out-clause-behind_time g c = λ h t. let s = c.self.inside in rw (← c.self.view_is, c.lay_out.ensures.roots.disk) (behind_still g.D.Disk s.pages.limit s.pages.disk (g.met.D.Disk.only_now t s.pages.disk))
+
+pub returns-in-Ok-put-clause-behind : goal.returns-in-Ok-put-clause-behind
+returns-in-Ok-put-clause-behind g c = λ h. let s = c.self.inside in rw (← c.self.view_is) (behind_back s.pages c.lay_out.new.pages c.lay_out.ensures.roots (let p = c.put.new.pages in p.disk) (c.put.ensures.behind h))
+
+pub returns-in-Ok-put-clause-behind_time : goal.returns-in-Ok-put-clause-behind_time
+returns-in-Ok-put-clause-behind_time g c = λ h t. let s = c.self.inside in rw (← c.self.view_is) (behind_time_back s.pages c.lay_out.new.pages c.lay_out.ensures.roots (let p = c.put.new.pages in p.disk) (c.put.ensures.behind_time h t))
+
+pub returns-in-Err-clause-behind : goal.returns-in-Err-clause-behind
+returns-in-Err-clause-behind g c = λ h. let s = c.self.inside in rw (← c.self.view_is, c.into_disk.ensures.value) (behind_back s.pages c.lay_out.new.pages c.lay_out.ensures.roots (let p = c.put.new.pages in p.disk) (c.put.ensures.behind h))
+
+pub returns-in-Err-clause-behind_time : goal.returns-in-Err-clause-behind_time
+returns-in-Err-clause-behind_time g c = λ h t. let s = c.self.inside in rw (← c.self.view_is, c.into_disk.ensures.value) (behind_time_back s.pages c.lay_out.new.pages c.lay_out.ensures.roots (let p = c.put.new.pages in p.disk) (c.put.ensures.behind_time h t))
