@@ -10,3 +10,4 @@ pub mod Recovering
 pub mod Roster
 pub mod Committing
 pub mod Behind
+pub mod Sparing

@@ -1,5 +1,5 @@
 //! What a disk stands for, after a power loss or without one.
-ghost use Rattle.std.specs.Prelude.{◌≡◌, ◌≢◌, ◌⊎◌, ◌≤◌, List, ℕ, OnOk, IfOk, IfErr, IsErrOf};
+ghost use Rattle.std.specs.Prelude.{◌≡◌, ◌≢◌, ◌⊎◌, ◌≤◌, [], List, ℕ, OnOk, IfOk, IfErr, IsErrOf};
 ghost use Rattle.psu_disk.specs.Disk.{Left, Only, SameBut, Follows, LeavesOnly, HasFailed};
 ghost use Rattle.psu_items.specs.Map.{Item, IsSorted};
 ghost use Rattle.psu_items.specs.Area.{IsMapOf};
@@ -10,6 +10,7 @@ ghost use Rattle.psu_pages.specs.Outcome.{HasClosed};
 ghost use Rattle.psu_store.specs.Image.{listed, counting, number_in, EachStands, Stands, IsRefusal, HasReadableRoot};
 ghost use Rattle.psu_store.specs.Finding.{IsOldOrSame, cause_of_pages, IsUnread};
 ghost use Rattle.psu_store.specs.Outcome.{opened_disk};
+ghost use Rattle.psu_store.specs.Standing.{IsSpare};
 ghost use Rattle.psu_items.specs.declared.open_cause.OpenCause.TheVariants.{Device, Memory};
 ghost use Rattle.psu_pages.specs.declared.page_fault.PageFault.TheVariants as PageFault;
 ghost use Rattle.psu_pages.specs.declared.standing.Standing.TheVariants.{One, Unsure};
@@ -65,6 +66,8 @@ fn take_up<D: Disk, A: Allocator + Copy>(
     mut pages: Pages<D, A>,
 ) -> Result<Store<D, A>, Refused<D>>
     requires sure { pages.standing ≢ Unsure }
+    requires none_older { pages.older.items ≡ [] }
+    requires spare { IsSpare pages pages.heads.items }
     ensures words { IfOk result (λ store. (store.limit ≡ pages.limit) × (store.number ≡ pages.number)) }
     ensures sorted { IfOk result (λ store. IsSorted store.items) }
     ensures found { D.honest → IfOk result (λ store. IsMapOf store.items (listed (D.state pages.disk).bytes pages.heads.items)) }
@@ -97,6 +100,9 @@ fn read_back<D: Disk, A: Allocator + Copy>(
     pages: &mut Pages<D, A>,
 ) -> Result<Items<A>, PageFault>
     requires sure { pages.old.standing ≢ Unsure }
+    requires none_older { pages.old.older.items ≡ [] }
+    requires spare { IsSpare pages.old pages.old.heads.items }
+    ensures spare { OnOk result (IsSpare pages.new pages.new.heads.items) }
     ensures one { OnOk result (pages.new.standing ≡ One) }
     ensures root { OnOk result (pages.new.root ≡ pages.old.root) }
     ensures words { OnOk result ((pages.new.limit ≡ pages.old.limit) × (pages.new.number ≡ pages.old.number)) }

@@ -10,7 +10,7 @@ ghost use Rattle.psu_pages.specs.Shown.{items_in, Bears};
 ghost use Rattle.psu_pages.specs.Writing.{IsWritten, Reaches};
 ghost use Rattle.psu_store.specs.Image.{IsEither, EachIsEither};
 ghost use Rattle.psu_store.specs.Layout.{heads_of, keys_in, value_at, IsSized, StandsWritten};
-ghost use Rattle.psu_store.specs.Standing.{ShowsMap};
+ghost use Rattle.psu_store.specs.Standing.{AreSpare, IsSpare, ShowsMap};
 ghost use Rattle.psu_store.specs.Writing.{SameBehind};
 ghost use Rattle.psu_store.specs.declared.slot.Slot.{Slot as SlotOf};
 ghost use Rattle.psu_pages.specs.declared.page_fault.PageFault.TheVariants.{Device};
@@ -37,12 +37,14 @@ pub fn put<D: Disk, A: Allocator + Copy>(
     requires sorted { IsSorted target.now }
     requires roster { IsRoster pages.old.limit (heads_of layout.slots.items) }
     requires claimed { AreClaimed pages.old.free (taken (heads_of layout.slots.items)) }
+    requires spare { AreSpare pages.old (taken pages.old.heads.items) (taken (heads_of layout.slots.items)) }
     requires room { (layout.heads.items ≡ []) × (length target.now ≤ vec_capacity layout.heads) }
     requires kept { D.honest → AllByRecursion (StandsWritten (D.state pages.old.disk).bytes target.now) layout.slots.items }
     ensures extent { D.extent pages.new.disk ≡ D.extent pages.old.disk }
     ensures works { OnOk result (D.failures pages.new.disk ≡ D.failures pages.old.disk) }
     ensures device { IfErr result (λ cause. HasFailed (D.failures pages.old.disk) (D.failures pages.new.disk)) }
     ensures shows { OnOk result (ShowsMap pages.new target.now) }
+    ensures spare { OnOk result (IsSpare pages.new pages.new.heads.items) }
     ensures limit { pages.new.limit ≡ pages.old.limit }
     ensures number { OnOk result (pages.new.number ≡ pages.old.number + 1) }
     ensures left { D.honest → (before : List Item) → ShowsMap pages.old before → EachIsEither (D.state pages.new.disk) pages.old.limit before target.now }

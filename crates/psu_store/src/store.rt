@@ -17,13 +17,13 @@ pub struct Store<D: Disk, A: Allocator + Copy> {
 }
 
 impl<D: Disk, A: Allocator + Copy> Model for Store<D, A> {
-    ghost use Rattle.psu_store.specs.Standing.{MapOn, ShowsMap, on_pages};
+    ghost use Rattle.psu_store.specs.Standing.{MapOn, KeepsMap, on_pages};
 
     ghost Value = { MapOn D };
 
     ghost view = { λ s. on_pages s.pages s.items };
 
-    ghost invariant = { λ s. ShowsMap s.pages s.items };
+    ghost invariant = { λ s. KeepsMap s.pages s.items };
 }
 
 impl<D: Disk, A: Allocator + Copy> Store<D, A> {

@@ -3,9 +3,12 @@ use Rattle.psu_store.proofs.open.take_up.Goals as goal
 
 pub invariant_of-result : goal.invariant_of-result
 invariant_of-result g c = record {
-  one = c.in-Ok.ensures.one;
-  sorted = c.in-Ok.ensures.sorted;
-  holds = λ h. shown_back c.args.pages c.read_back.new.pages c.in-Ok.items c.requires.sure h (c.in-Ok.ensures.shown h) (c.in-Ok.ensures.found h);
+  shows = record {
+    one = c.in-Ok.ensures.one;
+    sorted = c.in-Ok.ensures.sorted;
+    holds = λ h. shown_back c.args.pages c.read_back.new.pages c.in-Ok.items c.requires.sure h (c.in-Ok.ensures.shown h) (c.in-Ok.ensures.found h);
+  };
+  spare = c.in-Ok.ensures.spare;
 }
 
 pub returns-in-Err-clause-quiet : goal.returns-in-Err-clause-quiet

@@ -7,6 +7,8 @@ use Rattle.psu_store.proofs.Opening.{err_any}
 use Rattle.psu_store.proofs.Putting.{heads_there, heads_list, as_many, from_bears, run_one, from_either, run_two, from_two, run_three, shown_last}
 use Rattle.psu_disk.specs.Disk.{SameBut}
 use Rattle.psu_pages.specs.Image.{gate_at, other}
+use Rattle.psu_store.specs.Layout.{heads_of}
+use Rattle.psu_store.proofs.Sparing.{spare_closed, spare_published}
 use Rattle.psu_store.proofs.Behind.{but_behind, behind_step, behind_step_run, behind_on, behind_run}
 use Rattle.psu_store.proofs.put.put.Goals as goal
 
@@ -182,3 +184,10 @@ returns-clause-behind_time g c = λ h t.
     let run_two = behind_run d old.limit old.disk mid.disk (c.write_slots.ensures.behind h) two.disk (c.write_slots.ensures.behind_time h t) run in
     let last = c.close_old.new.self in
     behind_run d old.limit old.disk two.disk to_two last.disk run_two (behind_step_run d old.limit two.disk (SameBut (gate_at (other two.root)) 1) (λ x y b. but_behind old.limit (other two.root) 1 x y (omega arith) b) last.disk (c.close_old.ensures.touched_time h t))
+
+pub returns-clause-spare : goal.returns-clause-spare
+returns-clause-spare g c =
+    let old = c.args.pages.now in
+    let mid = c.write_slots.new.pages in
+    let two = c.publish_root.new.self in
+    spare_closed two c.close_old.new.self c.in_ok-close_old.ensures.closed c.close_old.ensures.limit (spare_published old mid two c.name_heads.result.items (heads_of c.args.layout.slots.items) c.write_slots.ensures.same c.in_ok-publish_root.ensures.published c.publish_root.ensures.limit c.name_heads.ensures c.requires.spare)
