@@ -1,10 +1,11 @@
 //! The map: pairs in the order of their keys.
-ghost use Rattle.std.specs.Prelude.{◌≡◌, ◌<◌, ◌^◌, [], ◌∷◌, ◌++◌, length, IfOk, IfErr, OnOk, OnErr, option_map};
+ghost use Rattle.std.specs.Prelude.{◌≡◌, ◌<◌, ◌^◌, [], ◌∷◌, ◌++◌, ◌↔◌, length, IsTrue, IfOk, IfErr, OnOk, OnErr, option_map};
 ghost use Rattle.std.specs.List.{AllByRecursion};
 ghost use Rattle.psu_items.specs.Map.{Item, item_of, Before, get, put, without, cost, IsSorted, Sets};
 ghost use Rattle.psu_items.specs.Batch.{edited, changed, Assigns};
 ghost use Rattle.psu_items.specs.Place.{IsAt, IsGap};
 
+use crate::same::same;
 use crate::search::{search, value_of};
 use crate::{Batch, Edit, Pair};
 use std::alloc::{AllocError, Allocator};
@@ -114,7 +115,7 @@ impl<A: Allocator + Copy> Items<A> {
     }
 
     /// A new map: this one after the edits of a batch.
-    pub(crate) fn changed(&self, alloc: A, batch: &Batch<A>) -> Result<Self, AllocError>
+    pub fn changed(&self, alloc: A, batch: &Batch<A>) -> Result<Self, AllocError>
         ensures value { IfOk result (λ map. map ≡ changed self.now batch.now) }
 
         // What follows: each key has what its last edit says.
@@ -125,6 +126,13 @@ impl<A: Allocator + Copy> Items<A> {
             map.apply(alloc, edit)?;
         }
         Ok(map)
+    }
+
+    /// Whether another map has the same keys, and the same value at each.
+    pub fn is_same(&self, other: &Self) -> bool
+        ensures { IsTrue result ↔ (self.now ≡ other.now) }
+    {
+        same(self, other)
     }
 
     // Makes one edit.

@@ -26,7 +26,7 @@ keys-IsProp (key ∷ lists) =
 head-IsProp : (head : Head) → IsProp (IsHead head)
 head-IsProp head = hlevel props
 
-Shows-IsProp : (root : Root) (image : List ℕ) (limit : ℕ) → IsProp (Shows root image limit)
+pub Shows-IsProp : (root : Root) (image : List ℕ) (limit : ℕ) → IsProp (Shows root image limit)
 Shows-IsProp root image limit =
     let heads = all-IsProp IsHead head-IsProp (heads_in root image) in
     let pool = all-IsProp (IsInPool limit) (λ page. hlevel props) (taken (heads_in root image)) in

@@ -1,0 +1,13 @@
+pub mod Standing
+pub mod Reading
+pub mod Taking
+pub mod Opening
+pub mod Opened
+pub mod Laying
+pub mod Writing
+pub mod Putting
+pub mod Recovering
+pub mod Roster
+pub mod Committing
+pub mod Behind
+pub mod Sparing

@@ -1,0 +1,126 @@
+-- What is found at an opening, and what it leaves.
+use Rattle.std.proofs.Common.{◌≡◌, inl, inr, ⊎_elim, ℕ, List, Result, Ok, Err, IfOk, IfErr, map, refl, sym, ◌∙◌, ap, subst, arith}
+use Rattle.psu_disk.specs.Disk.{DiskState, Left, Only, SameBut, LeavesOnly}
+use Rattle.psu_disk.specs.Moments.{and_then, weaken}
+use Rattle.psu_disk.specs.Ranges.{reads_left}
+use Rattle.psu_disk.specs.declared.disk.Disk.{Ghosts}
+use Rattle.psu_items.specs.Map.{Item, IsSorted}
+use Rattle.psu_items.specs.Area.{IsMapOf}
+use Rattle.psu_pages.specs.declared.open_cause.OpenCause.{OpenCause as PagesCause}
+use Rattle.psu_pages.specs.declared.open_cause.OpenCause.TheVariants.{Device, NoRoot, BadRoot, BadVersion, Memory}
+use Rattle.psu_pages.specs.declared.pages.Pages.{Pages}
+use Rattle.psu_pages.specs.declared.root.Root.{Root}
+use Rattle.psu_pages.specs.Image.{Head, other, gate_at, number_in, Counts}
+use Rattle.psu_pages.specs.Shown.{items_in, Shows, Bears}
+use Rattle.psu_pages.specs.Shown as shown
+use Rattle.psu_pages.specs.Finding as finding
+use Rattle.psu_pages.proofs.Bearing.{counting_is}
+use Rattle.psu_store.specs.Image.{as_item, listed, counting, RootHolds, Stands, EachStands, IsEither, EachIsEither, IsRefusal, HasReadableRoot}
+use Rattle.psu_store.specs.Finding.{SameRoots, IsOldOrSame, cause_of_pages}
+use Rattle.psu_store.proofs.Standing.{stands_at}
+use Rattle.psu_store.proofs.Taking.{BearsOf, Closes}
+
+pub ok_map : {T E : Type 0} (r : Result T E) (P Q : T → Type 0) → ((x : T) → P x → Q x) → IfOk r P → IfOk r Q
+ok_map (Ok x) P Q f p = f x p
+ok_map (Err e) P Q f p = tt
+
+pub ok_both : {T E : Type 0} (r : Result T E) (P Q : T → Type 0) → IfOk r P → IfOk r Q → IfOk r (λ x. P x × Q x)
+ok_both (Ok x) P Q p q = (p, q)
+ok_both (Err e) P Q p q = tt
+
+pub err_any : {T E : Type 0} (r : Result T E) (P : E → Type 0) → ((e : E) → P e) → IfErr r P
+err_any (Ok x) P f = tt
+err_any (Err e) P f = f e
+
+-- each moment has what it has by either account
+pub both_runs : {D : Type 0} (moment : D → ℕ) (left_since : D → ℕ → List ℕ → Type 0) (old new : D) (P Q : List ℕ → Type 0) → LeavesOnly moment left_since old new P → LeavesOnly moment left_since old new Q → LeavesOnly moment left_since old new (λ x. P x × Q x)
+both_runs moment left_since old new P Q a b = record {
+  later = a.later;
+  each = λ x since. (a.each x since, b.each x since);
+  before = λ t x le since. ⊎_elim inl (λ p. ⊎_elim inl (λ q. inr (p, q)) (b.before t x le since)) (a.before t x le since);
+}
+
+-- what stands in y stands in x
+same_stands : (y x : List ℕ) (limit : ℕ) (m : List Item) → SameRoots y x → Stands y limit m → Stands x limit m
+same_stands y x limit m same st = stands_at (counting y) limit m x (same.counts (counting y) st.counts) (same.holds (counting y) st.counts limit m st.holds)
+
+pub still_stands : (disk : DiskState) (limit : ℕ) (m : List Item) → EachStands disk limit m → (x : List ℕ) → IsOldOrSame disk x → Stands x limit m
+still_stands disk limit m all x (inl left) = all x left
+still_stands disk limit m all x (inr same) = same_stands disk.bytes x limit m same (all disk.bytes (reads_left disk))
+
+pub still_either : (disk : DiskState) (limit : ℕ) (before target : List Item) → EachIsEither disk limit before target → (x : List ℕ) → IsOldOrSame disk x → IsEither limit before target x
+still_either disk limit before target all x (inl left) = all x left
+still_either disk limit before target all x (inr same) = ⊎_elim (λ st. inl (same_stands disk.bytes x limit before same st)) (λ st. inr (same_stands disk.bytes x limit target same st)) (all disk.bytes (reads_left disk))
+
+-- why pages aren't opened is why the store isn't
+pub pages_refused : (image : List ℕ) (cause : PagesCause) → finding.IsRefusal image cause → IsRefusal image (cause_of_pages cause)
+pages_refused image Device why = tt
+pages_refused image NoRoot why = why
+pages_refused image BadRoot why = record {
+  some_root = why.some_root;
+  same_version = why.same_version;
+  none_stands = λ limit m st. why.none_stands limit (items_in (counting image) image) (record { counts = st.counts; shows = st.holds.shows; items_are = refl });
+}
+pages_refused image BadVersion why = why
+pages_refused image Memory why = tt
+
+-- a root counts in s
+module _ (root : Root) (limit number : ℕ) (heads : List Head) (s : List ℕ) (bears : Bears root limit number heads (items_in root s) s) where
+  pub stood : (m : List Item) → IsSorted m → IsMapOf m (listed s heads) → Stands s limit m
+  stood m sorted of = stands_at root limit m s bears.counts (record { shows = bears.says.shows; items = subst (λ (hs : List Head). IsMapOf m (listed s hs)) (sym bears.says.heads_are) of; sorted = sorted })
+
+  pub numbered : number_in (counting s) s ≡ number
+  numbered = ap (λ (r : Root). number_in r s) (counting_is root s bears.counts) ∙ bears.says.number_is
+
+  pub readable : HasReadableRoot s
+  readable =
+      let is = sym (counting_is root s bears.counts) in
+      let shows = bears.says.shows in
+      record {
+        counts = subst (λ (r : Root). Counts r s) is bears.counts;
+        words = subst (λ (r : Root). finding.HasGoodWords r s) is (record {
+          marked = shows.marked;
+          version = shows.version;
+          limit_least = omega (arith, shows.limit_least, shows.limit_is);
+          limit_most = omega (arith, shows.limit_most, shows.limit_is);
+          room = omega (arith, shows.room, shows.limit_is);
+          count = shows.count;
+        });
+      }
+
+  -- and says the same in x
+  pub same_roots : (x : List ℕ) → Bears root limit number heads (items_in root s) x → SameBut (gate_at (other root)) 1 s x → SameRoots s x
+  same_roots x now but = record {
+    counts = λ r c. subst (λ (q : Root). Counts q x) (is_root r c) now.counts;
+    numbers = λ r c. subst (λ (q : Root). number_in q x ≡ number_in q s) (is_root r c) (now.says.number_is ∙ sym bears.says.number_is);
+    holds = λ r c l m holds. subst (λ (q : Root). RootHolds q x l m) (is_root r c) (kept l m (subst (λ (q : Root). RootHolds q s l m) (sym (is_root r c)) holds));
+    but = subst (λ (r : Root). SameBut (gate_at (other r)) 1 s x) (sym (counting_is root s bears.counts)) but;
+  }
+    where
+      is_root : (r : Root) → Counts r s → root ≡ r
+      is_root r c = sym (counting_is root s bears.counts) ∙ counting_is r s c
+
+      kept : (l : ℕ) (m : List Item) → RootHolds root s l m → RootHolds root x l m
+      kept l m holds = record {
+        shows = subst (Shows root x) (sym bears.says.shows.limit_is ∙ holds.shows.limit_is) now.says.shows;
+        items = subst (λ (is : List shown.Item). IsMapOf m (map as_item is)) (sym now.says.items_are) holds.items;
+        sorted = holds.sorted;
+      }
+
+-- pages were opened on a disk that read as s, and an older gate may be closed
+module _ {D A : Type 0} {G : Ghosts D} (pages : Pages D A G) (s : List ℕ) (bears : Bears pages.root pages.limit pages.number pages.heads.items (items_in pages.root s) s) (seen : (Ghosts.state G pages.disk).bytes ≡ s) (only : Only (Ghosts.state G pages.disk)) where
+  pub closed : (x : List ℕ) → BearsOf pages x → Closes pages x → SameRoots s x
+  closed x now reaches =
+      let at : reaches.0 ≡ s = only reaches.0 reaches.1 ∙ seen in
+      same_roots pages.root pages.limit pages.number pages.heads.items s bears x
+      (subst (λ (y : List ℕ). Bears pages.root pages.limit pages.number pages.heads.items (items_in pages.root y) x) seen now)
+      (subst (λ (y : List ℕ). SameBut (gate_at (other pages.root)) 1 y x) at reaches.2)
+
+  pub closed_run : (old : DiskState) (before new : D) → old.bytes ≡ s → LeavesOnly (Ghosts.moment G) (Ghosts.left_since G) before pages.disk (Left old)
+      → LeavesOnly (Ghosts.moment G) (Ghosts.left_since G) pages.disk new (BearsOf pages) → LeavesOnly (Ghosts.moment G) (Ghosts.left_since G) pages.disk new (Closes pages)
+      → LeavesOnly (Ghosts.moment G) (Ghosts.left_since G) before new (IsOldOrSame old)
+  closed_run old before new is first bearing closing =
+      and_then (Ghosts.moment G) (Ghosts.left_since G) before pages.disk new (IsOldOrSame old) (λ x. BearsOf pages x × Closes pages x)
+      (weaken (Ghosts.moment G) (Ghosts.left_since G) before pages.disk (Left old) (IsOldOrSame old) first (λ x l. inl l))
+      (both_runs (Ghosts.moment G) (Ghosts.left_since G) pages.disk new (BearsOf pages) (Closes pages) bearing closing)
+      (λ x both. inr (subst (λ (y : List ℕ). SameRoots y x) (sym is) (closed x both.0 both.1)))

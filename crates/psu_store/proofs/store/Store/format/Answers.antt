@@ -1,0 +1,20 @@
+use Rattle.std.proofs.Common.{ℕ, List, sym, subst}
+use Rattle.psu_items.specs.Map.{Item, IsSorted}
+use Rattle.psu_items.specs.Area.{IsMapOf}
+use Rattle.psu_pages.specs.Image.{IsInPool}
+use Rattle.psu_store.specs.Image.{shown_in}
+use Rattle.psu_store.proofs.Sparing.{none_shown}
+use Rattle.psu_store.proofs.store.Store.format.Goals as goal
+
+pub invariant_of-result : goal.invariant_of-result
+invariant_of-result g c =
+    let p = c.in-Ok.pages in
+    let fresh = c.in-Ok.ensures.fresh in
+    record {
+      shows = record {
+        one = fresh.standing;
+        sorted = subst IsSorted (sym c.new.ensures) tt;
+        holds = λ h. subst (λ (m : List Item). IsMapOf m (shown_in p.root (g.D.Disk.state p.disk).bytes)) (sym c.new.ensures) (none_shown p.root (g.D.Disk.state p.disk).bytes (c.in-Ok.ensures.empty h));
+      };
+      spare = λ page pool none. fresh.free page (subst (λ (n : ℕ). IsInPool n page) fresh.limit_is pool);
+    }

@@ -1,0 +1,38 @@
+-- What an opening may leave of an image, and why one is refused.
+use Rattle.std.specs.Prelude.{◌≡◌, ℕ, ◌⊎◌, List}
+use Rattle.psu_disk.specs.Disk.{DiskState, Left, SameBut}
+use Rattle.psu_items.specs.Map.{Item}
+use Rattle.psu_items.specs.declared.open_cause.OpenCause.{OpenCause}
+use Rattle.psu_items.specs.declared.open_cause.OpenCause.TheVariants.{Device, NoRoot, BadRoot, BadVersion, Memory}
+use Rattle.psu_pages.specs.declared.open_cause.OpenCause.{OpenCause as PagesCause}
+use Rattle.psu_pages.specs.declared.open_cause.OpenCause.TheVariants as unopened
+use Rattle.psu_pages.specs.declared.page_fault.PageFault.{PageFault}
+use Rattle.psu_pages.specs.declared.page_fault.PageFault.TheVariants as unread
+use Rattle.psu_pages.specs.declared.root.Root.{Root}
+use Rattle.psu_pages.specs.Image.{other, gate_at, Counts}
+use Rattle.psu_store.specs.Image.{counting, number_in, RootHolds}
+
+-- the root that counts in y counts in x, and says and holds there what it does in y; of all bytes only the other gate may differ
+pub record SameRoots (y x : List ℕ) : Type 0 where
+  pub counts : (root : Root) → Counts root y → Counts root x
+  pub numbers : (root : Root) → Counts root y → number_in root x ≡ number_in root y
+  pub holds : (root : Root) → Counts root y → (limit : ℕ) (map : List Item) → RootHolds root y limit map → RootHolds root x limit map
+  pub but : SameBut (gate_at (other (counting y))) 1 y x
+
+-- an image is one from before, or the root that counted when it was read counts in it
+abbrev pub IsOldOrSame : DiskState → List ℕ → Type 0
+IsOldOrSame old image = Left old image ⊎ SameRoots old.bytes image
+
+-- why a disk isn't opened, by why its pages aren't
+abbrev pub cause_of_pages : PagesCause → OpenCause
+cause_of_pages unopened.Device = Device
+cause_of_pages unopened.NoRoot = NoRoot
+cause_of_pages unopened.BadRoot = BadRoot
+cause_of_pages unopened.BadVersion = BadVersion
+cause_of_pages unopened.Memory = Memory
+
+-- why a disk isn't opened, by why its pages aren't read, for which none are claimed
+abbrev pub IsUnread : PageFault → OpenCause → Type 0
+IsUnread unread.NoPage cause = ⊥
+IsUnread unread.Device cause = cause ≡ Device
+IsUnread unread.Memory cause = cause ≡ Memory

@@ -1,0 +1,74 @@
+-- What the bytes of an image of version 1 stand for: the map of the items that the root shows that counts.
+use Rattle.std.specs.Prelude.{ℕ, ◌⊎◌, List, map, ⊤}
+use Rattle.psu_disk.specs.Disk.{DiskState, Left}
+use Rattle.psu_items.specs.Map.{Item, item_of, IsSorted}
+use Rattle.psu_items.specs.Area.{IsMapOf}
+use Rattle.psu_items.specs.declared.open_cause.OpenCause.{OpenCause}
+use Rattle.psu_items.specs.declared.open_cause.OpenCause.TheVariants.{Device, NoRoot, BadRoot, BadVersion, Memory}
+use Rattle.psu_pages.specs.declared.root.Root.{Root}
+use Rattle.psu_pages.specs.Image as pages
+use Rattle.psu_pages.specs.Shown as shown
+use Rattle.psu_pages.specs.Finding as finding
+
+-- an item that a root shows, as an item of a map
+abbrev pub as_item : shown.Item → Item
+as_item i = item_of i.key i.value
+
+-- the items of heads, in their order
+abbrev pub listed : List ℕ → List pages.Head → List Item
+listed image heads = map as_item (map (shown.item_in image) heads)
+
+-- the items that a root shows
+abbrev pub shown_in : Root → List ℕ → List Item
+shown_in root image = map as_item (shown.items_in root image)
+
+-- the root that counts, its number and its version
+abbrev pub counting : List ℕ → Root
+counting = pages.counting
+
+abbrev pub number_in : Root → List ℕ → ℕ
+number_in = pages.number_in
+
+abbrev pub version_in : Root → List ℕ → ℕ
+version_in = pages.version_in
+
+-- A root shows the items of a map, in any order, whatever its gate.
+pub record RootHolds (root : Root) (image : List ℕ) (limit : ℕ) (map : List Item) : Type 0 where
+  pub shows : shown.Shows root image limit
+  pub items : IsMapOf map (shown_in root image)
+  pub sorted : IsSorted map
+
+-- A root counts, and its words are good. So far no memory is asked for; its heads are read next.
+abbrev pub HasReadableRoot : List ℕ → Type 0
+HasReadableRoot = finding.HasReadableRoot
+
+-- The root that counts holds the map.
+pub record Stands (image : List ℕ) (limit : ℕ) (map : List Item) : Type 0 where
+  pub counts : pages.Counts (counting image) image
+  pub holds : RootHolds (counting image) image limit map
+
+-- whatever a power loss leaves stands for the map
+abbrev pub EachStands : DiskState → ℕ → List Item → Type 0
+EachStands disk limit map = (image : List ℕ) → Left disk image → Stands image limit map
+
+-- one of two maps stands
+abbrev pub IsEither : ℕ → List Item → List Item → List ℕ → Type 0
+IsEither limit before target image = Stands image limit before ⊎ Stands image limit target
+
+-- whatever a power loss leaves stands for one of two maps
+abbrev pub EachIsEither : DiskState → ℕ → List Item → List Item → Type 0
+EachIsEither disk limit before target = (image : List ℕ) → Left disk image → IsEither limit before target image
+
+-- there are two roots, and what they say is wrong in another way than their gates or the version
+pub record HasBadRoot (image : List ℕ) : Type 0 where
+  pub some_root : finding.HasNoRoot image → ⊥
+  pub same_version : finding.HasOtherVersion image → ⊥
+  pub none_stands : (limit : ℕ) (map : List Item) → Stands image limit map → ⊥
+
+-- The cause for which an image is refused. A failed disk call and a want of memory say nothing of the image.
+abbrev pub IsRefusal : List ℕ → OpenCause → Type 0
+IsRefusal image Device = ⊤
+IsRefusal image NoRoot = finding.HasNoRoot image
+IsRefusal image BadRoot = HasBadRoot image
+IsRefusal image BadVersion = finding.HasOtherVersion image
+IsRefusal image Memory = ⊤

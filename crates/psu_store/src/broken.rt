@@ -1,0 +1,193 @@
+//! A store whose disk failed in a commit.
+ghost use Rattle.std.specs.Prelude.{◌≡◌, ◌≢◌, ◌⊎◌, ◌↔◌, ◌≤◌, List, ℕ, IsTrue, IfOk, IfErr};
+ghost use Rattle.psu_disk.specs.Disk.{HasFailed, Left, LeavesOnly};
+ghost use Rattle.psu_items.specs.Batch.{changed};
+ghost use Rattle.psu_store.specs.Image.{EachIsEither, IsEither, counting, number_in};
+ghost use Rattle.psu_store.specs.Finding.{IsOldOrSame};
+ghost use Rattle.psu_store.specs.Recovering.{broken_cause};
+ghost use Rattle.psu_store.specs.Recovered.{recovered_disk};
+ghost use Rattle.psu_store.specs.declared.broken.BrokenCause.TheVariants.{Device, Strange, Memory};
+
+use crate::Store;
+use psu_disk::Disk;
+use psu_items::{Batch, Items, OpenCause};
+use std::alloc::Allocator;
+
+/// Why a store is broken.
+#[derive(Clone, Copy, Debug, PartialEq, Eq, Drop)]
+pub enum BrokenCause {
+    /// A call of the disk failed.
+    Device,
+    /// The disk holds neither map.
+    Strange,
+    /// Memory is refused.
+    Memory,
+}
+
+impl From<OpenCause> for BrokenCause {
+    ghost from_gives = { λ cause broken. broken ≡ broken_cause cause };
+
+    fn from(cause: OpenCause) -> Self {
+        match cause {
+            OpenCause::Device => BrokenCause::Device,
+            OpenCause::NoRoot | OpenCause::BadRoot | OpenCause::BadVersion => BrokenCause::Strange,
+            OpenCause::Memory => BrokenCause::Memory,
+        }
+    }
+}
+
+/// A store whose disk failed in a commit. Whatever a power loss leaves of the disk stands for the map before the commit, or for
+/// the map after its batch.
+#[derive(Drop)]
+pub struct Broken<D: Disk, A: Allocator + Copy> {
+    pub(crate) disk: D,
+    pub(crate) limit: u16,
+    pub(crate) before: Items<A>,
+    pub(crate) batch: Batch<A>,
+    pub(crate) cause: BrokenCause,
+    ghost either: { D.honest → (image : List ℕ) → Left (D.state disk) image → ∥ IsEither limit before (changed before batch) image ∥₁ },
+}
+
+impl<D: Disk, A: Allocator + Copy> Broken<D, A> {
+    ghost use Rattle.psu_store.specs.Outcome.{reopened_disk, IsStillBroken};
+
+    /// The map that stood before the commit.
+    pub fn before(&self) -> &Items<A>
+        ensures value { result.now ≡ self.now.before }
+        ensures stands { D.honest → EachIsEither (D.state self.now.disk) self.now.limit self.now.before (changed self.now.before self.now.batch) }
+    {
+        &self.before
+    }
+
+    /// The batch that was to change it.
+    pub fn batch(&self) -> &Batch<A>
+        ensures { result.now ≡ self.now.batch }
+    {
+        &self.batch
+    }
+
+    /// How many pages the map may take.
+    pub fn limit(&self) -> u16
+        ensures { result ≡ self.now.limit }
+    {
+        self.limit
+    }
+
+    /// Why the store is broken.
+    pub fn cause(&self) -> BrokenCause
+        ensures { result ≡ self.now.cause }
+    {
+        self.cause
+    }
+
+    /// Makes sure of what the disk holds, beginning with a sync. A map found that is neither the one before the commit nor
+    /// the one after the batch leaves it broken.
+    pub fn reopen(self, alloc: A) -> Result<Store<D, A>, Broken<D, A>>
+        ensures found { IfOk result (λ store. ((store.items ≡ self.before) ⊎ (store.items ≡ changed self.before self.batch)) × (store.limit ≡ self.limit)) }
+        ensures same { IfErr result (IsStillBroken self) }
+        ensures works { IfOk result (λ store. D.failures store.disk ≡ D.failures self.disk) }
+        ensures later { D.failures self.disk ≤ D.failures (reopened_disk result) }
+        ensures device { IfErr result (λ broken. broken.cause ≡ Device → HasFailed (D.failures self.disk) (D.failures broken.disk)) }
+        ensures strange { D.honest → IfErr result (λ broken. broken.cause ≢ Strange) }
+        ensures quiet { IfErr result (λ broken. broken.cause ≢ Device → D.failures broken.disk ≡ D.failures self.disk) }
+        ensures number { D.honest → IfOk result (λ store. store.number ≡ number_in (counting (D.state self.disk).bytes) (D.state self.disk).bytes) }
+        ensures extent { D.extent (reopened_disk result) ≡ D.extent self.disk }
+        ensures time { D.honest → D.tells
+            → LeavesOnly D.moment D.left_since self.disk (reopened_disk result) (IsEither self.limit self.before (changed self.before self.batch)) }
+
+        // Nothing but the older root's gate is written.
+        ensures images { D.honest → (image : List ℕ) → Left (D.state (reopened_disk result)) image → IsOldOrSame (D.state self.disk) image }
+        ensures moments { D.honest → D.tells → LeavesOnly D.moment D.left_since self.disk (reopened_disk result) (IsOldOrSame (D.state self.disk)) }
+    {
+        let Broken {
+            disk,
+            limit,
+            before,
+            batch,
+            cause: _,
+        } = self;
+        let Ok(target) = before.changed(alloc, &batch) else {
+            return Err(Broken {
+                disk,
+                limit,
+                before,
+                batch,
+                cause: BrokenCause::Memory,
+            });
+        };
+        match recover(alloc, disk, limit, &before, &target) {
+            Ok(store) => Ok(store),
+            Err(unfound) => Err(Broken {
+                disk: unfound.disk,
+                limit,
+                before,
+                batch,
+                cause: unfound.cause,
+            }),
+        }
+    }
+
+    /// The disk, as the failed commit left it.
+    pub fn into_disk(self) -> D
+        ensures value { result ≡ self.disk }
+        ensures stands { D.honest → EachIsEither (D.state result) self.limit self.before (changed self.before self.batch) }
+    {
+        self.disk
+    }
+}
+
+// A disk on which neither of two maps was found, and why.
+#[derive(Drop)]
+struct Unfound<D> {
+    cause: BrokenCause,
+    disk: D,
+}
+
+// Finds which of two maps stands.
+fn recover<D: Disk, A: Allocator + Copy>(
+    alloc: A,
+    disk: D,
+    limit: u16,
+    before: &Items<A>,
+    target: &Items<A>,
+) -> Result<Store<D, A>, Unfound<D>>
+    ensures found { IfOk result (λ store. (store.items ≡ before.now) ⊎ (store.items ≡ target.now)) }
+    ensures limit { IfOk result (λ store. store.limit ≡ limit) }
+    ensures works { IfOk result (λ store. D.failures store.disk ≡ D.failures disk) }
+    ensures later { D.failures disk ≤ D.failures (recovered_disk result) }
+    ensures device { IfErr result (λ e. e.cause ≡ Device → HasFailed (D.failures disk) (D.failures e.disk)) }
+    ensures quiet { IfErr result (λ e. e.cause ≢ Device → D.failures e.disk ≡ D.failures disk) }
+    ensures strange { D.honest → EachIsEither (D.state disk) limit before.now target.now → IfErr result (λ e. e.cause ≢ Strange) }
+    ensures number { D.honest → IfOk result (λ store. store.number ≡ number_in (counting (D.state disk).bytes) (D.state disk).bytes) }
+    ensures extent { D.extent (recovered_disk result) ≡ D.extent disk }
+    ensures images { D.honest → (image : List ℕ) → Left (D.state (recovered_disk result)) image → IsOldOrSame (D.state disk) image }
+    ensures moments { D.honest → D.tells → LeavesOnly D.moment D.left_since disk (recovered_disk result) (IsOldOrSame (D.state disk)) }
+{
+    match Store::open(alloc, disk) {
+        Ok(store) => {
+            if is_one_of(&store, limit, before, target) {
+                return Ok(store);
+            }
+            Err(Unfound {
+                cause: BrokenCause::Strange,
+                disk: store.into_disk(),
+            })
+        }
+        Err(refused) => Err(Unfound {
+            cause: BrokenCause::from(refused.cause),
+            disk: refused.disk,
+        }),
+    }
+}
+
+// Whether one of two maps was found.
+fn is_one_of<D: Disk, A: Allocator + Copy>(
+    store: &Store<D, A>,
+    limit: u16,
+    before: &Items<A>,
+    target: &Items<A>,
+) -> bool
+    ensures { IsTrue result ↔ ((store.now.limit ≡ limit) × ((store.now.items ≡ before.now) ⊎ (store.now.items ≡ target.now))) }
+{
+    store.limit() == limit && (store.items().is_same(before) || store.items().is_same(target))
+}

@@ -1,0 +1,90 @@
+//! One step of a store: from a map to the map after a batch.
+ghost use Rattle.std.specs.Prelude.{◌≡◌, ◌+◌, ◌≤◌, ◌^◌, ◌↔◌, List, ℕ, IsTrue, IfOk};
+ghost use Rattle.psu_disk.specs.Disk.{Left, Follows, LeavesOnly};
+ghost use Rattle.psu_pages.specs.Writing.{Reaches};
+ghost use Rattle.psu_items.specs.Area.{CanHold};
+ghost use Rattle.psu_items.specs.Batch.{changed};
+ghost use Rattle.psu_store.specs.Image.{EachStands, EachIsEither, IsEither};
+ghost use Rattle.psu_store.specs.Writing.{SameBehind};
+
+use crate::layout::lay_out;
+use crate::put::put;
+use crate::{Broken, BrokenCause, Store};
+use psu_disk::Disk;
+use psu_items::Batch;
+use std::alloc::Allocator;
+
+/// Why a commit wasn't begun.
+#[derive(Clone, Copy, Debug, PartialEq, Eq, Drop)]
+pub enum UnstartedCause {
+    /// Memory is refused.
+    Memory,
+    /// The root's number is the last that there is.
+    Worn,
+}
+
+/// What a commit gives.
+#[derive(Drop)]
+pub enum Commit<D: Disk, A: Allocator + Copy> {
+    /// The map after the batch stands.
+    Stored(Store<D, A>),
+    /// No call of the disk was made: the store and the batch as they were.
+    Unstarted(Store<D, A>, Batch<A>, UnstartedCause),
+    /// The disk failed.
+    Broken(Broken<D, A>),
+}
+
+impl<D: Disk, A: Allocator + Copy> Store<D, A> {
+    ghost use Rattle.psu_store.specs.Outcome.{disk_of, IfStored, IfUnstarted, IfBroken, IsWorn, HasStored, IsUnchanged, HasBroken};
+
+    /// Puts the map after the batch in the place of the one that stands, and writes only the items that differ. All memory and all
+    /// pages are taken before the first call of the disk.
+    pub fn commit(self, alloc: A, batch: Batch<A>) -> Commit<D, A>
+        requires { CanHold self.limit (changed self.items batch) }
+        ensures stored { IfStored result (HasStored self batch) }
+        ensures works { IfStored result (λ store. D.failures store.disk ≡ D.failures self.disk) }
+        ensures unstarted { IfUnstarted result (IsUnchanged self batch) }
+        ensures worn { 2 ^ 64 ≤ self.number + 1 → IsWorn result }
+        ensures broken { IfBroken result (HasBroken self batch) }
+        ensures extent { D.extent (disk_of result) ≡ D.extent self.disk }
+        ensures left_stored { D.honest → IfStored result (λ store. EachStands (D.state store.disk) self.limit (changed self.items batch)) }
+        ensures left_broken { D.honest → IfBroken result (λ broken. EachIsEither (D.state broken.disk) self.limit self.items (changed self.items batch)) }
+        ensures time { D.honest → D.tells
+            → LeavesOnly D.moment D.left_since self.disk (disk_of result) (IsEither self.limit self.items (changed self.items batch)) }
+
+        // Behind the roots and the pool each byte stays as it might have been left before.
+        ensures behind { D.honest → Follows (SameBehind self.limit) (Left (D.state self.disk)) (Left (D.state (disk_of result))) }
+        ensures behind_time { D.honest → D.tells → LeavesOnly D.moment D.left_since self.disk (disk_of result) (Reaches (SameBehind self.limit) (Left (D.state self.disk))) }
+    {
+        if self.is_worn() {
+            return Commit::Unstarted(self, batch, UnstartedCause::Worn);
+        }
+        let Store { mut pages, items } = self;
+        let Ok(target) = items.changed(alloc, &batch) else {
+            return Commit::Unstarted(Store { pages, items }, batch, UnstartedCause::Memory);
+        };
+        let Ok(layout) = lay_out(alloc, &mut pages, &items, &target) else {
+            return Commit::Unstarted(Store { pages, items }, batch, UnstartedCause::Memory);
+        };
+        match put(&mut pages, &target, layout) {
+            Ok(()) => Commit::Stored(Store {
+                pages,
+                items: target,
+            }),
+            Err(_) => Commit::Broken(Broken {
+                limit: pages.limit(),
+                disk: pages.into_disk(),
+                before: items,
+                batch,
+                cause: BrokenCause::Device,
+            }),
+        }
+    }
+
+    // Whether the number is the last that there is.
+    fn is_worn(&self) -> bool
+        ensures { IsTrue result ↔ (2 ^ 64 ≤ self.now.number + 1) }
+    {
+        self.number() == u64::MAX
+    }
+}

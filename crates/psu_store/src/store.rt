@@ -1,0 +1,70 @@
+//! The store at rest: a map on a disk.
+ghost use Rattle.std.specs.Prelude.{◌≡◌, ◌+◌, ◌*◌, ◌≤◌, [], List, ℕ, IfOk, IfErr};
+ghost use Rattle.psu_disk.specs.Disk.{Left, HasFailed};
+ghost use Rattle.psu_store.specs.Image.{counting, number_in, version_in, EachStands};
+
+use psu_disk::Disk;
+use psu_items::Items;
+use psu_pages::Pages;
+use std::alloc::Allocator;
+use std::marker::Model;
+
+/// A map on a disk. Whatever a power loss leaves of the disk stands for the map. Contracts see a `MapOn`.
+#[derive(Drop)]
+pub struct Store<D: Disk, A: Allocator + Copy> {
+    pub(crate) pages: Pages<D, A>,
+    pub(crate) items: Items<A>,
+}
+
+impl<D: Disk, A: Allocator + Copy> Model for Store<D, A> {
+    ghost use Rattle.psu_store.specs.Standing.{MapOn, KeepsMap, on_pages};
+
+    ghost Value = { MapOn D };
+
+    ghost view = { λ s. on_pages s.pages s.items };
+
+    ghost invariant = { λ s. KeepsMap s.pages s.items };
+}
+
+impl<D: Disk, A: Allocator + Copy> Store<D, A> {
+    /// The map.
+    pub fn items(&self) -> &Items<A>
+        ensures value { result.now ≡ self.now.items }
+        ensures stands { D.honest → EachStands (D.state self.now.disk) self.now.limit self.now.items }
+    {
+        &self.items
+    }
+
+    /// How many pages the map may take.
+    pub fn limit(&self) -> u16
+        ensures value { result ≡ self.now.limit }
+        ensures least { 4 ≤ result }
+        ensures most { result ≤ 480 }
+    {
+        self.pages.limit()
+    }
+
+    /// The number of the root that counts, which rises by 1 with each commit.
+    pub fn number(&self) -> u64
+        ensures value { result ≡ self.now.number }
+        ensures stands { D.honest → (image : List ℕ) → Left (D.state self.now.disk) image → number_in (counting image) image ≡ result }
+    {
+        self.pages.number()
+    }
+
+    /// The version of the image's format.
+    pub fn version(&self) -> u16
+        ensures value { result ≡ 1 }
+        ensures stands { D.honest → (image : List ℕ) → Left (D.state self.now.disk) image → version_in (counting image) image ≡ result }
+    {
+        self.pages.version()
+    }
+
+    /// The disk, with the map on it.
+    pub fn into_disk(self) -> D
+        ensures value { result ≡ self.disk }
+        ensures stands { D.honest → EachStands (D.state result) self.limit self.items }
+    {
+        self.pages.into_disk()
+    }
+}
