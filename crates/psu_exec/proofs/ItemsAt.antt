@@ -111,5 +111,5 @@ long_register c bytes rest number is same long =
 pub high_register : (c : Contents) (bytes rest : List ℕ) (number : ℕ) → IsContents c → bytes ≡ number ∷ rest → 10 ≤ number → false ≡ is_some (get (items_of c) (2 ∷ bytes))
 high_register c bytes rest number is same high =
     subst (λ (k : List ℕ). false ≡ is_some (get (items_of c) (2 ∷ k))) (sym same) (none_at c (2 ∷ number ∷ rest) is (ap (λ (b : Bool). b && is_nothing rest) (over number high))) where
-  over : (n : ℕ) → 10 ≤ n → nat_le n 9 ≡ false
-  over n le = grind (arith, nat_tests, le)
+      over : (n : ℕ) → 10 ≤ n → nat_le n 9 ≡ false
+      over n le = grind (arith, nat_tests, le)
