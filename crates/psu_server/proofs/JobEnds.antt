@@ -79,7 +79,7 @@ gave_free (Reopened limit map) s new over a e =
 -- ---- the job that is out is the one that runs
 
 pub expected : {D A : Type 0} {G : Ghosts D} (f : Flush) (j : AnyJob D A G) (end : Finished D A G) → job_data j ≡ job_of f → RunsTo j end → IsExpected f (finished_of end)
-expected f (job.Commit planned) (finished.Stored store) own runs = (runs.limit ∙ ap (λ (d : JobData). d.limit) own, runs.items ∙ ap (λ (d : JobData). d.target) own)
+expected f (job.Commit planned) (finished.Stored store) own runs = (runs.0.limit ∙ ap (λ (d : JobData). d.limit) own, runs.0.items ∙ ap (λ (d : JobData). d.target) own)
 expected f (job.Commit planned) (finished.Unstarted store back cause) own runs =
     (ap (λ s. s.limit) runs.store ∙ ap (λ (d : JobData). d.limit) own, ap (λ s. s.items) runs.store ∙ ap (λ (d : JobData). d.before) own, runs.batch_is ∙ ap (λ (d : JobData). d.edits) own)
 expected f (job.Commit planned) (finished.Broken broken) own runs =
