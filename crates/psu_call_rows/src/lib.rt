@@ -4,9 +4,15 @@
 #[cfg(test)]
 mod answers;
 #[cfg(test)]
+mod bad_heads;
+#[cfg(test)]
+mod bad_roots;
+#[cfg(test)]
 mod commands;
 #[cfg(test)]
 mod contents;
+#[cfg(test)]
+mod counts;
 #[cfg(test)]
 mod decoding;
 #[cfg(test)]
@@ -22,6 +28,8 @@ mod headers;
 #[cfg(test)]
 mod hislip;
 #[cfg(test)]
+mod image_bytes;
+#[cfg(test)]
 mod images;
 #[cfg(test)]
 mod locks;
@@ -34,11 +42,15 @@ mod outcomes;
 #[cfg(test)]
 mod outputs;
 #[cfg(test)]
+mod pools;
+#[cfg(test)]
 mod readings;
 #[cfg(test)]
 mod refusals;
 #[cfg(test)]
 mod sessions;
+#[cfg(test)]
+mod spelled;
 #[cfg(test)]
 mod status;
 #[cfg(test)]
