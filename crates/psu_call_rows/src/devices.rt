@@ -159,7 +159,7 @@ fn commands_while_a_job_is_out_wait_for_the_next(rt: HostRuntime) {
 #[test]
 fn a_broken_store_is_opened_again(rt: HostRuntime) {
     let alloc = rt.alloc();
-    for passes in 10..18u64 {
+    for passes in 3..12u64 {
         let mut exec = powered_on(&rt, alloc, passes);
         let session = opened(&rt, &mut exec, 1);
         says(&rt, &mut exec, session, b"*PSC 0", b"done");
@@ -169,7 +169,7 @@ fn a_broken_store_is_opened_again(rt: HostRuntime) {
         };
         let finished = job.run();
         let failed = matches!(finished, Finished::Broken(_));
-        assert_eq!(rt; failed, passes < 17, "{passes}");
+        assert_eq!(rt; failed, passes < 11, "{passes}");
         match exec.give_back(finished) {
             Ok(over) => assert_eq!(rt; over.as_slice().len(), 1),
             Err(_) => panic!(&rt; "a stranger"),
@@ -274,7 +274,7 @@ fn bad_items_do_not_power_on(rt: HostRuntime) -> Result<(), Fail> {
 #[test]
 fn a_loss_in_a_job_leaves_before_or_target(rt: HostRuntime) {
     let alloc = rt.alloc();
-    for passes in 10..18u64 {
+    for passes in 3..12u64 {
         for choice in [
             Choice::Old,
             Choice::New,
