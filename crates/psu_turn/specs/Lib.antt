@@ -1,0 +1,6 @@
+pub mod History
+pub mod Seats
+pub mod Sights
+pub mod Rule
+pub mod Steps
+pub mod Takings
