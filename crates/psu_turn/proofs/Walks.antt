@@ -1,7 +1,7 @@
 -- What a whole call tells, put together from its steps.
 use Rattle.std.proofs.Common.{◌≡◌, ℕ, List, [], ◌∷◌, sym, refl, ap, ◌∙◌, subst, Option, Some, None, length}
 use Rattle.atomic_table.specs.Table.{Step, rest}
-use Rattle.atomic_table.specs.Seated.{TableId}
+use Rattle.psu_turn.specs.Turns.{TurnId}
 use Rattle.psu_turn.specs.declared.held.Held.{Held}
 use Rattle.psu_turn.specs.declared.numbered.Numbered.{Numbered}
 use Rattle.psu_turn.specs.declared.view.View.{View}
@@ -19,7 +19,7 @@ use Rattle.psu_turn.proofs.Keeping.{some_is}
 use Rattle.psu_turn.proofs.Outs.{IsOut}
 
 module _ {S E : Type 0} where
-  pub still_of : (turn : TableId) (v w : Sight S E) → IsOf turn v → IsSame v w → IsOf turn w
+  pub still_of : (turn : TurnId) (v w : Sight S E) → IsOf turn v → IsSame v w → IsOf turn w
   still_of turn v w own same = (same.turn ∙ own.0, (own.1.0, same.opening ∙ own.1.1))
 
   idle_of : (v w : View S E) → IsIdle v → w.name ≡ v.name → w.opening ≡ v.opening → w.stage ≡ Idle → w.inherited ≡ Nothing → IsIdle w
@@ -32,7 +32,7 @@ module _ {S E : Type 0} where
   }
 
   -- what was taken over from a seat that was joined
-  pub join_tells : (z : TableId) (w : View S E) (a : View S E) (s : Sight S E) → IsIdle w → sight z w ≡ s → Tells a (taken_over w.name w) → StartsWith a.seen s.seen × (calls_by s.number a.seen ≡ s.mine)
+  pub join_tells : (z : TurnId) (w : View S E) (a : View S E) (s : Sight S E) → IsIdle w → sight z w ≡ s → Tells a (taken_over w.name w) → StartsWith a.seen s.seen × (calls_by s.number a.seen ≡ s.mine)
   join_tells z w a s idle is tells = subst (λ (y : Sight S E). StartsWith a.seen y.seen × (calls_by y.number a.seen ≡ y.mine)) is
       (subst (λ (n : Name). Tells a (taken_over n w)) idle.named tells)
 
@@ -44,6 +44,9 @@ module _ {T S E : Type 0} where
   pub child_idle : (m r : Sat T S E) → r ≡ (child m.0, []) → r.0.mine ≡ []
   child_idle m r cut = ap (λ (x : Sat T S E). x.0.mine) cut
 
+  pub joined_same : (m j : Sat T S E) (w : View S E) → j ≡ (joined m.0 w, m.1) → (j.0.opening ≡ m.0.opening) × (j.0.name ≡ m.0.name)
+  joined_same m j w e = (ap (λ (x : Sat T S E). x.0.opening) e, ap (λ (x : Sat T S E). x.0.name) e)
+
   pub filled : (m m' : Sat T S E) (x : Held T) → m' ≡ (m.0, (0, Some x) ∷ rest m.1) → m.1 ≡ (0, None) ∷ [] → m' ≡ (m.0, (0, Some x) ∷ [])
   filled m m' x e out = e ∙ ap (λ (c : List (ℕ × Option (Held T))). (m.0, (0, Some x) ∷ rest c)) out
 
@@ -54,7 +57,7 @@ module _ {T S E : Type 0} where
       pub look_ready : IsReady a
       look_ready = let t = looked idle.opening (number_of v.name) idle.opened idle.named in (idle_of v a.0 idle t.1 t.2 (t.4 ∙ idle.idle) t.3, t.0 ∙ none)
 
-      pub look_sees : (z z' : TableId) (s : Sight S E) → sight z v ≡ s → z' ≡ z → Sees allows s (sight z' a.0)
+      pub look_sees : (z z' : TurnId) (s : Sight S E) → sight z v ≡ s → z' ≡ z → Sees allows s (sight z' a.0)
       look_sees z z' s is same = let t = looked idle.opening (number_of v.name) idle.opened idle.named in let d = t.6 in let number : number_of a.0.name ≡ number_of v.name = ap number_of t.1 in
           subst (λ (y : Sight S E). Sees allows y (sight z' a.0)) is (record {
             same = record { turn = same; number = number; opening = t.2 };
@@ -95,7 +98,7 @@ module _ {T S E : Type 0} where
         refl,
       )
 
-      pub left_calls : (z z' : TableId) (e : E) → z' ≡ z → Extends allows out.opening (number_of m.0.name) m'.0 e n.0 → Calls allows (sight z m.0) e (sight z' a.0)
+      pub left_calls : (z z' : TurnId) (e : E) → z' ≡ z → Extends allows out.opening (number_of m.0.name) m'.0 e n.0 → Calls allows (sight z m.0) e (sight z' a.0)
       left_calls z z' e same extends =
           let d : Extends allows out.opening (number_of m.0.name) m.0 e n.0 = subst (λ (x : Sat T S E). Extends allows out.opening (number_of m.0.name) x.0 e n.0) before extends in
           let number : number_of n.0.name ≡ number_of m.0.name = ap number_of same_name_n in
@@ -108,7 +111,7 @@ module _ {T S E : Type 0} where
           })
 
     -- the last state
-    pub close_tells : (of : T → S) (z : TableId) (m v : Sat T S E) (h x : Held T) (t : ℕ) (s : Sight S E) → IsReady m → sight z m.0 ≡ s → v ≡ (at_stage m.0 (Called t), m.1) → Some x ≡ Some h
+    pub close_tells : (of : T → S) (z : TurnId) (m v : Sat T S E) (h x : Held T) (t : ℕ) (s : Sight S E) → IsReady m → sight z m.0 ≡ s → v ≡ (at_stage m.0 (Called t), m.1) → Some x ≡ Some h
         → ((o : S) (k : ℕ) → v.0.opening ≡ Some o → v.0.name ≡ Named k → (log : List (Numbered E)) × Leads allows o log (of h.object) × StartsWith log v.0.seen × (calls_by k log ≡ v.0.mine))
         → Closes allows s (of x.object)
     close_tells of z m v h x t s ready is e same f =

@@ -1,3 +1,4 @@
+pub mod Turns
 pub mod History
 pub mod Seats
 pub mod Sights

@@ -1,13 +1,13 @@
 -- What a seat knows, and what each call gives it.
 use Rattle.std.specs.Prelude.{◌≡◌, ◌≢◌, ℕ, List, [], ◌∷◌, ◌++◌, Option, Some}
-use Rattle.atomic_table.specs.Seated.{TableId}
+use Rattle.psu_turn.specs.Turns.{TurnId}
 use Rattle.psu_turn.specs.declared.numbered.Numbered.{Numbered}
 use Rattle.psu_turn.specs.History.{numbered, calls_by, StartsWith, Leads, IsLegal}
 
 -- The turn that the seat is of, its number there, the state of the object when the turn was made (none: the seat is away with a call),
 -- the history that it has seen, and its own calls.
 pub record Sight (S E : Type 0) : Type 0 where
-  pub turn : TableId
+  pub turn : TurnId
   pub number : ℕ
   pub opening : Option S
   pub seen : List (Numbered E)
@@ -15,11 +15,11 @@ pub record Sight (S E : Type 0) : Type 0 where
 
 module _ {S E : Type 0} where
   -- a seat of this turn, that isn't away with a call
-  abbrev pub IsOf : TableId → Sight S E → Type 0
+  abbrev pub IsOf : TurnId → Sight S E → Type 0
   IsOf turn v = (v.turn ≡ turn) × ((opening : S) × (v.opening ≡ Some opening))
 
   -- the first seat
-  pub record Begins (turn : TableId) (state : S) (v : Sight S E) : Type 0 where
+  pub record Begins (turn : TurnId) (state : S) (v : Sight S E) : Type 0 where
     pub turn_is : v.turn ≡ turn
     pub opening : v.opening ≡ Some state
     pub seen : v.seen ≡ []

@@ -1,6 +1,6 @@
 -- A seat as callers see it, from what it knows.
 use Rattle.std.specs.Prelude.{◌≡◌, ℕ, ◌+◌, ◌^◌, nat_le, ◌==◌, ◌&&◌, Bool, true, false, List, [], ◌∷◌, Option, Some, None, is_some}
-use Rattle.atomic_table.specs.Seated.{TableId}
+use Rattle.psu_turn.specs.Turns.{TurnId}
 use Rattle.atomic_table.specs.declared.shared.Seat.{Seat}
 use Rattle.psu_turn.specs.declared.held.Held.{Held}
 use Rattle.psu_turn.specs.declared.view.View.{View}
@@ -19,11 +19,11 @@ number_of (Unnamed k) = k
 number_of (Named k) = k
 
 module _ {S E : Type 0} where
-  abbrev pub sight : TableId → View S E → Sight S E
+  abbrev pub sight : TurnId → View S E → Sight S E
   sight z v = record { turn = z; number = number_of v.name; opening = v.opening; seen = v.seen; mine = v.mine }
 
   -- of what a badge has: one view, or none while the seat is away with a call
-  abbrev pub sight_of : TableId → List (View S E) → Sight S E
+  abbrev pub sight_of : TurnId → List (View S E) → Sight S E
   sight_of z [] = record { turn = z; number = 0; opening = None; seen = []; mine = [] }
   sight_of z (v ∷ vs) = sight z v
 

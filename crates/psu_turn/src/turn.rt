@@ -35,11 +35,11 @@ pub struct Turn<T: Machine, A: Allocator + Copy> {
 
 impl<T: Machine, A: Allocator + Copy> Model for Turn<T, A> {
     ghost use Rattle.std.specs.Prelude.{◌≡◌};
-    ghost use Rattle.atomic_table.specs.Seated.{TableId, table_id_coded};
+    ghost use Rattle.psu_turn.specs.Turns.{TurnId, turn_id_coded};
 
-    ghost Value = { TableId };
+    ghost Value = { TurnId };
 
-    ghost coded = { table_id_coded };
+    ghost coded = { turn_id_coded };
 
     ghost view = { λ t. t.table.shared.table_id };
 
@@ -134,9 +134,9 @@ impl<T: Machine, A: Allocator + Copy> Turn<T, A> {
         ensures own { IsOf self.now seat.new }
     {
         let mut place = seat.rise();
-        let count = self.table.shared.load::<Look>(&mut place, COUNT);
+        let calls = self.table.shared.load::<Look>(&mut place, COUNT);
         *seat = Seat::rest(place);
-        count
+        calls
     }
 
     /// A seat for another thread. It waits for nobody.

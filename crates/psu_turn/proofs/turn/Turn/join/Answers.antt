@@ -1,9 +1,9 @@
-use Rattle.std.proofs.Common.{rules, sym, subst}
+use Rattle.std.proofs.Common.{rules, sym, subst, ◌∙◌}
 use mathlib.Core.Option.{none}
 use Rattle.atomic_table.specs.Table.{step}
 use Rattle.psu_turn.specs.Seats.{Sight, Joins}
-use Rattle.psu_turn.proofs.Keeping.{joins_on, looks_on, same_opening, same_name}
-use Rattle.psu_turn.proofs.Walks.{join_looks, look_ready, look_sees, look_tells, join_tells, still_of}
+use Rattle.psu_turn.proofs.Keeping.{joins_on, looks_on}
+use Rattle.psu_turn.proofs.Walks.{joined_same, join_looks, look_ready, look_sees, look_tells, join_tells, still_of}
 use Rattle.psu_turn.proofs.turn.Turn.join.Goals as goal
 
 pub join_seat-requires : goal.join_seat-requires
@@ -11,8 +11,8 @@ join_seat-requires g c = let idle = c.rise-place.ensures.ready.0 in let theirs =
     (search rules, search rules, theirs.1, search rules, joins_on g.T.Machine.state g.T.Machine.allows _ _ _ _ _ _ _ idle.named theirs.0.named theirs.0.idle)
 
 pub load-requires : goal.load-requires
-load-requires g c = let idle = c.rise-place.ensures.ready.0 in let e = c.join_seat.ensures.2 in
-    (search rules, search rules, looks_on g.T.Machine.state g.T.Machine.allows _ _ _ _ _ idle.opening (same_opening _ _ _ e idle.opened) (same_name _ _ _ e idle.named))
+load-requires g c = let idle = c.rise-place.ensures.ready.0 in let same = joined_same c.rise-place.result.me c.join_seat.new.seat.me c.rise.result.me.0 c.join_seat.ensures.2 in
+    (search rules, search rules, looks_on g.T.Machine.state g.T.Machine.allows _ _ _ _ _ idle.opening (same.0 ∙ idle.opened) (same.1 ∙ idle.named))
 
 pub rest-requires : goal.rest-requires
 rest-requires g c = let ready = c.rise-place.ensures.ready in
