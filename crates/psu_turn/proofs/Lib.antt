@@ -1,5 +1,6 @@
 pub mod Lists
 pub mod Moves
 pub mod Keeping
+pub mod Seating
 pub mod Outs
 pub mod Walks

@@ -2,7 +2,8 @@ use Rattle.std.proofs.Common.{refl, sym, ap, ◌∙◌}
 use Rattle.psu_turn.specs.declared.stage.Stage.TheVariants.{Called}
 use Rattle.psu_turn.specs.Steps.{Sat}
 use Rattle.psu_turn.specs.Rule.{at_stage}
-use Rattle.psu_turn.proofs.Keeping.{closes_on, same_at}
+use Rattle.psu_turn.proofs.Keeping.{same_at}
+use Rattle.psu_turn.proofs.Seating.{closes_on}
 use Rattle.psu_turn.proofs.Walks.{close_tells}
 use Rattle.psu_turn.proofs.turn.Turn.close.Goals as goal
 

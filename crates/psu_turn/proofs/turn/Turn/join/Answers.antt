@@ -2,7 +2,7 @@ use Rattle.std.proofs.Common.{rules, sym, subst, ◌∙◌}
 use mathlib.Core.Option.{none}
 use Rattle.atomic_table.specs.Table.{step}
 use Rattle.psu_turn.specs.Seats.{Sight, Joins}
-use Rattle.psu_turn.proofs.Keeping.{joins_on, looks_on}
+use Rattle.psu_turn.proofs.Seating.{joins_on, looks_on}
 use Rattle.psu_turn.proofs.Walks.{joined_same, join_looks, look_ready, look_sees, look_tells, join_tells, still_of}
 use Rattle.psu_turn.proofs.turn.Turn.join.Goals as goal
 

@@ -1,7 +1,7 @@
 use Rattle.std.proofs.Common.{◌≡◌, ap, rules, sym, refl, subst, Some, [], ◌∷◌}
 use Rattle.atomic_table.specs.Table.{opening}
 use Rattle.psu_turn.specs.Rule.{OneHistory, newcomer}
-use Rattle.psu_turn.proofs.Keeping.{opens_on}
+use Rattle.psu_turn.proofs.Seating.{opens_on}
 use Rattle.psu_turn.proofs.turn.Turn.new.Goals as goal
 
 pub new-requires : goal.new-requires

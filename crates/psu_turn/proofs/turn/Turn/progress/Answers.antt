@@ -2,7 +2,7 @@ use Rattle.std.proofs.Common.{rules, ap, sym, subst, ◌∙◌, length}
 use mathlib.Core.Option.{none}
 use Rattle.atomic_table.specs.Table.{step}
 use Rattle.psu_turn.specs.Seats.{Sight, Sees}
-use Rattle.psu_turn.proofs.Keeping.{looks_on}
+use Rattle.psu_turn.proofs.Seating.{looks_on}
 use Rattle.psu_turn.proofs.Walks.{look_ready, look_sees, look_counts, still_of}
 use Rattle.psu_turn.proofs.turn.Turn.progress.Goals as goal
 

@@ -1,5 +1,5 @@
 use Rattle.std.proofs.Common.{rules}
-use Rattle.psu_turn.proofs.Keeping.{splits_on, named_on}
+use Rattle.psu_turn.proofs.Seating.{splits_on, named_on}
 use Rattle.psu_turn.proofs.Walks.{child_unnamed, child_idle}
 use Rattle.psu_turn.proofs.turn.Turn.split.Goals as goal
 
