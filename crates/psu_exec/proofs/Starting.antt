@@ -1,4 +1,4 @@
--- Why a map is no start.
+-- Why a map is no start, and where one is.
 use Rattle.std.proofs.Common.{◌≡◌, List, true, sym, ap, ◌∙◌}
 use Rattle.psu_items.specs.Map.{Item}
 use Rattle.psu_nv.specs.Contents.{Contents, IsContents, items_of}
@@ -7,9 +7,15 @@ use Rattle.psu_nv.specs.declared.decode_fault.DecodeFault.{DecodeFault}
 use Rattle.psu_nv.specs.declared.decode_fault.DecodeFault.TheVariants as decoding
 use Rattle.psu_nv.proofs.Kept.{contents_keys}
 use Rattle.psu_exec.specs.Shown.{cause_of}
-use Rattle.psu_exec.specs.declared.power_fault.PowerCause.TheVariants.{BadItems}
+use Rattle.psu_exec.specs.declared.power_fault.PowerCause.TheVariants.{BadItems, Memory}
 
 pub no_start : (items : List Item) (fault : DecodeFault) → IsFault items fault → cause_of fault ≡ BadItems → (c : Contents) → IsContents c → items_of c ≡ items → ⊥
 no_start items decoding.BadKey keys e c is same = let good = contents_keys c is in let bad = sym (ap has_keys same) ∙ good in cc
 no_start items decoding.BadValue value e c is same = value.1 (record { contents = c; are = is; items_are = same })
 no_start items decoding.Memory kept e c is same = cc
+
+-- where memory is wanted, the map is that of contents
+pub kept_start : (items own : List Item) (fault : DecodeFault) → IsFault items fault → cause_of fault ≡ Memory → items ≡ own → (c : Contents) × IsContents c × (items_of c ≡ own)
+kept_start items own decoding.BadKey keys e is = absurd cc
+kept_start items own decoding.BadValue value e is = absurd cc
+kept_start items own decoding.Memory kept e is = (kept.contents, kept.are, kept.items_are ∙ is)

@@ -4,9 +4,9 @@ use Rattle.psu_disk.specs.Disk.{HasFailed}
 use Rattle.psu_disk.specs.declared.disk.Disk.{Ghosts}
 use Rattle.psu_items.specs.Map.{Item}
 use Rattle.psu_items.specs.Batch.{Edit, changed}
-use Rattle.psu_items.specs.Image.{EachStands, EachIsEither}
+use Rattle.psu_items.specs.Image.{EachIsEither}
 use Rattle.psu_items.specs.Outcome.{HasStored, IsUnchanged, HasBroken, IsStillBroken}
-use Rattle.psu_items.specs.declared.store.Store.{Store}
+use Rattle.psu_items.specs.Standing.{IsOnDisk, MapOn}
 use Rattle.psu_items.specs.declared.commit.UnstartedCause.TheVariants as unstarted
 use Rattle.psu_exec.specs.Batch.{batch}
 use Rattle.psu_exec.specs.Calls.{JobData, JobEnd, Commit, Reopen, Taken}
@@ -87,14 +87,14 @@ taken_of (Ok job) = Taken.Job (job_data job)
 taken_of (Err e) = none_of e
 
 -- What a commit of the batch to the store may come to: Stored only where the count of failures did not rise, Broken only where it rose or stands at its last value.
-abbrev pub CommitsTo : {D A : Type 0} {G : Ghosts D} → Store D A G → List Edit → Finished D A G → Type 0
-CommitsTo old batch (finished.Stored store) = HasStored old batch store
+abbrev pub CommitsTo : {D A : Type 0} {G : Ghosts D} → MapOn D → List Edit → Finished D A G → Type 0
+CommitsTo {D} {A} {G} old batch (finished.Stored store) = HasStored old batch store × (Ghosts.failures G store.disk ≡ Ghosts.failures G old.disk)
 CommitsTo old batch (finished.Unstarted store back cause) = IsUnchanged old batch store back cause
 CommitsTo old batch (finished.Broken broken) = HasBroken old batch broken
 CommitsTo old batch (finished.Reopened store) = ⊥
 
 -- The store of the map before or of the target, and no call of the disk failed.
-pub record HasReopened {D A : Type 0} {G : Ghosts D} (old : Broken D A G) (store : Store D A G) : Type 0 where
+pub record HasReopened {D A : Type 0} {G : Ghosts D} (old : Broken D A G) (store : MapOn D) : Type 0 where
   pub items : (store.items ≡ old.before) ⊎ (store.items ≡ changed old.before old.batch)
   pub limit : store.limit ≡ old.limit
   pub failures : Ghosts.failures G store.disk ≡ Ghosts.failures G old.disk
@@ -124,9 +124,9 @@ IsLastNumber (finished.Unstarted store back cause) = cause ≡ unstarted.Worn
 IsLastNumber (finished.Broken broken) = ⊥
 IsLastNumber (finished.Reopened store) = ⊥
 
--- whatever a power loss leaves of the disk stands for the map that the store holds; of a broken one for the map before, or for the map after the batch
+-- whatever a power loss leaves of the disk stands for the map that the store holds, under its number; of a broken one for the map before, or for the map after the batch
 abbrev pub EndStands : {D A : Type 0} {G : Ghosts D} → Finished D A G → Type 0
-EndStands {D} {A} {G} (finished.Stored store) = EachStands (Ghosts.state G store.disk) store.limit store.items
-EndStands {D} {A} {G} (finished.Unstarted store batch cause) = EachStands (Ghosts.state G store.disk) store.limit store.items
+EndStands {D} {A} {G} (finished.Stored store) = IsOnDisk (Ghosts.state G) store
+EndStands {D} {A} {G} (finished.Unstarted store batch cause) = IsOnDisk (Ghosts.state G) store
 EndStands {D} {A} {G} (finished.Broken broken) = EachIsEither (Ghosts.state G broken.disk) broken.limit broken.before (changed broken.before broken.batch)
-EndStands {D} {A} {G} (finished.Reopened store) = EachStands (Ghosts.state G store.disk) store.limit store.items
+EndStands {D} {A} {G} (finished.Reopened store) = IsOnDisk (Ghosts.state G) store

@@ -6,7 +6,7 @@ use Rattle.std.specs.Ordering.{nat_cmp, is_lt}
 use Rattle.std.specs.Cmp.Lexicographic.{slice_cmp}
 use Rattle.std.proofs.lemmas.Cmp.{nat_list_cmp_total}
 use Rattle.psu_items.specs.Map.{Item, item_of, get, put, without, Before, IsSorted, Sets, Removes}
-use Rattle.psu_items.specs.Area.{IsMapOf}
+use Rattle.psu_items.specs.Capacity.{IsMapOf}
 use Rattle.psu_items.specs.Batch.{Edit, edited, changed, assigned, Assigns}
 use Rattle.psu_items.proofs.Keys.{same_key, same_true, after_not_same, before-is_lt, after-tests}
 

@@ -1,59 +1,126 @@
--- The steps of an opening, one after another.
-use Rattle.std.proofs.Common.{◌≡◌, inl, inr, ⊎_elim, ℕ, Bool, List, sym, ◌∙◌, ap, subst}
-use Rattle.psu_disk.specs.Disk.{DiskState, Left, Only, LeavesOnly}
+-- What is found at an opening, and what it leaves.
+use Rattle.std.proofs.Common.{◌≡◌, inl, inr, ⊎_elim, ℕ, List, Result, Ok, Err, IfOk, IfErr, map, refl, sym, ◌∙◌, ap, subst, arith}
+use Rattle.psu_disk.specs.Disk.{DiskState, Left, Only, SameBut, LeavesOnly}
 use Rattle.psu_disk.specs.Moments.{and_then, weaken}
 use Rattle.psu_disk.specs.Ranges.{reads_left}
-use Rattle.psu_items.specs.declared.root.Root.{Root}
-use Rattle.psu_items.specs.Map.{Item}
-use Rattle.psu_items.specs.Image.{Counts, counting, number_in, RootHolds, HasGoodWords, HasReadableRoot, Stands, EachStands, IsEither, EachIsEither}
-use Rattle.psu_items.specs.Finding.{IsPickedIn, SameRoots, IsOldOrSame}
-use Rattle.psu_items.proofs.Resting.{counting_is, stands}
-use Rattle.psu_items.proofs.Settling.{picked_counts, picked_number, same_stands}
-use Rattle.psu_items.proofs.Loading.{quiet_runs}
+use Rattle.psu_disk.specs.declared.disk.Disk.{Ghosts}
+use Rattle.psu_items.specs.Map.{Item, IsSorted}
+use Rattle.psu_items.specs.Capacity.{IsMapOf}
+use Rattle.psu_pages.specs.declared.open_cause.OpenCause.{OpenCause as PagesCause}
+use Rattle.psu_pages.specs.declared.open_cause.OpenCause.TheVariants.{Device, NoRoot, BadRoot, BadVersion, Memory}
+use Rattle.psu_pages.specs.declared.pages.Pages.{Pages}
+use Rattle.psu_pages.specs.declared.root.Root.{Root}
+use Rattle.psu_pages.specs.Image.{Head, other, gate_at, number_in, Counts}
+use Rattle.psu_pages.specs.Shown.{items_in, Shows, Bears}
+use Rattle.psu_pages.specs.Shown as shown
+use Rattle.psu_pages.specs.Finding as finding
+use Rattle.psu_pages.proofs.Bearing.{counting_is}
+use Rattle.psu_items.specs.Image.{as_item, listed, counting, RootHolds, Stands, EachStands, IsEither, EachIsEither, IsRefusal, HasReadableRoot}
+use Rattle.psu_items.specs.Finding.{SameRoots, IsOldOrSame, cause_of_pages}
+use Rattle.psu_items.proofs.Standing.{stands_at}
+use Rattle.psu_items.proofs.Taking.{BearsOf, Closes}
 
--- old is the disk before it, found when the root that counts is found, loaded when its map is read
-module _ {D : Type 0} (state : D → DiskState) (old found loaded : D) (same_found : (state found).bytes ≡ (state old).bytes) (fewer_found : (x : List ℕ) → Left (state found) x → Left (state old) x)
-    (same_loaded : (state loaded).bytes ≡ (state found).bytes) (fewer_loaded : (x : List ℕ) → Left (state loaded) x → Left (state found) x) where
-  pub only_loaded : Only (state found) → Only (state loaded)
-  only_loaded only x l = only x (fewer_loaded x l) ∙ sym same_loaded
+pub ok_map : {T E : Type 0} (r : Result T E) (P Q : T → Type 0) → ((x : T) → P x → Q x) → IfOk r P → IfOk r Q
+ok_map (Ok x) P Q f p = f x p
+ok_map (Err e) P Q f p = tt
 
-  pub picked_loaded : (root : Root) (number : ℕ) (both : Bool) → IsPickedIn (state old).bytes root number both → IsPickedIn (state loaded).bytes root number both
-  picked_loaded root number both = subst (λ (x : List ℕ). IsPickedIn x root number both) (sym (same_loaded ∙ same_found))
+pub ok_both : {T E : Type 0} (r : Result T E) (P Q : T → Type 0) → IfOk r P → IfOk r Q → IfOk r (λ x. P x × Q x)
+ok_both (Ok x) P Q p q = (p, q)
+ok_both (Err e) P Q p q = tt
 
-  pub holds_loaded : (root : Root) (limit : ℕ) (map : List Item) → RootHolds root (state found).bytes limit map → RootHolds root (state loaded).bytes limit map
-  holds_loaded root limit map = subst (λ (x : List ℕ). RootHolds root x limit map) (sym same_loaded)
+pub err_any : {T E : Type 0} (r : Result T E) (P : E → Type 0) → ((e : E) → P e) → IfErr r P
+err_any (Ok x) P f = tt
+err_any (Err e) P f = f e
 
-  pub same_old : (x : List ℕ) → SameRoots (state loaded).bytes x → IsOldOrSame (state old) x
-  same_old x same = inr (subst (λ (y : List ℕ). SameRoots y x) (same_loaded ∙ same_found) same)
+-- each moment has what it has by either account
+pub both_runs : {D : Type 0} (moment : D → ℕ) (left_since : D → ℕ → List ℕ → Type 0) (old new : D) (P Q : List ℕ → Type 0) → LeavesOnly moment left_since old new P → LeavesOnly moment left_since old new Q → LeavesOnly moment left_since old new (λ x. P x × Q x)
+both_runs moment left_since old new P Q a b = record {
+  later = a.later;
+  each = λ x since. (a.each x since, b.each x since);
+  before = λ t x le since. ⊎_elim inl (λ p. ⊎_elim inl (λ q. inr (p, q)) (b.before t x le since)) (a.before t x le since);
+}
 
-  pub run_settled : (moment : D → ℕ) (left_since : D → ℕ → List ℕ → Type 0) (new : D) → LeavesOnly moment left_since old found (Left (state old)) → LeavesOnly moment left_since found loaded (Left (state found))
-      → LeavesOnly moment left_since loaded new (SameRoots (state loaded).bytes) → LeavesOnly moment left_since old new (IsOldOrSame (state old))
-  run_settled moment left_since new first second third = and_then moment left_since old loaded new (IsOldOrSame (state old)) (SameRoots (state loaded).bytes)
-      (weaken moment left_since old loaded (Left (state old)) (IsOldOrSame (state old)) (quiet_runs state moment left_since old found loaded first fewer_found second) (λ x l. inl l)) third same_old
+-- what stands in y stands in x
+same_stands : (y x : List ℕ) (limit : ℕ) (m : List Item) → SameRoots y x → Stands y limit m → Stands x limit m
+same_stands y x limit m same st = stands_at (counting y) limit m x (same.counts (counting y) st.counts) (same.holds (counting y) st.counts limit m st.holds)
 
--- what was read stands
-pub stood : (x y : List ℕ) (root : Root) (number : ℕ) (both : Bool) (limit : ℕ) (map : List Item) → y ≡ x → IsPickedIn x root number both → RootHolds root y limit map → Stands x limit map
-stood x y root number both limit map same picked holds = stands root x limit map (picked_counts root number both x picked) (subst (λ (z : List ℕ). RootHolds root z limit map) same holds)
+pub still_stands : (disk : DiskState) (limit : ℕ) (m : List Item) → EachStands disk limit m → (x : List ℕ) → IsOldOrSame disk x → Stands x limit m
+still_stands disk limit m all x (inl left) = all x left
+still_stands disk limit m all x (inr same) = same_stands disk.bytes x limit m same (all disk.bytes (reads_left disk))
 
--- what each image stood for before an opening, each stands for after it
-pub still_stands : (old : DiskState) (limit : ℕ) (map : List Item) → EachStands old limit map → (x : List ℕ) → IsOldOrSame old x → Stands x limit map
-still_stands old limit map all x either = ⊎_elim (all x) (λ same. same_stands old.bytes x limit map same (all old.bytes (reads_left old))) either
+pub still_either : (disk : DiskState) (limit : ℕ) (before target : List Item) → EachIsEither disk limit before target → (x : List ℕ) → IsOldOrSame disk x → IsEither limit before target x
+still_either disk limit before target all x (inl left) = all x left
+still_either disk limit before target all x (inr same) = ⊎_elim (λ st. inl (same_stands disk.bytes x limit before same st)) (λ st. inr (same_stands disk.bytes x limit target same st)) (all disk.bytes (reads_left disk))
 
-pub still_either : (old : DiskState) (limit : ℕ) (before target : List Item) → EachIsEither old limit before target → (x : List ℕ) → IsOldOrSame old x → IsEither limit before target x
-still_either old limit before target all x either =
-    ⊎_elim (all x) (λ same. ⊎_elim (λ st. inl (same_stands old.bytes x limit before same st)) (λ st. inr (same_stands old.bytes x limit target same st)) (all old.bytes (reads_left old))) either
+-- why pages aren't opened is why the store isn't
+pub pages_refused : (image : List ℕ) (cause : PagesCause) → finding.IsRefusal image cause → IsRefusal image (cause_of_pages cause)
+pages_refused image Device why = tt
+pages_refused image NoRoot why = why
+pages_refused image BadRoot why = record {
+  some_root = why.some_root;
+  same_version = why.same_version;
+  none_stands = λ limit m st. why.none_stands limit (items_in (counting image) image) (record { counts = st.counts; shows = st.holds.shows; items_are = refl });
+}
+pages_refused image BadVersion why = why
+pages_refused image Memory why = tt
 
--- the number of the root that is picked is that of the root that counts
-pub picked_own : (x : List ℕ) (root : Root) (number : ℕ) (both : Bool) → IsPickedIn x root number both → number ≡ number_in (counting x) x
-picked_own x root number both picked =
-    sym (picked_number root number both x picked) ∙ ap (λ (r : Root). number_in r x) (sym (counting_is root x (picked_counts root number both x picked)))
+-- a root counts in s
+module _ (root : Root) (limit number : ℕ) (heads : List Head) (s : List ℕ) (bears : Bears root limit number heads (items_in root s) s) where
+  pub stood : (m : List Item) → IsSorted m → IsMapOf m (listed s heads) → Stands s limit m
+  stood m sorted of = stands_at root limit m s bears.counts (record { shows = bears.says.shows; items = subst (λ (hs : List Head). IsMapOf m (listed s hs)) (sym bears.says.heads_are) of; sorted = sorted })
 
--- a root that is picked and says good words can be read
-pub readable : (x y : List ℕ) (root : Root) (number : ℕ) (both : Bool) → y ≡ x → IsPickedIn x root number both → HasGoodWords root y → HasReadableRoot x
-readable x y root number both same picked words =
-    let counts = picked_counts root number both x picked in
-    let is = sym (counting_is root x counts) in
-    record {
-      counts = subst (λ (r : Root). Counts r x) is counts;
-      words = subst (λ (r : Root). HasGoodWords r x) is (subst (HasGoodWords root) same words);
-    }
+  pub numbered : number_in (counting s) s ≡ number
+  numbered = ap (λ (r : Root). number_in r s) (counting_is root s bears.counts) ∙ bears.says.number_is
+
+  pub readable : HasReadableRoot s
+  readable =
+      let is = sym (counting_is root s bears.counts) in
+      let shows = bears.says.shows in
+      record {
+        counts = subst (λ (r : Root). Counts r s) is bears.counts;
+        words = subst (λ (r : Root). finding.HasGoodWords r s) is (record {
+          marked = shows.marked;
+          version = shows.version;
+          limit_least = omega (arith, shows.limit_least, shows.limit_is);
+          limit_most = omega (arith, shows.limit_most, shows.limit_is);
+          room = omega (arith, shows.room, shows.limit_is);
+          count = shows.count;
+        });
+      }
+
+  -- and says the same in x
+  pub same_roots : (x : List ℕ) → Bears root limit number heads (items_in root s) x → SameBut (gate_at (other root)) 1 s x → SameRoots s x
+  same_roots x now but = record {
+    counts = λ r c. subst (λ (q : Root). Counts q x) (is_root r c) now.counts;
+    numbers = λ r c. subst (λ (q : Root). number_in q x ≡ number_in q s) (is_root r c) (now.says.number_is ∙ sym bears.says.number_is);
+    holds = λ r c l m holds. subst (λ (q : Root). RootHolds q x l m) (is_root r c) (kept l m (subst (λ (q : Root). RootHolds q s l m) (sym (is_root r c)) holds));
+    but = subst (λ (r : Root). SameBut (gate_at (other r)) 1 s x) (sym (counting_is root s bears.counts)) but;
+  }
+    where
+      is_root : (r : Root) → Counts r s → root ≡ r
+      is_root r c = sym (counting_is root s bears.counts) ∙ counting_is r s c
+
+      kept : (l : ℕ) (m : List Item) → RootHolds root s l m → RootHolds root x l m
+      kept l m holds = record {
+        shows = subst (Shows root x) (sym bears.says.shows.limit_is ∙ holds.shows.limit_is) now.says.shows;
+        items = subst (λ (is : List shown.Item). IsMapOf m (map as_item is)) (sym now.says.items_are) holds.items;
+        sorted = holds.sorted;
+      }
+
+-- pages were opened on a disk that read as s, and an older gate may be closed
+module _ {D A : Type 0} {G : Ghosts D} (pages : Pages D A G) (s : List ℕ) (bears : Bears pages.root pages.limit pages.number pages.heads.items (items_in pages.root s) s) (seen : (Ghosts.state G pages.disk).bytes ≡ s) (only : Only (Ghosts.state G pages.disk)) where
+  pub closed : (x : List ℕ) → BearsOf pages x → Closes pages x → SameRoots s x
+  closed x now reaches =
+      let at : reaches.0 ≡ s = only reaches.0 reaches.1 ∙ seen in
+      same_roots pages.root pages.limit pages.number pages.heads.items s bears x
+      (subst (λ (y : List ℕ). Bears pages.root pages.limit pages.number pages.heads.items (items_in pages.root y) x) seen now)
+      (subst (λ (y : List ℕ). SameBut (gate_at (other pages.root)) 1 y x) at reaches.2)
+
+  pub closed_run : (old : DiskState) (before new : D) → old.bytes ≡ s → LeavesOnly (Ghosts.moment G) (Ghosts.left_since G) before pages.disk (Left old)
+      → LeavesOnly (Ghosts.moment G) (Ghosts.left_since G) pages.disk new (BearsOf pages) → LeavesOnly (Ghosts.moment G) (Ghosts.left_since G) pages.disk new (Closes pages)
+      → LeavesOnly (Ghosts.moment G) (Ghosts.left_since G) before new (IsOldOrSame old)
+  closed_run old before new is first bearing closing =
+      and_then (Ghosts.moment G) (Ghosts.left_since G) before pages.disk new (IsOldOrSame old) (λ x. BearsOf pages x × Closes pages x)
+      (weaken (Ghosts.moment G) (Ghosts.left_since G) before pages.disk (Left old) (IsOldOrSame old) first (λ x l. inl l))
+      (both_runs (Ghosts.moment G) (Ghosts.left_since G) pages.disk new (BearsOf pages) (Closes pages) bearing closing)
+      (λ x both. inr (subst (λ (y : List ℕ). SameRoots y x) (sym is) (closed x both.0 both.1)))

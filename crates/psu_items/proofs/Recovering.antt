@@ -1,5 +1,6 @@
 -- One of two maps stands: which of them can be tested.
 use Rattle.std.proofs.Common.{◌≡◌, ◌⊎◌, inl, inr, ℕ, Bool, true, false, ◌&&◌, List, bytes_eq, Decides, ⊎_elim, refl, sym, ◌∙◌, ap, subst, arith}
+use Rattle.std.proofs.Props.{props}
 use Rattle.std.proofs.lemmas.Bool.{cases_Bool}
 use Rattle.std.proofs.lemmas.Bool.Decides.{not_from_Decides}
 use Rattle.std.proofs.lemmas.Slice.Eq.{bytes_eq-Decides, slice_eq-Decides}
@@ -9,13 +10,21 @@ use Rattle.psu_disk.specs.Disk.{DiskState, Left}
 use Rattle.psu_disk.specs.Ranges.{reads_left}
 use Rattle.psu_items.specs.declared.open_cause.OpenCause.{OpenCause}
 use Rattle.psu_items.specs.declared.open_cause.OpenCause.TheVariants as Unopened
-use Rattle.psu_items.specs.declared.broken.BrokenCause.TheVariants.{Strange}
 use Rattle.psu_items.specs.Map.{Item, item_of}
-use Rattle.psu_items.specs.Image.{counting, Stands, IsEither, EachIsEither, IsRefusal}
+use Rattle.psu_items.specs.CapacityLaws.{IsSorted-IsProp}
+use Rattle.psu_pages.specs.declared.root.Root.{Root}
+use Rattle.psu_pages.specs.Single.{Shows-IsProp}
+use Rattle.psu_pages.proofs.Choosing.{some_root}
+use Rattle.psu_items.specs.declared.broken.BrokenCause.TheVariants.{Strange}
+use Rattle.psu_items.specs.Image.{counting, RootHolds, Stands, IsEither, EachIsEither, IsRefusal}
 use Rattle.psu_items.specs.Recovering.{broken_cause}
-use Rattle.psu_items.specs.Single.{Stands-IsProp}
-use Rattle.psu_items.proofs.Settling.{some_root}
-use Rattle.psu_items.proofs.Single.{one_stands}
+use Rattle.psu_items.proofs.Standing.{one_stands}
+
+RootHolds-IsProp : (root : Root) (image : List ℕ) (limit : ℕ) (m : List Item) → IsProp (RootHolds root image limit m)
+RootHolds-IsProp root image limit m = hlevel (props, Shows-IsProp, IsSorted-IsProp)
+
+Stands-IsProp : (image : List ℕ) (limit : ℕ) (m : List Item) → IsProp (Stands image limit m)
+Stands-IsProp image limit m = hlevel (props, RootHolds-IsProp)
 
 same_item : Item → Item → Bool
 same_item i j = bytes_eq i.key j.key && bytes_eq i.value j.value
@@ -24,7 +33,7 @@ and_true : (a b : Bool) → (a && b) ≡ true → (a ≡ true) × (b ≡ true)
 and_true true b e = (refl, e)
 and_true false b e = absurd cc
 
-pub item_same : (i j : Item) → i.key ≡ j.key → i.value ≡ j.value → i ≡ j
+item_same : (i j : Item) → i.key ≡ j.key → i.value ≡ j.value → i ≡ j
 item_same i j key value = ap (λ (k : List ℕ). item_of k i.value) key ∙ ap (λ (v : List ℕ). item_of j.key v) value
 
 same_item-Decides : (i j : Item) → Decides (same_item i j) (i ≡ j)
@@ -43,23 +52,27 @@ sum_prop pa pb apart (inl a) (inr b) = absurd (apart a b)
 sum_prop pa pb apart (inr a) (inl b) = absurd (apart b a)
 sum_prop pa pb apart (inr a) (inr b) = ap inr (pb a b)
 
-pub either : (limit : ℕ) (before target : List Item) (x : List ℕ) → ∥ IsEither limit before target x ∥₁ → IsEither limit before target x
+either : (limit : ℕ) (before target : List Item) (x : List ℕ) → ∥ IsEither limit before target x ∥₁ → IsEither limit before target x
 either limit before target x h = elim (cases_Bool (pointwise same_item before target)) [
   | inl one ↦
       let same : before ≡ target = (maps_Decide before target).0 one in
       inl (∥∥₁_elim h (Stands-IsProp x limit before) (⊎_elim (λ s. s) (λ s. subst (λ (m : List Item). Stands x limit m) (sym same) s)))
   | inr two ↦
       let apart : before ≡ target → ⊥ = not_from_Decides (pointwise same_item before target) (maps_Decide before target) two in
-      ∥∥₁_elim h (sum_prop (Stands-IsProp x limit before) (Stands-IsProp x limit target) (λ p q. apart (one_stands x limit limit before target p q).1)) (λ e. e)
+      ∥∥₁_elim h (sum_prop (Stands-IsProp x limit before) (Stands-IsProp x limit target) (λ p q. apart (let one = one_stands limit limit before target x p q in one.1))) (λ e. e)
 ]
 
+-- what a broken store keeps, out of its ghost field
+pub each_either : (disk : DiskState) (limit : ℕ) (before target : List Item) → ((x : List ℕ) → Left disk x → ∥ IsEither limit before target x ∥₁) → EachIsEither disk limit before target
+each_either disk limit before target h x l = either limit before target x (h x l)
+
 -- an image that stands for a map is refused by a failed call or a want of memory alone
-unrefused : (x : List ℕ) (limit : ℕ) (map : List Item) (cause : OpenCause) → Stands x limit map → IsRefusal x cause → broken_cause cause ≡ Strange → ⊥
-unrefused x limit map Unopened.Device st refusal strange = cc
-unrefused x limit map Unopened.NoRoot st refusal strange = some_root x (counting x) (omega (arith, st.holds.room)) st.counts.open_gate refusal
-unrefused x limit map Unopened.BadRoot st refusal strange = refusal.none_stands limit map st
-unrefused x limit map Unopened.BadVersion st refusal strange = refusal.version st.holds.version
-unrefused x limit map Unopened.Memory st refusal strange = cc
+unrefused : (x : List ℕ) (limit : ℕ) (m : List Item) (cause : OpenCause) → Stands x limit m → IsRefusal x cause → broken_cause cause ≡ Strange → ⊥
+unrefused x limit m Unopened.Device st refusal strange = cc
+unrefused x limit m Unopened.NoRoot st refusal strange = some_root x (counting x) (omega (arith, st.holds.shows.room)) st.counts.open_gate refusal
+unrefused x limit m Unopened.BadRoot st refusal strange = refusal.none_stands limit m st
+unrefused x limit m Unopened.BadVersion st refusal strange = refusal.version st.holds.shows.version
+unrefused x limit m Unopened.Memory st refusal strange = cc
 
 pub not_strange : (disk : DiskState) (limit : ℕ) (before target : List Item) (cause : OpenCause) → EachIsEither disk limit before target → IsRefusal disk.bytes cause → broken_cause cause ≡ Strange → ⊥
 not_strange disk limit before target cause all refusal strange =
@@ -68,8 +81,4 @@ not_strange disk limit before target cause all refusal strange =
 -- the map found is one of the two, of which the second is made
 pub one_found : (disk : DiskState) (limit found_limit : ℕ) (before target made found : List Item) → made ≡ target → EachIsEither disk limit before target → Stands disk.bytes found_limit found → (found_limit ≡ limit) × ((found ≡ before) ⊎ (found ≡ made))
 one_found disk limit found_limit before target made found is all stood =
-    ⊎_elim (λ st. let one = one_stands disk.bytes found_limit limit found before stood st in (one.0, inl one.1)) (λ st. let one = one_stands disk.bytes found_limit limit found target stood st in (one.0, inr (one.1 ∙ sym is))) (all disk.bytes (reads_left disk))
-
--- what a broken store keeps, out of its ghost field
-pub each_either : (disk : DiskState) (limit : ℕ) (before target : List Item) → ((x : List ℕ) → Left disk x → ∥ IsEither limit before target x ∥₁) → EachIsEither disk limit before target
-each_either disk limit before target h x l = either limit before target x (h x l)
+    ⊎_elim (λ st. let one = one_stands found_limit limit found before disk.bytes stood st in (one.0, inl one.1)) (λ st. let one = one_stands found_limit limit found target disk.bytes stood st in (one.0, inr (one.1 ∙ sym is))) (all disk.bytes (reads_left disk))

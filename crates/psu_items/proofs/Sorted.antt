@@ -1,10 +1,29 @@
 -- What stands at the place of a key, and what a change there does to the map.
-use Rattle.std.proofs.Common.{◌≡◌, ℕ, zero, suc, List, [], ◌∷◌, get_or, set, Some, None, refl, sym, ◌∙◌, ap, subst, arith, ◌++◌}
+use Rattle.std.proofs.Common.{◌≡◌, ℕ, zero, suc, ◌+◌, ◌<◌, ◌⊎◌, inl, inr, length, List, [], ◌∷◌, get_or, set, Some, None, refl, sym, ◌∙◌, ap, subst, arith, ◌++◌}
 use Rattle.std.specs.List.{insert, remove, AllByRecursion}
+use Rattle.std.proofs.Math.Nat.{eq-or-lt_of_le}
+use Rattle.std.proofs.lemmas.Cmp.{nat_list_cmp_total}
+use Rattle.psu_pages.proofs.Lists.{all_at}
 use Rattle.psu_items.specs.Map.{Item, item_of, get, put, without, Before, IsSorted, Sets}
-use Rattle.psu_items.specs.Place.{IsPlace, IsAt, IsGap}
+use Rattle.psu_items.specs.Place.{key_at, IsPlace, IsAt, IsGap}
 use Rattle.psu_items.proofs.Keys.{other_key, same_true, before_not_same, after_not_same, turned, is_lt-before, is_lt-not_before}
 use Rattle.psu_items.proofs.Maps.{all_after, get_before, get-put, sorted-put, sorted-without}
+
+-- of two places the former has the smaller key
+pub key_before : (items : List Item) (i j : ℕ) → IsSorted items → i < j → j < length items → Before (key_at items i) (key_at items j)
+key_before [] i j sorted lt within = absurd (omega (arith, within))
+key_before (x ∷ items) zero zero sorted lt within = absurd (omega (arith, lt))
+key_before (x ∷ items) zero (suc j) sorted lt within = all_at (λ (y : Item). Before x.key y.key) items j (item_of [] []) (omega (arith, within)) sorted.0
+key_before (x ∷ items) (suc i) zero sorted lt within = absurd (omega (arith, lt))
+key_before (x ∷ items) (suc i) (suc j) sorted lt within = key_before items i j sorted.1 (omega (arith, lt)) (omega (arith, within))
+
+-- where a key comes after one of a map, it comes after those before it
+pub below_too : (items : List Item) (key : List ℕ) (at : ℕ) → IsSorted items → at < length items → Before (key_at items at) key → (j : ℕ) → j < at + 1 → Before (key_at items j) key
+below_too items key at sorted within here j lt = by (eq-or-lt_of_le (omega (arith, lt)))
+  where
+    by : (j ≡ at) ⊎ (j < at) → Before (key_at items j) key
+    by (inl e) = subst (λ (n : ℕ). Before (key_at items n) key) (sym e) here
+    by (inr less) = nat_list_cmp_total.trans (key_at items j) (key_at items at) key (key_before items j at sorted less within) here
 
 at-tail : (i : Item) (items : List Item) (key : List ℕ) (at : ℕ) → IsPlace (i ∷ items) key (suc at) → IsPlace items key at
 at-tail i items key at place = record {

@@ -4,14 +4,33 @@ use Rattle.psu_disk.specs.Disk.{HasFailed}
 use Rattle.psu_disk.specs.declared.disk.Disk.{Ghosts}
 use Rattle.psu_items.specs.Batch.{Edit, changed}
 use Rattle.psu_items.specs.declared.format_fault.FormatFault.{FormatFault}
+use Rattle.psu_items.specs.declared.format_fault.FormatCause.{FormatCause}
+use Rattle.psu_items.specs.declared.format_fault.FormatCause.TheVariants.{Device, Memory}
 use Rattle.psu_items.specs.declared.refused.Refused.{Refused}
-use Rattle.psu_items.specs.declared.store.Store.{Store}
+use Rattle.psu_pages.specs.declared.format_fault.FormatCause.{FormatCause as PagesCause}
+use Rattle.psu_pages.specs.declared.format_fault.FormatCause.TheVariants as unformatted
+use Rattle.psu_items.specs.Standing.{MapOn}
 use Rattle.psu_items.specs.declared.broken.Broken.{Broken}
-use Rattle.psu_items.specs.declared.broken.BrokenCause.TheVariants.{Device}
+use Rattle.psu_items.specs.declared.broken.BrokenCause.TheVariants as broken_cause
 use Rattle.psu_items.specs.declared.commit.Commit.{Commit}
 use Rattle.psu_items.specs.declared.commit.Commit.TheVariants as commit
 use Rattle.psu_items.specs.declared.commit.UnstartedCause.{UnstartedCause}
 use Rattle.psu_items.specs.declared.commit.UnstartedCause.TheVariants.{Worn}
+
+-- the disk of a formatted store, or the one handed back
+abbrev pub formatted_disk : {D : Type 0} → Result (MapOn D) (FormatFault D) → D
+formatted_disk (Ok store) = store.disk
+formatted_disk (Err e) = e.disk
+
+-- the disk of an opened store, or the one handed back
+abbrev pub opened_disk : {D : Type 0} → Result (MapOn D) (Refused D) → D
+opened_disk (Ok store) = store.disk
+opened_disk (Err e) = e.disk
+
+-- why a disk isn't formatted, by why its pages aren't
+abbrev pub cause_of_format : PagesCause → FormatCause
+cause_of_format unformatted.Device = Device
+cause_of_format unformatted.Memory = Memory
 
 -- the disk that a commit hands on
 abbrev pub disk_of : {D A : Type 0} {G : Ghosts D} → Commit D A G → D
@@ -19,12 +38,12 @@ disk_of (commit.Stored store) = store.disk
 disk_of (commit.Unstarted store batch cause) = store.disk
 disk_of (commit.Broken broken) = broken.disk
 
-abbrev pub IfStored : {D A : Type 0} {G : Ghosts D} → Commit D A G → (Store D A G → Type 0) → Type 0
+abbrev pub IfStored : {D A : Type 0} {G : Ghosts D} → Commit D A G → (MapOn D → Type 0) → Type 0
 IfStored (commit.Stored store) P = P store
 IfStored (commit.Unstarted store batch cause) P = ⊤
 IfStored (commit.Broken broken) P = ⊤
 
-abbrev pub IfUnstarted : {D A : Type 0} {G : Ghosts D} → Commit D A G → (Store D A G → List Edit → UnstartedCause → Type 0) → Type 0
+abbrev pub IfUnstarted : {D A : Type 0} {G : Ghosts D} → Commit D A G → (MapOn D → List Edit → UnstartedCause → Type 0) → Type 0
 IfUnstarted (commit.Stored store) P = ⊤
 IfUnstarted (commit.Unstarted store batch cause) P = P store batch cause
 IfUnstarted (commit.Broken broken) P = ⊤
@@ -40,25 +59,24 @@ IsWorn (commit.Stored store) = ⊥
 IsWorn (commit.Unstarted store batch cause) = cause ≡ Worn
 IsWorn (commit.Broken broken) = ⊥
 
--- the store holds the map after the batch, under the next number, and no call of the disk failed
-pub record HasStored {D A : Type 0} {G : Ghosts D} (old : Store D A G) (batch : List Edit) (new : Store D A G) : Type 0 where
+-- the store holds the map after the batch, under the next number
+pub record HasStored {D : Type 0} (old : MapOn D) (batch : List Edit) (new : MapOn D) : Type 0 where
   pub items : new.items ≡ changed old.items batch
   pub limit : new.limit ≡ old.limit
   pub number : new.number ≡ old.number + 1
-  pub failures : Ghosts.failures G new.disk ≡ Ghosts.failures G old.disk
 
 -- the store and the batch are as they were; it is worn only where its number is the last
-pub record IsUnchanged {D A : Type 0} {G : Ghosts D} (old : Store D A G) (batch : List Edit) (new : Store D A G) (back : List Edit) (cause : UnstartedCause) : Type 0 where
+pub record IsUnchanged {D : Type 0} (old : MapOn D) (batch : List Edit) (new : MapOn D) (back : List Edit) (cause : UnstartedCause) : Type 0 where
   pub store : new ≡ old
   pub batch_is : back ≡ batch
   pub worn : cause ≡ Worn → 2 ^ 64 ≤ old.number + 1
 
 -- what was to be changed is kept, and a call of the disk failed
-pub record HasBroken {D A : Type 0} {G : Ghosts D} (old : Store D A G) (batch : List Edit) (broken : Broken D A G) : Type 0 where
+pub record HasBroken {D A : Type 0} {G : Ghosts D} (old : MapOn D) (batch : List Edit) (broken : Broken D A G) : Type 0 where
   pub before : broken.before ≡ old.items
   pub batch_is : broken.batch ≡ batch
   pub limit : broken.limit ≡ old.limit
-  pub cause : broken.cause ≡ Device
+  pub cause : broken.cause ≡ broken_cause.Device
   pub failures : HasFailed (Ghosts.failures G old.disk) (Ghosts.failures G broken.disk)
 
 -- it still waits for the same
@@ -67,17 +85,7 @@ pub record IsStillBroken {D A : Type 0} {G : Ghosts D} (old new : Broken D A G) 
   pub batch : new.batch ≡ old.batch
   pub limit : new.limit ≡ old.limit
 
--- the disk of a formatted store, or the one handed back
-abbrev pub formatted_disk : {D A : Type 0} {G : Ghosts D} → Result (Store D A G) (FormatFault D) → D
-formatted_disk (Ok store) = store.disk
-formatted_disk (Err e) = e.disk
-
--- the disk of an opened store, or the one handed back
-abbrev pub opened_disk : {D A : Type 0} {G : Ghosts D} → Result (Store D A G) (Refused D) → D
-opened_disk (Ok store) = store.disk
-opened_disk (Err e) = e.disk
-
 -- the disk of a store opened again, or of the broken one
-abbrev pub reopened_disk : {D A : Type 0} {G : Ghosts D} → Result (Store D A G) (Broken D A G) → D
+abbrev pub reopened_disk : {D A : Type 0} {G : Ghosts D} → Result (MapOn D) (Broken D A G) → D
 reopened_disk (Ok store) = store.disk
 reopened_disk (Err broken) = broken.disk

@@ -1,18 +1,17 @@
 //! A store whose disk failed in a commit.
-ghost use Rattle.std.specs.Prelude.{◌≡◌, ◌≢◌, ◌⊎◌, ◌↔◌, ◌*◌, ◌+◌, ◌≤◌, List, ℕ, IsTrue, OnOk, IfOk, IfErr, IsErrOf};
+ghost use Rattle.std.specs.Prelude.{◌≡◌, ◌≢◌, ◌⊎◌, ◌↔◌, ◌≤◌, List, ℕ, IsTrue, IfOk, IfErr};
 ghost use Rattle.psu_disk.specs.Disk.{HasFailed, Left, LeavesOnly};
+ghost use Rattle.psu_items.specs.Batch.{changed};
 ghost use Rattle.psu_items.specs.Image.{EachIsEither, IsEither, counting, number_in};
 ghost use Rattle.psu_items.specs.Finding.{IsOldOrSame};
-ghost use Rattle.psu_items.specs.Batch.{changed};
-ghost use Rattle.psu_items.specs.Resting.{IsKept};
 ghost use Rattle.psu_items.specs.Recovering.{broken_cause};
+ghost use Rattle.psu_items.specs.Recovered.{recovered_disk};
+ghost use Rattle.psu_items.specs.Standing.{IsOnDisk};
 ghost use Rattle.psu_items.specs.declared.broken.BrokenCause.TheVariants.{Device, Strange, Memory};
 
-use crate::open::{Opened, read_back};
-use crate::same::same;
 use crate::{Batch, Items, OpenCause, Store};
 use psu_disk::Disk;
-use std::alloc::{AllocError, Allocator};
+use std::alloc::Allocator;
 
 /// Why a store is broken.
 #[derive(Clone, Copy, Debug, PartialEq, Eq, Drop)]
@@ -23,14 +22,6 @@ pub enum BrokenCause {
     Strange,
     /// Memory is refused.
     Memory,
-}
-
-impl From<AllocError> for BrokenCause {
-    ghost from_gives = { λ _ cause. cause ≡ Memory };
-
-    fn from(_: AllocError) -> Self {
-        BrokenCause::Memory
-    }
 }
 
 impl From<OpenCause> for BrokenCause {
@@ -54,9 +45,6 @@ pub struct Broken<D: Disk, A: Allocator + Copy> {
     pub(crate) before: Items<A>,
     pub(crate) batch: Batch<A>,
     pub(crate) cause: BrokenCause,
-    ghost limit_least: { 4 ≤ limit },
-    ghost limit_most: { limit ≤ 480 },
-    ghost room: { 512 * (2 + 2 * limit) ≤ D.extent disk },
     ghost either: { D.honest → (image : List ℕ) → Left (D.state disk) image → ∥ IsEither limit before (changed before batch) image ∥₁ },
 }
 
@@ -97,6 +85,8 @@ impl<D: Disk, A: Allocator + Copy> Broken<D, A> {
     pub fn reopen(self, alloc: A) -> Result<Store<D, A>, Broken<D, A>>
         ensures found { IfOk result (λ store. ((store.items ≡ self.before) ⊎ (store.items ≡ changed self.before self.batch)) × (store.limit ≡ self.limit)) }
         ensures same { IfErr result (IsStillBroken self) }
+        ensures stands { D.honest → IfOk result (λ store. IsOnDisk D.state store) }
+        ensures left { D.honest → IfErr result (λ broken. EachIsEither (D.state broken.disk) broken.limit broken.before (changed broken.before broken.batch)) }
         ensures works { IfOk result (λ store. D.failures store.disk ≡ D.failures self.disk) }
         ensures later { D.failures self.disk ≤ D.failures (reopened_disk result) }
         ensures device { IfErr result (λ broken. broken.cause ≡ Device → HasFailed (D.failures self.disk) (D.failures broken.disk)) }
@@ -112,33 +102,29 @@ impl<D: Disk, A: Allocator + Copy> Broken<D, A> {
         ensures moments { D.honest → D.tells → LeavesOnly D.moment D.left_since self.disk (reopened_disk result) (IsOldOrSame (D.state self.disk)) }
     {
         let Broken {
-            mut disk,
+            disk,
             limit,
             before,
             batch,
             cause: _,
         } = self;
-        match recover(alloc, &mut disk, limit, &before, &batch) {
-            Ok(
-                Opened {
-                    root,
-                    limit,
-                    number,
-                    items,
-                },
-            ) => Ok(Store {
-                disk,
-                root,
-                limit,
-                number,
-                items,
-            }),
-            Err(cause) => Err(Broken {
+        let Ok(target) = before.changed(alloc, &batch) else {
+            return Err(Broken {
                 disk,
                 limit,
                 before,
                 batch,
-                cause,
+                cause: BrokenCause::Memory,
+            });
+        };
+        match recover(alloc, disk, limit, &before, &target) {
+            Ok(store) => Ok(store),
+            Err(unfound) => Err(Broken {
+                disk: unfound.disk,
+                limit,
+                before,
+                batch,
+                cause: unfound.cause,
             }),
         }
     }
@@ -152,48 +138,59 @@ impl<D: Disk, A: Allocator + Copy> Broken<D, A> {
     }
 }
 
-// Finds which of two maps stands, the one before or the one after a batch.
+// A disk on which neither of two maps was found, and why.
+#[derive(Drop)]
+struct Unfound<D> {
+    cause: BrokenCause,
+    disk: D,
+}
+
+// Finds which of two maps stands.
 fn recover<D: Disk, A: Allocator + Copy>(
     alloc: A,
-    disk: &mut D,
+    disk: D,
     limit: u16,
     before: &Items<A>,
-    batch: &Batch<A>,
-) -> Result<Opened<A>, BrokenCause>
-    requires { 1024 ≤ D.extent disk.old }
-    ensures found { IfOk result (λ o. (o.items ≡ before.now) ⊎ (o.items ≡ changed before.now batch.now)) }
-    ensures limit { IfOk result (λ o. o.limit ≡ limit) }
-    ensures extent { D.extent disk.new ≡ D.extent disk.old }
-    ensures works { OnOk result (D.failures disk.new ≡ D.failures disk.old) }
-    ensures later { D.failures disk.old ≤ D.failures disk.new }
-    ensures device { IsErrOf result Device → HasFailed (D.failures disk.old) (D.failures disk.new) }
-    ensures quiet { IfErr result (λ cause. cause ≢ Device → D.failures disk.new ≡ D.failures disk.old) }
-    ensures number { D.honest → IfOk result (λ o. o.number ≡ number_in (counting (D.state disk.old).bytes) (D.state disk.old).bytes) }
-    ensures images { D.honest → (image : List ℕ) → Left (D.state disk.new) image → IsOldOrSame (D.state disk.old) image }
-    ensures moments { D.honest → D.tells → LeavesOnly D.moment D.left_since disk.old disk.new (IsOldOrSame (D.state disk.old)) }
-    ensures kept { D.honest → IfOk result (λ o. IsKept (D.state disk.new) o.root o.limit o.number o.items) }
-    ensures strange { D.honest → EachIsEither (D.state disk.old) limit before.now (changed before.now batch.now) → IsErrOf result Strange → ⊥ }
-    ensures left { D.honest → EachIsEither (D.state disk.old) limit before.now (changed before.now batch.now)
-        → EachIsEither (D.state disk.new) limit before.now (changed before.now batch.now) }
-    ensures time { D.honest → D.tells → EachIsEither (D.state disk.old) limit before.now (changed before.now batch.now)
-        → LeavesOnly D.moment D.left_since disk.old disk.new (IsEither limit before.now (changed before.now batch.now)) }
+    target: &Items<A>,
+) -> Result<Store<D, A>, Unfound<D>>
+    ensures found { IfOk result (λ store. (store.items ≡ before.now) ⊎ (store.items ≡ target.now)) }
+    ensures limit { IfOk result (λ store. store.limit ≡ limit) }
+    ensures stands { D.honest → IfOk result (λ store. IsOnDisk D.state store) }
+    ensures works { IfOk result (λ store. D.failures store.disk ≡ D.failures disk) }
+    ensures later { D.failures disk ≤ D.failures (recovered_disk result) }
+    ensures device { IfErr result (λ e. e.cause ≡ Device → HasFailed (D.failures disk) (D.failures e.disk)) }
+    ensures quiet { IfErr result (λ e. e.cause ≢ Device → D.failures e.disk ≡ D.failures disk) }
+    ensures strange { D.honest → EachIsEither (D.state disk) limit before.now target.now → IfErr result (λ e. e.cause ≢ Strange) }
+    ensures number { D.honest → IfOk result (λ store. store.number ≡ number_in (counting (D.state disk).bytes) (D.state disk).bytes) }
+    ensures extent { D.extent (recovered_disk result) ≡ D.extent disk }
+    ensures images { D.honest → (image : List ℕ) → Left (D.state (recovered_disk result)) image → IsOldOrSame (D.state disk) image }
+    ensures moments { D.honest → D.tells → LeavesOnly D.moment D.left_since disk (recovered_disk result) (IsOldOrSame (D.state disk)) }
 {
-    let target = before.changed(alloc, batch)?;
-    let opened = read_back(alloc, disk)?;
-    if !is_one_of(&opened, limit, before, &target) {
-        return Err(BrokenCause::Strange);
+    match Store::open(alloc, disk) {
+        Ok(store) => {
+            if is_one_of(&store, limit, before, target) {
+                return Ok(store);
+            }
+            Err(Unfound {
+                cause: BrokenCause::Strange,
+                disk: store.into_disk(),
+            })
+        }
+        Err(refused) => Err(Unfound {
+            cause: BrokenCause::from(refused.cause),
+            disk: refused.disk,
+        }),
     }
-    Ok(opened)
 }
 
 // Whether one of two maps was found.
-fn is_one_of<A: Allocator + Copy>(
-    opened: &Opened<A>,
+fn is_one_of<D: Disk, A: Allocator + Copy>(
+    store: &Store<D, A>,
     limit: u16,
     before: &Items<A>,
     target: &Items<A>,
 ) -> bool
-    ensures { IsTrue result ↔ ((opened.now.limit ≡ limit) × ((opened.now.items ≡ before.now) ⊎ (opened.now.items ≡ target.now))) }
+    ensures { IsTrue result ↔ ((store.now.limit ≡ limit) × ((store.now.items ≡ before.now) ⊎ (store.now.items ≡ target.now))) }
 {
-    opened.limit == limit && (same(&opened.items, before) || same(&opened.items, target))
+    store.limit() == limit && (store.items().is_same(before) || store.items().is_same(target))
 }

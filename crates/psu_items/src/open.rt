@@ -1,74 +1,155 @@
-//! What an opening does to a disk, and what it finds.
-ghost use Rattle.std.specs.Prelude.{◌≡◌, ◌≢◌, ◌+◌, ◌*◌, ◌≤◌, List, ℕ, OnOk, IfOk, IfErr, IsErrOf};
-ghost use Rattle.psu_disk.specs.Disk.{Left, Only, LeavesOnly, HasCause, HasFailed};
-ghost use Rattle.psu_items.specs.Map.{Item};
-ghost use Rattle.psu_items.specs.Image.{RootHolds, Stands, IsRefusal, HasReadableRoot, counting, number_in};
-ghost use Rattle.psu_items.specs.Resting.{IsKept};
-ghost use Rattle.psu_items.specs.Finding.{IsPickedIn, SameRoots, IsOldOrSame};
+//! What a disk stands for, after a power loss or without one.
+ghost use Rattle.std.specs.Prelude.{◌≡◌, ◌≢◌, ◌⊎◌, ◌≤◌, [], List, ℕ, OnOk, IfOk, IfErr, IsErrOf};
+ghost use Rattle.psu_disk.specs.Disk.{Left, Only, SameBut, Follows, LeavesOnly, HasFailed};
+ghost use Rattle.psu_items.specs.Map.{Item, IsSorted};
+ghost use Rattle.psu_items.specs.Capacity.{IsMapOf};
+ghost use Rattle.psu_pages.specs.Image.{other, gate_at};
+ghost use Rattle.psu_pages.specs.Shown.{items_in, Bears};
+ghost use Rattle.psu_pages.specs.Writing.{Reaches};
+ghost use Rattle.psu_pages.specs.Outcome.{HasClosed};
+ghost use Rattle.psu_items.specs.Image.{listed, counting, number_in, EachStands, Stands, IsRefusal, HasReadableRoot};
+ghost use Rattle.psu_items.specs.Finding.{IsOldOrSame, cause_of_pages, IsUnread};
+ghost use Rattle.psu_items.specs.Outcome.{opened_disk};
+ghost use Rattle.psu_items.specs.Standing.{IsOnDisk, IsSpare};
+ghost use Rattle.psu_items.specs.declared.open_cause.OpenCause.TheVariants.{Device, Memory};
+ghost use Rattle.psu_pages.specs.declared.page_fault.PageFault.TheVariants as PageFault;
+ghost use Rattle.psu_pages.specs.declared.standing.Standing.TheVariants.{One, Unsure};
 
-use crate::find::{Picked, find};
-use crate::gates::{CLOSED, set_gate};
-use crate::load::{Held, load};
-use crate::{Items, OpenCause, Root};
-use psu_disk::{Disk, DiskFault};
+use crate::read::read_items;
+use crate::{Items, OpenCause, Refused, Store};
+use psu_disk::Disk;
+use psu_pages::{OpenCause as PagesCause, PageFault, Pages};
 use std::alloc::Allocator;
 
-/// What an opening found.
-#[derive(Drop)]
-pub struct Opened<A: Allocator + Copy> {
-    pub root: Root,
-    pub limit: u16,
-    pub number: u64,
-    pub items: Items<A>,
-}
+impl<D: Disk, A: Allocator + Copy> Store<D, A> {
+    /// The map that a disk stands for, after a power loss or without one. It begins with a sync, and closes an older gate that
+    /// stands open.
+    pub fn open(alloc: A, disk: D) -> Result<Store<D, A>, Refused<D>>
+        ensures stood { D.honest → IfOk result (λ store. Stands (D.state disk).bytes store.limit store.items) }
+        ensures stands { D.honest → IfOk result (λ store. IsOnDisk D.state store) }
+        ensures number { D.honest → IfOk result (λ store. store.number ≡ number_in (counting (D.state disk).bytes) (D.state disk).bytes) }
+        ensures refused { D.honest → IfErr result (λ e. IsRefusal (D.state disk).bytes e.cause) }
+        ensures untouched { D.honest → IfErr result (λ e. e.cause ≢ Device → (D.state e.disk).bytes ≡ (D.state disk).bytes) }
+        ensures extent { D.extent (opened_disk result) ≡ D.extent disk }
+        ensures works { IfOk result (λ store. D.failures store.disk ≡ D.failures disk) }
+        ensures later { D.failures disk ≤ D.failures (opened_disk result) }
+        ensures device { IfErr result (λ e. e.cause ≡ Device → HasFailed (D.failures disk) (D.failures e.disk)) }
+        ensures quiet { IfErr result (λ e. e.cause ≢ Device → D.failures e.disk ≡ D.failures disk) }
+        ensures memory { D.honest → IfErr result (λ e. e.cause ≡ Memory → HasReadableRoot (D.state disk).bytes) }
 
-/// Finds the map that a disk stands for, and leaves its root as the only open one.
-pub fn read_back<D: Disk, A: Allocator + Copy>(
-    alloc: A,
-    disk: &mut D,
-) -> Result<Opened<A>, OpenCause>
-    requires { 1024 ≤ D.extent disk.old }
-    ensures extent { D.extent disk.new ≡ D.extent disk.old }
-    ensures works { OnOk result (D.failures disk.new ≡ D.failures disk.old) }
-    ensures later { D.failures disk.old ≤ D.failures disk.new }
-    ensures device { IsErrOf result OpenCause.Device → HasFailed (D.failures disk.old) (D.failures disk.new) }
-    ensures quiet { IfErr result (λ cause. cause ≢ OpenCause.Device → D.failures disk.new ≡ D.failures disk.old) }
-    ensures memory { D.honest → IfErr result (λ cause. cause ≡ OpenCause.Memory → HasReadableRoot (D.state disk.old).bytes) }
-    ensures limit { IfOk result (λ o. (4 ≤ o.limit) × (o.limit ≤ 480) × (512 * (2 + 2 * o.limit) ≤ D.extent disk.old)) }
-    ensures stood { D.honest → IfOk result (λ o. Stands (D.state disk.old).bytes o.limit o.items) }
-    ensures number { D.honest → IfOk result (λ o. o.number ≡ number_in (counting (D.state disk.old).bytes) (D.state disk.old).bytes) }
-    ensures refused { D.honest → IfErr result (IsRefusal (D.state disk.old).bytes) }
-    ensures untouched { D.honest → IfErr result (λ cause. cause ≢ OpenCause.Device → (D.state disk.new).bytes ≡ (D.state disk.old).bytes) }
-    ensures kept { D.honest → IfOk result (λ o. IsKept (D.state disk.new) o.root o.limit o.number o.items) }
-    ensures left { D.honest → (x : List ℕ) → Left (D.state disk.new) x → IsOldOrSame (D.state disk.old) x }
-    ensures time { D.honest → D.tells → LeavesOnly D.moment D.left_since disk.old disk.new (IsOldOrSame (D.state disk.old)) }
-{
-    let picked = find(disk)?;
-    let Held { limit, items } = load(alloc, disk, picked.root)?;
-    settle(disk, &picked)?;
-    Ok(Opened {
-        root: picked.root,
-        limit,
-        number: picked.number,
-        items,
-    })
-}
+        // Nothing but the older root's gate is written: each image is one from before, or has the root that counted as it was
+        // read and every other byte too, also of a disk refused.
+        ensures images { D.honest → (image : List ℕ) → Left (D.state (opened_disk result)) image → IsOldOrSame (D.state disk) image }
+        ensures moments { D.honest → D.tells → LeavesOnly D.moment D.left_since disk (opened_disk result) (IsOldOrSame (D.state disk)) }
 
-// Closes the gate of the root that doesn't count, where it is open. A gate that is closed is left alone: while its byte is
-// written a power loss might leave it open, over a root with a higher number.
-fn settle<D: Disk>(disk: &mut D, picked: &Picked) -> Result<(), DiskFault>
-    requires { 1024 ≤ D.extent disk.old }
-    ensures extent { D.extent disk.new ≡ D.extent disk.old }
-    ensures cause { HasCause (D.failures disk.old) (D.failures disk.new) result }
-    ensures kept { D.honest → Only (D.state disk.old) → IsPickedIn (D.state disk.old).bytes picked.now.root picked.now.number picked.now.both
-        → (limit : ℕ) (map : List Item) → RootHolds picked.now.root (D.state disk.old).bytes limit map → OnOk result (IsKept (D.state disk.new) picked.now.root limit picked.now.number map) }
-    ensures left { D.honest → Only (D.state disk.old) → IsPickedIn (D.state disk.old).bytes picked.now.root picked.now.number picked.now.both
-        → (x : List ℕ) → Left (D.state disk.new) x → SameRoots (D.state disk.old).bytes x }
-    ensures time { D.honest → D.tells → Only (D.state disk.old) → IsPickedIn (D.state disk.old).bytes picked.now.root picked.now.number picked.now.both
-        → LeavesOnly D.moment D.left_since disk.old disk.new (SameRoots (D.state disk.old).bytes) }
-{
-    if picked.both {
-        set_gate(disk, picked.root.other(), CLOSED)?;
+        // Where each image stands for one map, it is found, and each image at any moment stands for it, also of a disk refused.
+        ensures finds { D.honest → (limit : ℕ) (map : List Item) → EachStands (D.state disk) limit map
+            → IfOk result (λ store. (store.limit ≡ limit) × (store.items ≡ map)) }
+        ensures left { D.honest → (limit : ℕ) (map : List Item) → EachStands (D.state disk) limit map
+            → EachStands (D.state (opened_disk result)) limit map }
+        ensures time { D.honest → D.tells → (limit : ℕ) (map : List Item) → EachStands (D.state disk) limit map
+            → LeavesOnly D.moment D.left_since disk (opened_disk result) (λ image. Stands image limit map) }
+    {
+        match Pages::open(alloc, disk) {
+            Ok(pages) => take_up(alloc, pages),
+            Err(refused) => Err(Refused {
+                cause: cause_of(refused.cause),
+                disk: refused.disk,
+            }),
+        }
     }
-    Ok(())
+}
+
+// Reads the map that pages show, and leaves their root as the only open one.
+fn take_up<D: Disk, A: Allocator + Copy>(
+    alloc: A,
+    mut pages: Pages<D, A>,
+) -> Result<Store<D, A>, Refused<D>>
+    requires sure { pages.standing ≢ Unsure }
+    requires none_older { pages.older.items ≡ [] }
+    requires spare { IsSpare pages pages.heads.items }
+    ensures words { IfOk result (λ store. (store.limit ≡ pages.limit) × (store.number ≡ pages.number)) }
+    ensures sorted { IfOk result (λ store. IsSorted store.items) }
+    ensures stands { D.honest → IfOk result (λ store. IsOnDisk D.state store) }
+    ensures found { D.honest → IfOk result (λ store. IsMapOf store.items (listed (D.state pages.disk).bytes pages.heads.items)) }
+    ensures causes { IfErr result (λ e. (e.cause ≡ Device) ⊎ (e.cause ≡ Memory)) }
+    ensures untouched { D.honest → IfErr result (λ e. e.cause ≢ Device → (D.state e.disk).bytes ≡ (D.state pages.disk).bytes) }
+    ensures extent { D.extent (opened_disk result) ≡ D.extent pages.disk }
+    ensures works { IfOk result (λ store. D.failures store.disk ≡ D.failures pages.disk) }
+    ensures later { D.failures pages.disk ≤ D.failures (opened_disk result) }
+    ensures device { IfErr result (λ e. e.cause ≡ Device → HasFailed (D.failures pages.disk) (D.failures e.disk)) }
+    ensures quiet { IfErr result (λ e. e.cause ≢ Device → D.failures e.disk ≡ D.failures pages.disk) }
+    ensures left { D.honest → (image : List ℕ) → Left (D.state (opened_disk result)) image
+        → Bears pages.root pages.limit pages.number pages.heads.items (items_in pages.root (D.state pages.disk).bytes) image }
+    ensures time { D.honest → D.tells → LeavesOnly D.moment D.left_since pages.disk (opened_disk result)
+        (Bears pages.root pages.limit pages.number pages.heads.items (items_in pages.root (D.state pages.disk).bytes)) }
+    ensures touched { D.honest → Follows (SameBut (gate_at (other pages.root)) 1) (Left (D.state pages.disk)) (Left (D.state (opened_disk result))) }
+    ensures touched_time { D.honest → D.tells → LeavesOnly D.moment D.left_since pages.disk (opened_disk result) (Reaches (SameBut (gate_at (other pages.root)) 1) (Left (D.state pages.disk))) }
+{
+    match read_back(alloc, &mut pages) {
+        Ok(items) => Ok(Store { pages, items }),
+        Err(fault) => Err(Refused {
+            cause: unread(fault),
+            disk: pages.into_disk(),
+        }),
+    }
+}
+
+// Reads the map, and closes the older gate where it stands open.
+fn read_back<D: Disk, A: Allocator + Copy>(
+    alloc: A,
+    pages: &mut Pages<D, A>,
+) -> Result<Items<A>, PageFault>
+    requires sure { pages.old.standing ≢ Unsure }
+    requires none_older { pages.old.older.items ≡ [] }
+    requires spare { IsSpare pages.old pages.old.heads.items }
+    ensures spare { OnOk result (IsSpare pages.new pages.new.heads.items) }
+    ensures one { OnOk result (pages.new.standing ≡ One) }
+    ensures root { OnOk result (pages.new.root ≡ pages.old.root) }
+    ensures words { OnOk result ((pages.new.limit ≡ pages.old.limit) × (pages.new.number ≡ pages.old.number)) }
+    ensures sorted { IfOk result IsSorted }
+    ensures found { D.honest → IfOk result (λ items. IsMapOf items (listed (D.state pages.old.disk).bytes pages.old.heads.items)) }
+    ensures shown { D.honest → OnOk result (items_in pages.new.root (D.state pages.new.disk).bytes ≡ items_in pages.old.root (D.state pages.old.disk).bytes) }
+    ensures untouched { D.honest → IfErr result (λ cause. cause ≢ PageFault.Device → (D.state pages.new.disk).bytes ≡ (D.state pages.old.disk).bytes) }
+    ensures extent { D.extent pages.new.disk ≡ D.extent pages.old.disk }
+    ensures works { OnOk result (D.failures pages.new.disk ≡ D.failures pages.old.disk) }
+    ensures later { D.failures pages.old.disk ≤ D.failures pages.new.disk }
+    ensures device { IsErrOf result PageFault.Device → HasFailed (D.failures pages.old.disk) (D.failures pages.new.disk) }
+    ensures quiet { IfErr result (λ cause. cause ≢ PageFault.Device → D.failures pages.new.disk ≡ D.failures pages.old.disk) }
+    ensures pages { IfErr result (λ cause. cause ≢ PageFault.NoPage) }
+    ensures left { D.honest → (image : List ℕ) → Left (D.state pages.new.disk) image
+        → Bears pages.old.root pages.old.limit pages.old.number pages.old.heads.items (items_in pages.old.root (D.state pages.old.disk).bytes) image }
+    ensures time { D.honest → D.tells → LeavesOnly D.moment D.left_since pages.old.disk pages.new.disk
+        (Bears pages.old.root pages.old.limit pages.old.number pages.old.heads.items (items_in pages.old.root (D.state pages.old.disk).bytes)) }
+    ensures touched { D.honest → Follows (SameBut (gate_at (other pages.old.root)) 1) (Left (D.state pages.old.disk)) (Left (D.state pages.new.disk)) }
+    ensures touched_time { D.honest → D.tells → LeavesOnly D.moment D.left_since pages.old.disk pages.new.disk (Reaches (SameBut (gate_at (other pages.old.root)) 1) (Left (D.state pages.old.disk))) }
+{
+    let items = read_items(alloc, pages)?;
+    pages.close_old()?;
+    Ok(items)
+}
+
+// Why pages aren't opened, in the words of a store.
+fn cause_of(cause: PagesCause) -> OpenCause
+    ensures { result ≡ cause_of_pages cause }
+{
+    match cause {
+        PagesCause::Device => OpenCause::Device,
+        PagesCause::NoRoot => OpenCause::NoRoot,
+        PagesCause::BadRoot => OpenCause::BadRoot,
+        PagesCause::BadVersion => OpenCause::BadVersion,
+        PagesCause::Memory => OpenCause::Memory,
+    }
+}
+
+// Why pages aren't read. To read claims none.
+fn unread(fault: PageFault) -> OpenCause
+    requires { fault ≢ PageFault.NoPage }
+    ensures { IsUnread fault result }
+{
+    match fault {
+        PageFault::Device => OpenCause::Device,
+        PageFault::Memory => OpenCause::Memory,
+        PageFault::NoPage => unreachable!(),
+    }
 }

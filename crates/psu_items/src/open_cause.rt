@@ -1,9 +1,4 @@
 //! Why a disk isn't opened.
-ghost use Rattle.std.specs.Prelude.{◌≡◌};
-ghost use Rattle.psu_items.specs.declared.open_cause.OpenCause.TheVariants.{Device, Memory};
-
-use psu_disk::DiskFault;
-use std::alloc::AllocError;
 
 /// Why a disk isn't opened, in the order in which they are looked for.
 #[derive(Clone, Copy, Debug, PartialEq, Eq, Drop)]
@@ -18,20 +13,4 @@ pub enum OpenCause {
     BadVersion,
     /// Memory is refused.
     Memory,
-}
-
-impl From<DiskFault> for OpenCause {
-    ghost from_gives = { λ _ e. e ≡ Device };
-
-    fn from(_: DiskFault) -> Self {
-        OpenCause::Device
-    }
-}
-
-impl From<AllocError> for OpenCause {
-    ghost from_gives = { λ _ e. e ≡ Memory };
-
-    fn from(_: AllocError) -> Self {
-        OpenCause::Memory
-    }
 }

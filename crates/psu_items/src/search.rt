@@ -23,6 +23,7 @@ pub fn value_of<'p, A: Allocator + Copy>(pairs: &'p [Pair<A>], key: &[u8]) -> Op
 /// Where the key is, or where it would go.
 #[tactic(auto, using(crate::proofs::Keys::same_by_order, crate::proofs::Keys::other_by_order))]
 pub fn search<A: Allocator + Copy>(pairs: &[Pair<A>], key: &[u8]) -> Result<usize, usize>
+    requires { IsSorted pairs.now }
     ensures found { IfOk result (IsAt pairs.now key.now) }
     ensures absent { IfErr result (IsGap pairs.now key.now) }
 {
@@ -42,14 +43,19 @@ fn order<A: Allocator + Copy>(pairs: &[Pair<A>], at: usize, key: &[u8]) -> Order
     pairs[at].key().cmp(key)
 }
 
-// How many pairs have a smaller key.
+// How many pairs have a smaller key, found by halving.
 fn place<A: Allocator + Copy>(pairs: &[Pair<A>], key: &[u8]) -> usize
+    requires { IsSorted pairs.now }
     ensures { IsPlace pairs.now key.now result }
 {
-    for at in 0..pairs.len() {
-        if order(pairs, at, key) != Ordering::Less {
-            return at;
+    let mut low = 0;
+    let mut high = pairs.len();
+    while low < high {
+        let middle = low + (high - low) / 2;
+        match order(pairs, middle, key) {
+            Ordering::Less => low = middle + 1,
+            Ordering::Equal | Ordering::Greater => high = middle,
         }
     }
-    pairs.len()
+    low
 }

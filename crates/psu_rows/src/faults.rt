@@ -197,7 +197,7 @@ fn a_disk_that_fails_once_is_opened_again(rt: HostRuntime) {
 // Two calls that fail: one of the commit, and one of the reopening after it.
 #[test]
 fn a_reopening_that_fails_is_tried_again(rt: HostRuntime) {
-    for first in 10..17 {
+    for first in 3..11 {
         for second in 0..4 {
             let mut reader: &[u8] = b"*PSC 0;*OPC?\n*OPC?\n!POWER\n*PSC?\n";
             let mut output = Vec::new(rt.alloc());

@@ -16,33 +16,76 @@ fn spoiled(rt: &impl Abort, alloc: Global, writes: &[(u64, &[u8])]) -> MemDisk<G
     disk
 }
 
+// Looks at why each of these images is refused, and at the text of that.
+fn are_refused(rt: &impl Abort, alloc: Global, rows: &[(&[(u64, &[u8])], RecoverFault, &str)]) {
+    for (writes, want, text) in rows {
+        match recover(alloc, spoiled(rt, alloc, writes)) {
+            Ok(_) => panic!(rt; "a report in the place of {text}"),
+            Err(fault) => {
+                assert!(rt; fault == *want, "{fault} in the place of {text}");
+                let told = format!(in alloc; "{fault}").expect(rt, "memory");
+                assert!(rt; told.as_bytes() == text.as_bytes());
+            }
+        }
+    }
+}
+
 // The first root of a formatted image: its gate is open.
-const ROOT: [u8; 20] = [
-    0xa5, 0x50, 0x53, 0x55, 0, 0, 1, 0, 0, 0, 0, 0, 0, 0, 0, 1, 0, 0, 0, 0,
+const ROOT: [u8; 18] = [
+    0xa5, 0x50, 0x53, 0x55, 0, 1, 1, 0, 0, 0, 0, 0, 0, 0, 0, 1, 0, 0,
 ];
 
 #[test]
-fn spoiled_images_are_refused(rt: HostRuntime) {
-    // An item of seven bytes, whose key is 7.
-    let item: [u8; 7] = [1, 7, 0, 0, 0, 1, 1];
-    let rows: [(&[(u64, &[u8])], RecoverFault); 6] = [
-        (&[(0, &[0])], RecoverFault::NoRoot),
-        (&[(0, &[0xa4])], RecoverFault::NoRoot),
-        (&[(3, &[0x58])], RecoverFault::BadRoot),
-        (&[(4, &[0, 7])], RecoverFault::BadVersion),
-        // Both roots are open and have the same number.
-        (&[(512, &ROOT)], RecoverFault::BadRoot),
-        (
-            &[(1_024, &item), (16, &[0, 0, 0, 7])],
-            RecoverFault::BadItems,
-        ),
-    ];
-    for (writes, want) in rows {
-        match recover(rt.alloc(), spoiled(&rt, rt.alloc(), writes)) {
-            Ok(_) => panic!(&rt; "a report in the place of {want}"),
-            Err(fault) => assert_eq!(rt; fault, want),
-        }
-    }
+fn spoiled_roots_are_refused(rt: HostRuntime) {
+    are_refused(
+        &rt,
+        rt.alloc(),
+        &[
+            (&[(0, &[0])], RecoverFault::NoRoot, "no root"),
+            (&[(0, &[0xa4])], RecoverFault::NoRoot, "no root"),
+            (&[(3, &[0x58])], RecoverFault::BadRoot, "bad root"),
+            (&[(4, &[0, 7])], RecoverFault::BadVersion, "bad version"),
+            (&[(4, &[0, 0])], RecoverFault::BadVersion, "bad version"),
+            // Both roots are open and have the same number.
+            (&[(512, &ROOT)], RecoverFault::BadRoot, "bad root"),
+        ],
+    );
+}
+
+// A head on page 2 with the key 7 and a value of one byte on page 3. The root's count of items is at 16, and the pool ends at page 513.
+const HEAD: [u8; 10] = [1, 7, 0, 0, 0, 1, 0, 1, 0, 3];
+
+#[test]
+fn spoiled_heads_are_refused(rt: HostRuntime) {
+    are_refused(
+        &rt,
+        rt.alloc(),
+        &[
+            (
+                &[(1_024, &HEAD), (16, &[0, 1, 0, 2])],
+                RecoverFault::BadItems,
+                "bad items",
+            ),
+            (&[(16, &[0, 1, 0, 1])], RecoverFault::BadRoot, "bad root"),
+            (&[(16, &[0, 1, 2, 2])], RecoverFault::BadRoot, "bad root"),
+            (
+                &[(1_024, &HEAD), (1_032, &[2, 2]), (16, &[0, 1, 0, 2])],
+                RecoverFault::BadRoot,
+                "bad root",
+            ),
+            // A page twice: both heads, or the head's own for its value.
+            (
+                &[(1_024, &HEAD), (16, &[0, 2, 0, 2, 0, 2])],
+                RecoverFault::BadRoot,
+                "bad root",
+            ),
+            (
+                &[(1_024, &HEAD), (1_032, &[0, 2]), (16, &[0, 1, 0, 2])],
+                RecoverFault::BadRoot,
+                "bad root",
+            ),
+        ],
+    );
 }
 
 // No commit can be made of such an image: the save is refused its end, and the run ends with changes that are not flushed.

@@ -6,7 +6,7 @@ use Rattle.psu_disk.specs.Disk.{DiskState}
 use Rattle.psu_disk.specs.Ranges.{reads_left}
 use Rattle.psu_items.specs.Map.{Item}
 use Rattle.psu_items.specs.Image.{EachStands}
-use Rattle.psu_items.proofs.Single.{one_stands}
+use Rattle.psu_items.proofs.Standing.{one_stands}
 use Rattle.psu_nv.specs.Contents.{Contents, IsContents, items_of}
 use Rattle.psu_nv.proofs.Telling.{same_contents}
 use Rattle.psu_lex.specs.declared.scpi_error.ScpiError.{ScpiError}
@@ -344,7 +344,7 @@ start_quiet image new p = record {
 
 restart_alone : (r : Rest) (w new : World) → Quiet r w → PowersOn w.disk.bytes new → SameTold (record { rest = restarted r; text = [] }) [] new
 restart_alone r w new q p =
-    let same = one_stands w.disk.bytes p.on.limit r.state.flush.limit (items_of p.on.start) (items_of r.stored) p.found (q.still.disk w.disk.bytes (reads_left w.disk)) in
+    let same = one_stands p.on.limit r.state.flush.limit (items_of p.on.start) (items_of r.stored) w.disk.bytes p.found (q.still.disk w.disk.bytes (reads_left w.disk)) in
     let contents : p.on.start ≡ r.stored = same_contents p.on.start r.stored p.start.sound q.still.kept same.1 in
     record {
       text = refl;

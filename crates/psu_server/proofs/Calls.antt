@@ -5,7 +5,7 @@ use Rattle.psu_disk.specs.Ranges.{reads_left}
 use Rattle.psu_disk.specs.declared.disk.Disk.{Ghosts}
 use Rattle.psu_items.specs.Map.{Item}
 use Rattle.psu_items.specs.Image.{Stands, EachStands}
-use Rattle.psu_items.proofs.Single.{one_stands}
+use Rattle.psu_items.proofs.Standing.{one_stands}
 use Rattle.psu_nv.specs.Contents.{items_of}
 use Rattle.psu_exec.specs.Device.{Reply, Done, Answer, Error, Expand, Parked, Later, count_held, target}
 use Rattle.psu_exec.specs.Calls.{Entry, Executed, Settled, Took, GaveBack, Opened, Job, Allows}
@@ -251,7 +251,7 @@ prefix_of_reached w image r left = prefix_is_left r.first w r.events image r.sta
 same_prefix : (w : World) (disk : DiskState) (limit : ℕ) (map : List Item) → Reached w → EachStands w.disk limit map → EachStands disk limit map → LeavesPrefix w disk
 same_prefix w disk limit map r was is image left =
     let p = prefix_of_reached w w.disk.bytes r (reads_left w.disk) in
-    let one = one_stands w.disk.bytes limit w.limit map (items_of (after w p.0)) (was w.disk.bytes (reads_left w.disk)) p.2 in
+    let one = one_stands limit w.limit map (items_of (after w p.0)) w.disk.bytes (was w.disk.bytes (reads_left w.disk)) p.2 in
     (p.0, p.1, subst (λ (m : List Item). Stands image w.limit m) one.1 (subst (λ (n : ℕ). Stands image n map) one.0 (is image left)))
 
 pub leaves_prefix : (w : World) (disk : DiskState) → Reached w → IsLeftBy w disk → LeavesPrefix w disk

@@ -3,7 +3,6 @@ use Rattle.std.proofs.Common.{◌≡◌, ◌≢◌, ℕ, ◌+◌, ◌≤◌, ◌
 use Rattle.psu_disk.specs.Disk.{HasFailed}
 use Rattle.psu_disk.specs.Ranges.{reads_left}
 use Rattle.psu_disk.specs.declared.disk.Disk.{Ghosts}
-use Rattle.psu_items.proofs.Resting.{kept_number}
 use Rattle.psu_items.specs.declared.commit.UnstartedCause.TheVariants as unstarted
 use Rattle.psu_items.specs.Batch.{Edit}
 use Rattle.psu_items.specs.Map.{Item}
@@ -11,7 +10,7 @@ use Rattle.psu_items.specs.declared.broken.BrokenCause.{BrokenCause}
 use Rattle.psu_items.specs.declared.broken.BrokenCause.TheVariants as broken_cause
 use Rattle.psu_exec.specs.Calls.{JobData, JobEnd, Stored, Unstarted, Failed, Reopened, Job, Took, IsExpected, IsAccepted, Allows, job_of, kind_for, wait_less, wait_cut}
 use Rattle.psu_exec.specs.Device.{State, Flush, count_held, is_open, target, wait_of}
-use Rattle.psu_exec.specs.Jobs.{finished_of, finished_disk, home_of, home_disk, job_data, job_disk, job_home, RunsTo}
+use Rattle.psu_exec.specs.Jobs.{finished_of, finished_disk, home_of, home_disk, job_data, job_disk, job_home, EndStands, RunsTo}
 use Rattle.psu_exec.specs.World.{IsTrueOf}
 use Rattle.psu_exec.proofs.Giving.{FlushGives, flush_gives, open_after}
 use Rattle.psu_exec.specs.declared.condition.Condition.{Condition}
@@ -80,7 +79,7 @@ gave_free (Reopened limit map) s new over a e =
 -- ---- the job that is out is the one that runs
 
 pub expected : {D A : Type 0} {G : Ghosts D} (f : Flush) (j : AnyJob D A G) (end : Finished D A G) → job_data j ≡ job_of f → RunsTo j end → IsExpected f (finished_of end)
-expected f (job.Commit planned) (finished.Stored store) own runs = (runs.limit ∙ ap (λ (d : JobData). d.limit) own, runs.items ∙ ap (λ (d : JobData). d.target) own)
+expected f (job.Commit planned) (finished.Stored store) own runs = (runs.0.limit ∙ ap (λ (d : JobData). d.limit) own, runs.0.items ∙ ap (λ (d : JobData). d.target) own)
 expected f (job.Commit planned) (finished.Unstarted store back cause) own runs =
     (ap (λ s. s.limit) runs.store ∙ ap (λ (d : JobData). d.limit) own, ap (λ s. s.items) runs.store ∙ ap (λ (d : JobData). d.before) own, runs.batch_is ∙ ap (λ (d : JobData). d.edits) own)
 expected f (job.Commit planned) (finished.Broken broken) own runs =
@@ -112,7 +111,7 @@ still_counts limit before edits broken_cause.Memory a b device strange long = cc
 
 pub counts_of : {D A : Type 0} {G : Ghosts D} (j : AnyJob D A G) (end : Finished D A G) → RunsTo j end → Ghosts.honest G → is_short (finished_of end) ≡ false
     → Counts (finished_of end) (Ghosts.failures G (job_disk j)) (Ghosts.failures G (home_disk (home_of end)))
-counts_of (job.Commit planned) (finished.Stored store) runs h long = runs.failures
+counts_of (job.Commit planned) (finished.Stored store) runs h long = runs.1
 counts_of {D} {A} {G} (job.Commit planned) (finished.Unstarted store back cause) runs h long = ap (λ s. Ghosts.failures G s.disk) runs.store
 counts_of (job.Commit planned) (finished.Broken broken) runs h long = runs.failures
 counts_of (job.Commit planned) (finished.Reopened store) runs h long = absurd runs
@@ -123,24 +122,24 @@ counts_of (job.Reopen alloc old) (finished.Broken broken) runs h long =
 counts_of (job.Reopen alloc old) (finished.Reopened store) runs h long = runs.failures
 
 -- a commit that wears the store out finds the last number
-pub wears_of : {D A : Type 0} {G : Ghosts D} (j : AnyJob D A G) (end : Finished D A G) → RunsTo j end → Ghosts.honest G → is_short (finished_of end) ≡ false → Wears (finished_of end) (Ghosts.state G (home_disk (home_of end))).bytes
-wears_of (job.Commit planned) (finished.Stored store) runs h long = tt
-wears_of (job.Commit planned) (finished.Unstarted store back unstarted.Memory) runs h long = cc
-wears_of {D} {A} {G} (job.Commit planned) (finished.Unstarted store back unstarted.Worn) runs h long =
+pub wears_of : {D A : Type 0} {G : Ghosts D} (j : AnyJob D A G) (end : Finished D A G) → RunsTo j end → EndStands end → is_short (finished_of end) ≡ false → Wears (finished_of end) (Ghosts.state G (home_disk (home_of end))).bytes
+wears_of (job.Commit planned) (finished.Stored store) runs stands long = tt
+wears_of (job.Commit planned) (finished.Unstarted store back unstarted.Memory) runs stands long = cc
+wears_of {D} {A} {G} (job.Commit planned) (finished.Unstarted store back unstarted.Worn) runs stands long =
     let disk = Ghosts.state G store.disk in
-    let told = kept_number disk store.root store.limit store.number store.items (store.kept h) disk.bytes (reads_left disk) in
+    let told = stands.numbered disk.bytes (reads_left disk) in
     subst (λ (n : ℕ). 2 ^ 64 ≤ n + 1) (ap (λ s. s.number) (sym runs.store) ∙ sym told) (runs.worn refl)
-wears_of (job.Commit planned) (finished.Broken broken) runs h long = tt
-wears_of (job.Commit planned) (finished.Reopened store) runs h long = tt
-wears_of (job.Reopen alloc old) (finished.Stored store) runs h long = tt
-wears_of (job.Reopen alloc old) (finished.Unstarted store back cause) runs h long = absurd runs
-wears_of (job.Reopen alloc old) (finished.Broken broken) runs h long = tt
-wears_of (job.Reopen alloc old) (finished.Reopened store) runs h long = tt
+wears_of (job.Commit planned) (finished.Broken broken) runs stands long = tt
+wears_of (job.Commit planned) (finished.Reopened store) runs stands long = tt
+wears_of (job.Reopen alloc old) (finished.Stored store) runs stands long = tt
+wears_of (job.Reopen alloc old) (finished.Unstarted store back cause) runs stands long = absurd runs
+wears_of (job.Reopen alloc old) (finished.Broken broken) runs stands long = tt
+wears_of (job.Reopen alloc old) (finished.Reopened store) runs stands long = tt
 
 -- the count of failures is a later one, however the job ended
 pub later_of : {D A : Type 0} {G : Ghosts D} (j : AnyJob D A G) (end : Finished D A G) → RunsTo j end
     → IsLater (Ghosts.failures G (job_disk j)) (Ghosts.failures G (home_disk (home_of end)))
-later_of (job.Commit planned) (finished.Stored store) runs = let same = runs.failures in inl (omega (arith, same))
+later_of (job.Commit planned) (finished.Stored store) runs = let same = runs.1 in inl (omega (arith, same))
 later_of {D} {A} {G} (job.Commit planned) (finished.Unstarted store back cause) runs =
     let same : Ghosts.failures G store.disk ≡ Ghosts.failures G planned.store.disk = ap (λ s. Ghosts.failures G s.disk) runs.store in inl (omega (arith, same))
 later_of (job.Commit planned) (finished.Broken broken) runs = later_failed _ _ runs.failures
@@ -214,8 +213,8 @@ same_disk (finished.Reopened store) = refl
 
 pub has_run : {D A : Type 0} {G : Ghosts D} (old : Exec D A G) (j : AnyJob D A G) (new : Exec D A G) (end : Finished D A G) (over : List ℕ) (short : Bool)
     → RunsTo j end → IsAccepted old.device (finished_of end) over new.device → new.home ≡ Some (home_of end)
-    → (Ghosts.honest G → IsTrueOf (target old.device.flush) (finished_of end) (Ghosts.state G (finished_disk end))) → short ≡ is_short (finished_of end) → HasRun old j new short
-has_run {D} {A} {G} old j new end over short runs gave is true_of short_is = record {
+    → (Ghosts.honest G → IsTrueOf (target old.device.flush) (finished_of end) (Ghosts.state G (finished_disk end))) → (Ghosts.honest G → EndStands end) → short ≡ is_short (finished_of end) → HasRun old j new short
+has_run {D} {A} {G} old j new end over short runs gave is true_of stands short_is = record {
   finished = finished_of end;
   over = over;
   give = gave;
@@ -224,7 +223,7 @@ has_run {D} {A} {G} old j new end over short runs gave is true_of short_is = rec
   stands = λ h. subst (λ (there : Option (Home D A G)). IsTrueOf (target old.device.flush) (finished_of end) (disk_at there)) (sym is)
       (subst (λ (d : D). IsTrueOf (target old.device.flush) (finished_of end) (Ghosts.state G d)) (same_disk end) (true_of h));
   later = subst (λ (there : Option (Home D A G)). IsLater (Ghosts.failures G (job_disk j)) (failures_at there)) (sym is) (later_of j end runs);
-  wears = λ h long. subst (λ (there : Option (Home D A G)). Wears (finished_of end) (disk_at there).bytes) (sym is) (wears_of j end runs h long);
+  wears = λ h long. subst (λ (there : Option (Home D A G)). Wears (finished_of end) (disk_at there).bytes) (sym is) (wears_of j end runs (stands h) long);
   counts = λ h long. subst (λ (there : Option (Home D A G)). Counts (finished_of end) (Ghosts.failures G (job_disk j)) (failures_at there)) (sym is) (counts_of j end runs h long);
 }
 

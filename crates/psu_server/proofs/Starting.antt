@@ -5,13 +5,12 @@ use Rattle.psu_disk.specs.Disk.{DiskState, HasFailed}
 use Rattle.psu_disk.specs.Ranges.{reads_left}
 use Rattle.psu_disk.specs.declared.disk.Disk.{Ghosts}
 use Rattle.psu_items.specs.Map.{Item}
-use Rattle.psu_items.specs.Image.{counting, gate, length_in, HasNoRoot, HasReadableRoot, Stands, EachStands, IsRefusal}
+use Rattle.psu_items.specs.Image.{HasNoRoot, HasReadableRoot, Stands, EachStands, IsRefusal}
 use Rattle.psu_items.specs.declared.open_cause.OpenCause.{OpenCause}
 use Rattle.psu_items.specs.declared.open_cause.OpenCause.TheVariants as refused
-use Rattle.psu_items.specs.declared.root.Root.{Root}
-use Rattle.psu_items.specs.declared.root.Root.TheVariants.{First, Second}
-use Rattle.psu_items.specs.declared.store.Store.{Store}
-use Rattle.psu_items.proofs.Single.{one_stands}
+use Rattle.psu_items.specs.Standing.{MapOn}
+use Rattle.psu_items.proofs.Fitting.{stands_by_version, stands_readable, stands_rooted, stands_within}
+use Rattle.psu_items.proofs.Standing.{one_stands}
 use Rattle.psu_exec.specs.Calls.{Opened, Allows, least_free, opened}
 use Rattle.psu_exec.specs.Jobs.{home_disk}
 use Rattle.psu_exec.specs.Consistent.{IsConsistent}
@@ -62,7 +61,7 @@ is_started s new limit c is t =
       ap (λ (z : State). z.flush.contents) there,
     )
 
-pub powers_on : {D A : Type 0} {G : Ghosts D} (image : List ℕ) (store : Store D A G) (on new : Exec D A G) → Stands image store.limit store.items → EachStands (Ghosts.state G store.disk) store.limit store.items
+pub powers_on : {D A : Type 0} {G : Ghosts D} (image : List ℕ) (store : MapOn D) (on new : Exec D A G) → Stands image store.limit store.items → EachStands (Ghosts.state G store.disk) store.limit store.items
     → on.device ≡ power_on store.limit on.device.flush.contents → items_of on.device.flush.contents ≡ store.items → IsContents on.device.flush.contents → fits store.limit on.device.flush.contents ≡ true → on.home ≡ Some (home.Whole store)
     → Allows on.device (Opened (Some 1)) new.device → new.home ≡ on.home → PowersOn image (world_of (born new) new)
 powers_on {D} {A} {G} image store on new stood stands state found sound fitting there opens same =
@@ -86,7 +85,7 @@ powers_on {D} {A} {G} image store on new stood stands state found sound fitting 
       opens = called on new (born on) (Opened (Some 1)) opens same (λ d e. e);
     })
 
-pub on_explained : {D A : Type 0} {G : Ghosts D} (since before : ℕ) (store : Store D A G) (new : Exec D A G) → new.device.flush.store ≡ Whole → new.home ≡ Some (home.Whole store)
+pub on_explained : {D A : Type 0} {G : Ghosts D} (since before : ℕ) (store : MapOn D) (new : Exec D A G) → new.device.flush.store ≡ Whole → new.home ≡ Some (home.Whole store)
     → Ghosts.failures G store.disk ≡ before → IsLater since before → IsExplained since new
 on_explained {D} {A} {G} since before store new whole there same later =
     subst (λ (c : Condition). HasReasons since c new.home) (sym whole) (subst (λ (z : Option (Home D A G)). HasReasons since Whole z) (sym there) (record {
@@ -108,25 +107,11 @@ explained_later {D} {A} {G} since exec why some = by exec.home refl where
 -- ---- the end of a device
 
 -- the store at home is whole, and its number the last, where it is worn
-pub worn_number : {D A : Type 0} {G : Ghosts D} (since : ℕ) (exec : Exec D A G) (store : Store D A G) → exec.home ≡ Some (home.Whole store) → IsExplained since exec → exec.device.flush.store ≡ Worn
+pub worn_number : {D A : Type 0} {G : Ghosts D} (since : ℕ) (exec : Exec D A G) (store : MapOn D) → exec.home ≡ Some (home.Whole store) → IsExplained since exec → exec.device.flush.store ≡ Worn
     → 2 ^ 64 ≤ store.number + 1
 worn_number since exec store there why worn = why.worn (home.Whole store) there worn
 
 -- ---- why a disk doesn't power on
-
--- an image that stands for a map has a root that can be read
-pub readable : (image : List ℕ) (limit : ℕ) (map : List Item) → Stands image limit map → HasReadableRoot image
-readable image limit map stands = record {
-  counts = stands.counts;
-  words = record {
-    marked = stands.holds.marked;
-    version = stands.holds.version;
-    limit_least = subst (λ (n : ℕ). 4 ≤ n) (sym stands.holds.limit_is) stands.holds.limit_least;
-    limit_most = subst (λ (n : ℕ). n ≤ 480) (sym stands.holds.limit_is) stands.holds.limit_most;
-    room = subst (λ (n : ℕ). 512 * (2 + 2 * n) ≤ length image) (sym stands.holds.limit_is) stands.holds.room;
-    used_fits = subst (λ (n : ℕ). length_in (counting image) image ≤ 512 * n) (sym stands.holds.limit_is) stands.holds.used_fits;
-  };
-}
 
 opened_not : (cause : OpenCause) (image : List ℕ) (before now : ℕ) → IsRefusal image cause → (cause ≡ refused.Device → HasFailed before now) → (cause ≢ refused.Device → now ≡ before)
     → (cause ≡ refused.Memory → HasReadableRoot image) → NotStarted image before now (cause_of_open cause)
@@ -144,26 +129,17 @@ not_opened cause told image before now why failed quiet memory is =
 powered_not : (cause : PowerCause) (image : List ℕ) (before now limit : ℕ) (map : List Item) → Stands image limit map → now ≡ before
     → (cause ≡ power.BadItems → (c : Contents) → IsContents c → fits limit c ≡ true → items_of c ≡ map → ⊥) → NotStarted image before now (cause_of_power cause)
 powered_not power.BadItems image before now limit map stands quiet bad = record { limit = limit; map = map; stands = stands; none = bad refl }
-powered_not power.Memory image before now limit map stands quiet bad = (quiet, readable image limit map stands)
+powered_not power.Memory image before now limit map stands quiet bad = (quiet, stands_readable image limit map stands)
 
 pub not_powered : (cause : PowerCause) (told : RunCause) (image : List ℕ) (before now limit : ℕ) (map : List Item) → Stands image limit map → now ≡ before
     → (cause ≡ power.BadItems → (c : Contents) → IsContents c → fits limit c ≡ true → items_of c ≡ map → ⊥) → told ≡ cause_of_power cause → NotStarted image before now told
 not_powered cause told image before now limit map stands quiet bad is =
     subst (λ (t : RunCause). NotStarted image before now t) (sym is) (powered_not cause image before now limit map stands quiet bad)
 
--- an image that stands for contents has a root
-open_root : (root : Root) (image : List ℕ) → gate root image ≡ 165 → (gate First image ≢ 165) × (gate Second image ≢ 165) → ⊥
-open_root First image is shut = shut.0 is
-open_root Second image is shut = shut.1 is
-
-rooted : (image : List ℕ) (limit : ℕ) (contents : Contents) → Stands image limit (items_of contents) → HasNoRoot image → ⊥
-rooted image limit contents stands (inl short) = omega (arith, short, stands.holds.room, stands.holds.limit_least)
-rooted image limit contents stands (inr shut) = open_root (counting image) image stands.counts.open_gate shut
-
 -- contents that an image stands for fit
 fits_on : (image : List ℕ) (limit : ℕ) (contents : Contents) → IsContents contents → Stands image limit (items_of contents) → fits limit contents ≡ true
 fits_on image limit contents sound stands =
-    let cheap = stands.holds.cost_fits in
+    let cheap = stands_within image limit (items_of contents) stands in
     let few = sound.most_macros in
     let one : nat_le (cost_of contents) limit ≡ true = grind (arith, nat_tests, cheap) in
     let two : nat_le (length contents.macros) 32 ≡ true = grind (arith, nat_tests, few) in
@@ -173,11 +149,11 @@ fits_on image limit contents sound stands =
 stands_stops : (before now : ℕ) (image left : List ℕ) (limit : ℕ) (contents : Contents) (cause : RunCause) → IsContents contents
     → Stands image limit (items_of contents) → NotStarted image before now cause → StopsFor before now left cause
 stands_stops before now image left limit contents (Open start.Device) sound stands why = why
-stands_stops before now image left limit contents (Open start.NoRoot) sound stands why = absurd (rooted image limit contents stands why)
+stands_stops before now image left limit contents (Open start.NoRoot) sound stands why = absurd (stands_rooted image limit (items_of contents) stands why)
 stands_stops before now image left limit contents (Open start.BadRoot) sound stands why = absurd (why.none_stands limit (items_of contents) stands)
-stands_stops before now image left limit contents (Open start.BadVersion) sound stands why = absurd (why.version stands.holds.version)
+stands_stops before now image left limit contents (Open start.BadVersion) sound stands why = absurd (stands_by_version image limit (items_of contents) stands why)
 stands_stops before now image left limit contents (Open start.BadItems) sound stands why =
-    let one = one_stands image limit why.limit (items_of contents) why.map stands why.stands in
+    let one = one_stands limit why.limit (items_of contents) why.map image stands why.stands in
     absurd (why.none contents sound (subst (λ (n : ℕ). fits n contents ≡ true) one.0 (fits_on image limit contents sound stands)) one.1)
 stands_stops before now image left limit contents Read sound stands why = absurd why
 stands_stops before now image left limit contents Write sound stands why = tt

@@ -64,7 +64,7 @@ pub record IsReported {A : Type 0} (image : List ℕ) (report : Report A) : Type
   pub contents : Contents
   pub sound : IsContents contents
   pub stands : Stands image report.limit (items_of contents)
-  pub version : report.version ≡ 0
+  pub version : report.version ≡ 1
   pub root : report.root ≡ number_in (counting image) image
   pub pages : report.pages ≡ cost (items_of contents)
   pub enables : report.enables ≡ contents.enables

@@ -2,7 +2,7 @@ use Rattle.std.proofs.Common.{sym, ◌∙◌}
 use Rattle.psu_server.proofs.Causes.{ends_at_once, ends_late, ends_unread}
 use Rattle.psu_server.proofs.Fronts.{passed}
 use Rattle.psu_server.proofs.Outcomes.{early_none, run_early, run_refused, run_whole}
-use Rattle.psu_server.proofs.Starting.{readable}
+use Rattle.psu_items.proofs.Fitting.{stands_readable}
 use Rattle.psu_server.proofs.Within.{later_same}
 use Rattle.psu_server.proofs.engine.run.Goals as goal
 
@@ -22,7 +22,7 @@ returns-in_default-clause-early g c = λ h.
 
 pub returns-in_default-clause-cause : goal.returns-in_default-clause-cause
 returns-in_default-clause-cause g c = λ h. ends_unread (g.D.Disk.state c.args.disk).bytes (g.D.Disk.failures c.args.disk) (g.D.Disk.failures c.fault.result.disk)
-    (g.D.Disk.state c.fault.result.disk).bytes (g.R.Read.remaining c.args.reader.now) c.fault.result.cause (readable _ _ _ (c.in-Ok.ensures.starts h).found) c.fault.ensures.cause
+    (g.D.Disk.state c.fault.result.disk).bytes (g.R.Read.remaining c.args.reader.now) c.fault.result.cause (stands_readable _ _ _ (c.in-Ok.ensures.starts h).found) c.fault.ensures.cause
 
 pub returns-in_err-disk-clause-early : goal.returns-in_err-disk-clause-early
 returns-in_err-disk-clause-early g c = λ h.
@@ -40,5 +40,5 @@ returns-in_err-disk-clause-cause g c = λ h.
     passed c.from_residual.result c.in_err-disk.field-0.0 _ c.from_residual.ensures.1
     (ends_late (g.D.Disk.state c.args.disk).bytes (g.D.Disk.failures c.args.disk) (g.D.Disk.failures c.in_err-disk.field-0.0.disk)
     (g.D.Disk.state c.in_err-disk.field-0.0.disk).bytes (g.R.Read.remaining c.args.reader.now) c.in_err-disk.field-0.0.cause
-    (readable _ _ _ (c.in-Ok.ensures.starts h).found)
+    (stands_readable _ _ _ (c.in-Ok.ensures.starts h).found)
     (c.in_err-disk.ensures.caused h (g.D.Disk.failures c.args.disk) (c.in-Ok.ensures.explained (g.D.Disk.failures c.args.disk) (later_same (g.D.Disk.failures c.args.disk)))))

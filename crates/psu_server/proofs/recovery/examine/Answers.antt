@@ -3,16 +3,16 @@ use Rattle.psu_items.specs.Map.{Item, cost}
 use Rattle.psu_items.specs.Image.{EachStands, HasReadableRoot, IsRefusal, Stands}
 use Rattle.psu_items.specs.declared.open_cause.OpenCause.{OpenCause}
 use Rattle.psu_items.specs.declared.open_cause.OpenCause.TheVariants as opening
+use Rattle.psu_items.proofs.Fitting.{stands_readable}
 use Rattle.psu_nv.specs.Contents.{items_of, Contents}
 use Rattle.psu_exec.specs.declared.power_fault.PowerCause.{PowerCause}
 use Rattle.psu_exec.specs.declared.power_fault.PowerCause.TheVariants as power
 use Rattle.psu_exec.specs.declared.home.Home.TheVariants as home
 use Rattle.psu_server.specs.declared.report.Report.{Report}
 use Rattle.psu_server.specs.declared.recover_fault.RecoverFault.{RecoverFault}
-use Rattle.psu_server.specs.declared.recover_fault.RecoverFault.TheVariants.{Memory}
+use Rattle.psu_server.specs.declared.recover_fault.RecoverFault.TheVariants.{Device, Memory}
 use Rattle.psu_server.specs.Causes.{HasBadItems}
 use Rattle.psu_server.specs.Recover.{IsReported, IsRecoverRefusal, Reports, recover_open, recover_power}
-use Rattle.psu_server.proofs.Starting.{readable}
 use Rattle.psu_server.proofs.recovery.examine.Goals as goal
 
 -- a report is found where it is one of the device
@@ -50,7 +50,7 @@ returns-in-Ok-power_on-clause-found g c = λ h.
 pub returns-in-Ok-power_on-clause-refused : goal.returns-in-Ok-power_on-clause-refused
 returns-in-Ok-power_on-clause-refused g c = λ h.
     let bytes : List ℕ = (g.D.Disk.state c.args.disk).bytes in
-    only_memory c.report_of.result (IsRecoverRefusal bytes) c.report_of.ensures.wants (readable bytes c.in-Ok.store.limit c.in-Ok.store.items (c.in-Ok.ensures.stood h))
+    only_memory c.report_of.result (IsRecoverRefusal bytes) c.report_of.ensures.wants (stands_readable bytes c.in-Ok.store.limit c.in-Ok.store.items (c.in-Ok.ensures.stood h))
 
 pub returns-in-Ok-power_on-clause-device : goal.returns-in-Ok-power_on-clause-device
 returns-in-Ok-power_on-clause-device g c = only_memory c.report_of.result _ c.report_of.ensures.wants (λ e. cc)
@@ -77,7 +77,7 @@ returns-in-Err-power_on-clause-refused g c = λ h.
     let bytes : List ℕ = (g.D.Disk.state c.args.disk).bytes in
     let cause : PowerCause = c.in-Err-power_on.fault.cause in
     let bad : cause ≡ power.BadItems → HasBadItems bytes = λ is. record { limit = c.in-Ok.store.limit; map = c.in-Ok.store.items; stands = c.in-Ok.ensures.stood h; none = c.in-Err-power_on.ensures.bad is } in
-    subst (λ (e : RecoverFault). IsRecoverRefusal bytes e) (sym c.from-in-Err-power_on.ensures) (by_cause bytes cause (readable bytes c.in-Ok.store.limit c.in-Ok.store.items (c.in-Ok.ensures.stood h)) bad)
+    subst (λ (e : RecoverFault). IsRecoverRefusal bytes e) (sym c.from-in-Err-power_on.ensures) (by_cause bytes cause (stands_readable bytes c.in-Ok.store.limit c.in-Ok.store.items (c.in-Ok.ensures.stood h)) bad)
 
 pub returns-in-Ok-power_on-clause-left : goal.returns-in-Ok-power_on-clause-left
 returns-in-Ok-power_on-clause-left g c = λ h limit map each.
@@ -87,3 +87,11 @@ pub returns-in-Err-power_on-clause-left : goal.returns-in-Err-power_on-clause-le
 returns-in-Err-power_on-clause-left g c = λ h limit map each.
     subst (λ d. EachStands (g.D.Disk.state d) limit map) (sym c.into_disk.ensures.value)
     (subst (λ s. EachStands (g.D.Disk.state s.disk) limit map) (sym c.in-Err-power_on.ensures.back) (c.in-Ok.ensures.left h limit map each))
+
+-- no cause of a power-on is a failed call
+not_device : (cause : PowerCause) → recover_power cause ≡ Device → ⊥
+not_device power.BadItems is = cc
+not_device power.Memory is = cc
+
+pub returns-in-Err-power_on-clause-device : goal.returns-in-Err-power_on-clause-device
+returns-in-Err-power_on-clause-device g c = λ is. absurd (not_device c.in-Err-power_on.fault.cause (sym c.from-in-Err-power_on.ensures ∙ is))

@@ -1,40 +1,64 @@
-use Rattle.std.proofs.Common.{arith}
+use Rattle.std.proofs.Common.{inl, inr, ⊎_elim, List, sym, ◌∙◌, subst}
+use Rattle.psu_disk.specs.Moments.{started, weaken}
+use Rattle.psu_items.specs.Map.{Item}
 use Rattle.psu_items.specs.Batch.{changed}
+use Rattle.psu_items.specs.Image.{IsEither, EachIsEither}
+use Rattle.psu_items.specs.Finding.{IsOldOrSame}
+use Rattle.psu_items.proofs.Opening.{still_either}
 use Rattle.psu_items.proofs.Recovering.{each_either}
 use Rattle.psu_items.proofs.broken.Broken.reopen.Goals as goal
 
-pub invariant_of-result-in-Err : goal.invariant_of-result-in-Err
-invariant_of-result-in-Err g c = record {
-  limit_least = c.args.self.limit_least;
-  limit_most = c.args.self.limit_most;
-  room = omega (arith, c.args.self.room, c.recover.ensures.extent);
-  either = λ h x l.
-      let d = g.D.Disk in
-      let s = c.args.self in
-      let all = each_either (d.state s.disk) s.limit s.before (changed s.before s.batch) (s.either h) in
-      ∣ c.recover.ensures.left h all x l ∣₁;
-}
+pub returns-in_default-clause-time : goal.returns-in_default-clause-time
+returns-in_default-clause-time g c = λ h t.
+    let d = g.D.Disk in
+    let s = c.args.self in
+    let target = changed s.before s.batch in
+    started d.moment d.left_since s.disk (IsEither s.limit s.before target) (λ x l. each_either (d.state s.disk) s.limit s.before target (s.either h) x (g.met.D.Disk.only_now t s.disk x l))
 
-pub returns-in-Err-clause-device : goal.returns-in-Err-clause-device
-returns-in-Err-clause-device g c = λ e. c.in-Err.ensures.device cc
+pub returns-in_default-clause-moments : goal.returns-in_default-clause-moments
+returns-in_default-clause-moments g c = λ h t.
+    let d = g.D.Disk in
+    let s = c.args.self in
+    started d.moment d.left_since s.disk (IsOldOrSame (d.state s.disk)) (λ x l. inl (g.met.D.Disk.only_now t s.disk x l))
+
+pub invariant_of-result-in-Err : goal.invariant_of-result-in-Err
+invariant_of-result-in-Err g c =
+    let d = g.D.Disk in
+    let s = c.args.self in
+    let target = changed s.before s.batch in
+    record { either = λ h x l. ∣ still_either (d.state s.disk) s.limit s.before target (each_either (d.state s.disk) s.limit s.before target (s.either h)) x (c.in-Err.ensures.images h x l) ∣₁ }
+
+pub returns-in-Ok-recover-clause-found : goal.returns-in-Ok-recover-clause-found
+returns-in-Ok-recover-clause-found g c = (⊎_elim (λ e. inl e) (λ e. inr (e ∙ c.in-Ok.ensures.value)) c.in-Ok-recover.ensures.found, c.in-Ok-recover.ensures.limit)
+
+pub returns-in-Ok-recover-clause-time : goal.returns-in-Ok-recover-clause-time
+returns-in-Ok-recover-clause-time g c = λ h t.
+    let d = g.D.Disk in
+    let s = c.args.self in
+    let target = changed s.before s.batch in
+    weaken d.moment d.left_since s.disk (let n = c.in-Ok-recover.store in n.disk) (IsOldOrSame (d.state s.disk)) (IsEither s.limit s.before target) (c.in-Ok-recover.ensures.moments h t) (still_either (d.state s.disk) s.limit s.before target (each_either (d.state s.disk) s.limit s.before target (s.either h)))
 
 pub returns-in-Err-clause-strange : goal.returns-in-Err-clause-strange
-returns-in-Err-clause-strange g c = λ h e.
+returns-in-Err-clause-strange g c = λ h.
     let d = g.D.Disk in
     let s = c.args.self in
-    let all = each_either (d.state s.disk) s.limit s.before (changed s.before s.batch) (s.either h) in
-    c.in-Err.ensures.strange h all cc
-
-pub returns-in-Ok-clause-time : goal.returns-in-Ok-clause-time
-returns-in-Ok-clause-time g c = λ h t.
-    let d = g.D.Disk in
-    let s = c.args.self in
-    let all = each_either (d.state s.disk) s.limit s.before (changed s.before s.batch) (s.either h) in
-    c.recover.ensures.time h t all
+    let target = changed s.before s.batch in
+    let all = each_either (d.state s.disk) s.limit s.before target (s.either h) in
+    c.in-Err.ensures.strange h (subst (λ (m : List Item). EachIsEither (d.state s.disk) s.limit s.before m) (sym c.in-Ok.ensures.value) all)
 
 pub returns-in-Err-clause-time : goal.returns-in-Err-clause-time
 returns-in-Err-clause-time g c = λ h t.
     let d = g.D.Disk in
     let s = c.args.self in
-    let all = each_either (d.state s.disk) s.limit s.before (changed s.before s.batch) (s.either h) in
-    c.recover.ensures.time h t all
+    let target = changed s.before s.batch in
+    weaken d.moment d.left_since s.disk (let n = c.in-Err.unfound in n.disk) (IsOldOrSame (d.state s.disk)) (IsEither s.limit s.before target) (c.in-Err.ensures.moments h t) (still_either (d.state s.disk) s.limit s.before target (each_either (d.state s.disk) s.limit s.before target (s.either h)))
+
+pub returns-in_default-clause-left : goal.returns-in_default-clause-left
+returns-in_default-clause-left g c = λ h. let s = c.args.self in each_either (g.D.Disk.state s.disk) s.limit s.before (changed s.before s.batch) (s.either h)
+
+pub returns-in-Err-clause-left : goal.returns-in-Err-clause-left
+returns-in-Err-clause-left g c = λ h x l.
+    let d = g.D.Disk in
+    let s = c.args.self in
+    let target = changed s.before s.batch in
+    still_either (d.state s.disk) s.limit s.before target (each_either (d.state s.disk) s.limit s.before target (s.either h)) x (c.in-Err.ensures.images h x l)

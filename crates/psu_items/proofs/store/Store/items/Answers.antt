@@ -1,5 +1,5 @@
-use Rattle.psu_items.proofs.Resting.{kept_stands}
+use Rattle.psu_items.proofs.Standing.{seen_stand}
 use Rattle.psu_items.proofs.store.Store.items.Goals as goal
 
 pub returns-clause-stands : goal.returns-clause-stands
-returns-clause-stands g c = λ h. let s = c.args.self.now in kept_stands (g.D.Disk.state s.disk) s.root s.limit s.number s.items (s.kept h)
+returns-clause-stands g c = seen_stand c.self.inside.pages c.self.inside.items c.self.invariant.shows c.args.self.now c.self.view_is

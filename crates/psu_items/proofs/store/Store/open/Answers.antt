@@ -1,30 +1,41 @@
+use Rattle.std.proofs.Common.{inr, refl}
 use Rattle.psu_disk.specs.Moments.{weaken}
-use Rattle.psu_disk.specs.Ranges.{reads_left}
-use Rattle.psu_items.specs.Finding.{IsOldOrSame}
 use Rattle.psu_items.specs.Image.{Stands}
-use Rattle.psu_items.proofs.Opening.{still_stands}
-use Rattle.psu_items.proofs.Single.{one_stands}
+use Rattle.psu_items.specs.Finding.{IsOldOrSame}
+use Rattle.psu_items.specs.Outcome.{opened_disk}
+use Rattle.psu_items.proofs.Opening.{err_any, readable, closed, closed_run, still_stands, pages_refused}
+use Rattle.psu_items.proofs.Opened.{found_stood, found_number, found_one}
 use Rattle.psu_items.proofs.store.Store.open.Goals as goal
 
-pub returns-in-Ok-clause-finds : goal.returns-in-Ok-clause-finds
-returns-in-Ok-clause-finds g c = λ h limit map all.
+pub returns-in-Ok-clause-stood : goal.returns-in-Ok-clause-stood
+returns-in-Ok-clause-stood g c = λ h. found_stood c.in-Ok.pages (g.D.Disk.state c.args.disk).bytes (c.in-Ok.ensures.found h) (c.in-Ok.ensures.seen h) c.take_up.result c.take_up.ensures.words c.take_up.ensures.sorted (c.take_up.ensures.found h)
+
+pub returns-in-Ok-clause-number : goal.returns-in-Ok-clause-number
+returns-in-Ok-clause-number g c = λ h. found_number c.in-Ok.pages (g.D.Disk.state c.args.disk).bytes (c.in-Ok.ensures.found h) c.take_up.result c.take_up.ensures.words
+
+pub returns-in-Ok-clause-memory : goal.returns-in-Ok-clause-memory
+returns-in-Ok-clause-memory g c = λ h.
+    let p = c.in-Ok.pages in
+    err_any c.take_up.result _ (λ e is. readable p.root p.limit p.number p.heads.items (g.D.Disk.state c.args.disk).bytes (c.in-Ok.ensures.found h))
+
+pub returns-in-Ok-clause-images : goal.returns-in-Ok-clause-images
+returns-in-Ok-clause-images g c = λ h x l. inr (closed c.in-Ok.pages (g.D.Disk.state c.args.disk).bytes (c.in-Ok.ensures.found h) (c.in-Ok.ensures.seen h) (c.in-Ok.ensures.synced h) x (c.take_up.ensures.left h x l) (c.take_up.ensures.touched h x l))
+
+pub returns-in-Ok-clause-moments : goal.returns-in-Ok-clause-moments
+returns-in-Ok-clause-moments g c = λ h t.
     let old = g.D.Disk.state c.args.disk in
-    one_stands old.bytes _ limit _ map (c.in-Ok.ensures.stood h) (all old.bytes (reads_left old))
+    closed_run c.in-Ok.pages old.bytes (c.in-Ok.ensures.found h) (c.in-Ok.ensures.seen h) (c.in-Ok.ensures.synced h) old c.args.disk (opened_disk c.take_up.result) refl (c.in-Ok.ensures.time h t) (c.take_up.ensures.time h t) (c.take_up.ensures.touched_time h t)
+
+pub returns-in-Ok-clause-finds : goal.returns-in-Ok-clause-finds
+returns-in-Ok-clause-finds g c = λ h limit m all. found_one (g.D.Disk.state c.args.disk) limit m all c.take_up.result (returns-in-Ok-clause-stood g c h)
 
 pub returns-in-Ok-clause-left : goal.returns-in-Ok-clause-left
-returns-in-Ok-clause-left g c = λ h limit map all x l. still_stands (g.D.Disk.state c.args.disk) limit map all x (c.read_back.ensures.left h x l)
+returns-in-Ok-clause-left g c = λ h limit m all x l. still_stands (g.D.Disk.state c.args.disk) limit m all x (returns-in-Ok-clause-images g c h x l)
 
 pub returns-in-Ok-clause-time : goal.returns-in-Ok-clause-time
-returns-in-Ok-clause-time g c = λ h t limit map all.
+returns-in-Ok-clause-time g c = λ h t limit m all.
     let d = g.D.Disk in
-    let old = c.args.disk in
-    weaken d.moment d.left_since old c.read_back.new.disk (IsOldOrSame (d.state old)) (λ x. Stands x limit map) (c.read_back.ensures.time h t) (still_stands (d.state old) limit map all)
+    weaken d.moment d.left_since c.args.disk (opened_disk c.take_up.result) (IsOldOrSame (d.state c.args.disk)) (λ x. Stands x limit m) (returns-in-Ok-clause-moments g c h t) (still_stands (d.state c.args.disk) limit m all)
 
-pub returns-in-Err-clause-left : goal.returns-in-Err-clause-left
-returns-in-Err-clause-left g c = λ h limit map all x l. still_stands (g.D.Disk.state c.args.disk) limit map all x (c.read_back.ensures.left h x l)
-
-pub returns-in-Err-clause-time : goal.returns-in-Err-clause-time
-returns-in-Err-clause-time g c = λ h t limit map all.
-    let d = g.D.Disk in
-    let old = c.args.disk in
-    weaken d.moment d.left_since old c.read_back.new.disk (IsOldOrSame (d.state old)) (λ x. Stands x limit map) (c.read_back.ensures.time h t) (still_stands (d.state old) limit map all)
+pub returns-in-Err-clause-refused : goal.returns-in-Err-clause-refused
+returns-in-Err-clause-refused g c = λ h. let old = (g.D.Disk.state c.args.disk).bytes in rw c.cause_of.ensures (pages_refused old c.in-Err.refused.cause (c.in-Err.ensures.refused h))

@@ -2,7 +2,6 @@ use Rattle.std.proofs.Common.{◌∙◌, ℕ, ◌+◌, ◌≤◌, ◌^◌, List,
 use Rattle.psu_disk.specs.Ranges.{reads_left}
 use Rattle.psu_items.specs.Map.{Item}
 use Rattle.psu_items.specs.Image.{Stands}
-use Rattle.psu_items.proofs.Resting.{kept_number}
 use Rattle.psu_exec.specs.Device.{is_broken}
 use Rattle.psu_server.specs.Causes.{IsWornOut}
 use Rattle.psu_server.proofs.Starting.{worn_number}
@@ -16,8 +15,8 @@ returns-in-Whole-clause-stands g c = λ h whole image left.
 pub returns-in-Whole-clause-reason : goal.returns-in-Whole-clause-reason
 returns-in-Whole-clause-reason g c = λ h since why worn.
     let store = c.in-Whole.store in
-    let told = kept_number (g.D.Disk.state store.disk) store.root store.limit store.number store.items (store.kept h) (g.D.Disk.state store.disk).bytes (reads_left (g.D.Disk.state store.disk)) in
-    subst (λ d. IsWornOut (g.D.Disk.state d).bytes) (sym c.into_disk.ensures.value)
+    let disk = g.D.Disk.state c.into_disk.result in
+    let told = c.into_disk.ensures.number h disk.bytes (reads_left disk) in
     (subst (λ (n : ℕ). 2 ^ 64 ≤ n + 1) (sym told) (worn_number since c.args.self.exec store c.in-Whole.ensures.0 why worn))
 
 pub returns-in-Failed-clause-stands : goal.returns-in-Failed-clause-stands

@@ -1,6 +1,5 @@
 use Rattle.std.proofs.Common.{ap, ◌∙◌, subst, sym}
 use Rattle.psu_items.specs.Image.{EachStands}
-use Rattle.psu_items.proofs.Resting.{kept_stands}
 use Rattle.psu_server.proofs.Starting.{first_opens, not_opened, not_powered, opened_one, powers_on}
 use Rattle.psu_server.proofs.powered.Powered.on.Goals as goal
 
@@ -24,6 +23,6 @@ returns-clause-starts g c = λ h.
     let on = c.in-Ok-power_on.exec in
     let store = c.in-Ok.store in
     let one = first_opens on.device c.open_session.new.self.device store.limit on.device.flush.contents c.in-Ok-open_session.session c.in-Ok-power_on.ensures.state c.in-Ok-open_session.ensures.opened in
-    powers_on (g.D.Disk.state c.args.disk).bytes store on c.open_session.new.self (c.in-Ok.ensures.stood h) (kept_stands (g.D.Disk.state store.disk) store.root store.limit store.number store.items (store.kept h))
+    powers_on (g.D.Disk.state c.args.disk).bytes store on c.open_session.new.self (c.in-Ok.ensures.stood h) (let there = c.in-Ok.ensures.stands h in there.stands)
     c.in-Ok-power_on.ensures.state c.in-Ok-power_on.ensures.found c.in-Ok-power_on.ensures.sound c.in-Ok-power_on.ensures.fitting c.in-Ok-power_on.ensures.home
     (opened_one on.device c.open_session.new.self.device c.in-Ok-open_session.session one c.in-Ok-open_session.ensures.opened) c.open_session.ensures.home

@@ -1,0 +1,132 @@
+// Images byte for byte: after a format, and after one commit and two. Which free pages a commit takes is open, so they are read from
+// the image; all other bytes are known.
+ghost use Rattle.std.specs.Prelude.{◌≡◌, ◌+◌, ◌*◌};
+
+use crate::images::laid_out;
+use crate::spelled::{bytes_of, head, put, root, spelled, word};
+use crate::stores::{formatted, one_edit, opened, stored};
+use psu_disk::MemDisk;
+use psu_items::{Batch, Store};
+use std::alloc::{AllocError, Global};
+use std::test::Fail;
+
+#[test]
+fn a_formatted_image(rt: HostRuntime) -> Result<(), Fail> {
+    let alloc = rt.alloc();
+    let root = [
+        0xa5, 0x50, 0x53, 0x55, 0, 1, 1, 0, 0, 0, 0, 0, 0, 0, 0, 1, 0, 0,
+    ];
+    let mut want = spelled(alloc, 263_168, &[(0, &root)])?;
+    let mut got = formatted(alloc, 263_168, 256)?;
+    let same = bytes_of(alloc, &mut got)? == bytes_of(alloc, &mut want)?;
+    assert!(rt; same);
+    Ok(())
+}
+
+// A format writes the page of the first root and the gate of the second, and leaves the rest.
+#[test]
+fn a_format_of_a_disk_that_was_in_use(rt: HostRuntime) -> Result<(), Fail> {
+    let alloc = rt.alloc();
+    let used = [0xa5; 5_200];
+    let mut want = spelled(
+        alloc,
+        5_200,
+        &[(0, &used), (0, &root(alloc, 0xa5, 4, 1, &[])?), (512, &[0])],
+    )?;
+    let mut got = laid_out(alloc, spelled(alloc, 5_200, &[(0, &used)])?, 4).ok_or("not formatted")?;
+    let same = bytes_of(alloc, &mut got)? == bytes_of(alloc, &mut want)?;
+    assert!(rt; same);
+    Ok(())
+}
+
+// Whether pages are in the pool of limit 8, and none comes twice.
+fn are_apart(pages: &[u16]) -> bool {
+    for (place, page) in pages.iter().enumerate() {
+        if *page < 2 || *page >= 18 || pages[..place].contains(page) {
+            return false;
+        }
+    }
+    true
+}
+
+// Where a page begins.
+fn at(page: u16) -> u64
+    ensures { result ≡ 512 * page }
+{
+    512 * u64::from(page)
+}
+
+// The place of a page's first word behind its key length, a key of one byte, the value length and the page count.
+fn first_page(page: u16) -> usize
+    ensures { result ≡ 512 * page + 8 }
+{
+    512 * usize::from(page) + 8
+}
+
+// The image of limit 8 after a commit of one item, which was put on these pages: its head, and its value.
+fn after_one(alloc: Global, of_head: u16, of_value: u16) -> Result<MemDisk<Global>, Fail> {
+    spelled(
+        alloc,
+        9_216,
+        &[
+            (0, &root(alloc, 0, 8, 1, &[])?),
+            (512, &root(alloc, 0xa5, 8, 2, &[of_head])?),
+            (at(of_head), &[1, 1, 0, 0, 0, 1, 0, 1]),
+            (at(of_head) + 8, &of_value.to_be_bytes()),
+            (at(of_value), &[36]),
+        ],
+    )
+}
+
+// The store of limit 8 with the value 36 for the key 1.
+fn with_one(alloc: Global) -> Result<Store<MemDisk<Global>, Global>, Fail> {
+    let store = opened(alloc, formatted(alloc, 9_216, 8)?)?;
+    stored(alloc, store, one_edit(alloc)?)
+}
+
+#[test]
+fn an_image_after_a_commit(rt: HostRuntime) -> Result<(), Fail> {
+    let alloc = rt.alloc();
+    let mut disk = with_one(alloc)?.into_disk();
+    let got = bytes_of(alloc, &mut disk)?;
+    let of_head = word(&got, 530);
+    let of_value = word(&got, first_page(of_head));
+    assert!(rt; are_apart(&[of_head, of_value]));
+    let mut want = after_one(alloc, of_head, of_value)?;
+    let want = bytes_of(alloc, &mut want)?;
+    assert!(rt; got == want);
+    Ok(())
+}
+
+// A value of 600 bytes 7 for the key 2.
+fn longer_edit(alloc: Global) -> Result<Batch<Global>, AllocError> {
+    let mut batch = Batch::new(alloc);
+    batch.assign([2].to_vec(alloc)?, vec![in alloc; 7; 600]?)?;
+    Ok(batch)
+}
+
+// The item that stays keeps its pages, and the other takes a head and two pages of its own. The first root names both heads.
+#[test]
+fn an_image_after_two_commits(rt: HostRuntime) -> Result<(), Fail> {
+    let alloc = rt.alloc();
+    let mut disk = with_one(alloc)?.into_disk();
+    let before = bytes_of(alloc, &mut disk)?;
+    let kept = word(&before, 530);
+    let kept_value = word(&before, first_page(kept));
+    let mut disk = stored(alloc, opened(alloc, disk)?, longer_edit(alloc)?)?.into_disk();
+    let got = bytes_of(alloc, &mut disk)?;
+    let names = [word(&got, 18), word(&got, 20)];
+    assert!(rt; names.contains(&kept));
+    let new = if names[0] == kept { names[1] } else { names[0] };
+    let pages = [word(&got, first_page(new)), word(&got, first_page(new) + 2)];
+    assert!(rt; are_apart(&[kept, kept_value, new, pages[0], pages[1]]));
+    let mut want = after_one(alloc, kept, kept_value)?;
+    put(&mut want, 0, &root(alloc, 0xa5, 8, 3, &names)?)?;
+    put(&mut want, 512, &[0])?;
+    put(&mut want, at(new), &head(alloc, &[2], 600, &pages)?)?;
+    put(&mut want, at(pages[0]), &[7; 512])?;
+    put(&mut want, at(pages[1]), &[7; 88])?;
+    let want = bytes_of(alloc, &mut want)?;
+    assert!(rt; got == want);
+    Ok(())
+}

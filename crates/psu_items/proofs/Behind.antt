@@ -1,0 +1,58 @@
+-- Behind the roots and the pool nothing is written.
+use Rattle.std.proofs.Common.{inr, ℕ, ◌+◌, ◌*◌, ◌<◌, ◌≤◌, List, [], ◌∷◌, refl, ◌∙◌, arith}
+use Rattle.std.specs.List.{AllByRecursion}
+use Rattle.psu_disk.specs.Disk.{Left, SameBut, Follows, LeavesOnly}
+use Rattle.psu_disk.specs.Moments.{started, and_then, weaken}
+use Rattle.psu_disk.specs.declared.disk.Disk.{Ghosts}
+use Rattle.psu_pages.specs.declared.root.Root.{Root}
+use Rattle.psu_pages.specs.declared.root.Root.TheVariants.{First, Second}
+use Rattle.psu_pages.specs.Image.{gate_at, IsInPool}
+use Rattle.psu_pages.specs.Writing.{IsOutside, Misses, Reaches}
+use Rattle.psu_items.specs.Writing.{SameBehind}
+
+behind_refl : (limit : ℕ) (x : List ℕ) → SameBehind limit x x
+behind_refl limit x = record { size = refl; same = λ k le. refl }
+
+behind_trans : (limit : ℕ) (x y z : List ℕ) → SameBehind limit x y → SameBehind limit y z → SameBehind limit x z
+behind_trans limit x y z a b = record { size = b.size ∙ a.size; same = λ k le. b.same k le ∙ a.same k le }
+
+outside : (limit : ℕ) (pages : List ℕ) (k : ℕ) → 512 * (2 + 2 * limit) ≤ k → AllByRecursion (IsInPool limit) pages → IsOutside pages k
+outside limit [] k le all = tt
+outside limit (page ∷ pages) k le all = (inr (let high : page < 2 + 2 * limit = all.0.1 in omega (arith, le, high)), outside limit pages k le all.1)
+
+-- pages of the pool are written, or of a root
+pub misses_behind : (limit : ℕ) (pages x y : List ℕ) → AllByRecursion (IsInPool limit) pages → Misses pages x y → SameBehind limit x y
+misses_behind limit pages x y pool misses = record { size = misses.size; same = λ k le. misses.same k (outside limit pages k le pool) }
+
+pub but_behind : (limit : ℕ) (root : Root) (n : ℕ) (x y : List ℕ) → n ≤ 512 → SameBut (gate_at root) n x y → SameBehind limit x y
+but_behind limit First n x y most but = record { size = but.size; same = λ k le. but.above k (omega (arith, le, most)) }
+but_behind limit Second n x y most but = record { size = but.size; same = λ k le. but.above k (omega (arith, le, most)) }
+
+module _ {D : Type 0} (G : Ghosts D) (limit : ℕ) (old : D) where
+  abbrev From : List ℕ → Type 0
+  From = Reaches (SameBehind limit) (Left (Ghosts.state G old))
+
+  pub behind_none : Follows (SameBehind limit) (Left (Ghosts.state G old)) (Left (Ghosts.state G old))
+  behind_none x l = (x, l, behind_refl limit x)
+
+  pub behind_still : ((x : List ℕ) → Ghosts.left_since G old (Ghosts.moment G old) x → Left (Ghosts.state G old) x) → LeavesOnly (Ghosts.moment G) (Ghosts.left_since G) old old From
+  behind_still only_now = started (Ghosts.moment G) (Ghosts.left_since G) old From (λ x l. behind_none x (only_now x l))
+
+  -- a step of some other kind that keeps what is behind
+  module _ (Step : List ℕ → List ℕ → Type 0) (keeps : (x y : List ℕ) → Step x y → SameBehind limit x y) (new : D) where
+    pub behind_step : Follows Step (Left (Ghosts.state G old)) (Left (Ghosts.state G new)) → Follows (SameBehind limit) (Left (Ghosts.state G old)) (Left (Ghosts.state G new))
+    behind_step follows x l = let r = follows x l in (r.0, r.1, keeps r.0 x r.2)
+
+    pub behind_step_run : LeavesOnly (Ghosts.moment G) (Ghosts.left_since G) old new (Reaches Step (Left (Ghosts.state G old))) → LeavesOnly (Ghosts.moment G) (Ghosts.left_since G) old new From
+    behind_step_run run = weaken (Ghosts.moment G) (Ghosts.left_since G) old new (Reaches Step (Left (Ghosts.state G old))) From run (λ x r. (r.0, r.1, keeps r.0 x r.2))
+
+  -- one run after another
+  module _ (mid : D) (so_far : Follows (SameBehind limit) (Left (Ghosts.state G old)) (Left (Ghosts.state G mid))) where
+    on : (x : List ℕ) → Reaches (SameBehind limit) (Left (Ghosts.state G mid)) x → From x
+    on x r = let f = so_far r.0 r.1 in (f.0, f.1, behind_trans limit f.0 r.0 x f.2 r.2)
+
+    pub behind_on : (new : D) → Follows (SameBehind limit) (Left (Ghosts.state G mid)) (Left (Ghosts.state G new)) → Follows (SameBehind limit) (Left (Ghosts.state G old)) (Left (Ghosts.state G new))
+    behind_on new follows x l = on x (follows x l)
+
+    pub behind_run : (new : D) → LeavesOnly (Ghosts.moment G) (Ghosts.left_since G) old mid From → LeavesOnly (Ghosts.moment G) (Ghosts.left_since G) mid new (Reaches (SameBehind limit) (Left (Ghosts.state G mid))) → LeavesOnly (Ghosts.moment G) (Ghosts.left_since G) old new From
+    behind_run new first second = and_then (Ghosts.moment G) (Ghosts.left_since G) old mid new From (Reaches (SameBehind limit) (Left (Ghosts.state G mid))) first second on

@@ -1,0 +1,76 @@
+-- A commit, in the words of its callers.
+use Rattle.std.proofs.Common.{◌≡◌, inl, true, false, ℕ, List, sym, ◌∙◌, ap, subst}
+use Rattle.psu_disk.specs.Disk.{DiskState, Left, Follows, LeavesOnly, HasFailed}
+use Rattle.psu_disk.specs.Moments.{started}
+use Rattle.psu_disk.specs.declared.disk.Disk.{Ghosts}
+use Rattle.psu_items.specs.Map.{Item}
+use Rattle.psu_items.specs.Capacity.{CanHold, IsMapOf}
+use Rattle.psu_items.specs.Batch.{Edit, changed}
+use Rattle.psu_pages.specs.declared.pages.Pages.{Pages}
+use Rattle.psu_pages.specs.declared.root.Root.{Root}
+use Rattle.psu_pages.specs.Outcome.{HasSameRoots}
+use Rattle.psu_pages.specs.Writing.{Reaches}
+use Rattle.psu_items.specs.Writing.{SameBehind}
+use Rattle.psu_items.specs.Image.{shown_in, Stands, EachStands, IsEither}
+use Rattle.psu_items.specs.Standing.{MapOn, ShowsMap, on_pages}
+use Rattle.psu_items.proofs.Standing.{pages_stand}
+
+pub not_true : false ≡ true → ⊥
+not_true e = cc
+
+-- nothing is done
+pub none_run : {D A : Type 0} {G : Ghosts D} (pages : Pages D A G) (m target : List Item) → ShowsMap pages m → Ghosts.honest G → ((x : List ℕ) → Ghosts.left_since G pages.disk (Ghosts.moment G pages.disk) x → Left (Ghosts.state G pages.disk) x)
+    → LeavesOnly (Ghosts.moment G) (Ghosts.left_since G) pages.disk pages.disk (IsEither pages.limit m target)
+none_run {D} {A} {G} pages m target shows h only_now = started (Ghosts.moment G) (Ghosts.left_since G) pages.disk (IsEither pages.limit m target) (λ x s. inl (pages_stand pages m shows h x (only_now x s)))
+
+pub can_back : {D A : Type 0} {G : Ghosts D} (pages : Pages D A G) (m : List Item) (seen : MapOn D) (batch : List Edit) → on_pages pages m ≡ seen → CanHold seen.limit (changed seen.items batch) → CanHold pages.limit (changed m batch)
+can_back {D} pages m seen batch is can = subst (λ (s : MapOn D). CanHold s.limit (changed s.items batch)) (sym is) can
+
+pub number_back : {D A : Type 0} {G : Ghosts D} (pages : Pages D A G) (m : List Item) (seen : MapOn D) → on_pages pages m ≡ seen → pages.number ≡ seen.number
+number_back {D} pages m seen is = ap (λ (s : MapOn D). s.number) is
+
+pub items_back : {D A : Type 0} {G : Ghosts D} (pages : Pages D A G) (m : List Item) (seen : MapOn D) → on_pages pages m ≡ seen → m ≡ seen.items
+items_back {D} pages m seen is = ap (λ (s : MapOn D). s.items) is
+
+pub limit_back : {D A : Type 0} {G : Ghosts D} (pages : Pages D A G) (m : List Item) (seen : MapOn D) → on_pages pages m ≡ seen → pages.limit ≡ seen.limit
+limit_back {D} pages m seen is = ap (λ (s : MapOn D). s.limit) is
+
+-- a call failed since
+pub failed_back : {D A : Type 0} {G : Ghosts D} (pages : Pages D A G) (m : List Item) (seen : MapOn D) (mid last out : D) → on_pages pages m ≡ seen → mid ≡ pages.disk → out ≡ last → HasFailed (Ghosts.failures G mid) (Ghosts.failures G last) → HasFailed (Ghosts.failures G seen.disk) (Ghosts.failures G out)
+failed_back {D} {A} {G} pages m seen mid last out is first second failed =
+    subst (λ (d : D). HasFailed (Ghosts.failures G d) (Ghosts.failures G out)) (first ∙ ap (λ (s : MapOn D). s.disk) is) (subst (λ (d : D). HasFailed (Ghosts.failures G mid) (Ghosts.failures G d)) (sym second) failed)
+
+-- a disk that is handed out
+pub left_out : {D : Type 0} (G : Ghosts D) (last out : D) (x : List ℕ) → out ≡ last → Left (Ghosts.state G out) x → Left (Ghosts.state G last) x
+left_out {D} G last out x is left = subst (λ (d : D). Left (Ghosts.state G d) x) is left
+
+module _ {D A : Type 0} {G : Ghosts D} (old new : Pages D A G) (roots : HasSameRoots old new) where
+  pub still_shows : (m : List Item) → ShowsMap old m → ShowsMap new m
+  still_shows m shows = record {
+    one = roots.standing ∙ shows.one;
+    sorted = shows.sorted;
+    holds = λ h. subst (λ (r : Root). IsMapOf m (shown_in r (Ghosts.state G new.disk).bytes)) (sym roots.root) (subst (λ (d : D). IsMapOf m (shown_in old.root (Ghosts.state G d).bytes)) (sym roots.disk) (shows.holds h));
+  }
+
+  pub same_view : (m : List Item) → on_pages new m ≡ on_pages old m
+  same_view m = ap (λ (d : D). seen d new.limit new.number) roots.disk ∙ ap (λ (n : ℕ). seen old.disk n new.number) roots.limit ∙ ap (λ (n : ℕ). seen old.disk old.limit n) roots.number
+    where
+      seen : D → ℕ → ℕ → MapOn D
+      seen d limit number = record { disk = d; limit = limit; number = number; items = m }
+
+  -- what is behind stays, seen from before
+  pub behind_back : (last : D) → Follows (SameBehind new.limit) (Left (Ghosts.state G new.disk)) (Left (Ghosts.state G last)) → Follows (SameBehind old.limit) (Left (Ghosts.state G old.disk)) (Left (Ghosts.state G last))
+  behind_back last follows = subst (λ (d : D). Follows (SameBehind old.limit) (Left (Ghosts.state G d)) (Left (Ghosts.state G last))) roots.disk (subst (λ (n : ℕ). Follows (SameBehind n) (Left (Ghosts.state G new.disk)) (Left (Ghosts.state G last))) roots.limit follows)
+
+  pub behind_time_back : (last : D) → LeavesOnly (Ghosts.moment G) (Ghosts.left_since G) new.disk last (Reaches (SameBehind new.limit) (Left (Ghosts.state G new.disk))) → LeavesOnly (Ghosts.moment G) (Ghosts.left_since G) old.disk last (Reaches (SameBehind old.limit) (Left (Ghosts.state G old.disk)))
+  behind_time_back last run = subst (λ (d : D). LeavesOnly (Ghosts.moment G) (Ghosts.left_since G) d last (Reaches (SameBehind old.limit) (Left (Ghosts.state G d)))) roots.disk (subst (λ (n : ℕ). LeavesOnly (Ghosts.moment G) (Ghosts.left_since G) new.disk last (Reaches (SameBehind n) (Left (Ghosts.state G new.disk)))) roots.limit run)
+
+  module _ (m made target : List Item) (is : made ≡ target) where
+    pub either_back : (x : List ℕ) → IsEither new.limit m made x → IsEither old.limit m target x
+    either_back x e = subst (λ (l : List Item). IsEither old.limit m l x) is (subst (λ (n : ℕ). IsEither n m made x) roots.limit e)
+
+    pub time_back : (last : D) → LeavesOnly (Ghosts.moment G) (Ghosts.left_since G) new.disk last (IsEither new.limit m made) → LeavesOnly (Ghosts.moment G) (Ghosts.left_since G) old.disk last (IsEither old.limit m target)
+    time_back last run = subst (λ (d : D). LeavesOnly (Ghosts.moment G) (Ghosts.left_since G) d last (IsEither old.limit m target)) roots.disk (subst (λ (l : List Item). LeavesOnly (Ghosts.moment G) (Ghosts.left_since G) new.disk last (IsEither old.limit m l)) is (subst (λ (n : ℕ). LeavesOnly (Ghosts.moment G) (Ghosts.left_since G) new.disk last (IsEither n m made)) roots.limit run))
+
+    pub stands_back : (limit : ℕ) (disk : DiskState) → limit ≡ new.limit → EachStands disk limit made → EachStands disk old.limit target
+    stands_back limit disk limit_is all x l = subst (λ (i : List Item). Stands x old.limit i) is (subst (λ (n : ℕ). Stands x n made) (limit_is ∙ roots.limit) (all x l))

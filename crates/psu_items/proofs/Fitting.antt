@@ -1,0 +1,101 @@
+-- What holds of an image that stands for a map: the map costs no more than its limit, and an opening has no cause to refuse it.
+use Rattle.std.proofs.Common.{◌≡◌, ℕ, ◌+◌, ◌/◌, ◌*◌, ◌≤◌, ◌≢◌, inl, inr, Bool, true, false, cond, List, [], ◌∷◌, length, take, Option, Some, None, refl, sym, ◌∙◌, ap, subst, arith, length-append}
+use Rattle.std.specs.List.{AllByRecursion}
+use Rattle.std.specs.Str.{bytes_eq}
+use Rattle.psu_pages.specs.declared.root.Root.{Root}
+use Rattle.psu_pages.specs.declared.root.Root.TheVariants.{First, Second}
+use Rattle.psu_pages.specs.Image.{gate, Head, IsHead, bytes_in, value_in, heads_in, pages_of, taken}
+use Rattle.std.proofs.lemmas.List.{length-take}
+use Rattle.std.proofs.Math.Nat.{min-le_left}
+use Rattle.psu_items.specs.Map.{Item, get, without, cost, Before, IsSorted}
+use Rattle.psu_items.specs.Image.{counting, listed, shown_in, HasNoRoot, HasOtherVersion, HasReadableRoot, Stands}
+use Rattle.psu_items.proofs.Keys.{before_not_same}
+use Rattle.psu_items.proofs.Maps.{get-without}
+use Rattle.psu_items.proofs.Writing.{all_own}
+
+without_less : (items : List Item) (key : List ℕ) → cost (without items key) ≤ cost items
+without_less [] key = omega arith
+without_less (i ∷ items) key = by_test (bytes_eq i.key key) (without_less items key)
+  where
+    by_test : (b : Bool) → cost (without items key) ≤ cost items → cost (cond b (without items key) (i ∷ without items key)) ≤ cost (i ∷ items)
+    by_test true rest = omega (arith, rest)
+    by_test false rest = omega (arith, rest)
+
+-- without a key the items cost less by what it has
+without_cost : (items : List Item) (key value : List ℕ) → get items key ≡ Some value → (1 + (length value + 511) / 512) + cost (without items key) ≤ cost items
+without_cost [] key value e = absurd cc
+without_cost (i ∷ items) key value e = by_test (bytes_eq i.key key) e (without_cost items key value)
+  where
+    by_test : (b : Bool) → cond b (Some i.value) (get items key) ≡ Some value → (get items key ≡ Some value → (1 + (length value + 511) / 512) + cost (without items key) ≤ cost items)
+        → (1 + (length value + 511) / 512) + cost (cond b (without items key) (i ∷ without items key)) ≤ cost (i ∷ items)
+    by_test true e rest =
+        let less = without_less items key in
+        let same : i.value ≡ value = cc in
+        let long : length i.value ≡ length value = ap length same in
+        omega (arith, less, long)
+    by_test false e rest = let less = rest e in omega (arith, less)
+
+-- the items of a map are among those that have what it has
+map_cost : (map items : List Item) → IsSorted map → AllByRecursion (λ (i : Item). get items i.key ≡ Some i.value) map → cost map ≤ cost items
+map_cost [] items sorted has = omega arith
+map_cost (i ∷ map) items sorted has =
+    let rest = map_cost map (without items i.key) sorted.1 (still map sorted.0 has.1) in
+    let first = without_cost items i.key i.value has.0 in
+    omega (arith, rest, first)
+  where
+    still : (js : List Item) → AllByRecursion (λ (j : Item). Before i.key j.key) js → AllByRecursion (λ (j : Item). get items j.key ≡ Some j.value) js
+        → AllByRecursion (λ (j : Item). get (without items i.key) j.key ≡ Some j.value) js
+    still [] after has = tt
+    still (j ∷ js) after has = (get-without items i.key j.key ∙ ap (λ (b : Bool). cond b None (get items j.key)) (before_not_same i.key j.key after.0) ∙ has.0, still js after.1 has.1)
+
+-- a value is no longer than its head says
+listed_cost : (image : List ℕ) (heads : List Head) → AllByRecursion IsHead heads → cost (listed image heads) ≤ length (taken heads)
+listed_cost image [] all = omega arith
+listed_cost image (h ∷ heads) all =
+    let rest = listed_cost image heads all.1 in
+    let head : IsHead h = all.0 in
+    let count = head.count in
+    let short : length (value_in image h) ≤ h.size = subst (λ (n : ℕ). n ≤ h.size) (sym (length-take h.size (bytes_in image h.pages))) (min-le_left h.size (length (bytes_in image h.pages))) in
+    omega (arith, rest, count, short, length-append (pages_of h) (taken heads))
+
+all_found : (map items js : List Item) → ((k : List ℕ) → get map k ≡ get items k) → AllByRecursion (λ (j : Item). get map j.key ≡ Some j.value) js → AllByRecursion (λ (j : Item). get items j.key ≡ Some j.value) js
+all_found map items [] same own = tt
+all_found map items (j ∷ js) same own = (sym (same j.key) ∙ own.0, all_found map items js same own.1)
+
+pub stands_within : (image : List ℕ) (limit : ℕ) (map : List Item) → Stands image limit map → cost map ≤ limit
+stands_within image limit map stands =
+    let root = counting image in
+    let holds = stands.holds in
+    let shows = holds.shows in
+    let fewer = map_cost map (shown_in root image) holds.sorted (all_found map (shown_in root image) map holds.items (all_own map holds.sorted)) in
+    let named = listed_cost image (heads_in root image) shows.heads in
+    let cheap = shows.cost in
+    omega (arith, fewer, named, cheap)
+
+-- ---- why an image isn't refused
+
+pub stands_readable : (image : List ℕ) (limit : ℕ) (map : List Item) → Stands image limit map → HasReadableRoot image
+stands_readable image limit map stands =
+    let shows = stands.holds.shows in
+    record {
+      counts = stands.counts;
+      words = record {
+        marked = shows.marked;
+        version = shows.version;
+        limit_least = omega (arith, shows.limit_least, shows.limit_is);
+        limit_most = omega (arith, shows.limit_most, shows.limit_is);
+        room = omega (arith, shows.room, shows.limit_is);
+        count = shows.count;
+      };
+    }
+
+open_root : (root : Root) (image : List ℕ) → gate root image ≡ 165 → (gate First image ≢ 165) × (gate Second image ≢ 165) → ⊥
+open_root First image is shut = shut.0 is
+open_root Second image is shut = shut.1 is
+
+pub stands_rooted : (image : List ℕ) (limit : ℕ) (map : List Item) → Stands image limit map → HasNoRoot image → ⊥
+stands_rooted image limit map stands (inl short) = let shows = stands.holds.shows in omega (arith, short, shows.room, shows.limit_least)
+stands_rooted image limit map stands (inr shut) = open_root (counting image) image stands.counts.open_gate shut
+
+pub stands_by_version : (image : List ℕ) (limit : ℕ) (map : List Item) → Stands image limit map → HasOtherVersion image → ⊥
+stands_by_version image limit map stands other = other.version stands.holds.shows.version

@@ -1,0 +1,14 @@
+use Rattle.std.proofs.Common.{◌≡◌, ℕ, take}
+use Rattle.psu_pages.specs.Outcome.{HasSameRoots}
+use Rattle.psu_items.specs.Layout.{heads_of, AreSlots}
+use Rattle.psu_pages.specs.Free.{is_free}
+use Rattle.psu_pages.specs.Image.{IsNone, taken}
+use Rattle.psu_items.proofs.layout.fill.Given as goal
+
+-- the items so far have their slots
+abbrev pub invariant-loop-pair : goal.invariant-loop-pair
+invariant-loop-pair g l = record {
+  slots : AreSlots l.pages l.before l.target (take l.pair-index l.target) l.slots.items;
+  roots : HasSameRoots l.fn.pages l.pages;
+  claims : (page : ℕ) → IsNone (taken (heads_of l.slots.items)) page → is_free (let p = l.pages in p.free) page ≡ is_free (let p = l.fn.pages in p.free) page;
+}

@@ -1,0 +1,22 @@
+use Rattle.psu_items.proofs.Standing.{pages_on_disk}
+use Rattle.psu_items.proofs.Taking.{shown_back, not_device}
+use Rattle.psu_items.proofs.open.take_up.Goals as goal
+
+pub invariant_of-result : goal.invariant_of-result
+invariant_of-result g c = record {
+  shows = record {
+    one = c.in-Ok.ensures.one;
+    sorted = c.in-Ok.ensures.sorted;
+    holds = λ h. shown_back c.args.pages c.read_back.new.pages c.in-Ok.items c.requires.sure h (c.in-Ok.ensures.shown h) (c.in-Ok.ensures.found h);
+  };
+  spare = c.in-Ok.ensures.spare;
+}
+
+pub returns-in-Ok-clause-stands : goal.returns-in-Ok-clause-stands
+returns-in-Ok-clause-stands g c = pages_on_disk c.read_back.new.pages c.in-Ok.items (let kept = invariant_of-result g c in kept.shows)
+
+pub returns-in-Err-clause-quiet : goal.returns-in-Err-clause-quiet
+returns-in-Err-clause-quiet g c = λ not. rw c.into_disk.ensures.value (c.in-Err.ensures.quiet (not_device c.in-Err.fault c.unread.result c.unread.ensures not))
+
+pub returns-in-Err-clause-left : goal.returns-in-Err-clause-left
+returns-in-Err-clause-left g c = rw c.into_disk.ensures.value c.read_back.ensures.left

@@ -1,0 +1,46 @@
+-- A store as its callers see it, and what its pages hold.
+use Rattle.std.specs.Prelude.{◌≡◌, ℕ, List, true}
+use Rattle.psu_disk.specs.Disk.{DiskState, Left}
+use Rattle.psu_disk.specs.declared.disk.Disk.{Ghosts}
+use Rattle.psu_items.specs.Map.{Item, IsSorted}
+use Rattle.psu_items.specs.Capacity.{IsMapOf}
+use Rattle.psu_pages.specs.Free.{is_free}
+use Rattle.psu_pages.specs.Image.{Head, IsInPool, IsNone, taken}
+use Rattle.psu_pages.specs.declared.pages.Pages.{Pages}
+use Rattle.psu_pages.specs.declared.standing.Standing.TheVariants.{One}
+use Rattle.psu_items.specs.Image.{EachStands, counting, number_in, shown_in}
+
+-- a map on a disk: how many pages it may take, and the number of the root that counts
+pub record MapOn (D : Type 0) : Type 0 where
+  pub disk : D
+  pub limit : ℕ
+  pub number : ℕ
+  pub items : List Item
+
+-- whatever a power loss leaves of its disk stands for its map, under its number
+pub record IsOnDisk {D : Type 0} (state : D → DiskState) (store : MapOn D) : Type 0 where
+  pub stands : EachStands (state store.disk) store.limit store.items
+  pub numbered : (image : List ℕ) → Left (state store.disk) image → number_in (counting image) image ≡ store.number
+
+-- what callers see of a map on pages
+abbrev pub on_pages : {D A : Type 0} {G : Ghosts D} → Pages D A G → List Item → MapOn D
+on_pages pages map = record { disk = pages.disk; limit = pages.limit; number = pages.number; items = map }
+
+-- of the pool's pages only those of these heads are claimed
+abbrev pub IsSpare : {D A : Type 0} {G : Ghosts D} → Pages D A G → List Head → Type 0
+IsSpare pages heads = (page : ℕ) → IsInPool pages.limit page → IsNone (taken heads) page → is_free pages.free page ≡ true
+
+-- of the pool's pages only these and those of the heads are claimed
+abbrev pub AreSpare : {D A : Type 0} {G : Ghosts D} → Pages D A G → List ℕ → List ℕ → Type 0
+AreSpare pages heads others = (page : ℕ) → IsInPool pages.limit page → IsNone heads page → IsNone others page → is_free pages.free page ≡ true
+
+-- the pages show the items of the map, and no older gate stands open
+pub record ShowsMap {D A : Type 0} {G : Ghosts D} (pages : Pages D A G) (map : List Item) : Type 0 where
+  pub one : pages.standing ≡ One
+  pub sorted : IsSorted map
+  pub holds : Ghosts.honest G → IsMapOf map (shown_in pages.root (Ghosts.state G pages.disk).bytes)
+
+-- and no page is claimed but theirs
+pub record KeepsMap {D A : Type 0} {G : Ghosts D} (pages : Pages D A G) (map : List Item) : Type 0 where
+  pub shows : ShowsMap pages map
+  pub spare : IsSpare pages pages.heads.items

@@ -1,0 +1,51 @@
+//! A disk that is laid out anew.
+ghost use Rattle.std.specs.Prelude.{◌≡◌, ◌+◌, ◌*◌, ◌≤◌, [], IfOk, IfErr};
+ghost use Rattle.psu_disk.specs.Disk.{HasFailed};
+ghost use Rattle.psu_items.specs.Outcome.{cause_of_format};
+ghost use Rattle.psu_items.specs.Standing.{IsOnDisk};
+ghost use Rattle.psu_items.specs.declared.format_fault.FormatCause.TheVariants.{Device as NotWritten, Memory as NoMemory};
+
+use crate::{FormatCause, FormatFault, Items, Store};
+use psu_disk::Disk;
+use psu_pages::{FormatCause as PagesCause, Pages};
+use std::alloc::Allocator;
+
+impl<D: Disk, A: Allocator + Copy> Store<D, A> {
+    ghost use Rattle.psu_items.specs.Outcome.{formatted_disk};
+
+    /// An empty map on a disk, whatever the disk held. The limit is 4 to 480, and the disk has 512 bytes for each of the two
+    /// roots and twice the limit. All memory is taken before the first call of the disk.
+    pub fn format(alloc: A, disk: D, limit: u16) -> Result<Store<D, A>, FormatFault<D>>
+        requires limit_least { 4 ≤ limit }
+        requires limit_most { limit ≤ 480 }
+        requires room { 512 * (2 + 2 * limit) ≤ D.extent disk }
+        ensures fresh { IfOk result (λ store. (store.items ≡ []) × (store.limit ≡ limit) × (store.number ≡ 1)) }
+        ensures stands { D.honest → IfOk result (λ store. IsOnDisk D.state store) }
+        ensures extent { D.extent (formatted_disk result) ≡ D.extent disk }
+        ensures works { IfOk result (λ store. D.failures store.disk ≡ D.failures disk) }
+        ensures later { D.failures disk ≤ D.failures (formatted_disk result) }
+        ensures device { IfErr result (λ e. e.cause ≡ NotWritten → HasFailed (D.failures disk) (D.failures e.disk)) }
+        ensures no_call { IfErr result (λ e. e.cause ≡ NoMemory → e.disk ≡ disk) }
+    {
+        match Pages::format(alloc, disk, limit) {
+            Ok(pages) => Ok(Store {
+                pages,
+                items: Items::new(alloc),
+            }),
+            Err(fault) => Err(FormatFault {
+                cause: cause_of(fault.cause),
+                disk: fault.disk,
+            }),
+        }
+    }
+}
+
+// The cause in the words of a store.
+fn cause_of(cause: PagesCause) -> FormatCause
+    ensures { result ≡ cause_of_format cause }
+{
+    match cause {
+        PagesCause::Device => FormatCause::Device,
+        PagesCause::Memory => FormatCause::Memory,
+    }
+}

@@ -1,0 +1,129 @@
+//! Which heads the next root is to name: those that stand where an item stays as it is, and new ones for all others.
+ghost use Rattle.std.specs.Prelude.{◌≡◌, ◌+◌, ◌<◌, ◌≤◌, ◌++◌, ◌∷◌, [], true, false, ℕ, length, OnOk, IfOk, IfErr, IsErrOf, vec_len, vec_capacity};
+ghost use Rattle.std.specs.List.{AllByRecursion};
+ghost use Rattle.psu_items.specs.Map.{Item};
+ghost use Rattle.psu_items.specs.Capacity.{Fits, CanHold};
+ghost use Rattle.psu_pages.specs.Free.{is_free};
+ghost use Rattle.psu_items.specs.Standing.{AreSpare, IsSpare};
+ghost use Rattle.psu_pages.specs.Image.{IsNone, pages_of, taken, AreApart, Head as HeadOf};
+ghost use Rattle.psu_pages.specs.Outcome.{IsPlanned, HasSameRoots};
+ghost use Rattle.psu_items.specs.Layout.{heads_of, IsOneOf, IsSlot, IsSlotFor, AreSlots};
+ghost use Rattle.psu_items.specs.declared.slot.Slot.{Slot as SlotOf};
+
+use crate::kept::{Cursor, kept};
+use crate::slot::Slot;
+use crate::{Items, Pair};
+use psu_disk::Disk;
+use psu_pages::{Head, PageFault, Pages};
+use std::alloc::Allocator;
+
+/// The slots of the next root, and room for their heads.
+#[derive(Drop)]
+pub struct Layout<A: Allocator + Copy> {
+    pub slots: Vec<Slot<A>, A>,
+    pub heads: Vec<Head<A>, A>,
+}
+
+/// Claims the pages of all items that don't stand already. Where that is refused, what was claimed is given up.
+pub fn lay_out<D: Disk, A: Allocator + Copy>(
+    alloc: A,
+    pages: &mut Pages<D, A>,
+    before: &Items<A>,
+    target: &Items<A>,
+) -> Result<Layout<A>, PageFault>
+    requires { AllByRecursion Fits target.now }
+    ensures roots { HasSameRoots pages.old pages.new }
+    ensures laid { IfOk result (λ layout. AreSlots pages.new before.now target.now target.now layout.slots.items) }
+    ensures claims { IfOk result (λ layout. (page : ℕ) → IsNone (taken (heads_of layout.slots.items)) page → is_free pages.new.free page ≡ is_free pages.old.free page) }
+    ensures spare { IfErr result (λ _. IsSpare pages.old pages.old.heads.items → IsSpare pages.new pages.new.heads.items) }
+    ensures room { IfOk result (λ layout. (layout.heads.items ≡ []) × (length target.now ≤ vec_capacity layout.heads)) }
+{
+    let heads = Vec::with_capacity(alloc, target.pairs().len())?;
+    let mut slots = Vec::new(alloc);
+    match fill(alloc, pages, before, target, &mut slots) {
+        Ok(()) => Ok(Layout { slots, heads }),
+        Err(fault) => {
+            give_up(pages, slots);
+            Err(fault)
+        }
+    }
+}
+
+// A slot for each item, in the order of keys.
+fn fill<D: Disk, A: Allocator + Copy>(
+    alloc: A,
+    pages: &mut Pages<D, A>,
+    before: &Items<A>,
+    target: &Items<A>,
+    slots: &mut Vec<Slot<A>, A>,
+) -> Result<(), PageFault>
+    requires fits { AllByRecursion Fits target.now }
+    requires none { slots.old.items ≡ [] }
+    ensures roots { HasSameRoots pages.old pages.new }
+    ensures filled { OnOk result (AreSlots pages.new before.now target.now target.now slots.new.items) }
+    ensures planned { AllByRecursion (λ (slot : SlotOf A). slot.is_new ≡ true → IsPlanned pages.new slot.head) slots.new.items }
+    ensures apart { AreApart (taken (heads_of slots.new.items)) }
+    ensures kept { AllByRecursion (λ (slot : SlotOf A). slot.is_new ≡ false → IsOneOf pages.new.heads.items slot.head) slots.new.items }
+    ensures claims { (page : ℕ) → IsNone (taken (heads_of slots.new.items)) page → is_free pages.new.free page ≡ is_free pages.old.free page }
+{
+    let mut cursor = Cursor::new();
+    for pair in target.pairs() {
+        slots.reserve(1)?;
+        let slot = slot_for(alloc, pages, before, &mut cursor, pair)?;
+        add(slots, slot);
+    }
+    Ok(())
+}
+
+// The slot of an item.
+fn slot_for<D: Disk, A: Allocator + Copy>(
+    alloc: A,
+    pages: &mut Pages<D, A>,
+    before: &Items<A>,
+    cursor: &mut Cursor,
+    pair: &Pair<A>,
+) -> Result<Slot<A>, PageFault>
+    requires { Fits pair.now }
+    ensures roots { HasSameRoots pages.old pages.new }
+    ensures others { (other : HeadOf) → IsPlanned pages.old other → IsPlanned pages.new other }
+    ensures slot { IfOk result (IsSlotFor pages.old pages.new before.now pair.now) }
+    ensures marks { IfOk result (λ slot. (page : ℕ) → IsNone (pages_of slot.head) page → is_free pages.new.free page ≡ is_free pages.old.free page) }
+    ensures unmarked { IfErr result (λ _. pages.new.free ≡ pages.old.free) }
+{
+    if let Some(at) = kept(cursor, pages.heads(), before.pairs(), pair) {
+        return Ok(Slot {
+            head: pages.heads()[at].copy(alloc)?,
+            is_new: false,
+        });
+    }
+    Ok(Slot {
+        head: pages.plan(alloc, pair.key(), pair.value().len() as u32)?,
+        is_new: true,
+    })
+}
+
+// Puts a slot after the others.
+fn add<A: Allocator + Copy>(slots: &mut Vec<Slot<A>, A>, slot: Slot<A>)
+    requires { vec_len slots.old < vec_capacity slots.old }
+    ensures { slots.new.items ≡ slots.old.items ++ slot ∷ [] }
+{
+    match slots.push(slot) {
+        Ok(()) => {}
+        Err(_) => unreachable!(),
+    }
+}
+
+// Gives up the pages of slots that were planned.
+fn give_up<D: Disk, A: Allocator + Copy>(pages: &mut Pages<D, A>, mut slots: Vec<Slot<A>, A>)
+    requires planned { AllByRecursion (λ (slot : SlotOf A). slot.is_new ≡ true → IsPlanned pages.old slot.head) slots.items }
+    requires apart { AreApart (taken (heads_of slots.items)) }
+    requires kept { AllByRecursion (λ (slot : SlotOf A). slot.is_new ≡ false → IsOneOf pages.old.heads.items slot.head) slots.items }
+    ensures roots { HasSameRoots pages.old pages.new }
+    ensures spare { AreSpare pages.old (taken pages.old.heads.items) (taken (heads_of slots.items)) → IsSpare pages.new pages.new.heads.items }
+{
+    while let Some(slot) = slots.pop() {
+        if slot.is_new {
+            pages.unplan(slot.head);
+        }
+    }
+}

@@ -1,0 +1,68 @@
+//! The items of the heads that a root names.
+ghost use Rattle.std.specs.Prelude.{◌≡◌, ◌≢◌, ◌+◌, ◌≤◌, ◌<◌, List, ℕ, length, drop, OnOk, IfOk, IfErr, IsErrOf};
+ghost use Rattle.psu_disk.specs.Disk.{Left, LeavesOnly, HasFailed};
+ghost use Rattle.psu_items.specs.Capacity.{IsMapOf};
+ghost use Rattle.psu_pages.specs.Outcome.{HasSameHeads};
+ghost use Rattle.psu_items.specs.Image.{listed};
+ghost use Rattle.psu_pages.specs.declared.page_fault.PageFault.TheVariants.{Device, NoPage};
+
+use crate::Items;
+use psu_disk::Disk;
+use psu_pages::{PageFault, Pages};
+use std::alloc::Allocator;
+
+/// Reads the items of all heads, each page of a value once. From the last to the first, so that of two heads with one key the
+/// first one would count.
+pub fn read_items<D: Disk, A: Allocator + Copy>(
+    alloc: A,
+    pages: &mut Pages<D, A>,
+) -> Result<Items<A>, PageFault>
+    ensures extent { D.extent pages.new.disk ≡ D.extent pages.old.disk }
+    ensures works { OnOk result (D.failures pages.new.disk ≡ D.failures pages.old.disk) }
+    ensures later { D.failures pages.old.disk ≤ D.failures pages.new.disk }
+    ensures device { IsErrOf result Device → HasFailed (D.failures pages.old.disk) (D.failures pages.new.disk) }
+    ensures quiet { IfErr result (λ cause. cause ≢ Device → D.failures pages.new.disk ≡ D.failures pages.old.disk) }
+    ensures pages { IfErr result (λ cause. cause ≢ NoPage) }
+    ensures found { D.honest → IfOk result (λ items. IsMapOf items (listed (D.state pages.old.disk).bytes pages.old.heads.items)) }
+    ensures same { HasSameHeads pages.old pages.new }
+    ensures standing { pages.new.standing ≡ pages.old.standing }
+    ensures seen { D.honest → (D.state pages.new.disk).bytes ≡ (D.state pages.old.disk).bytes }
+    ensures left { D.honest → (x : List ℕ) → Left (D.state pages.new.disk) x → Left (D.state pages.old.disk) x }
+    ensures time { D.honest → D.tells → LeavesOnly D.moment D.left_since pages.old.disk pages.new.disk (Left (D.state pages.old.disk)) }
+{
+    let mut items = Items::new(alloc);
+    let mut at = pages.heads().len();
+    while at > 0 {
+        at -= 1;
+        read_item(alloc, pages, at, &mut items)?;
+    }
+    Ok(items)
+}
+
+// Reads the item of one head, beside those of the heads after it.
+fn read_item<D: Disk, A: Allocator + Copy>(
+    alloc: A,
+    pages: &mut Pages<D, A>,
+    at: usize,
+    items: &mut Items<A>,
+) -> Result<(), PageFault>
+    requires { at < length pages.old.heads.items }
+    ensures extent { D.extent pages.new.disk ≡ D.extent pages.old.disk }
+    ensures works { OnOk result (D.failures pages.new.disk ≡ D.failures pages.old.disk) }
+    ensures later { D.failures pages.old.disk ≤ D.failures pages.new.disk }
+    ensures device { IsErrOf result Device → HasFailed (D.failures pages.old.disk) (D.failures pages.new.disk) }
+    ensures quiet { IfErr result (λ cause. cause ≢ Device → D.failures pages.new.disk ≡ D.failures pages.old.disk) }
+    ensures pages { IfErr result (λ cause. cause ≢ NoPage) }
+    ensures found { D.honest → OnOk result (IsMapOf items.old (listed (D.state pages.old.disk).bytes (drop (at + 1) pages.old.heads.items))
+        → IsMapOf items.new (listed (D.state pages.old.disk).bytes (drop at pages.old.heads.items))) }
+    ensures same { HasSameHeads pages.old pages.new }
+    ensures standing { pages.new.standing ≡ pages.old.standing }
+    ensures seen { D.honest → (D.state pages.new.disk).bytes ≡ (D.state pages.old.disk).bytes }
+    ensures left { D.honest → (x : List ℕ) → Left (D.state pages.new.disk) x → Left (D.state pages.old.disk) x }
+    ensures time { D.honest → D.tells → LeavesOnly D.moment D.left_since pages.old.disk pages.new.disk (Left (D.state pages.old.disk)) }
+{
+    let head = pages.heads()[at].copy(alloc)?;
+    let value = pages.load(alloc, &head)?;
+    items.insert(head.key().to_vec(alloc)?, value)?;
+    Ok(())
+}

@@ -1,6 +1,0 @@
-use Rattle.psu_items.specs.Batch.{changed}
-use Rattle.psu_store.proofs.Recovering.{each_either}
-use Rattle.psu_store.proofs.broken.Broken.into_disk.Goals as goal
-
-pub returns-clause-stands : goal.returns-clause-stands
-returns-clause-stands g c = λ h. let s = c.args.self in each_either (g.D.Disk.state s.disk) s.limit s.before (changed s.before s.batch) (s.either h)

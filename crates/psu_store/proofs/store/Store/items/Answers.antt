@@ -1,5 +1,0 @@
-use Rattle.psu_store.proofs.Standing.{seen_stand}
-use Rattle.psu_store.proofs.store.Store.items.Goals as goal
-
-pub returns-clause-stands : goal.returns-clause-stands
-returns-clause-stands g c = seen_stand c.self.inside.pages c.self.inside.items c.self.invariant.shows c.args.self.now c.self.view_is

@@ -1,0 +1,5 @@
+pub mod Lists
+pub mod Moves
+pub mod Keeping
+pub mod Outs
+pub mod Walks

@@ -1,0 +1,10 @@
+-- Which turn it is.
+use Rattle.std.specs.Coded.{Coded}
+use Rattle.atomic_table.specs.Seated.{TableId, table_id_coded}
+
+-- what no other turn shares with it
+abbrev pub TurnId : Type 0
+TurnId = TableId
+
+abbrev pub turn_id_coded : Coded TurnId
+turn_id_coded = table_id_coded

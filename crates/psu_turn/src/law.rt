@@ -1,0 +1,14 @@
+// The rule of the turn's table.
+ghost use Rattle.psu_turn.specs.Rule.{OneHistory, newcomer};
+
+use crate::{Held, Machine, View};
+use atomic_table::TableRule;
+use std::snapshot::Snapshot;
+
+pub struct Law;
+
+impl<T: Machine> TableRule<Option<Held<T>>, View<T::State, T::Entry>, Snapshot<T>> for Law {
+    ghost holds = { λ key. OneHistory T.state T.allows (T.state key.value) };
+
+    ghost first = { λ key. newcomer (T.state key.value) };
+}
