@@ -1,6 +1,6 @@
 // The instrument.
 ghost use Rattle.std.specs.Prelude.{◌≡◌};
-ghost use Rattle.psu_status.specs.Status.{first_request, status_byte};
+ghost use Rattle.psu_status.specs.Status.{enabled, first_request, status_byte};
 ghost use Rattle.psu_nv.specs.Views.{command_of};
 ghost use Rattle.psu_instrument.specs.Instrument.{power_on, with_kept, with_error, with_completion, with_pending, with_flushed};
 
@@ -124,6 +124,13 @@ impl Instrument {
         ensures { result ≡ status_byte self.now.status available }
     {
         self.status.status_byte(available)
+    }
+
+    /// The bits of the status byte but for bit 6 that are enabled: service is requested where one of them goes from 0 to 1.
+    pub fn enabled(&self, available: bool) -> u8
+        ensures { result ≡ enabled self.now.status available }
+    {
+        self.status.enabled(available)
     }
 
     /// Whether calls of macros are expanded (`*EMC`).

@@ -1,2 +1,4 @@
 mod Requests
 mod Looking
+mod Settled
+mod Deadlines

@@ -13,11 +13,11 @@ use Rattle.psu_locks.specs.Table.{AreWaiting}
 abbrev sessions : List Request → List ℕ
 sessions rs = map (λ (r : Request). r.session) rs
 
-or_false : (a b : Bool) → (a || b) ≡ false → (a ≡ false) × (b ≡ false)
+pub or_false : (a b : Bool) → (a || b) ≡ false → (a ≡ false) × (b ≡ false)
 or_false true b e = absurd cc
 or_false false b e = (refl, e)
 
-or_both : (a b : Bool) → a ≡ false → b ≡ false → (a || b) ≡ false
+pub or_both : (a b : Bool) → a ≡ false → b ≡ false → (a || b) ≡ false
 or_both a b e f = ap (λ (x : Bool). x || b) e ∙ f
 
 turned : (m n : ℕ) → eqb m n ≡ false → eqb n m ≡ false

@@ -1,5 +1,5 @@
 // Who holds the locks, and what can be granted.
-ghost use Rattle.std.specs.Prelude.{◌≡◌, ◌-◌, ◌<◌};
+ghost use Rattle.std.specs.Prelude.{◌≡◌};
 ghost use Rattle.psu_locks.specs.Locks.{shares, is_shared, holds_exclusive, may_command, can_grant, with_grant, holds_kind, freed_of, without, without_session, info_of, with_exclusive, with_sharer};
 
 use crate::{Freed, Info, Kind, LockString, Session};
@@ -18,7 +18,7 @@ impl Holders {
     pub fn shares(&self, session: Session) -> bool
         ensures { result ≡ shares self.now session }
     {
-        self.sharers[place(session)]
+        self.sharers[session.place()]
     }
 
     fn is_shared(&self) -> bool
@@ -80,7 +80,7 @@ impl Holders {
             Kind::Exclusive => self.exclusive = Some(session),
             Kind::Shared(string) => {
                 self.string = string;
-                self.sharers[place(session)] = true;
+                self.sharers[session.place()] = true;
             }
         }
     }
@@ -104,7 +104,7 @@ impl Holders {
     {
         match freed {
             Freed::Exclusive => self.exclusive = None,
-            Freed::Shared => self.sharers[place(session)] = false,
+            Freed::Shared => self.sharers[session.place()] = false,
         }
     }
 
@@ -115,7 +115,7 @@ impl Holders {
         if self.holds_exclusive(session) {
             self.exclusive = None;
         }
-        self.sharers[place(session)] = false;
+        self.sharers[session.place()] = false;
     }
 
     /// What is told of the locks.
@@ -124,19 +124,11 @@ impl Holders {
     {
         let mut flags = self.sharers;
         if let Some(holder) = self.exclusive {
-            flags[place(holder)] = true;
+            flags[holder.place()] = true;
         }
         Info {
             exclusive: self.exclusive.is_some(),
             holders: flags.iter().filter(|flag| **flag).count() as u8,
         }
     }
-}
-
-// The place of a session's flag.
-fn place(session: Session) -> usize
-    ensures before { result ≡ session - 1 }
-    ensures inside { result < 16 }
-{
-    session.number() as usize - 1
 }

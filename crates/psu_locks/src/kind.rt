@@ -9,9 +9,3 @@ pub enum Kind {
     /// The lock that sessions share under one string.
     Shared(LockString),
 }
-
-impl Default for Kind {
-    fn default() -> Self {
-        Kind::Exclusive
-    }
-}

@@ -13,6 +13,7 @@ mod lock_string;
 mod lock_table;
 mod request;
 mod session;
+mod sessions;
 
 pub use freed::Freed;
 pub use grant::Grant;
@@ -20,5 +21,6 @@ pub use info::Info;
 pub use kind::Kind;
 pub use lock_refusal::LockRefusal;
 pub use lock_string::LockString;
-pub use lock_table::{LockTable, Sessions};
-pub use session::Session;
+pub use lock_table::LockTable;
+pub use session::{SESSIONS, Session};
+pub use sessions::Sessions;

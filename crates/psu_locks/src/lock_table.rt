@@ -1,24 +1,21 @@
 // The table: who holds the locks, and which requests wait in order of arrival.
-ghost use Rattle.std.specs.Prelude.{◌≡◌, max, Some, None, IfOk, IfErr, []};
+ghost use Rattle.std.specs.Prelude.{◌≡◌, ◌≤◌, max, Some, None, IfOk, IfErr, IfSome, []};
 ghost use Rattle.psu_locks.specs.Locks.{Locks, no_locks, may_command, info_of, request_refusal, grant_of, after_grant, at_moment, waits, holders_after, kept, granted, looked_through, freed_of, without, without_session, of_others, failed_at, still_waiting};
-ghost use Rattle.psu_locks.specs.Table.{AreWaiting};
+ghost use Rattle.psu_locks.specs.Table.{CommandsAlone, FailsFirst, IsSettled, next_deadline};
 ghost use Rattle.psu_locks.specs.declared.lock_refusal.LockRefusal.TheVariants.{NotHeld};
 
 use crate::holders::Holders;
 use crate::request::Request;
-use crate::{Freed, Grant, Info, Kind, LockRefusal, LockString, Session};
+use crate::{Freed, Grant, Info, Kind, LockRefusal, LockString, SESSIONS, Session, Sessions};
 use arrayvec::ArrayVec;
 use std::marker::Model;
-
-/// Sessions, each once, in the order that the call says.
-pub type Sessions = ArrayVec<Session, 16>;
 
 /// The locks of an instrument with sixteen sessions. No call takes memory. A moment is a number of milliseconds from
 /// any start; one before the greatest so far counts as that one.
 #[derive(Drop)]
 pub struct LockTable {
     holders: Holders,
-    waiting: ArrayVec<Request, 16>,
+    waiting: ArrayVec<Request, SESSIONS>,
     latest: u64,
 }
 
@@ -27,23 +24,24 @@ impl Model for LockTable {
 
     ghost Value = { Locks };
 
-    ghost use Rattle.psu_locks.specs.Table.{AreWaiting};
+    ghost use Rattle.psu_locks.specs.Table.{IsSettled};
 
     ghost view = { λ t. record { holders = t.holders; waiting = t.waiting.items; latest = t.latest } };
 
-    ghost invariant = { λ t. AreWaiting t.waiting.items };
+    ghost invariant = { λ t. IsSettled (record { holders = t.holders; waiting = t.waiting.items; latest = t.latest }) };
 }
 
 impl LockTable {
     /// No lock is held, and nobody waits.
     pub fn new() -> LockTable
-        ensures { result ≡ no_locks [] }
+        ensures locks { result ≡ no_locks [] }
+        ensures settled { IsSettled result }
     {
         LockTable {
             holders: Holders {
                 exclusive: None,
                 string: LockString::empty(),
-                sharers: [false; 16],
+                sharers: [false; SESSIONS],
             },
             waiting: ArrayVec::new(),
             latest: 0,
@@ -53,7 +51,8 @@ impl LockTable {
     /// Whether a session may command. With no lock all may; while an exclusive lock is held only its holder may; else
     /// those that share the string.
     pub fn may_command(&self, session: Session) -> bool
-        ensures { result ≡ may_command self.now.holders session }
+        ensures value { result ≡ may_command self.now.holders session }
+        ensures alone { CommandsAlone self.now.holders session }
     {
         self.holders.may_command(session)
     }
@@ -63,6 +62,15 @@ impl LockTable {
         ensures { result ≡ info_of self.now.holders }
     {
         self.holders.info()
+    }
+
+    /// The moment at which a waiting request fails next, where one waits: the least of their deadlines.
+    pub fn next_deadline(&self) -> Option<u128>
+        ensures deadline { result ≡ next_deadline self.now.waiting }
+        ensures first { IfSome result (λ deadline. FailsFirst self.now.waiting deadline) }
+        ensures settled { IsSettled self.now }
+    {
+        next_deadline(&self.waiting)
     }
 
     /// Asks for a lock. What can't be granted now waits for so many milliseconds, and with a timeout of 0 fails at once.
@@ -79,6 +87,7 @@ impl LockTable {
             × (grant ≡ grant_of self.old session kind timeout)
             × (self.new ≡ after_grant (at_moment self.old now) session kind timeout grant)) }
         ensures refused { IfErr result (λ refusal. (request_refusal self.old session kind ≡ Some refusal) × (self.new ≡ self.old)) }
+        ensures settled { IsSettled self.new }
     {
         if self.holders.holds_kind(session, &kind) {
             return Err(LockRefusal::AlreadyHeld);
@@ -95,8 +104,11 @@ impl LockTable {
             return Ok(Grant::Failed);
         }
         let deadline = self.latest as u128 + timeout as u128;
-        let request = Request::new(session, kind, deadline);
-        self.waiting.push(request);
+        self.waiting.push(Request {
+            session,
+            kind,
+            deadline,
+        });
         Ok(Grant::Queued)
     }
 
@@ -104,9 +116,10 @@ impl LockTable {
     /// requests were then granted, in order of arrival.
     pub fn release(&mut self, session: Session) -> Result<(Freed, Sessions), LockRefusal>
         ensures freed { IfOk result (λ r. (freed_of self.old.holders session ≡ Some r.0)
-            × (r.1.items ≡ granted (without self.old.holders session r.0) self.old.waiting)
+            × (r.1 ≡ granted (without self.old.holders session r.0) self.old.waiting)
             × (self.new ≡ looked_through self.old (without self.old.holders session r.0) self.old.waiting)) }
         ensures refused { IfErr result (λ refusal. (refusal ≡ NotHeld) × (freed_of self.old.holders session ≡ None) × (self.new ≡ self.old)) }
+        ensures settled { IsSettled self.new }
     {
         let Some(freed) = self.holders.freed(session) else {
             return Err(LockRefusal::NotHeld);
@@ -119,8 +132,9 @@ impl LockTable {
     /// Ends a session: its locks and its request end with it. Answers the sessions whose requests were then granted, in
     /// order of arrival.
     pub fn drop_session(&mut self, session: Session) -> Sessions
-        ensures granted { result.items ≡ granted (without_session self.old.holders session) (of_others session self.old.waiting) }
+        ensures granted { result ≡ granted (without_session self.old.holders session) (of_others session self.old.waiting) }
         ensures left { self.new ≡ looked_through self.old (without_session self.old.holders session) (of_others session self.old.waiting) }
+        ensures settled { IsSettled self.new }
     {
         self.holders.remove_all(session);
         keep_others(&mut self.waiting, session);
@@ -129,8 +143,9 @@ impl LockTable {
 
     /// Fails the requests whose deadline is reached, and answers whose they were, in order of arrival.
     pub fn tick(&mut self, now: u64) -> Sessions
-        ensures failed { result.items ≡ failed_at (max self.old.latest now) self.old.waiting }
+        ensures failed { result ≡ failed_at (max self.old.latest now) self.old.waiting }
         ensures left { self.new ≡ record (at_moment self.old now) { waiting = still_waiting (max self.old.latest now) self.old.waiting } }
+        ensures settled { IsSettled self.new }
     {
         self.latest = self.latest.max(now);
         fail_at(&mut self.waiting, self.latest as u128)
@@ -138,27 +153,36 @@ impl LockTable {
 }
 
 fn waits(waiting: &[Request], session: Session) -> bool
-    ensures { result ≡ waits waiting.now session }
+    ensures value { result ≡ waits waiting.now session }
+    ensures in_range { (1 ≤ session) × (session ≤ 16) }
 {
+    let number = session.number();
     waiting
         .iter()
-        .any(|request| request.session.number() == session.number())
+        .any(|request| request.session.number() == number)
+}
+
+// The least of the deadlines.
+fn next_deadline(waiting: &[Request]) -> Option<u128>
+    ensures { result ≡ next_deadline waiting.now }
+{
+    waiting.iter().map(|request| request.deadline).min()
 }
 
 // Takes the request of a session out.
-fn keep_others(waiting: &mut ArrayVec<Request, 16>, session: Session)
+fn keep_others(waiting: &mut ArrayVec<Request, SESSIONS>, session: Session)
     ensures { waiting.new.items ≡ of_others session waiting.old.items }
 {
     waiting.retain(|request| request.session.number() != session.number());
 }
 
 // Looks through the waiting requests in order of arrival, and grants each that can be.
-fn look_through(holders: &mut Holders, waiting: &mut ArrayVec<Request, 16>) -> Sessions
+fn look_through(holders: &mut Holders, waiting: &mut ArrayVec<Request, SESSIONS>) -> Sessions
     ensures holders { holders.new ≡ holders_after holders.old waiting.old.items }
     ensures kept { waiting.new.items ≡ kept holders.old waiting.old.items }
-    ensures granted { result.items ≡ granted holders.old waiting.old.items }
+    ensures granted { result ≡ granted holders.old waiting.old.items }
 {
-    let mut sessions = ArrayVec::new();
+    let mut sessions = Sessions::new();
     let mut at = 0;
     let count = waiting.len();
     for turn in 0..count {
@@ -175,11 +199,11 @@ fn look_through(holders: &mut Holders, waiting: &mut ArrayVec<Request, 16>) -> S
 }
 
 // Takes the requests out whose deadline is reached.
-fn fail_at(waiting: &mut ArrayVec<Request, 16>, now: u128) -> Sessions
-    ensures failed { result.items ≡ failed_at now waiting.old.items }
+fn fail_at(waiting: &mut ArrayVec<Request, SESSIONS>, now: u128) -> Sessions
+    ensures failed { result ≡ failed_at now waiting.old.items }
     ensures kept { waiting.new.items ≡ still_waiting now waiting.old.items }
 {
-    let mut sessions = ArrayVec::new();
+    let mut sessions = Sessions::new();
     for request in waiting.as_slice() {
         if request.deadline <= now {
             sessions.push(request.session);

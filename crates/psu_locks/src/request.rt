@@ -1,6 +1,4 @@
 // A request that waits.
-ghost use Rattle.std.specs.Prelude.{◌≡◌, ◌≤◌};
-
 use crate::{Kind, Session};
 
 /// A request that waits: whose it is, what it asks for, and the moment at which it fails.
@@ -11,26 +9,12 @@ pub struct Request {
     pub deadline: u128,
 }
 
-impl Request {
-    /// The request of a session, whose number is known then.
-    pub fn new(session: Session, kind: Kind, deadline: u128) -> Request
-        ensures made { result ≡ record { session = session; kind = kind; deadline = deadline } }
-        ensures in_range { (1 ≤ session) × (session ≤ 16) }
-    {
-        let _number = session.number();
-        Request {
-            session,
-            kind,
-            deadline,
-        }
-    }
-}
-
+// What fills the unused places of a list.
 impl Default for Request {
     fn default() -> Self {
         Request {
-            session: Session::default(),
-            kind: Kind::default(),
+            session: Session::at(0),
+            kind: Kind::Exclusive,
             deadline: 0,
         }
     }

@@ -1,7 +1,10 @@
-// The number of a session.
-ghost use Rattle.std.specs.Prelude.{◌≡◌, ◌≤◌, SomeIff};
+// Sessions by their numbers.
+ghost use Rattle.std.specs.Prelude.{◌≡◌, ◌+◌, ◌-◌, ◌<◌, ◌≤◌, SomeIff};
 
 use std::marker::Model;
+
+/// How many sessions may be open at once.
+pub const SESSIONS: usize = 16;
 
 /// A session of the instrument: a number from 1 to 16. A contract sees the number.
 #[derive(Clone, Copy, Debug, PartialEq, Eq)]
@@ -22,9 +25,6 @@ impl Model for Session {
 }
 
 impl Session {
-    /// The first session, which is also what fills the unused places of a list.
-    pub const FIRST: Session = Session { number: 1 };
-
     /// The session of a number, where it is one from 1 to 16.
     pub fn new(number: u8) -> Option<Session>
         ensures { SomeIff result ((1 ≤ number) × (number ≤ 16)) number }
@@ -36,6 +36,16 @@ impl Session {
         }
     }
 
+    /// The session of a place in a list of all sessions, the first place that of session 1.
+    pub fn at(place: usize) -> Session
+        requires { place < 16 }
+        ensures { result ≡ place + 1 }
+    {
+        Session {
+            number: place as u8 + 1,
+        }
+    }
+
     /// Its number, from 1 to 16.
     pub fn number(self) -> u8
         ensures number { result ≡ self }
@@ -44,10 +54,12 @@ impl Session {
     {
         self.number
     }
-}
 
-impl Default for Session {
-    fn default() -> Self {
-        Session { number: 1 }
+    /// Its place in a list of all sessions.
+    pub fn place(self) -> usize
+        ensures place { result ≡ self - 1 }
+        ensures inside { result < 16 }
+    {
+        self.number as usize - 1
     }
 }

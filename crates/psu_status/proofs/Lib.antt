@@ -1,1 +1,2 @@
 pub mod FirstRequest
+pub mod Fifteen

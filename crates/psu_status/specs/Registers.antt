@@ -1,6 +1,6 @@
 -- A group of status registers: condition, event and enable, with filters for rising and falling conditions.
 -- Source: SCPI-1999 volume 1, chapter 9.
-use Rattle.std.specs.Prelude.{ℕ, ◌==◌, not, Bool, bit_and, bit_or, bit_xor}
+use Rattle.std.specs.Prelude.{ℕ, ◌<◌, ◌^◌, ◌==◌, not, Bool, bit_and, bit_or, bit_xor}
 use Rattle.psu_status.specs.declared.filter.Filter.{Filter}
 use Rattle.psu_status.specs.declared.filter.Filter.TheVariants.{Enable, Positive, Negative}
 use Rattle.psu_status.specs.declared.registers.Registers.{Registers}
@@ -8,6 +8,14 @@ use Rattle.psu_status.specs.declared.registers.Registers.{Registers}
 -- bit 15 is 0
 abbrev pub fifteen_bits : ℕ → ℕ
 fifteen_bits bits = bit_and bits 32767
+
+-- bit 15 of each register is 0
+pub record HaveFifteenBits (r : Registers) : Type 0 where
+  pub condition : r.condition < 2 ^ 15
+  pub event : r.event < 2 ^ 15
+  pub enable : r.enable < 2 ^ 15
+  pub positive : r.positive < 2 ^ 15
+  pub negative : r.negative < 2 ^ 15
 
 -- every rise is an event, no fall is, and no event is enabled; condition and events stay
 abbrev pub preset : Registers → Registers

@@ -1,13 +1,13 @@
 -- The status of the instrument: what it reports, and how errors and events change it.
 -- Sources: IEEE 488.2, chapter 11; SCPI-1999 volume 1, chapter 9, and volume 2, chapter 21.8.
-use Rattle.std.specs.Prelude.{ℕ, ◌+◌, ◌^◌, ◌==◌, ◌&&◌, not, nat_lt, Bool, false, if◌then◌else◌, Option, Some, None, List, [], ◌∷◌, ◌++◌, length, take, bit_and, bit_or}
+use Rattle.std.specs.Prelude.{◌≡◌, ◌≤◌, ℕ, ◌+◌, ◌^◌, ◌==◌, ◌&&◌, not, nat_lt, Bool, false, if◌then◌else◌, Option, Some, None, List, [], ◌∷◌, ◌++◌, length, take, bit_and, bit_or}
 use Rattle.psu_lex.specs.Errors.{event_bit}
 use Rattle.psu_lex.specs.declared.scpi_error.ScpiError.{ScpiError}
 use Rattle.psu_lex.specs.declared.scpi_error.ScpiError.TheVariants.{QueueOverflow}
 use Rattle.psu_status.specs.declared.group.Group.{Group}
 use Rattle.psu_status.specs.declared.group.Group.TheVariants.{Operation, Questionable}
 use Rattle.psu_status.specs.declared.registers.Registers.{Registers}
-use Rattle.psu_status.specs.Registers.{preset, summary, without_events}
+use Rattle.psu_status.specs.Registers.{HaveFifteenBits, preset, summary, without_events}
 
 -- The event status register with its enables and those of the status byte, the groups, and the errors, oldest first.
 pub record Reported : Type 0 where
@@ -17,6 +17,15 @@ pub record Reported : Type 0 where
   pub operation : Registers
   pub questionable : Registers
   pub errors : List ScpiError
+
+-- What holds at every moment: bit 6 of SRE and bit 15 of the groups' registers are 0, no condition of OPERation stands, and at
+-- most 16 errors are queued.
+pub record IsReported (s : Reported) : Type 0 where
+  pub sre : bit_and s.sre 64 ≡ 0
+  pub operation : HaveFifteenBits s.operation
+  pub questionable : HaveFifteenBits s.questionable
+  pub idle : s.operation.condition ≡ 0
+  pub queue : length s.errors ≤ 16
 
 -- # Registers
 
@@ -51,9 +60,13 @@ abbrev pub summaries : Reported → Bool → ℕ
 summaries s mav =
     bit 2 (nat_lt 0 (length s.errors)) + (bit 3 (summary s.questionable) + (bit 4 mav + (bit 5 (not (bit_and s.esr s.ese == 0)) + bit 7 (summary s.operation))))
 
+-- the bits that are enabled by SRE: a request for service is made where one of them goes from 0 to 1
+abbrev pub enabled : Reported → Bool → ℕ
+enabled s mav = bit_and (summaries s mav) s.sre
+
 -- MSS: one of these bits is enabled by SRE
 abbrev pub is_enabled : Reported → Bool → Bool
-is_enabled s mav = not (bit_and (summaries s mav) s.sre == 0)
+is_enabled s mav = not (enabled s mav == 0)
 
 abbrev pub status_byte : Reported → Bool → ℕ
 status_byte s mav = summaries s mav + bit 6 (is_enabled s mav)

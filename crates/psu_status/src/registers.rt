@@ -1,6 +1,6 @@
 // The registers of one group.
 ghost use Rattle.std.specs.Prelude.{◌≡◌};
-ghost use Rattle.psu_status.specs.Registers.{preset, filter_of, with_filter, with_condition, without_events, summary, fifteen_bits};
+ghost use Rattle.psu_status.specs.Registers.{preset, filter_of, with_filter, with_condition, without_events, summary, fifteen_bits, HaveFifteenBits};
 
 use crate::Filter;
 
@@ -20,7 +20,8 @@ pub struct Registers {
 impl Registers {
     /// No condition and no event, with the filters of PRESet.
     pub fn new() -> Registers
-        ensures { result ≡ preset (record { condition = 0; event = 0; enable = 0; positive = 0; negative = 0 }) }
+        ensures registers { result ≡ preset (record { condition = 0; event = 0; enable = 0; positive = 0; negative = 0 }) }
+        ensures fifteen { HaveFifteenBits result }
     {
         Registers {
             condition: 0,
@@ -33,7 +34,8 @@ impl Registers {
 
     /// The filters of PRESet: rises are events, falls are none, and no event is enabled. Condition and events stay.
     pub fn preset(&mut self)
-        ensures { self.new ≡ preset self.old }
+        ensures registers { self.new ≡ preset self.old }
+        ensures fifteen { HaveFifteenBits self.old → HaveFifteenBits self.new }
     {
         self.enable = 0;
         self.positive = FIFTEEN_BITS;
@@ -52,7 +54,8 @@ impl Registers {
 
     /// Sets a filter, without bit 15. It makes no event.
     pub fn set_filter(&mut self, filter: Filter, bits: u16)
-        ensures { self.new ≡ with_filter self.old filter (fifteen_bits bits) }
+        ensures registers { self.new ≡ with_filter self.old filter (fifteen_bits bits) }
+        ensures fifteen { HaveFifteenBits self.old → HaveFifteenBits self.new }
     {
         let bits = bits & FIFTEEN_BITS;
         match filter {
@@ -64,7 +67,8 @@ impl Registers {
 
     /// Sets the condition, without bit 15, and the events of its rising and falling bits that pass the filters.
     pub fn set_condition(&mut self, bits: u16)
-        ensures { self.new ≡ with_condition self.old (fifteen_bits bits) }
+        ensures registers { self.new ≡ with_condition self.old (fifteen_bits bits) }
+        ensures fifteen { HaveFifteenBits self.old → HaveFifteenBits self.new }
     {
         let bits = bits & FIFTEEN_BITS;
         let changed = self.condition ^ bits;
@@ -78,6 +82,7 @@ impl Registers {
     pub fn take_events(&mut self) -> u16
         ensures events { result ≡ self.old.event }
         ensures cleared { self.new ≡ without_events self.old }
+        ensures fifteen { HaveFifteenBits self.old → HaveFifteenBits self.new }
     {
         let events = self.event;
         self.event = 0;

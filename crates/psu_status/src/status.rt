@@ -1,7 +1,7 @@
 // The status of the instrument.
 ghost use Rattle.std.specs.Prelude.{◌≡◌, ◌≤◌, length, drop};
 ghost use Rattle.psu_status.specs.Registers.{filter_of, with_filter, with_condition, without_events, fifteen_bits};
-ghost use Rattle.psu_status.specs.Status.{without_mss, raised, group_of, with_group, all_preset, status_byte, with_error, oldest, cleared, power_on, first_request, prescribed, summaries};
+ghost use Rattle.psu_status.specs.Status.{without_mss, raised, group_of, with_group, all_preset, status_byte, with_error, oldest, cleared, power_on, first_request, prescribed, summaries, enabled, IsReported};
 
 use crate::registers::Registers;
 use crate::{Filter, Group};
@@ -52,7 +52,11 @@ impl Model for Status {
 
     ghost Value = { Reported };
 
+    ghost use Rattle.psu_status.specs.Status.{IsReported};
+
     ghost view = { λ s. record { esr = s.esr; sre = s.sre; ese = s.ese; operation = s.operation; questionable = s.questionable; errors = s.errors.items } };
+
+    ghost invariant = { λ s. IsReported (record { esr = s.esr; sre = s.sre; ese = s.ese; operation = s.operation; questionable = s.questionable; errors = s.errors.items }) };
 }
 
 impl Status {
@@ -218,15 +222,23 @@ impl Status {
         queued + (questionable + (available + (event + operation)))
     }
 
+    /// The bits of the status byte but for bit 6 that are enabled by SRE: service is requested where one of them goes from 0 to 1.
+    pub fn enabled(&self, mav: bool) -> u8
+        ensures value { result ≡ enabled self.now mav }
+        ensures always { IsReported self.now }
+    {
+        self.summaries(mav) & self.sre
+    }
+
     /// The status byte, with MSS in bit 6 (`*STB?`). The message available bit is the session's own mark.
     pub fn status_byte(&self, mav: bool) -> u8
-        ensures { result ≡ status_byte self.now mav }
+        ensures value { result ≡ status_byte self.now mav }
+        ensures always { IsReported self.now }
     {
-        let summaries = self.summaries(mav);
-        if summaries & self.sre == 0 {
-            summaries
+        if self.enabled(mav) == 0 {
+            self.summaries(mav)
         } else {
-            summaries + MSS
+            self.summaries(mav) + MSS
         }
     }
 
@@ -288,11 +300,10 @@ impl Status {
     pub fn first_request(&self) -> Option<u8>
         ensures { result ≡ first_request self.now }
     {
-        let byte = self.status_byte(false);
-        if self.summaries(false) & self.sre == 0 {
+        if self.enabled(false) == 0 {
             None
         } else {
-            Some(byte)
+            Some(self.status_byte(false))
         }
     }
 }

@@ -4,6 +4,6 @@ use Rattle.psu_locks.proofs.lock_table.fail_at.Given as goal
 
 abbrev pub invariant-loop-request : goal.invariant-loop-request
 invariant-loop-request l = record {
-  so_far : l.sessions.items ≡ failed_at l.now (take l.request-index l.fn.waiting.items);
-  room : length l.sessions.items ≤ l.request-index;
+  so_far : l.sessions ≡ failed_at l.now (take l.request-index l.fn.waiting.items);
+  room : length l.sessions ≤ l.request-index;
 }

@@ -16,7 +16,7 @@ loop-turn-preserved-then-can_grant c =
     let grant : can_grant c.loop-turn.holders c.remove-request.result.session c.remove-request.result.kind ≡ true =
     subst (λ (r : Request). can_grant c.loop-turn.holders r.session r.kind ≡ true) same (sym c.can_grant.ensures ∙ c.if-can_grant.true) in
     record {
-      looked = rw (c.put.ensures, c.remove-request.ensures.items, c.push.ensures.items)
-          (left _ c.loop-turn.holders _ waiting c.loop-turn.sessions.items c.loop-turn.at c.loop-turn.invariant.looked before c.remove-request.result is grant);
+      looked = rw (c.put.ensures, c.remove-request.ensures.items, c.push.ensures)
+          (left _ c.loop-turn.holders _ waiting c.loop-turn.sessions c.loop-turn.at c.loop-turn.invariant.looked before c.remove-request.result is grant);
       left = let so_far = c.loop-turn.invariant.left in omega (arith, c.remove-request.ensures.len);
     }

@@ -1,5 +1,8 @@
-use Rattle.psu_locks.proofs.Requests.{still}
+use Rattle.psu_locks.proofs.Settled.{looked}
 use Rattle.psu_locks.proofs.lock_table.LockTable.release.Goals as goal
 
 pub invariant_of-self : goal.invariant_of-self
-invariant_of-self c = rw c.look_through-sessions.ensures.kept (still _ c.self.inside.waiting.items c.self.invariant)
+invariant_of-self c = rw (c.look_through-sessions.ensures.kept, c.look_through-sessions.ensures.holders) (looked (record { holders = c.self.inside.holders; waiting = c.self.inside.waiting.items; latest = c.self.inside.latest }) _ _ c.self.invariant.one_each)
+
+pub returns-clause-settled : goal.returns-clause-settled
+returns-clause-settled c = invariant_of-self c

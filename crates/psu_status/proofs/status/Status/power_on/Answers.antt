@@ -1,5 +1,7 @@
-use Rattle.std.proofs.Common.{◌∙◌, ap, rules}
+use Rattle.std.proofs.Common.{◌∙◌, ap, arith, length, rules}
 use Rattle.psu_status.specs.Status.{first_request}
+use Rattle.psu_status.specs.declared.registers.Registers.{Registers}
+use Rattle.psu_status.proofs.Fifteen.{bit_6_of_sre}
 use Rattle.psu_status.proofs.FirstRequest.{request_at_power_on}
 use Rattle.psu_status.proofs.status.Status.power_on.Goals as goal
 
@@ -8,3 +10,12 @@ returns-clause-status c = search rules
 
 pub returns-clause-request : goal.returns-clause-request
 returns-clause-request c = ap first_request (returns-clause-status c) ∙ request_at_power_on c.args.enables
+
+pub invariant_of-result : goal.invariant_of-result
+invariant_of-result c = record {
+  sre = bit_6_of_sre c.unwrap_or-sre.result.0;
+  operation = c.new.ensures.fifteen;
+  questionable = c.new-2.ensures.fifteen;
+  idle = ap (λ (r : Registers). r.condition) c.new.ensures.registers;
+  queue = omega (arith, ap length c.new-3.ensures);
+}
