@@ -1,6 +1,6 @@
 -- A commit, in the words of its callers.
 use Rattle.std.proofs.Common.{◌≡◌, inl, true, false, ℕ, List, sym, ◌∙◌, ap, subst}
-use Rattle.psu_disk.specs.Disk.{DiskState, Left, Follows, LeavesOnly, HasFailed}
+use Rattle.psu_disk.specs.Disk.{Left, Follows, LeavesOnly, HasFailed}
 use Rattle.psu_disk.specs.Moments.{started}
 use Rattle.psu_disk.specs.declared.disk.Disk.{Ghosts}
 use Rattle.psu_items.specs.Map.{Item}
@@ -11,7 +11,7 @@ use Rattle.psu_pages.specs.declared.root.Root.{Root}
 use Rattle.psu_pages.specs.Outcome.{HasSameRoots}
 use Rattle.psu_pages.specs.Writing.{Reaches}
 use Rattle.psu_items.specs.Writing.{SameBehind}
-use Rattle.psu_items.specs.Image.{shown_in, Stands, EachStands, IsEither}
+use Rattle.psu_items.specs.Image.{shown_in, IsEither}
 use Rattle.psu_items.specs.Standing.{MapOn, ShowsMap, on_pages}
 use Rattle.psu_items.proofs.Standing.{pages_stand}
 
@@ -71,6 +71,3 @@ module _ {D A : Type 0} {G : Ghosts D} (old new : Pages D A G) (roots : HasSameR
 
     pub time_back : (last : D) → LeavesOnly (Ghosts.moment G) (Ghosts.left_since G) new.disk last (IsEither new.limit m made) → LeavesOnly (Ghosts.moment G) (Ghosts.left_since G) old.disk last (IsEither old.limit m target)
     time_back last run = subst (λ (d : D). LeavesOnly (Ghosts.moment G) (Ghosts.left_since G) d last (IsEither old.limit m target)) roots.disk (subst (λ (l : List Item). LeavesOnly (Ghosts.moment G) (Ghosts.left_since G) new.disk last (IsEither old.limit m l)) is (subst (λ (n : ℕ). LeavesOnly (Ghosts.moment G) (Ghosts.left_since G) new.disk last (IsEither n m made)) roots.limit run))
-
-    pub stands_back : (limit : ℕ) (disk : DiskState) → limit ≡ new.limit → EachStands disk limit made → EachStands disk old.limit target
-    stands_back limit disk limit_is all x l = subst (λ (i : List Item). Stands x old.limit i) is (subst (λ (n : ℕ). Stands x n made) (limit_is ∙ roots.limit) (all x l))

@@ -16,7 +16,7 @@ use Rattle.psu_items.specs.declared.slot.Slot.{Slot}
 use Rattle.psu_items.specs.Layout.{IsOneOf, heads_of, keys_in, value_of, value_at, IsSlotFor, IsSlot, AreSlots}
 
 -- the value of a key is that of its item
-pub own_value : (items : List Item) (at : ℕ) (d : Item) → IsSorted items → at < length items → (let i = get_or items at d in get items i.key) ≡ Some (let i = get_or items at d in i.value)
+own_value : (items : List Item) (at : ℕ) (d : Item) → IsSorted items → at < length items → (let i = get_or items at d in get items i.key) ≡ Some (let i = get_or items at d in i.value)
 own_value [] at d sorted lt = absurd (omega (arith, lt))
 own_value (i ∷ items) zero d sorted lt = ap (λ (b : Bool). cond b (Some i.value) (get items i.key)) (same_true i.key i.key refl)
 own_value (i ∷ items) (suc at) d sorted lt =
@@ -24,10 +24,6 @@ own_value (i ∷ items) (suc at) d sorted lt =
     let j = get_or items at d in
     let before : Before i.key j.key = all_at (λ (x : Item). Before i.key x.key) items at d within sorted.0 in
     ap (λ (b : Bool). cond b (Some i.value) (get items j.key)) (before_not_same i.key j.key before) ∙ own_value items at d sorted.1 within
-
--- so of an item that is the same
-pub same_value : (items : List Item) (at : ℕ) (d i : Item) → IsSorted items → at < length items → get_or items at d ≡ i → get items i.key ≡ Some i.value
-same_value items at d i sorted lt is = subst (λ (j : Item). get items j.key ≡ Some j.value) is (own_value items at d sorted lt)
 
 -- a key isn't among those before it
 pub sorted_none : (items : List Item) (n : ℕ) (d : Item) → IsSorted items → n < length items → IsNone (keys_in (take n items)) (let i = get_or items n d in i.key)

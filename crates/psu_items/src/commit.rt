@@ -8,9 +8,8 @@ ghost use Rattle.psu_items.specs.Image.{EachStands, EachIsEither, IsEither};
 ghost use Rattle.psu_items.specs.Standing.{IsOnDisk};
 ghost use Rattle.psu_items.specs.Writing.{SameBehind};
 
-use crate::layout::lay_out;
-use crate::put::put;
-use crate::{Batch, Broken, BrokenCause, Store};
+use crate::renew::{Unwritten, renew};
+use crate::{Batch, Broken, BrokenCause, Plan, Store};
 use psu_disk::Disk;
 use std::alloc::Allocator;
 
@@ -62,24 +61,31 @@ impl<D: Disk, A: Allocator + Copy> Store<D, A> {
             return Commit::Unstarted(self, batch, UnstartedCause::Worn);
         }
         let Store { mut pages, items } = self;
-        let Ok(target) = items.changed(alloc, &batch) else {
-            return Commit::Unstarted(Store { pages, items }, batch, UnstartedCause::Memory);
+        let plan = match Plan::with(alloc, items, batch) {
+            Ok(plan) => plan,
+            Err((items, batch)) => {
+                return Commit::Unstarted(Store { pages, items }, batch, UnstartedCause::Memory);
+            }
         };
-        let Ok(layout) = lay_out(alloc, &mut pages, &items, &target) else {
-            return Commit::Unstarted(Store { pages, items }, batch, UnstartedCause::Memory);
-        };
-        match put(&mut pages, &target, layout) {
+        match renew(alloc, &mut pages, plan.pairs(), plan.edits()) {
             Ok(()) => Commit::Stored(Store {
                 pages,
-                items: target,
+                items: plan.made(),
             }),
-            Err(_) => Commit::Broken(Broken {
-                limit: pages.limit(),
-                disk: pages.into_disk(),
-                before: items,
-                batch,
-                cause: BrokenCause::Device,
-            }),
+            Err(Unwritten::Memory) => {
+                let (items, batch) = plan.into_parts();
+                Commit::Unstarted(Store { pages, items }, batch, UnstartedCause::Memory)
+            }
+            Err(Unwritten::Device) => {
+                let (before, batch) = plan.into_parts();
+                Commit::Broken(Broken {
+                    limit: pages.limit(),
+                    disk: pages.into_disk(),
+                    before,
+                    batch,
+                    cause: BrokenCause::Device,
+                })
+            }
         }
     }
 

@@ -1,5 +1,5 @@
 //! Which heads the next root is to name: those that stand where an item stays as it is, and new ones for all others.
-ghost use Rattle.std.specs.Prelude.{◌≡◌, ◌+◌, ◌<◌, ◌≤◌, ◌++◌, ◌∷◌, [], true, false, ℕ, length, OnOk, IfOk, IfErr, IsErrOf, vec_len, vec_capacity};
+ghost use Rattle.std.specs.Prelude.{◌≡◌, ◌+◌, ◌<◌, ◌≤◌, ◌++◌, ◌∷◌, [], true, false, List, ℕ, length, OnOk, IfOk, IfErr, IsErrOf, vec_len, vec_capacity};
 ghost use Rattle.std.specs.List.{AllByRecursion};
 ghost use Rattle.psu_items.specs.Map.{Item};
 ghost use Rattle.psu_items.specs.Capacity.{Fits, CanHold};
@@ -8,11 +8,13 @@ ghost use Rattle.psu_items.specs.Standing.{AreSpare, IsSpare};
 ghost use Rattle.psu_pages.specs.Image.{IsNone, pages_of, taken, AreApart, Head as HeadOf};
 ghost use Rattle.psu_pages.specs.Outcome.{IsPlanned, HasSameRoots};
 ghost use Rattle.psu_items.specs.Layout.{heads_of, IsOneOf, IsSlot, IsSlotFor, AreSlots};
+ghost use Rattle.psu_items.specs.Target.{aimed, item_in, IsOf};
 ghost use Rattle.psu_items.specs.declared.slot.Slot.{Slot as SlotOf};
 
-use crate::kept::{Cursor, kept};
+use crate::entry::Entry;
+use crate::kept::kept;
 use crate::slot::Slot;
-use crate::{Items, Pair};
+use crate::target::Target;
 use psu_disk::Disk;
 use psu_pages::{Head, PageFault, Pages};
 use std::alloc::Allocator;
@@ -28,19 +30,18 @@ pub struct Layout<A: Allocator + Copy> {
 pub fn lay_out<D: Disk, A: Allocator + Copy>(
     alloc: A,
     pages: &mut Pages<D, A>,
-    before: &Items<A>,
-    target: &Items<A>,
+    target: &Target<'_, A>,
 ) -> Result<Layout<A>, PageFault>
-    requires { AllByRecursion Fits target.now }
+    requires { AllByRecursion Fits (aimed target.now) }
     ensures roots { HasSameRoots pages.old pages.new }
-    ensures laid { IfOk result (λ layout. AreSlots pages.new before.now target.now target.now layout.slots.items) }
+    ensures laid { IfOk result (λ layout. AreSlots pages.new target.now.before (aimed target.now) (aimed target.now) layout.slots.items) }
     ensures claims { IfOk result (λ layout. (page : ℕ) → IsNone (taken (heads_of layout.slots.items)) page → is_free pages.new.free page ≡ is_free pages.old.free page) }
     ensures spare { IfErr result (λ _. IsSpare pages.old pages.old.heads.items → IsSpare pages.new pages.new.heads.items) }
-    ensures room { IfOk result (λ layout. (layout.heads.items ≡ []) × (length target.now ≤ vec_capacity layout.heads)) }
+    ensures room { IfOk result (λ layout. (layout.heads.items ≡ []) × (length (aimed target.now) ≤ vec_capacity layout.heads)) }
 {
-    let heads = Vec::with_capacity(alloc, target.pairs().len())?;
+    let heads = Vec::with_capacity(alloc, target.entries().len())?;
     let mut slots = Vec::new(alloc);
-    match fill(alloc, pages, before, target, &mut slots) {
+    match fill(alloc, pages, target, &mut slots) {
         Ok(()) => Ok(Layout { slots, heads }),
         Err(fault) => {
             give_up(pages, slots);
@@ -53,23 +54,22 @@ pub fn lay_out<D: Disk, A: Allocator + Copy>(
 fn fill<D: Disk, A: Allocator + Copy>(
     alloc: A,
     pages: &mut Pages<D, A>,
-    before: &Items<A>,
-    target: &Items<A>,
+    target: &Target<'_, A>,
     slots: &mut Vec<Slot<A>, A>,
 ) -> Result<(), PageFault>
-    requires fits { AllByRecursion Fits target.now }
+    requires fits { AllByRecursion Fits (aimed target.now) }
     requires none { slots.old.items ≡ [] }
     ensures roots { HasSameRoots pages.old pages.new }
-    ensures filled { OnOk result (AreSlots pages.new before.now target.now target.now slots.new.items) }
+    ensures filled { OnOk result (AreSlots pages.new target.now.before (aimed target.now) (aimed target.now) slots.new.items) }
     ensures planned { AllByRecursion (λ (slot : SlotOf A). slot.is_new ≡ true → IsPlanned pages.new slot.head) slots.new.items }
     ensures apart { AreApart (taken (heads_of slots.new.items)) }
     ensures kept { AllByRecursion (λ (slot : SlotOf A). slot.is_new ≡ false → IsOneOf pages.new.heads.items slot.head) slots.new.items }
     ensures claims { (page : ℕ) → IsNone (taken (heads_of slots.new.items)) page → is_free pages.new.free page ≡ is_free pages.old.free page }
 {
-    let mut cursor = Cursor::new();
-    for pair in target.pairs() {
+    let mut next = 0;
+    for entry in target.entries() {
         slots.reserve(1)?;
-        let slot = slot_for(alloc, pages, before, &mut cursor, pair)?;
+        let slot = slot_for(alloc, pages, &mut next, entry)?;
         add(slots, slot);
     }
     Ok(())
@@ -79,25 +79,24 @@ fn fill<D: Disk, A: Allocator + Copy>(
 fn slot_for<D: Disk, A: Allocator + Copy>(
     alloc: A,
     pages: &mut Pages<D, A>,
-    before: &Items<A>,
-    cursor: &mut Cursor,
-    pair: &Pair<A>,
+    next: &mut usize,
+    entry: &Entry<'_>,
 ) -> Result<Slot<A>, PageFault>
-    requires { Fits pair.now }
+    requires { Fits (item_in entry.now) }
     ensures roots { HasSameRoots pages.old pages.new }
     ensures others { (other : HeadOf) → IsPlanned pages.old other → IsPlanned pages.new other }
-    ensures slot { IfOk result (IsSlotFor pages.old pages.new before.now pair.now) }
+    ensures slot { (before : List Item) → IsOf before entry.now → IfOk result (IsSlotFor pages.old pages.new before (item_in entry.now)) }
     ensures marks { IfOk result (λ slot. (page : ℕ) → IsNone (pages_of slot.head) page → is_free pages.new.free page ≡ is_free pages.old.free page) }
     ensures unmarked { IfErr result (λ _. pages.new.free ≡ pages.old.free) }
 {
-    if let Some(at) = kept(cursor, pages.heads(), before.pairs(), pair) {
+    if let Some(at) = kept(next, pages.heads(), entry) {
         return Ok(Slot {
             head: pages.heads()[at].copy(alloc)?,
             is_new: false,
         });
     }
     Ok(Slot {
-        head: pages.plan(alloc, pair.key(), pair.value().len() as u32)?,
+        head: pages.plan(alloc, entry.key, entry.value.len() as u32)?,
         is_new: true,
     })
 }

@@ -1,5 +1,5 @@
 //! A map, and edits that are yet to be made of it in place.
-ghost use Rattle.std.specs.Prelude.{◌≡◌, ◌<◌, ◌≤◌, ◌+◌, [], OnOk, OnErr, option_map, vec_len, vec_capacity};
+ghost use Rattle.std.specs.Prelude.{◌≡◌, ◌<◌, ◌≤◌, ◌+◌, [], OnOk, OnErr, IfOk, IfErr, option_map, vec_len, vec_capacity};
 ghost use Rattle.psu_items.specs.Map.{get, put, without, IsSorted};
 ghost use Rattle.psu_items.specs.Batch.{changed, edited};
 
@@ -41,6 +41,39 @@ impl<A: Allocator + Copy> Plan<A> {
             pairs,
             edits: Batch::new(alloc),
         }
+    }
+
+    /// A map with edits that are planned for it; both as they were where memory is refused.
+    pub fn with(alloc: A, items: Items<A>, edits: Batch<A>) -> Result<Plan<A>, (Items<A>, Batch<A>)>
+        ensures ok { IfOk result (λ plan. plan ≡ record { map = items; edits = edits }) }
+        ensures err { IfErr result (λ both. (both.0 ≡ items) × (both.1 ≡ edits)) }
+    {
+        let Items { mut pairs } = items;
+        if pairs.reserve(edits.edits.len()).is_err() {
+            return Err((Items { pairs }, edits));
+        }
+        Ok(Plan {
+            alloc,
+            pairs,
+            edits,
+        })
+    }
+
+    /// The map, and the edits that are planned for it.
+    pub fn into_parts(self) -> (Items<A>, Batch<A>)
+        ensures map { result.0 ≡ self.map }
+        ensures edits { result.1 ≡ self.edits }
+    {
+        let Plan { pairs, edits, .. } = self;
+        (Items { pairs }, edits)
+    }
+
+    /// The map once the edits are made.
+    pub fn made(mut self) -> Items<A>
+        ensures { result ≡ changed self.map self.edits }
+    {
+        self.make();
+        Items { pairs: self.pairs }
     }
 
     /// The pairs of the map, in the order of their keys.

@@ -3,12 +3,13 @@ use Rattle.psu_pages.specs.Outcome.{HasSameRoots}
 use Rattle.psu_items.specs.Layout.{heads_of, AreSlots}
 use Rattle.psu_pages.specs.Free.{is_free}
 use Rattle.psu_pages.specs.Image.{IsNone, taken}
+use Rattle.psu_items.specs.Target.{aimed}
 use Rattle.psu_items.proofs.layout.fill.Given as goal
 
 -- the items so far have their slots
-abbrev pub invariant-loop-pair : goal.invariant-loop-pair
-invariant-loop-pair g l = record {
-  slots : AreSlots l.pages l.before l.target (take l.pair-index l.target) l.slots.items;
+abbrev pub invariant-loop-entry : goal.invariant-loop-entry
+invariant-loop-entry g l = record {
+  slots : AreSlots l.pages (let aim = l.target in aim.before) (aimed l.target) (take l.entry-index (aimed l.target)) l.slots.items;
   roots : HasSameRoots l.fn.pages l.pages;
   claims : (page : ℕ) → IsNone (taken (heads_of l.slots.items)) page → is_free (let p = l.pages in p.free) page ≡ is_free (let p = l.fn.pages in p.free) page;
 }

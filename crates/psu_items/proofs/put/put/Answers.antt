@@ -3,6 +3,7 @@ use Rattle.std.specs.List.{AllByRecursion}
 use Rattle.psu_disk.specs.Disk.{HasFailed}
 use Rattle.psu_pages.specs.Outcome.{IsPlanned}
 use Rattle.psu_items.specs.Image.{listed}
+use Rattle.psu_items.specs.Target.{aimed}
 use Rattle.psu_items.proofs.Opening.{err_any}
 use Rattle.psu_items.proofs.Putting.{heads_there, heads_list, as_many, from_bears, run_one, from_either, run_two, from_two, run_three, shown_last}
 use Rattle.psu_disk.specs.Disk.{SameBut}
@@ -16,20 +17,20 @@ pub write_slots-requires-clause-planned : goal.write_slots-requires-clause-plann
 write_slots-requires-clause-planned g c = subst (AllByRecursion (λ slot. slot.is_new ≡ true → IsPlanned c.args.pages.now slot.head)) (sym c.deref.ensures.value) c.requires.planned
 
 pub returns-in_err-write_slots-clause-left : goal.returns-in_err-write_slots-clause-left
-returns-in_err-write_slots-clause-left g c = λ h before shows x l. from_bears c.args.pages.now c.write_slots.new.pages before c.args.target.now h shows x (c.write_slots.ensures.left h x l)
+returns-in_err-write_slots-clause-left g c = λ h before shows x l. from_bears c.args.pages.now c.write_slots.new.pages before (aimed c.args.target.now) h shows x (c.write_slots.ensures.left h x l)
 
 pub returns-in_err-write_slots-clause-time : goal.returns-in_err-write_slots-clause-time
-returns-in_err-write_slots-clause-time g c = λ h t before shows. run_one c.args.pages.now c.write_slots.new.pages before c.args.target.now h shows (c.write_slots.ensures.time h t)
+returns-in_err-write_slots-clause-time g c = λ h t before shows. run_one c.args.pages.now c.write_slots.new.pages before (aimed c.args.target.now) h shows (c.write_slots.ensures.time h t)
 
 pub name_heads-requires-clause-room : goal.name_heads-requires-clause-room
-name_heads-requires-clause-room g c = omega (arith, as_many c.args.layout.slots.items c.args.target.now c.requires.keys, c.requires.room.1)
+name_heads-requires-clause-room g c = omega (arith, as_many c.args.layout.slots.items (aimed c.args.target.now) c.requires.keys, c.requires.room.1)
 
 pub publish_root-requires-clause-there : goal.publish_root-requires-clause-there
 publish_root-requires-clause-there g c = λ h.
     let d = g.D.Disk in
     let old = c.args.pages.now in
     let mid = c.write_slots.new.pages in
-    heads_there (d.state old.disk).bytes (d.state mid.disk).bytes c.args.target.now c.args.layout.slots.items c.deref.result.now c.name_heads.result.items c.deref.ensures.value c.name_heads.ensures (c.requires.kept h) (c.in_ok-write_slots.ensures.written h)
+    heads_there (d.state old.disk).bytes (d.state mid.disk).bytes (aimed c.args.target.now) c.args.layout.slots.items c.deref.result.now c.name_heads.result.items c.deref.ensures.value c.name_heads.ensures (c.requires.kept h) (c.in_ok-write_slots.ensures.written h)
 
 pub returns-in_err-publish_root-clause-device : goal.returns-in_err-publish_root-clause-device
 returns-in_err-publish_root-clause-device g c =
@@ -46,7 +47,7 @@ returns-in_err-publish_root-clause-left g c = λ h before shows x l.
     let d = g.D.Disk in
     let old = c.args.pages.now in
     let mid = c.write_slots.new.pages in
-    let target = c.args.target.now in
+    let target = (aimed c.args.target.now) in
     let heads = c.name_heads.result.items in
     let are : listed (d.state mid.disk).bytes heads ≡ target = heads_list (d.state old.disk).bytes (d.state mid.disk).bytes target c.args.layout.slots.items c.deref.result.now heads c.deref.ensures.value c.name_heads.ensures (c.requires.kept h) (c.in_ok-write_slots.ensures.written h) c.requires.sorted c.requires.keys in
     from_either old mid before target h shows c.write_slots.ensures.same (c.write_slots.ensures.shown h) c.requires.sorted heads are x (c.publish_root.ensures.left h x l)
@@ -56,7 +57,7 @@ returns-in_err-publish_root-clause-time g c = λ h t before shows.
     let d = g.D.Disk in
     let old = c.args.pages.now in
     let mid = c.write_slots.new.pages in
-    let target = c.args.target.now in
+    let target = (aimed c.args.target.now) in
     let heads = c.name_heads.result.items in
     let are : listed (d.state mid.disk).bytes heads ≡ target = heads_list (d.state old.disk).bytes (d.state mid.disk).bytes target c.args.layout.slots.items c.deref.result.now heads c.deref.ensures.value c.name_heads.ensures (c.requires.kept h) (c.in_ok-write_slots.ensures.written h) c.requires.sorted c.requires.keys in
     run_two old mid before target h shows c.write_slots.ensures.same (c.write_slots.ensures.shown h) c.requires.sorted heads are (let p = c.publish_root.new.self in p.disk) (c.write_slots.ensures.time h t) (c.publish_root.ensures.time h t)
@@ -66,7 +67,7 @@ returns-in_err-close_old-clause-left g c = λ h before shows x l.
     let d = g.D.Disk in
     let old = c.args.pages.now in
     let mid = c.write_slots.new.pages in
-    let target = c.args.target.now in
+    let target = (aimed c.args.target.now) in
     let heads = c.name_heads.result.items in
     let are : listed (d.state mid.disk).bytes heads ≡ target = heads_list (d.state old.disk).bytes (d.state mid.disk).bytes target c.args.layout.slots.items c.deref.result.now heads c.deref.ensures.value c.name_heads.ensures (c.requires.kept h) (c.in_ok-write_slots.ensures.written h) c.requires.sorted c.requires.keys in
     from_two old mid before target h shows c.write_slots.ensures.same (c.write_slots.ensures.shown h) c.requires.sorted heads are c.publish_root.new.self c.publish_root.ensures.limit (c.in_ok-publish_root.ensures.shown h) x (c.close_old.ensures.left h x l)
@@ -76,7 +77,7 @@ returns-in_err-close_old-clause-time g c = λ h t before shows.
     let d = g.D.Disk in
     let old = c.args.pages.now in
     let mid = c.write_slots.new.pages in
-    let target = c.args.target.now in
+    let target = (aimed c.args.target.now) in
     let heads = c.name_heads.result.items in
     let are : listed (d.state mid.disk).bytes heads ≡ target = heads_list (d.state old.disk).bytes (d.state mid.disk).bytes target c.args.layout.slots.items c.deref.result.now heads c.deref.ensures.value c.name_heads.ensures (c.requires.kept h) (c.in_ok-write_slots.ensures.written h) c.requires.sorted c.requires.keys in
     run_three old mid before target h shows c.write_slots.ensures.same (c.write_slots.ensures.shown h) c.requires.sorted heads are c.publish_root.new.self c.publish_root.ensures.limit (c.in_ok-publish_root.ensures.shown h) (let p = c.close_old.new.self in p.disk) (c.write_slots.ensures.time h t) (c.publish_root.ensures.time h t) (c.close_old.ensures.time h t)
@@ -86,7 +87,7 @@ returns-clause-left g c = λ h before shows x l.
     let d = g.D.Disk in
     let old = c.args.pages.now in
     let mid = c.write_slots.new.pages in
-    let target = c.args.target.now in
+    let target = (aimed c.args.target.now) in
     let heads = c.name_heads.result.items in
     let are : listed (d.state mid.disk).bytes heads ≡ target = heads_list (d.state old.disk).bytes (d.state mid.disk).bytes target c.args.layout.slots.items c.deref.result.now heads c.deref.ensures.value c.name_heads.ensures (c.requires.kept h) (c.in_ok-write_slots.ensures.written h) c.requires.sorted c.requires.keys in
     from_two old mid before target h shows c.write_slots.ensures.same (c.write_slots.ensures.shown h) c.requires.sorted heads are c.publish_root.new.self c.publish_root.ensures.limit (c.in_ok-publish_root.ensures.shown h) x (c.close_old.ensures.left h x l)
@@ -96,7 +97,7 @@ returns-clause-time g c = λ h t before shows.
     let d = g.D.Disk in
     let old = c.args.pages.now in
     let mid = c.write_slots.new.pages in
-    let target = c.args.target.now in
+    let target = (aimed c.args.target.now) in
     let heads = c.name_heads.result.items in
     let are : listed (d.state mid.disk).bytes heads ≡ target = heads_list (d.state old.disk).bytes (d.state mid.disk).bytes target c.args.layout.slots.items c.deref.result.now heads c.deref.ensures.value c.name_heads.ensures (c.requires.kept h) (c.in_ok-write_slots.ensures.written h) c.requires.sorted c.requires.keys in
     run_three old mid before target h shows c.write_slots.ensures.same (c.write_slots.ensures.shown h) c.requires.sorted heads are c.publish_root.new.self c.publish_root.ensures.limit (c.in_ok-publish_root.ensures.shown h) (let p = c.close_old.new.self in p.disk) (c.write_slots.ensures.time h t) (c.publish_root.ensures.time h t) (c.close_old.ensures.time h t)
@@ -109,7 +110,7 @@ returns-clause-shows g c = record {
       let d = g.D.Disk in
       let old = c.args.pages.now in
       let mid = c.write_slots.new.pages in
-      let target = c.args.target.now in
+      let target = (aimed c.args.target.now) in
       let heads = c.name_heads.result.items in
       let are : listed (d.state mid.disk).bytes heads ≡ target = heads_list (d.state old.disk).bytes (d.state mid.disk).bytes target c.args.layout.slots.items c.deref.result.now heads c.deref.ensures.value c.name_heads.ensures (c.requires.kept h) (c.in_ok-write_slots.ensures.written h) c.requires.sorted c.requires.keys in
       shown_last mid c.publish_root.new.self c.close_old.new.self target heads are (c.in_ok-publish_root.ensures.shown h) (c.in_ok-close_old.ensures.shown h);

@@ -7,6 +7,7 @@ use Rattle.psu_pages.specs.Image.{Head, AreClear, IsInPool, pages_of}
 use Rattle.psu_pages.specs.Outcome.{IsPlanned}
 use Rattle.psu_pages.specs.Writing.{IsWritten, Reaches}
 use Rattle.psu_pages.proofs.Lists.{all_at}
+use Rattle.psu_items.specs.Target.{aimed}
 use Rattle.psu_items.proofs.Taking.{BearsOf, bears_on, bears_on_run, same_on}
 use Rattle.psu_items.proofs.Writing.{written_step, stands_now, ahead_step}
 use Rattle.psu_disk.specs.Disk.{Left, Follows, LeavesOnly}
@@ -66,9 +67,9 @@ loop-slot-preserved g c =
       same = same_on old mid new l.invariant.same e.same;
       standing = c.in_ok-write_slot.ensures.standing ∙ l.invariant.standing;
       planned = λ other is. e.planned other (l.invariant.planned other is);
-      written = λ h kept. written_step c.args.target.now (d.state mid.disk).bytes (d.state new.disk).bytes old.limit slots l.slot-index s c.loop-slot-test.true c.slot-item.is c.requires.pool c.requires.apart (others h) (l.invariant.written h kept)
-          (c.in_ok-write_slot.ensures.written h (stands_now c.args.target.now (d.state mid.disk).bytes (d.state new.disk).bytes old.limit slots l.slot-index s c.loop-slot-test.true c.slot-item.is c.requires.pool c.requires.apart (others h) (l.invariant.ahead h kept)));
-      ahead = λ h kept. ahead_step c.args.target.now (d.state mid.disk).bytes (d.state new.disk).bytes old.limit slots l.slot-index s c.loop-slot-test.true c.slot-item.is c.requires.pool c.requires.apart (others h) (l.invariant.ahead h kept);
+      written = λ h kept. written_step (aimed c.args.target.now) (d.state mid.disk).bytes (d.state new.disk).bytes old.limit slots l.slot-index s c.loop-slot-test.true c.slot-item.is c.requires.pool c.requires.apart (others h) (l.invariant.written h kept)
+          (c.in_ok-write_slot.ensures.written h (stands_now (aimed c.args.target.now) (d.state mid.disk).bytes (d.state new.disk).bytes old.limit slots l.slot-index s c.loop-slot-test.true c.slot-item.is c.requires.pool c.requires.apart (others h) (l.invariant.ahead h kept)));
+      ahead = λ h kept. ahead_step (aimed c.args.target.now) (d.state mid.disk).bytes (d.state new.disk).bytes old.limit slots l.slot-index s c.loop-slot-test.true c.slot-item.is c.requires.pool c.requires.apart (others h) (l.invariant.ahead h kept);
       shown = λ h. e.shown h ∙ l.invariant.shown h;
       left = λ h x i. bears_on old mid l.invariant.same (l.invariant.shown h) x (e.left h x i);
       time = λ h t. bears_on_run old mid l.invariant.same new.disk (l.invariant.shown h) (l.invariant.time h t) (e.time h t);
@@ -99,4 +100,4 @@ returns-clause-written g c = λ h kept.
     let d = g.D.Disk in
     let l = c.loop-slot in
     let all = take_all l.slot-index c.args.slots.now (omega (arith, c.loop-slot-test.false)) in
-    subst (AllByRecursion (λ slot. IsWritten (d.state (let p = l.pages in p.disk)).bytes slot.head (value_at c.args.target.now slot.head.key))) all (l.invariant.written h kept)
+    subst (AllByRecursion (λ slot. IsWritten (d.state (let p = l.pages in p.disk)).bytes slot.head (value_at (aimed c.args.target.now) slot.head.key))) all (l.invariant.written h kept)

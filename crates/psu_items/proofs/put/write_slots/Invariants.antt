@@ -7,6 +7,7 @@ use Rattle.psu_pages.specs.Shown.{items_in}
 use Rattle.psu_pages.specs.Writing.{IsWritten, Reaches}
 use Rattle.psu_items.specs.Writing.{SameBehind}
 use Rattle.psu_items.specs.Layout.{value_at, StandsWritten}
+use Rattle.psu_items.specs.Target.{aimed}
 use Rattle.psu_items.proofs.Taking.{BearsOf}
 use Rattle.psu_items.proofs.put.write_slots.Given as goal
 
@@ -21,8 +22,8 @@ invariant-loop-slot g l =
       same : HasSameHeads old l.pages;
       standing : (let p = l.pages in p.standing) ≡ old.standing;
       planned : (other : Head) → IsPlanned old other → IsPlanned l.pages other;
-      written : d.honest → AllByRecursion (StandsWritten (d.state old.disk).bytes l.target) l.slots → AllByRecursion (λ slot. IsWritten (d.state (let p = l.pages in p.disk)).bytes slot.head (value_at l.target slot.head.key)) (take l.slot-index l.slots);
-      ahead : d.honest → AllByRecursion (StandsWritten (d.state old.disk).bytes l.target) l.slots → AllByRecursion (StandsWritten (d.state (let p = l.pages in p.disk)).bytes l.target) (drop l.slot-index l.slots);
+      written : d.honest → AllByRecursion (StandsWritten (d.state old.disk).bytes (aimed l.target)) l.slots → AllByRecursion (λ slot. IsWritten (d.state (let p = l.pages in p.disk)).bytes slot.head (value_at (aimed l.target) slot.head.key)) (take l.slot-index l.slots);
+      ahead : d.honest → AllByRecursion (StandsWritten (d.state old.disk).bytes (aimed l.target)) l.slots → AllByRecursion (StandsWritten (d.state (let p = l.pages in p.disk)).bytes (aimed l.target)) (drop l.slot-index l.slots);
       shown : d.honest → items_in (let p = l.pages in p.root) (d.state (let p = l.pages in p.disk)).bytes ≡ items_in old.root (d.state old.disk).bytes;
       left : d.honest → (image : List ℕ) → Left (d.state (let p = l.pages in p.disk)) image → BearsOf old image;
       time : d.honest → d.tells → LeavesOnly d.moment d.left_since old.disk (let p = l.pages in p.disk) (BearsOf old);

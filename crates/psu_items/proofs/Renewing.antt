@@ -1,0 +1,44 @@
+-- What a map written anew leaves, said of the map and the batch that a commit was called with.
+use Rattle.std.proofs.Common.{◌≡◌, ℕ, List, sym, ◌∙◌, ap, subst}
+use Rattle.psu_disk.specs.Disk.{LeavesOnly}
+use Rattle.psu_disk.specs.declared.disk.Disk.{Ghosts}
+use Rattle.psu_items.specs.Map.{Item}
+use Rattle.psu_items.specs.Batch.{Edit, changed}
+use Rattle.psu_items.specs.Capacity.{CanHold}
+use Rattle.psu_items.specs.Image.{IsEither}
+use Rattle.psu_items.specs.Plan.{Planned}
+use Rattle.psu_items.specs.Standing.{KeepsMap, MapOn, on_pages}
+use Rattle.psu_pages.specs.Outcome.{HasSameRoots}
+use Rattle.psu_pages.specs.declared.pages.Pages.{Pages}
+use Rattle.psu_items.proofs.Committing.{same_view}
+
+-- what was planned is what is written
+module _ (m found : List Item) (batch edits : List Edit) (plan : Planned) (planned : plan ≡ record { map = m; edits = batch }) (found_is : found ≡ plan.map) (edits_is : edits ≡ plan.edits) where
+  pub map_called : found ≡ m
+  map_called = found_is ∙ ap (λ (p : Planned). p.map) planned
+
+  pub edits_called : edits ≡ batch
+  edits_called = edits_is ∙ ap (λ (p : Planned). p.edits) planned
+
+module _ (m found : List Item) (batch edits : List Edit) (map_is : found ≡ m) (edits_are : edits ≡ batch) where
+  pub either_called : (limit : ℕ) (x : List ℕ) → IsEither limit found (changed found edits) x → IsEither limit m (changed m batch) x
+  either_called limit x e = subst (λ (es : List Edit). IsEither limit m (changed m es) x) edits_are (subst (λ (f : List Item). IsEither limit f (changed f edits) x) map_is e)
+
+  pub time_called : {D : Type 0} (G : Ghosts D) (limit : ℕ) (old last : D) → LeavesOnly (Ghosts.moment G) (Ghosts.left_since G) old last (IsEither limit found (changed found edits))
+      → LeavesOnly (Ghosts.moment G) (Ghosts.left_since G) old last (IsEither limit m (changed m batch))
+  time_called {D} G limit old last run =
+      subst (λ (es : List Edit). LeavesOnly (Ghosts.moment G) (Ghosts.left_since G) old last (IsEither limit m (changed m es))) edits_are
+      (subst (λ (f : List Item). LeavesOnly (Ghosts.moment G) (Ghosts.left_since G) old last (IsEither limit f (changed f edits))) map_is run)
+
+  pub can_called : (limit : ℕ) → CanHold limit (changed m batch) → CanHold limit (changed found edits)
+  can_called limit can = subst (λ (es : List Edit). CanHold limit (changed found es)) (sym edits_are) (subst (λ (f : List Item). CanHold limit (changed f batch)) (sym map_is) can)
+
+  pub target_called : changed found edits ≡ changed m batch
+  target_called = ap (λ (f : List Item). changed f edits) map_is ∙ ap (changed m) edits_are
+
+-- a store that is as it was
+pub view_again : {D A : Type 0} {G : Ghosts D} (old new : Pages D A G) → HasSameRoots old new → (m items : List Item) (seen : MapOn D) → items ≡ m → on_pages old m ≡ seen → on_pages new items ≡ seen
+view_again {D} {A} {G} old new roots m items seen same is = same_view old new roots items ∙ ap (on_pages old) same ∙ is
+
+pub keeps_called : {D A : Type 0} {G : Ghosts D} (pages : Pages D A G) (m found : List Item) → KeepsMap pages found → m ≡ found → KeepsMap pages m
+keeps_called pages m found keeps is = subst (KeepsMap pages) (sym is) keeps

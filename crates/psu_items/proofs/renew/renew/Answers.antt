@@ -1,0 +1,108 @@
+use Rattle.std.proofs.Common.{inl, sym, subst}
+use Rattle.psu_disk.specs.Disk.{HasFailed}
+use Rattle.psu_items.specs.Map.{IsSorted}
+use Rattle.psu_items.specs.Capacity.{CanHold}
+use Rattle.psu_items.specs.Batch.{changed}
+use Rattle.psu_items.specs.Standing.{ShowsMap}
+use Rattle.psu_items.specs.Target.{aimed}
+use Rattle.psu_items.proofs.Maps.{sorted-changed}
+use Rattle.psu_items.proofs.Standing.{pages_stand}
+use Rattle.psu_items.proofs.Laying.{slots_planned}
+use Rattle.psu_items.proofs.Roster.{slots_sized, slots_claimed, slots_roster, slots_stand}
+use Rattle.psu_items.proofs.Committing.{none_run, still_shows, either_back, time_back, behind_back, behind_time_back}
+use Rattle.psu_items.proofs.Sparing.{laid_spare}
+use Rattle.psu_items.proofs.renew.renew.Goals as goal
+
+pub returns-in_default-clause-left : goal.returns-in_default-clause-left
+returns-in_default-clause-left g c = λ h x l. inl (pages_stand c.args.pages.now c.args.before.now c.requires.keeps.shows h x l)
+
+pub returns-in_default-clause-time : goal.returns-in_default-clause-time
+returns-in_default-clause-time g c = λ h t.
+    let p = c.args.pages.now in
+    none_run p c.args.before.now (changed c.args.before.now c.args.batch.now) c.requires.keeps.shows h (g.met.D.Disk.only_now t p.disk)
+
+pub returns-in_default-lay_out-clause-same : goal.returns-in_default-lay_out-clause-same
+returns-in_default-lay_out-clause-same g c = λ memory.
+    (c.lay_out.ensures.roots, record { shows = still_shows c.args.pages.now c.lay_out.new.pages c.lay_out.ensures.roots c.args.before.now c.requires.keeps.shows; spare = c.in_default-lay_out.ensures.spare c.requires.keeps.spare })
+
+pub returns-in_default-lay_out-clause-left : goal.returns-in_default-lay_out-clause-left
+returns-in_default-lay_out-clause-left g c = rw c.lay_out.ensures.roots.disk (λ h x l. inl (pages_stand c.args.pages.now c.args.before.now c.requires.keeps.shows h x l))
+
+pub returns-in_default-lay_out-clause-time : goal.returns-in_default-lay_out-clause-time
+returns-in_default-lay_out-clause-time g c = λ h t.
+    let p = c.args.pages.now in
+    rw c.lay_out.ensures.roots.disk (none_run p c.args.before.now (changed c.args.before.now c.args.batch.now) c.requires.keeps.shows h (g.met.D.Disk.only_now t p.disk))
+
+pub put-requires-clause-planned : goal.put-requires-clause-planned
+put-requires-clause-planned g c = let t = c.in-Ok.target in slots_planned c.lay_out.new.pages t.before (aimed t) (aimed t) c.in-Ok-lay_out.layout.slots.items c.in-Ok-lay_out.ensures.laid
+
+pub put-requires-clause-sized : goal.put-requires-clause-sized
+put-requires-clause-sized g c = let t = c.in-Ok.target in slots_sized c.lay_out.new.pages t.before (aimed t) c.in-Ok-lay_out.layout.slots.items c.in-Ok-lay_out.ensures.laid
+
+pub put-requires-clause-roster : goal.put-requires-clause-roster
+put-requires-clause-roster g c =
+    let t = c.in-Ok.target in
+    let p = c.args.pages.now in
+    let can : CanHold p.limit (aimed t) = subst (CanHold p.limit) (sym c.in-Ok.ensures.aimed) c.requires.can in
+    slots_roster c.lay_out.new.pages t.before (aimed t) c.in-Ok-lay_out.layout.slots.items c.in-Ok-lay_out.ensures.laid p.limit c.lay_out.ensures.roots.limit can
+    (subst IsSorted (sym c.in-Ok.ensures.aimed) (sorted-changed c.args.before.now c.args.batch.now c.requires.keeps.shows.sorted))
+
+pub put-requires-clause-claimed : goal.put-requires-clause-claimed
+put-requires-clause-claimed g c = let t = c.in-Ok.target in slots_claimed c.lay_out.new.pages t.before (aimed t) c.in-Ok-lay_out.layout.slots.items c.in-Ok-lay_out.ensures.laid
+
+pub put-requires-clause-spare : goal.put-requires-clause-spare
+put-requires-clause-spare g c = laid_spare c.args.pages.now c.lay_out.new.pages c.lay_out.ensures.roots c.in-Ok-lay_out.layout.slots.items c.in-Ok-lay_out.ensures.claims c.requires.keeps.spare
+
+pub put-requires-clause-kept : goal.put-requires-clause-kept
+put-requires-clause-kept g c =
+    let t = c.in-Ok.target in
+    slots_stand c.lay_out.new.pages t.before (aimed t) c.in-Ok-lay_out.layout.slots.items c.in-Ok-lay_out.ensures.laid
+    (subst (ShowsMap c.lay_out.new.pages) (sym c.in-Ok.ensures.before) (still_shows c.args.pages.now c.lay_out.new.pages c.lay_out.ensures.roots c.args.before.now c.requires.keeps.shows))
+
+pub returns-in-Ok-put-clause-keeps : goal.returns-in-Ok-put-clause-keeps
+returns-in-Ok-put-clause-keeps g c = record { shows = subst (ShowsMap c.put.new.pages) c.in-Ok.ensures.aimed c.in-Ok-put.ensures.shows; spare = c.in-Ok-put.ensures.spare }
+
+pub returns-in-Ok-put-clause-left : goal.returns-in-Ok-put-clause-left
+returns-in-Ok-put-clause-left g c = λ h x l.
+    let p = c.args.pages.now in
+    let m = c.args.before.now in
+    either_back p c.lay_out.new.pages c.lay_out.ensures.roots m (aimed c.in-Ok.target) (changed m c.args.batch.now) c.in-Ok.ensures.aimed x
+    (c.put.ensures.left h m (still_shows p c.lay_out.new.pages c.lay_out.ensures.roots m c.requires.keeps.shows) x l)
+
+pub returns-in-Ok-put-clause-time : goal.returns-in-Ok-put-clause-time
+returns-in-Ok-put-clause-time g c = λ h t.
+    let p = c.args.pages.now in
+    let m = c.args.before.now in
+    time_back p c.lay_out.new.pages c.lay_out.ensures.roots m (aimed c.in-Ok.target) (changed m c.args.batch.now) c.in-Ok.ensures.aimed (let last = c.put.new.pages in last.disk)
+    (c.put.ensures.time h t m (still_shows p c.lay_out.new.pages c.lay_out.ensures.roots m c.requires.keeps.shows))
+
+pub returns-in-Ok-put-clause-behind : goal.returns-in-Ok-put-clause-behind
+returns-in-Ok-put-clause-behind g c = λ h. behind_back c.args.pages.now c.lay_out.new.pages c.lay_out.ensures.roots (let last = c.put.new.pages in last.disk) (c.put.ensures.behind h)
+
+pub returns-in-Ok-put-clause-behind_time : goal.returns-in-Ok-put-clause-behind_time
+returns-in-Ok-put-clause-behind_time g c = λ h t. behind_time_back c.args.pages.now c.lay_out.new.pages c.lay_out.ensures.roots (let last = c.put.new.pages in last.disk) (c.put.ensures.behind_time h t)
+
+pub returns-clause-device : goal.returns-clause-device
+returns-clause-device g c = λ device.
+    let d = g.D.Disk in
+    subst (λ disk. HasFailed (d.failures disk) (d.failures (let last = c.put.new.pages in last.disk))) c.lay_out.ensures.roots.disk c.in-Err.ensures.device
+
+pub returns-clause-left : goal.returns-clause-left
+returns-clause-left g c = λ h x l.
+    let p = c.args.pages.now in
+    let m = c.args.before.now in
+    either_back p c.lay_out.new.pages c.lay_out.ensures.roots m (aimed c.in-Ok.target) (changed m c.args.batch.now) c.in-Ok.ensures.aimed x
+    (c.put.ensures.left h m (still_shows p c.lay_out.new.pages c.lay_out.ensures.roots m c.requires.keeps.shows) x l)
+
+pub returns-clause-time : goal.returns-clause-time
+returns-clause-time g c = λ h t.
+    let p = c.args.pages.now in
+    let m = c.args.before.now in
+    time_back p c.lay_out.new.pages c.lay_out.ensures.roots m (aimed c.in-Ok.target) (changed m c.args.batch.now) c.in-Ok.ensures.aimed (let last = c.put.new.pages in last.disk)
+    (c.put.ensures.time h t m (still_shows p c.lay_out.new.pages c.lay_out.ensures.roots m c.requires.keeps.shows))
+
+pub returns-clause-behind : goal.returns-clause-behind
+returns-clause-behind g c = λ h. behind_back c.args.pages.now c.lay_out.new.pages c.lay_out.ensures.roots (let last = c.put.new.pages in last.disk) (c.put.ensures.behind h)
+
+pub returns-clause-behind_time : goal.returns-clause-behind_time
+returns-clause-behind_time g c = λ h t. behind_time_back c.args.pages.now c.lay_out.new.pages c.lay_out.ensures.roots (let last = c.put.new.pages in last.disk) (c.put.ensures.behind_time h t)

@@ -1,0 +1,62 @@
+//! The map after a batch, in the place of the one before.
+ghost use Rattle.std.specs.Prelude.{◌≡◌, ◌+◌, ◌<◌, ◌^◌, OnOk, IsErrOf};
+ghost use Rattle.psu_disk.specs.Disk.{Left, Follows, LeavesOnly, HasFailed};
+ghost use Rattle.psu_pages.specs.Outcome.{HasSameRoots};
+ghost use Rattle.psu_pages.specs.Writing.{Reaches};
+ghost use Rattle.psu_items.specs.Capacity.{CanHold};
+ghost use Rattle.psu_items.specs.Batch.{changed};
+ghost use Rattle.psu_items.specs.Image.{EachIsEither, IsEither};
+ghost use Rattle.psu_items.specs.Standing.{KeepsMap};
+ghost use Rattle.psu_items.specs.Writing.{SameBehind};
+ghost use Rattle.psu_items.specs.declared.renew.Unwritten.TheVariants.{Memory, Device};
+
+use crate::layout::lay_out;
+use crate::put::put;
+use crate::target::Target;
+use crate::{Batch, Pair};
+use psu_disk::Disk;
+use psu_pages::Pages;
+use std::alloc::Allocator;
+
+/// Why a map isn't written.
+#[derive(Clone, Copy, Drop)]
+pub enum Unwritten {
+    /// Memory is refused; no call of the disk was made.
+    Memory,
+    /// A call of the disk failed.
+    Device,
+}
+
+/// Puts the map after a batch in the place of the one before. All memory and all pages are taken before the first call of the disk.
+pub fn renew<D: Disk, A: Allocator + Copy>(
+    alloc: A,
+    pages: &mut Pages<D, A>,
+    before: &[Pair<A>],
+    batch: &Batch<A>,
+) -> Result<(), Unwritten>
+    requires keeps { KeepsMap pages.old before.now }
+    requires can { CanHold pages.old.limit (changed before.now batch.now) }
+    requires number { pages.old.number + 1 < 2 ^ 64 }
+    ensures keeps { OnOk result (KeepsMap pages.new (changed before.now batch.now)) }
+    ensures number { OnOk result (pages.new.number ≡ pages.old.number + 1) }
+    ensures works { OnOk result (D.failures pages.new.disk ≡ D.failures pages.old.disk) }
+    ensures limit { pages.new.limit ≡ pages.old.limit }
+    ensures extent { D.extent pages.new.disk ≡ D.extent pages.old.disk }
+    ensures same { IsErrOf result Memory → HasSameRoots pages.old pages.new × KeepsMap pages.new before.now }
+    ensures device { IsErrOf result Device → HasFailed (D.failures pages.old.disk) (D.failures pages.new.disk) }
+    ensures left { D.honest → EachIsEither (D.state pages.new.disk) pages.old.limit before.now (changed before.now batch.now) }
+    ensures time { D.honest → D.tells → LeavesOnly D.moment D.left_since pages.old.disk pages.new.disk (IsEither pages.old.limit before.now (changed before.now batch.now)) }
+    ensures behind { D.honest → Follows (SameBehind pages.old.limit) (Left (D.state pages.old.disk)) (Left (D.state pages.new.disk)) }
+    ensures behind_time { D.honest → D.tells → LeavesOnly D.moment D.left_since pages.old.disk pages.new.disk (Reaches (SameBehind pages.old.limit) (Left (D.state pages.old.disk))) }
+{
+    let Ok(target) = Target::of(alloc, before, batch) else {
+        return Err(Unwritten::Memory);
+    };
+    let Ok(layout) = lay_out(alloc, pages, &target) else {
+        return Err(Unwritten::Memory);
+    };
+    match put(pages, &target, layout) {
+        Ok(()) => Ok(()),
+        Err(_) => Err(Unwritten::Device),
+    }
+}
