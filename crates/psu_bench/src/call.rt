@@ -1,0 +1,16 @@
+//! What a call and its reply are in the history.
+use std::marker::Model;
+
+/// A call of the device with its reply. No value of it is made: contracts alone speak of it.
+pub struct Call {
+    unmade: (),
+}
+
+impl Model for Call {
+    ghost use Rattle.psu_exec.specs.Calls.{Entry};
+    ghost use Rattle.psu_exec.specs.Calls.Entry.{Cleared};
+
+    ghost Value = { Entry };
+
+    ghost view = { λ _. Cleared 0 };
+}

@@ -1,0 +1,47 @@
+//! The thread that flushes.
+ghost use Rattle.std.specs.Prelude.{◌≡◌, ◌++◌, List};
+ghost use Rattle.psu_turn.specs.Seats.{IsOf, IsSame};
+ghost use Rattle.psu_exec.specs.Calls.{Entry, Taken};
+ghost use Rattle.psu_bench.specs.Rounds.{IsRound, AreRounds};
+
+use crate::{Bench, Seat};
+use psu_disk::Disk;
+use std::alloc::Allocator;
+use std::sync::Wait;
+
+/// Makes so many rounds: each takes a job, runs it outside the turn, and gives back what it came to.
+pub fn flusher<D: Disk + Drop, A: Allocator + Copy, R: Wait>(
+    rt: &R,
+    bench: &Bench<D, A>,
+    mut seat: Seat<A>,
+    rounds: u64,
+) -> Seat<A>
+    requires own { IsOf bench.now seat }
+    ensures same { IsSame seat result }
+    ensures calls { (calls : List Entry) × (result.mine ≡ seat.mine ++ calls) × AreRounds rounds calls }
+{
+    for _ in 0..rounds {
+        one_round(rt, bench, &mut seat);
+    }
+    seat
+}
+
+// One round. What is given back is no stranger's where nobody else takes jobs of this bench; a stranger's is let go.
+fn one_round<D: Disk + Drop, A: Allocator + Copy, R: Wait>(
+    rt: &R,
+    bench: &Bench<D, A>,
+    seat: &mut Seat<A>,
+)
+    requires own { IsOf bench.now seat.old }
+    ensures same { IsSame seat.old seat.new }
+    ensures calls { (taken : Taken) × (calls : List Entry) × (seat.new.mine ≡ seat.old.mine ++ calls) × IsRound taken calls }
+    ensures own { IsOf bench.now seat.new }
+{
+    match bench.take(rt, seat) {
+        Ok(job) => {
+            let finished = job.run();
+            let _given = bench.give_back(rt, seat, finished);
+        }
+        Err(_none) => {}
+    }
+}
