@@ -70,6 +70,12 @@ mod scarce_lines;
 #[cfg(test)]
 mod sessions;
 #[cfg(test)]
+mod sessions_bench;
+#[cfg(test)]
+mod sessions_locks;
+#[cfg(test)]
+mod sessions_status;
+#[cfg(test)]
 mod status;
 #[cfg(test)]
 mod stores;
