@@ -69,6 +69,7 @@ fn tells(rt: &impl Abort, outcome: Outcome<Global>, want: &[u8]) {
         Outcome::Error(_) => assert_eq!(rt; "error".as_bytes(), want),
         Outcome::Expand(_) => assert_eq!(rt; "expand".as_bytes(), want),
         Outcome::Parked => assert_eq!(rt; "parked".as_bytes(), want),
+        Outcome::Held => assert_eq!(rt; "held".as_bytes(), want),
         Outcome::Later => assert_eq!(rt; "later".as_bytes(), want),
     }
 }

@@ -50,6 +50,12 @@ mod refusals;
 #[cfg(test)]
 mod sessions;
 #[cfg(test)]
+mod sessions_bench;
+#[cfg(test)]
+mod sessions_locks;
+#[cfg(test)]
+mod sessions_status;
+#[cfg(test)]
 mod spelled;
 #[cfg(test)]
 mod status;

@@ -1,5 +1,5 @@
 -- What comes of a command, as the step of its unit.
-use Rattle.std.proofs.Common.{◌≡◌, ◌⊎◌, inl, inr, ℕ, Bool, true, false, cond, Option, Some, None, is_none, Result, Ok, Err, List, refl, sym, ap, subst, ◌∙◌}
+use Rattle.std.proofs.Common.{◌≡◌, ◌⊎◌, inl, inr, ℕ, Bool, true, false, Option, Some, None, Ok, Err, List, refl, sym, ap, subst, ◌∙◌}
 use Rattle.psu_lex.specs.declared.scpi_error.ScpiError.{ScpiError}
 use Rattle.psu_lex.specs.declared.scpi_error.ScpiError.TheVariants.{MediaFull, OutOfMemory}
 use Rattle.psu_nv.specs.Commands as nv
@@ -7,17 +7,15 @@ use Rattle.std.proofs.lemmas.Bool.{cases_Bool}
 use Rattle.psu_nv.specs.Contents.{Contents, IsContents, fits}
 use Rattle.psu_nv.specs.Views.{command_of}
 use Rattle.psu_nv.specs.declared.command.NvCommand.{NvCommand}
-use Rattle.psu_tree.specs.declared.command.Command.{Command}
 use Rattle.psu_tree.specs.declared.unit_request.Request.{Request}
 use Rattle.psu_instrument.specs.Instrument.{Instrument}
 use Rattle.psu_instrument.specs.Meaning.{ActsAs, Meaning, Refuses, Does, Keeps, Completes}
-use Rattle.psu_instrument.specs.declared.act.Act.{Act}
 use Rattle.psu_instrument.specs.declared.act.Act.TheVariants as act
 use Rattle.psu_instrument.specs.declared.completion.Completion.{Completion}
-use Rattle.psu_instrument.specs.declared.completion.Completion.TheVariants as completion
-use Rattle.psu_exec.specs.Device.{Reply, Done, Error, Later, State, Flush, MayMean, Step, AnswersCall, after_meant, called, here, is_late, is_later, reads_nonvolatile, wait_of, is_whole, kept_unless, meant, refused, wants_memory, with_instrument}
+use Rattle.psu_exec.specs.Device.{Reply, Error, Held, Later, State, Flush, MayMean, Step, AnswersCall, AnswersCalled, after_meant, called, followed, here, is_denied, is_later, is_whole, kept_unless, meant, refused, wants_memory, with_instrument}
 use Rattle.psu_exec.specs.Consistent.{IsConsistent}
-use Rattle.psu_exec.proofs.Answering.{comes_later, is_called, is_meant}
+use Rattle.psu_exec.proofs.Answering.{comes_later, is_answered_now, is_held}
+use Rattle.psu_exec.proofs.Latching.{followed_same}
 use Rattle.psu_exec.proofs.Changes.{sound_after}
 
 -- ---- steps
@@ -29,38 +27,28 @@ seen {s} {t} e = s
 pub kept_sound : (f : Flush) → IsConsistent f → IsContents f.contents
 kept_sound f k = subst IsContents (sym k.made) (sound_after k.first k.rest k.sound)
 
-pub later_step : (s : State) (session : ℕ) (request : Request) → is_later s session request ≡ true → IsConsistent s.flush → Step s session request Later s
-later_step s session request late k = record { may = comes_later s session request late; is = refl; sound = kept_sound s.flush k; fitting = k.fitting }
+pub held_step : (s : State) (session : ℕ) (request : Request) → is_denied s session ≡ true → IsConsistent s.flush → Step s session request Held s
+held_step s session request denied k = record { may = is_held s session request denied; is = sym (followed_same s); sound = kept_sound s.flush k; fitting = k.fitting }
 
--- by what the unit reads as
-later_at : (s : State) (session : ℕ) (request : Request) (reading : Result Command ScpiError) (late : Bool) → request.reading ≡ reading
-    → is_late (wait_of s.flush session) s.flush.unflushed (reads_nonvolatile reading (is_none s.flush.contents.enables)) ≡ late → is_later s session request ≡ late
-later_at s session request reading late e h = ap (λ (r : Result Command ScpiError). is_late (wait_of s.flush session) s.flush.unflushed (reads_nonvolatile r (is_none s.flush.contents.enables))) e ∙ h
+pub later_step : (s : State) (session : ℕ) (request : Request) → is_denied s session ≡ false → is_later s session request ≡ true → IsConsistent s.flush → Step s session request Later s
+later_step s session request free late k = record { may = comes_later s session request free late; is = sym (followed_same s); sound = kept_sound s.flush k; fitting = k.fitting }
 
-pub late_step : (s : State) (session : ℕ) (request : Request) (reading : Result Command ScpiError) → request.reading ≡ reading
-    → is_late (wait_of s.flush session) s.flush.unflushed (reads_nonvolatile reading (is_none s.flush.contents.enables)) ≡ true → IsConsistent s.flush → Step s session request Later s
-late_step s session request reading e h k = later_step s session request (later_at s session request reading true e h) k
-
--- the step of a unit that calls a macro, and of one that calls none
-pub call_step : (s : State) (session : ℕ) (request : Request) (reading : Result Command ScpiError) (reply : Reply) (new : State) → request.reading ≡ reading
-    → is_late (wait_of s.flush session) s.flush.unflushed (reads_nonvolatile reading (is_none s.flush.contents.enables)) ≡ false → (body : List ℕ) × (called s request ≡ Some body) × AnswersCall request body reply
-    → ((session : ℕ) (m : Meaning) → new ≡ after_meant s session m reply) → IsConsistent new.flush → Step s session request reply new
-call_step s session request reading reply new e h call is k = record {
-  may = is_called s session request call.0 reply (later_at s session request reading false e h) call.1 call.2;
-  is = is session (meant (here s) request.reading);
+-- the step of a unit that is executed
+pub answered_step : (s mid new : State) (session : ℕ) (request : Request) (reply : Reply) → is_denied s session ≡ false → is_later s session request ≡ false → AnswersCalled s session request (called s request) reply
+    → mid ≡ after_meant s session (meant (here s session) request.reading) reply → new ≡ followed s mid → IsConsistent new.flush → Step s session request reply new
+answered_step s mid new session request reply free now may is then k = record {
+  may = is_answered_now s session request reply free now may;
+  is = then ∙ ap (followed s) is;
   sound = kept_sound new.flush k;
   fitting = k.fitting;
 }
 
-pub step_of : (s : State) (session : ℕ) (request : Request) (reading : Result Command ScpiError) (reply : Reply) (new : State) → request.reading ≡ reading
-    → is_late (wait_of s.flush session) s.flush.unflushed (reads_nonvolatile reading (is_none s.flush.contents.enables)) ≡ false → called s request ≡ None → MayMean s.flush (meant (here s) reading) reply
-    → new ≡ after_meant s session (meant (here s) reading) reply → IsConsistent new.flush → Step s session request reply new
-step_of s session request reading reply new e h calls may is k = record {
-  may = is_meant s session request reply (later_at s session request reading false e h) calls (subst (λ (r : Result Command ScpiError). MayMean s.flush (meant (here s) r) reply) (sym e) may);
-  is = subst (λ (r : Result Command ScpiError). new ≡ after_meant s session (meant (here s) r) reply) (sym e) is;
-  sound = kept_sound new.flush k;
-  fitting = k.fitting;
-}
+-- what a unit is answered that calls a macro, and one that calls none
+pub called_so : (s : State) (session : ℕ) (request : Request) (reply : Reply) → (body : List ℕ) × (called s request ≡ Some body) × AnswersCall request body reply → AnswersCalled s session request (called s request) reply
+called_so s session request reply call = subst (λ (o : Option (List ℕ)). AnswersCalled s session request o reply) (sym call.1) call.2
+
+pub meant_so : (s : State) (session : ℕ) (request : Request) (reply : Reply) → called s request ≡ None → MayMean s.flush (meant (here s session) request.reading) reply → AnswersCalled s session request (called s request) reply
+meant_so s session request reply none may = subst (λ (o : Option (List ℕ)). AnswersCalled s session request o reply) (sym none) may
 
 -- ---- what comes of a command
 

@@ -1,17 +1,18 @@
 // The one state, without its store.
-ghost use Rattle.std.specs.Prelude.{◌≡◌, ◌==◌, true, IfOk, OnErr};
+ghost use Rattle.std.specs.Prelude.{◌≡◌, ◌==◌, true, IfOk};
 ghost use Rattle.psu_nv.specs.Contents.{IsContents, fits};
-ghost use Rattle.psu_exec.specs.Device.{State, is_open, power_on};
+ghost use Rattle.psu_exec.specs.Device.{State, followed, is_open, power_on};
+ghost use Rattle.psu_exec.specs.Latches.{enabled_of};
 ghost use Rattle.psu_status.specs.Status.{first_request};
-ghost use Rattle.psu_exec.specs.Calls.{Allows, unparked, with_session};
-ghost use Rattle.psu_exec.specs.Calls.Entry.{Opened, Closed, Cleared};
 ghost use Rattle.psu_exec.specs.Consistent.{IsConsistent};
 
 mod flushing;
+mod locks;
+mod sessions;
 mod units;
 
-use crate::waits::least_free;
-use crate::{Condition, Contents, Crowded, SESSIONS, Session, Wait};
+use crate::marks::{follow, no_mark};
+use crate::{Condition, Contents, Enabled, LockTable, Mark, SESSIONS, Session, Wait};
 use psu_instrument::Instrument;
 use psu_items::Plan;
 use std::alloc::{AllocError, Allocator};
@@ -32,6 +33,9 @@ pub struct Device<A: Allocator + Copy> {
     out: bool,
     waits: [Option<Wait>; SESSIONS],
     open_now: [bool; SESSIONS],
+    marks: [Mark; SESSIONS],
+    // With the strings of locks, which are not to be moved with the device.
+    locks: Box<LockTable, A>,
     instrument: Instrument,
 }
 
@@ -42,7 +46,7 @@ impl<A: Allocator + Copy> Model for Device<A> {
     ghost Value = { State };
 
     ghost view = { λ d. record {
-      volatile = record { instrument = d.instrument; open_now = d.open_now };
+      volatile = record { instrument = d.instrument; open_now = d.open_now; marks = d.marks; locks = d.locks.value };
       flush = record { limit = d.limit; contents = d.contents; before = d.map.map; unflushed = d.unflushed; held = held_of d.held (changed d.map.map d.map.edits); store = d.store; out = d.out; waits = d.waits };
     } };
 
@@ -63,6 +67,7 @@ impl<A: Allocator + Copy> Device<A> {
         ensures { IfOk result (λ d. d ≡ power_on limit contents) }
     {
         let map = Plan::of(alloc, contents.encode_items(alloc)?);
+        let locks = Box::new(alloc, LockTable::new())?;
         let instrument = Instrument::power_on(contents.enables());
         Ok(Device {
             alloc,
@@ -75,53 +80,10 @@ impl<A: Allocator + Copy> Device<A> {
             out: false,
             waits: [None; SESSIONS],
             open_now: [false; SESSIONS],
+            marks: [no_mark(); SESSIONS],
+            locks,
             instrument,
         })
-    }
-
-    /// Opens the session of the least free number.
-    pub(crate) fn open_session(&mut self) -> Result<Session, Crowded>
-        ensures opened { IfOk result (λ session. Allows self.old (Opened (Some session)) self.new) }
-        ensures crowded { OnErr result (Allows self.old (Opened None) self.new) }
-    {
-        match least_free(&self.open_now) {
-            None => Err(Crowded),
-            Some(session) => {
-                self.set_session(session, true);
-                Ok(session)
-            }
-        }
-    }
-
-    /// Closes a session that is open; its wait is dropped.
-    pub(crate) fn close_session(&mut self, session: Session)
-        requires { is_open self.old session ≡ true }
-        ensures { Allows self.old (Closed session) self.new }
-    {
-        self.set_session(session, false);
-    }
-
-    /// Drops the wait of a session that is open.
-    pub(crate) fn clear(&mut self, session: Session)
-        requires { is_open self.old session ≡ true }
-        ensures { Allows self.old (Cleared session) self.new }
-    {
-        self.unpark(session);
-    }
-
-    // Whether a session is open from now on; its wait is dropped.
-    fn set_session(&mut self, session: Session, opens: bool)
-        ensures { self.new ≡ with_session self.old session opens }
-    {
-        self.open_now[session.place()] = opens;
-        self.unpark(session);
-    }
-
-    // The wait of a session is dropped.
-    fn unpark(&mut self, session: Session)
-        ensures { self.new ≡ record self.old { flush = unparked self.old.flush session } }
-    {
-        self.waits[session.place()] = None;
     }
 
     /// Whether a session is open.
@@ -158,5 +120,26 @@ impl<A: Allocator + Copy> Device<A> {
         ensures { result ≡ first_request self.now.volatile.instrument.status }
     {
         self.instrument.first_request()
+    }
+
+    // The enabled bits of a session that has read its answers, and of one that has not.
+    fn enabled(&self) -> Enabled
+        ensures { result ≡ enabled_of self.now.volatile.instrument.status }
+    {
+        Enabled {
+            read: self.instrument.enabled(false),
+            unread: self.instrument.enabled(true),
+        }
+    }
+
+    // The latches of all sessions follow their enabled bits, which were these before the step.
+    fn follow(&mut self, old: Enabled)
+        ensures { (before : State) → old ≡ enabled_of before.volatile.instrument.status → before.volatile.marks ≡ self.old.volatile.marks → self.new ≡ followed before self.old }
+    {
+        let new = Enabled {
+            read: self.instrument.enabled(false),
+            unread: self.instrument.enabled(true),
+        };
+        follow(&mut self.marks, old, new);
     }
 }

@@ -1,13 +1,14 @@
 //! The one state with its store, and its jobs.
-ghost use Rattle.std.specs.Prelude.{◌≡◌, ◌<◌, ◌≤◌, ◌==◌, IfOk, IfErr, OnOk, OnErr, true, false, Some, None, is_none, not, List, ℕ};
+ghost use Rattle.std.specs.Prelude.{◌≡◌, ◌↔◌, ◌<◌, ◌≤◌, ◌==◌, IfOk, IfErr, IfSome, OnOk, OnErr, true, false, Some, None, is_none, not, List, ℕ};
 ghost use Rattle.std.specs.Option.{ForSome};
 ghost use Rattle.psu_items.specs.Batch.{changed};
 ghost use Rattle.psu_exec.specs.Batch.{batch};
 ghost use Rattle.psu_nv.specs.Contents.{Contents as Kept, items_of, IsContents, fits};
-ghost use Rattle.psu_exec.specs.Device.{power_on, is_open, is_broken, target, wait_of, State, Answer, Error, Later, refused};
+ghost use Rattle.psu_exec.specs.Device.{power_on, is_denied, is_open, is_broken, target, wait_of, followed, State, Answer, Error, Held, Later, refused};
 ghost use Rattle.psu_status.specs.Status.{first_request, prescribed};
 ghost use Rattle.psu_exec.specs.Calls.{Allows};
-ghost use Rattle.psu_exec.specs.Calls.Entry.{Executed, Settled, Took, GaveBack, Opened, Closed, Cleared};
+ghost use Rattle.psu_exec.specs.Calls.Entry.{Executed, Settled, Took, GaveBack, Opened, Closed, Cleared, Sent, Delivered, Queried, Fetched, Told, Locked, Released, Ticked, Informed};
+ghost use Rattle.psu_locks.specs.Table.{FailsFirst, IsSettled, next_deadline};
 ghost use Rattle.psu_exec.specs.Consistent.{IsConsistent};
 ghost use Rattle.psu_exec.specs.Shown.{cause_of, outcome_of, over_of};
 ghost use Rattle.psu_exec.specs.Jobs.{home_edits, home_goal, home_map, home_limit, home_of, is_home_whole};
@@ -17,8 +18,9 @@ ghost use Rattle.psu_instrument.specs.declared.completion.Completion.{Completion
 ghost use Rattle.psu_exec.specs.declared.wait.Wait.TheVariants.{Until};
 
 use crate::{
-    Condition, Contents, Crowded, Device, Ended, Finished, Home, Job, NoJob, Outcome, Planned,
-    PowerCause, PowerFault, Request, Session, Sessions, Stranger,
+    Condition, Contents, Crowded, Device, Ended, Finished, Freed, Grant, Home, Info, Job, Kind,
+    LockRefusal, NoJob, Outcome, Planned, PowerCause, PowerFault, Request, Session, Sessions,
+    Stranger,
 };
 use psu_disk::Disk;
 use psu_items::{Batch, Store};
@@ -97,10 +99,13 @@ impl<D: Disk, A: Allocator + Copy> Exec<D, A> {
         ensures home { self.new.home ≡ self.old.home }
 
         // What follows from the step: `*OPC?` is answered only where no change is left that is not flushed; an error is
-        // reported and changes nothing else; a unit that is to come later changes nothing.
+        // reported and changes nothing else but the latches that follow; a unit that is to come later changes nothing; it is Held exactly
+        // where another session's lock denies it, and then nothing changes.
         ensures complete { asks_opc request.now.reading ≡ true → (text : List ℕ) → outcome_of result ≡ Answer text → self.old.device.flush.unflushed ≡ 0 }
-        ensures refused { (e : AnyError) → outcome_of result ≡ Error e → self.new.device ≡ refused self.old.device e }
+        ensures refused { (e : AnyError) → outcome_of result ≡ Error e → self.new.device ≡ followed self.old.device (refused self.old.device e) }
         ensures later { outcome_of result ≡ Later → self.new.device ≡ self.old.device }
+        ensures held { (outcome_of result ≡ Held) ↔ (is_denied self.old.device session ≡ true) }
+        ensures same { outcome_of result ≡ Held → self.new.device ≡ self.old.device }
 
         // What follows from the step: the condition still holds.
         ensures still_open { is_open self.new.device session ≡ true }
@@ -119,7 +124,7 @@ impl<D: Disk, A: Allocator + Copy> Exec<D, A> {
         // only where none before it is left, and an error is reported.
         ensures parked { result ≡ Outcome.Parked → 0 < self.old.device.flush.unflushed }
         ensures complete { (text : List ℕ) → outcome_of result ≡ Answer text → (c : Completion) × (wait_of self.old.device.flush session ≡ Some (Until c 0)) }
-        ensures refused { (e : AnyError) → outcome_of result ≡ Error e → self.new.device.volatile ≡ (refused self.old.device e).volatile }
+        ensures refused { (e : AnyError) → outcome_of result ≡ Error e → self.new.device.volatile ≡ (followed self.old.device (refused self.old.device e)).volatile }
         ensures kept { self.new.device.flush.contents ≡ self.old.device.flush.contents }
 
         // What follows from the step: the condition still holds.
@@ -138,13 +143,111 @@ impl<D: Disk, A: Allocator + Copy> Exec<D, A> {
         self.device.open_session()
     }
 
-    /// Closes a session that is open.
-    pub fn close_session(&mut self, session: Session)
+    /// Closes a session that is open: its wait, its marks, its locks and its request end with it. Answers the sessions whose requests
+    /// for a lock were then granted, in order of arrival.
+    pub fn close_session(&mut self, session: Session) -> Sessions
         requires { is_open self.old.device session ≡ true }
-        ensures step { Allows self.old.device (Closed session) self.new.device }
+        ensures step { Allows self.old.device (Closed session result) self.new.device }
         ensures home { self.new.home ≡ self.old.home }
     {
-        self.device.close_session(session);
+        self.device.close_session(session)
+    }
+
+    /// An answer is sent to a session that is open: a message is available to it until it is delivered.
+    pub fn sent(&mut self, session: Session)
+        requires { is_open self.old.device session ≡ true }
+        ensures step { Allows self.old.device (Sent session) self.new.device }
+        ensures home { self.new.home ≡ self.old.home }
+    {
+        self.device.sent(session);
+    }
+
+    /// What was sent to a session that is open is delivered.
+    pub fn delivered(&mut self, session: Session)
+        requires { is_open self.old.device session ≡ true }
+        ensures step { Allows self.old.device (Delivered session) self.new.device }
+        ensures home { self.new.home ≡ self.old.home }
+    {
+        self.device.delivered(session);
+    }
+
+    /// The answer to a status query of a session that is open: the status byte with the session's request for service in bit 6,
+    /// which is then cleared.
+    pub fn status(&mut self, session: Session) -> u8
+        requires { is_open self.old.device session ≡ true }
+        ensures step { Allows self.old.device (Queried session result) self.new.device }
+        ensures home { self.new.home ≡ self.old.home }
+    {
+        self.device.status(session)
+    }
+
+    /// The service request of a session that is open, once for all that were made since the last: the status byte with bit 6 set.
+    pub fn requests(&mut self, session: Session) -> Option<u8>
+        requires { is_open self.old.device session ≡ true }
+        ensures step { Allows self.old.device (Fetched session result) self.new.device }
+        ensures home { self.new.home ≡ self.old.home }
+    {
+        self.device.requests(session)
+    }
+
+    /// The open sessions that asked for service since this was asked last, and whether a take would give a job.
+    pub fn news(&mut self) -> (Sessions, bool)
+        ensures step { Allows self.old.device (Told result.0 result.1) self.new.device }
+        ensures home { self.new.home ≡ self.old.home }
+    {
+        self.device.news()
+    }
+
+    /// A session that is open asks for a lock; moments and the timeout are in milliseconds. What can't be granted now waits so long,
+    /// and with a timeout of 0 fails at once.
+    pub fn lock(
+        &mut self,
+        session: Session,
+        kind: Kind,
+        now: u64,
+        timeout: u32,
+    ) -> Result<Grant, LockRefusal>
+        requires { is_open self.old.device session ≡ true }
+        ensures step { Allows self.old.device (Locked session kind now timeout result) self.new.device }
+        ensures home { self.new.home ≡ self.old.home }
+    {
+        self.device.lock(session, kind, now, timeout)
+    }
+
+    /// A session that is open gives up its exclusive lock, or else its shared one; answers which, and the sessions whose requests were
+    /// then granted, in order of arrival.
+    pub fn release(&mut self, session: Session) -> Result<(Freed, Sessions), LockRefusal>
+        requires { is_open self.old.device session ≡ true }
+        ensures step { Allows self.old.device (Released session result) self.new.device }
+        ensures home { self.new.home ≡ self.old.home }
+    {
+        self.device.release(session)
+    }
+
+    /// Fails the requests for locks whose time is over, and answers whose they were, in order of arrival.
+    pub fn tick(&mut self, now: u64) -> Sessions
+        ensures step { Allows self.old.device (Ticked now result) self.new.device }
+        ensures home { self.new.home ≡ self.old.home }
+    {
+        self.device.tick(now)
+    }
+
+    /// Whether the exclusive lock is held, and how many sessions hold any.
+    pub fn info(&self) -> Info
+        ensures { Allows self.now.device (Informed result) self.now.device }
+    {
+        self.device.info()
+    }
+
+    /// The moment at which a request for a lock fails next, where one waits.
+    pub fn next_deadline(&self) -> Option<u128>
+        ensures deadline { result ≡ next_deadline self.now.device.volatile.locks.waiting }
+        ensures first { IfSome result (λ deadline. FailsFirst self.now.device.volatile.locks.waiting deadline) }
+
+        // What holds of the locks at every moment: no request waits that can be granted, and at most one of each session.
+        ensures settled { IsSettled self.now.device.volatile.locks }
+    {
+        self.device.next_deadline()
     }
 
     /// Drops the wait of a session that is open.

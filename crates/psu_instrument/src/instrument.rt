@@ -1,6 +1,6 @@
 // The instrument.
 ghost use Rattle.std.specs.Prelude.{◌≡◌};
-ghost use Rattle.psu_status.specs.Status.{enabled, first_request, status_byte};
+ghost use Rattle.psu_status.specs.Status.{enabled, first_request, polled, status_byte};
 ghost use Rattle.psu_nv.specs.Views.{command_of};
 ghost use Rattle.psu_instrument.specs.Instrument.{power_on, with_kept, with_error, with_completion, with_pending, with_flushed};
 
@@ -124,6 +124,13 @@ impl Instrument {
         ensures { result ≡ status_byte self.now.status available }
     {
         self.status.status_byte(available)
+    }
+
+    /// The status byte as a status query shows it, with a session's own request for service in bit 6.
+    pub fn polled(&self, available: bool, requests: bool) -> u8
+        ensures { result ≡ polled self.now.status available requests }
+    {
+        self.status.polled(available, requests)
     }
 
     /// The bits of the status byte but for bit 6 that are enabled: service is requested where one of them goes from 0 to 1.

@@ -71,6 +71,10 @@ is_enabled s mav = not (enabled s mav == 0)
 abbrev pub status_byte : Reported → Bool → ℕ
 status_byte s mav = summaries s mav + bit 6 (is_enabled s mav)
 
+-- what a status query shows: RQS, the session's own request for service, in the place of MSS
+abbrev pub polled : Reported → Bool → Bool → ℕ
+polled s mav rqs = summaries s mav + bit 6 rqs
+
 -- # Errors
 
 -- where the queue is full its newest entry becomes -350

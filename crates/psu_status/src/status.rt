@@ -1,7 +1,7 @@
 // The status of the instrument.
 ghost use Rattle.std.specs.Prelude.{◌≡◌, ◌≤◌, length, drop};
 ghost use Rattle.psu_status.specs.Registers.{filter_of, with_filter, with_condition, without_events, fifteen_bits};
-ghost use Rattle.psu_status.specs.Status.{without_mss, raised, group_of, with_group, all_preset, status_byte, with_error, oldest, cleared, power_on, first_request, prescribed, summaries, enabled, IsReported};
+ghost use Rattle.psu_status.specs.Status.{without_mss, raised, group_of, with_group, all_preset, status_byte, with_error, oldest, cleared, power_on, first_request, prescribed, summaries, enabled, polled, IsReported};
 
 use crate::registers::Registers;
 use crate::{Filter, Group};
@@ -239,6 +239,17 @@ impl Status {
             self.summaries(mav)
         } else {
             self.summaries(mav) + MSS
+        }
+    }
+
+    /// The status byte as a status query shows it, with a session's own request for service in bit 6 (RQS).
+    pub fn polled(&self, mav: bool, rqs: bool) -> u8
+        ensures { result ≡ polled self.now mav rqs }
+    {
+        if rqs {
+            self.summaries(mav) + MSS
+        } else {
+            self.summaries(mav)
         }
     }
 

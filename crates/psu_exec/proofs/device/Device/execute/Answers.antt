@@ -1,26 +1,26 @@
-use Rattle.std.proofs.Common.{◌≡◌, refl, sym, subst}
+use Rattle.std.proofs.Common.{◌∙◌, ap, sym, subst}
 use Rattle.psu_exec.specs.Consistent.{IsConsistent}
-use Rattle.psu_exec.specs.Device.{State, MayMean, after_meant, here, meant}
+use Rattle.psu_exec.specs.Device.{State}
 use Rattle.psu_exec.specs.Shown.{outcome_of}
-use Rattle.psu_exec.proofs.Acting.{call_step, later_step, step_of}
+use Rattle.psu_exec.proofs.Acting.{answered_step, held_step, later_step}
 use Rattle.psu_exec.proofs.device.Device.execute.Goals as goal
+
+pub returns-then-is_denied : goal.returns-then-is_denied
+returns-then-is_denied g c =
+    let k = subst (λ (s : State). IsConsistent s.flush) c.self.view_is c.self.invariant.1 in
+    (c.requires, held_step c.args.self.now c.args.session c.args.request.now (sym c.is_denied.ensures ∙ c.if-is_denied.true) k)
 
 pub returns-then-is_late : goal.returns-then-is_late
 returns-then-is_late g c =
     let k = subst (λ (s : State). IsConsistent s.flush) c.self.view_is c.self.invariant.1 in
-    (c.requires, later_step c.args.self.now c.args.session c.args.request.now (sym (rw c.reads_nonvolatile.ensures at c.if-is_late.ensures)) k)
-
-pub returns-in-Some : goal.returns-in-Some
-returns-in-Some g c =
-    let k = subst (λ (s : State). IsConsistent s.flush) c.self-2.view_is c.self-2.invariant.1 in
-    let now = sym (rw c.reads_nonvolatile.ensures at c.if-is_late.ensures) in
-    (c.requires, call_step c.args.self.now c.args.session c.args.request.now c.args.request.now.reading (outcome_of c.in-Some.outcome) c.expand.new.self refl now c.in-Some.ensures.some c.in-Some.ensures.is k)
+    (c.requires, later_step c.args.self.now c.args.session c.args.request.now (sym c.is_denied.ensures ∙ c.if-is_denied.false) (sym (rw c.reads_nonvolatile.ensures at c.if-is_late.ensures)) k)
 
 pub returns : goal.returns
 returns g c =
-    let k = subst (λ (s : State). IsConsistent s.flush) c.self-3.view_is c.self-3.invariant.1 in
-    let now = sym (rw c.reads_nonvolatile.ensures at c.if-is_late.ensures) in
-    let none = c.in_default.ensures.none in
-    let may = subst (λ (s : State). MayMean s.flush (meant (here s) c.args.request.now.reading) (outcome_of c.act-outcome.result)) none.1 c.act-outcome.ensures.may in
-    let is = subst (λ (s : State). c.act-outcome.new.self ≡ after_meant s c.args.session (meant (here s) c.args.request.now.reading) (outcome_of c.act-outcome.result)) none.1 c.act-outcome.ensures.is in
-    (c.requires, step_of c.args.self.now c.args.session c.args.request.now c.args.request.now.reading (outcome_of c.act-outcome.result) c.act-outcome.new.self refl now none.0 may is k)
+    let k = subst (λ (s : State). IsConsistent s.flush) c.self-2.view_is c.self-2.invariant.1 in
+    let is = c.answer-outcome.ensures.is in
+    let follows = c.follow.ensures c.args.self.now c.enabled-old.ensures (sym (ap (λ (s : State). s.volatile.marks) is)) in (
+      c.requires,
+      answered_step c.args.self.now c.answer-outcome.new.self c.follow.new.self c.args.session c.args.request.now (outcome_of c.answer-outcome.result) (sym c.is_denied.ensures ∙ c.if-is_denied.false)
+          (sym (rw c.reads_nonvolatile.ensures at c.if-is_late.ensures)) c.answer-outcome.ensures.may is follows k,
+    )

@@ -13,47 +13,47 @@ use Rattle.psu_exec.proofs.device.Device.perform.Goals as goal
 pub returns-in-Err-clause-may : goal.returns-in-Err-clause-may
 returns-in-Err-clause-may g c =
     let s = seen c.self.view_is in
-    let step = failed _ s c.args.session (meaning (here s) c.args.command.now) c.in-Err.error _ c.in-Err.ensures in
-    rw c.refuse.ensures.value (subst (λ (t : State). MayMean t.flush (meaning (here t) c.args.command.now) (Error c.in-Err.error)) c.self.view_is step.0)
+    let step = failed _ s c.args.session (meaning (here s c.args.session) c.args.command.now) c.in-Err.error _ (rw c.place.ensures.place at c.in-Err.ensures) in
+    rw c.refuse.ensures.value (subst (λ (t : State). MayMean t.flush (meaning (here t c.args.session) c.args.command.now) (Error c.in-Err.error)) c.self.view_is step.0)
 
 pub returns-in-Err-clause-is : goal.returns-in-Err-clause-is
 returns-in-Err-clause-is g c =
     let s = seen c.self.view_is in
-    let step = failed _ s c.args.session (meaning (here s) c.args.command.now) c.in-Err.error _ c.in-Err.ensures in
-    rw (c.refuse.ensures.state, c.refuse.ensures.value) (subst (λ (t : State). refused (with_instrument s c.act.new.self) c.in-Err.error ≡ after_meant t c.args.session (meaning (here t) c.args.command.now) (Error c.in-Err.error)) c.self.view_is step.1)
+    let step = failed _ s c.args.session (meaning (here s c.args.session) c.args.command.now) c.in-Err.error _ (rw c.place.ensures.place at c.in-Err.ensures) in
+    rw (c.refuse.ensures.state, c.refuse.ensures.value) (subst (λ (t : State). refused (with_instrument s c.act.new.self) c.in-Err.error ≡ after_meant t c.args.session (meaning (here t c.args.session) c.args.command.now) (Error c.in-Err.error)) c.self.view_is step.1)
 
 pub accept-requires : goal.accept-requires
 accept-requires g c =
     let s = seen c.self.view_is in
-    let kept = keeps _ (meaning (here s) c.args.command.now) _ _ c.in-Ok-Keep.change (rw c.in-Ok-Keep.field-0-is at c.in-Ok-Keep.ensures) in
-    let nonvolatile = kept_are_nonvolatile (here s) c.args.command.now _ kept.0 in
+    let kept = keeps _ (meaning (here s c.args.session) c.args.command.now) _ _ c.in-Ok-Keep.change (rw (c.place.ensures.place, c.in-Ok-Keep.field-0-is) at c.in-Ok-Keep.ensures) in
+    let nonvolatile = kept_are_nonvolatile (here s c.args.session) c.args.command.now _ kept.0 in
     let late = subst (λ (t : State). is_late (wait_of t.flush c.args.session) t.flush.unflushed (is_nonvolatile c.args.command.now (is_none t.flush.contents.enables)) ≡ false) (sym c.self.view_is) c.requires.late in
     record { room = room_for (wait_of s.flush c.args.session) c.self.inside.unflushed (rw nonvolatile at late) }
 
 pub returns-in-Ok-Keep-clause-may : goal.returns-in-Ok-Keep-clause-may
 returns-in-Ok-Keep-clause-may g c =
     let s = seen c.self.view_is in
-    let kept = keeps _ (meaning (here s) c.args.command.now) _ _ c.in-Ok-Keep.change (rw c.in-Ok-Keep.field-0-is at c.in-Ok-Keep.ensures) in
-    let step = then_done s c.accept.new.self c.args.session (meaning (here s) c.args.command.now) (Keeps (command_of c.in-Ok-Keep.change)) _ (outcome_of c.accept.result) kept.0 kept.1 c.accept.ensures.may (c.accept.ensures.is c.args.session) in
-    subst (λ (t : State). MayMean t.flush (meaning (here t) c.args.command.now) (outcome_of c.accept.result)) c.self.view_is step.0
+    let kept = keeps _ (meaning (here s c.args.session) c.args.command.now) _ _ c.in-Ok-Keep.change (rw (c.place.ensures.place, c.in-Ok-Keep.field-0-is) at c.in-Ok-Keep.ensures) in
+    let step = then_done s c.accept.new.self c.args.session (meaning (here s c.args.session) c.args.command.now) (Keeps (command_of c.in-Ok-Keep.change)) _ (outcome_of c.accept.result) kept.0 kept.1 c.accept.ensures.may (c.accept.ensures.is c.args.session) in
+    subst (λ (t : State). MayMean t.flush (meaning (here t c.args.session) c.args.command.now) (outcome_of c.accept.result)) c.self.view_is step.0
 
 pub returns-in-Ok-Keep-clause-is : goal.returns-in-Ok-Keep-clause-is
 returns-in-Ok-Keep-clause-is g c =
     let s = seen c.self.view_is in
-    let kept = keeps _ (meaning (here s) c.args.command.now) _ _ c.in-Ok-Keep.change (rw c.in-Ok-Keep.field-0-is at c.in-Ok-Keep.ensures) in
-    let step = then_done s c.accept.new.self c.args.session (meaning (here s) c.args.command.now) (Keeps (command_of c.in-Ok-Keep.change)) _ (outcome_of c.accept.result) kept.0 kept.1 c.accept.ensures.may (c.accept.ensures.is c.args.session) in
-    subst (λ (t : State). c.accept.new.self ≡ after_meant t c.args.session (meaning (here t) c.args.command.now) (outcome_of c.accept.result)) c.self.view_is step.1
+    let kept = keeps _ (meaning (here s c.args.session) c.args.command.now) _ _ c.in-Ok-Keep.change (rw (c.place.ensures.place, c.in-Ok-Keep.field-0-is) at c.in-Ok-Keep.ensures) in
+    let step = then_done s c.accept.new.self c.args.session (meaning (here s c.args.session) c.args.command.now) (Keeps (command_of c.in-Ok-Keep.change)) _ (outcome_of c.accept.result) kept.0 kept.1 c.accept.ensures.may (c.accept.ensures.is c.args.session) in
+    subst (λ (t : State). c.accept.new.self ≡ after_meant t c.args.session (meaning (here t c.args.session) c.args.command.now) (outcome_of c.accept.result)) c.self.view_is step.1
 
 pub returns-in-Ok-Complete-clause-may : goal.returns-in-Ok-Complete-clause-may
 returns-in-Ok-Complete-clause-may g c =
     let s = seen c.self.view_is in
-    let done = completes _ (meaning (here s) c.args.command.now) _ _ c.in-Ok-Complete.completion (rw c.in-Ok-Complete.field-0-is at c.in-Ok-Complete.ensures) in
-    let step = then_done s c.complete.new.self c.args.session (meaning (here s) c.args.command.now) (Completes c.in-Ok-Complete.completion) _ (outcome_of c.complete.result) done.0 done.1 c.complete.ensures.may c.complete.ensures.is in
-    subst (λ (t : State). MayMean t.flush (meaning (here t) c.args.command.now) (outcome_of c.complete.result)) c.self.view_is step.0
+    let done = completes _ (meaning (here s c.args.session) c.args.command.now) _ _ c.in-Ok-Complete.completion (rw (c.place.ensures.place, c.in-Ok-Complete.field-0-is) at c.in-Ok-Complete.ensures) in
+    let step = then_done s c.complete.new.self c.args.session (meaning (here s c.args.session) c.args.command.now) (Completes c.in-Ok-Complete.completion) _ (outcome_of c.complete.result) done.0 done.1 c.complete.ensures.may c.complete.ensures.is in
+    subst (λ (t : State). MayMean t.flush (meaning (here t c.args.session) c.args.command.now) (outcome_of c.complete.result)) c.self.view_is step.0
 
 pub returns-in-Ok-Complete-clause-is : goal.returns-in-Ok-Complete-clause-is
 returns-in-Ok-Complete-clause-is g c =
     let s = seen c.self.view_is in
-    let done = completes _ (meaning (here s) c.args.command.now) _ _ c.in-Ok-Complete.completion (rw c.in-Ok-Complete.field-0-is at c.in-Ok-Complete.ensures) in
-    let step = then_done s c.complete.new.self c.args.session (meaning (here s) c.args.command.now) (Completes c.in-Ok-Complete.completion) _ (outcome_of c.complete.result) done.0 done.1 c.complete.ensures.may c.complete.ensures.is in
-    subst (λ (t : State). c.complete.new.self ≡ after_meant t c.args.session (meaning (here t) c.args.command.now) (outcome_of c.complete.result)) c.self.view_is step.1
+    let done = completes _ (meaning (here s c.args.session) c.args.command.now) _ _ c.in-Ok-Complete.completion (rw (c.place.ensures.place, c.in-Ok-Complete.field-0-is) at c.in-Ok-Complete.ensures) in
+    let step = then_done s c.complete.new.self c.args.session (meaning (here s c.args.session) c.args.command.now) (Completes c.in-Ok-Complete.completion) _ (outcome_of c.complete.result) done.0 done.1 c.complete.ensures.may c.complete.ensures.is in
+    subst (λ (t : State). c.complete.new.self ≡ after_meant t c.args.session (meaning (here t c.args.session) c.args.command.now) (outcome_of c.complete.result)) c.self.view_is step.1

@@ -1,0 +1,70 @@
+-- Marks whose sessions' enabled bits stay as they were, or change with the status alone, or at one session alone.
+use Rattle.std.proofs.Common.{◌≡◌, ℕ, zero, suc, Bool, true, false, not, cond, eqb, List, [], ◌∷◌, map, get_or, refl, ap, ap₂, sym, ◌∙◌}
+use Rattle.std.specs.Prelude.{◌&&◌, bit_and, slice_set}
+use Rattle.std.specs.Int.Bits.{and_zero_l, xor_self}
+use Rattle.psu_status.specs.Status.{Reported, enabled}
+use Rattle.psu_exec.specs.declared.enabled.Enabled.{Enabled}
+use Rattle.psu_exec.specs.declared.mark.Mark.{Mark}
+use Rattle.psu_exec.specs.Latches.{bits_of, each_latched, enabled_of, latched, latched_by, no_mark, released, requested, rises, with_available}
+use Rattle.psu_exec.specs.Device.{State, followed, mark_of, place_of}
+use Rattle.psu_exec.specs.Calls.{with_answer, with_mark, with_marks}
+
+no_rise : (b : ℕ) → rises b b ≡ false
+no_rise b = ap (λ (n : ℕ). not (eqb (bit_and n b) 0)) (xor_self b) ∙ ap (λ (n : ℕ). not (eqb n 0)) (and_zero_l b)
+
+latched_at : (rise zeros : Bool) (m : Mark) → rise ≡ false → cond rise (requested m) (cond (zeros && not zeros) (released m) m) ≡ m
+latched_at true zeros m e = cc
+latched_at false true m e = refl
+latched_at false false m e = refl
+
+pub latched_same : (b : ℕ) (m : Mark) → latched b b m ≡ m
+latched_same b m = latched_at (rises b b) (eqb b 0) m (no_rise b)
+
+each_same : (status : Reported) (ms : List Mark) → each_latched status status ms ms ≡ ms
+each_same status [] = refl
+each_same status (m ∷ ms) = ap₂ (λ (x : Mark) (xs : List Mark). x ∷ xs) (latched_same (enabled status m.available) m) (each_same status ms)
+
+-- a step that changes no enabled bit
+pub followed_same : (s : State) → followed s s ≡ s
+followed_same s = ap (λ (ms : List Mark). record s { volatile = record s.volatile { marks = ms } }) (each_same s.volatile.instrument.status s.volatile.marks)
+
+by_available : (old new : Reported) (m : Mark) (b : Bool) → latched (bits_of (enabled_of old) b) (bits_of (enabled_of new) b) m ≡ latched (enabled old b) (enabled new b) m
+by_available old new m true = refl
+by_available old new m false = refl
+
+-- the status alone changes
+pub each_by : (old new : Reported) (ms : List Mark) → map (latched_by (enabled_of old) (enabled_of new)) ms ≡ each_latched old new ms ms
+each_by old new [] = refl
+each_by old new (m ∷ ms) = ap₂ (λ (x : Mark) (xs : List Mark). x ∷ xs) (by_available old new m m.available) (each_by old new ms)
+
+pub by_same : (e : Enabled) (ms : List Mark) → map (latched_by e e) ms ≡ ms
+by_same e [] = refl
+by_same e (m ∷ ms) = ap₂ (λ (x : Mark) (xs : List Mark). x ∷ xs) (latched_same (bits_of e m.available) m) (by_same e ms)
+
+pub same_enabled : (a b : Enabled) → a.read ≡ b.read → a.unread ≡ b.unread → a ≡ b
+same_enabled a b e f = ap₂ (λ (r u : ℕ). record { read = r; unread = u }) e f
+
+pub enabled_pair : (status : Reported) (read unread : ℕ) → read ≡ enabled status false → unread ≡ enabled status true → record { read = read; unread = unread } ≡ enabled_of status
+enabled_pair status read unread e f = ap₂ (λ (r u : ℕ). record { read = r; unread = u }) e f
+
+-- one session's mark alone changes
+each_set : (status : Reported) (ms : List Mark) (i : ℕ) (x : Mark)
+    → each_latched status status ms (slice_set ms i x) ≡ slice_set ms i (latched (enabled status (get_or ms i no_mark).available) (enabled status x.available) x)
+each_set status [] i x = refl
+each_set status (m ∷ ms) zero x = ap (λ (xs : List Mark). latched (enabled status m.available) (enabled status x.available) x ∷ xs) (each_same status ms)
+each_set status (m ∷ ms) (suc i) x = ap₂ (λ (y : Mark) (ys : List Mark). y ∷ ys) (latched_same (enabled status m.available) m) (each_set status ms i x)
+
+-- the mark of a session that is sent an answer, or reads it
+abbrev pub changed : Reported → Bool → Mark → Mark
+changed status b m = latched (enabled status m.available) (enabled status b) (with_available m b)
+
+pub followed_at : (s : State) (session : ℕ) (b : Bool) → with_mark s session (changed s.volatile.instrument.status b (mark_of s session)) ≡ with_answer s session b
+followed_at s session b = ap (with_marks s) (sym (each_set s.volatile.instrument.status s.volatile.marks (place_of session) (with_available (mark_of s session) b)))
+
+-- the state after a step that follows the status alone
+pub followed_by : (before after : State) (old : Enabled) (marks : List Mark) → old ≡ enabled_of before.volatile.instrument.status → before.volatile.marks ≡ after.volatile.marks
+    → marks ≡ map (latched_by old (enabled_of after.volatile.instrument.status)) after.volatile.marks → with_marks after marks ≡ followed before after
+followed_by before after old marks e same is =
+    ap (with_marks after)
+    (is ∙ ap (λ (x : Enabled). map (latched_by x (enabled_of after.volatile.instrument.status)) after.volatile.marks) e ∙ each_by before.volatile.instrument.status after.volatile.instrument.status after.volatile.marks
+    ∙ ap (λ (ms : List Mark). each_latched before.volatile.instrument.status after.volatile.instrument.status ms after.volatile.marks) (sym same))

@@ -1,0 +1,15 @@
+use Rattle.psu_exec.specs.Shown.{outcome_of}
+use Rattle.psu_exec.proofs.Denied.{denied_is_held, held_is_denied, held_leaves, later_leaves}
+use Rattle.psu_exec.proofs.exec.Exec.execute.Goals as goal
+
+pub returns-clause-later : goal.returns-clause-later
+returns-clause-later g c = later_leaves c.args.self.now.device c.execute.new.self c.args.session c.args.request.now (outcome_of c.execute.result) c.execute.ensures.1
+
+pub returns-clause-held : goal.returns-clause-held
+returns-clause-held g c = (
+  held_is_denied c.args.self.now.device c.execute.new.self c.args.session c.args.request.now (outcome_of c.execute.result) c.execute.ensures.1,
+  denied_is_held c.args.self.now.device c.execute.new.self c.args.session c.args.request.now (outcome_of c.execute.result) c.execute.ensures.1,
+)
+
+pub returns-clause-same : goal.returns-clause-same
+returns-clause-same g c = held_leaves c.args.self.now.device c.execute.new.self c.args.session c.args.request.now (outcome_of c.execute.result) c.execute.ensures.1

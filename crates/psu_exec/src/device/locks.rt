@@ -1,0 +1,63 @@
+// Locks between sessions.
+ghost use Rattle.std.specs.Prelude.{◌≡◌, IfSome, true};
+ghost use Rattle.psu_exec.specs.Device.{is_denied, is_open};
+ghost use Rattle.psu_exec.specs.Calls.{Allows};
+ghost use Rattle.psu_exec.specs.Calls.Entry.{Locked, Released, Ticked, Informed};
+ghost use Rattle.psu_locks.specs.Table.{FailsFirst, IsSettled, next_deadline};
+
+use crate::{Device, Freed, Grant, Info, Kind, LockRefusal, Session, Sessions};
+use std::alloc::Allocator;
+
+impl<A: Allocator + Copy> Device<A> {
+    /// Whether another session's lock denies a session.
+    pub(crate) fn is_denied(&self, session: Session) -> bool
+        ensures { result ≡ is_denied self.now session }
+    {
+        !self.locks.may_command(session)
+    }
+
+    /// A session that is open asks for a lock.
+    pub(crate) fn lock(
+        &mut self,
+        session: Session,
+        kind: Kind,
+        now: u64,
+        timeout: u32,
+    ) -> Result<Grant, LockRefusal>
+        requires { is_open self.old session ≡ true }
+        ensures { Allows self.old (Locked session kind now timeout result) self.new }
+    {
+        self.locks.request(session, kind, now, timeout)
+    }
+
+    /// A session that is open gives up a lock.
+    pub(crate) fn release(&mut self, session: Session) -> Result<(Freed, Sessions), LockRefusal>
+        requires { is_open self.old session ≡ true }
+        ensures { Allows self.old (Released session result) self.new }
+    {
+        self.locks.release(session)
+    }
+
+    /// Time goes on.
+    pub(crate) fn tick(&mut self, now: u64) -> Sessions
+        ensures { Allows self.old (Ticked now result) self.new }
+    {
+        self.locks.tick(now)
+    }
+
+    /// What is told of the locks.
+    pub(crate) fn info(&self) -> Info
+        ensures { Allows self.now (Informed result) self.now }
+    {
+        self.locks.info()
+    }
+
+    /// The moment at which a request that waits fails next.
+    pub(crate) fn next_deadline(&self) -> Option<u128>
+        ensures deadline { result ≡ next_deadline self.now.volatile.locks.waiting }
+        ensures first { IfSome result (λ deadline. FailsFirst self.now.volatile.locks.waiting deadline) }
+        ensures settled { IsSettled self.now.volatile.locks }
+    {
+        self.locks.next_deadline()
+    }
+}
