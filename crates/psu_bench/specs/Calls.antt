@@ -1,22 +1,34 @@
 -- The calls of the bench, each with its reply: those of the device, and those with a session that isn't open.
-use Rattle.std.specs.Prelude.{◌≡◌, ◌⊎◌, ℕ, false, Option, Some, None, Result, Ok, Err}
+use Rattle.std.specs.Prelude.{◌≡◌, ◌⊎◌, ℕ, false, Option, Some, None, Result, Ok, Err, []}
 use Rattle.psu_exec.specs.Device.{State, is_open, Later}
 use Rattle.psu_exec.specs.Calls.{Entry, Allows}
-use Rattle.psu_exec.specs.Calls.Entry.{Executed, Settled, Took, GaveBack, Opened, Closed, Cleared}
+use Rattle.psu_exec.specs.Calls.Entry.{Executed, Settled, Took, GaveBack, Opened, Closed, Cleared, Sent, Delivered, Queried, Fetched, Told, Locked, Released, Ticked, Informed, Due}
+use Rattle.psu_locks.specs.declared.grant.Grant.TheVariants.{Failed}
+use Rattle.psu_locks.specs.declared.lock_refusal.LockRefusal.TheVariants.{NotHeld}
 
--- another thread may have closed the session
-abbrev pub IsAbsent : State → Entry → Type 0
-IsAbsent s (Executed session request reply) = (is_open s session ≡ false) × (reply ≡ Later)
-IsAbsent s (Settled session reply) = (is_open s session ≡ false) × (reply ≡ Later)
-IsAbsent s (Took taken) = ⊥
-IsAbsent s (GaveBack finished over) = ⊥
-IsAbsent s (Opened session) = ⊥
-IsAbsent s (Closed session) = is_open s session ≡ false
-IsAbsent s (Cleared session) = is_open s session ≡ false
+-- Another thread may have closed the session: the call acts on nothing, and answers so.
+abbrev pub HasNoSession : State → Entry → Type 0
+HasNoSession s (Executed session request reply) = (is_open s session ≡ false) × (reply ≡ Later)
+HasNoSession s (Settled session reply) = (is_open s session ≡ false) × (reply ≡ Later)
+HasNoSession s (Took taken) = ⊥
+HasNoSession s (GaveBack finished over) = ⊥
+HasNoSession s (Opened session) = ⊥
+HasNoSession s (Closed session granted) = (is_open s session ≡ false) × (granted ≡ [])
+HasNoSession s (Cleared session) = is_open s session ≡ false
+HasNoSession s (Sent session) = is_open s session ≡ false
+HasNoSession s (Delivered session) = is_open s session ≡ false
+HasNoSession s (Queried session byte) = (is_open s session ≡ false) × (byte ≡ 0)
+HasNoSession s (Fetched session byte) = (is_open s session ≡ false) × (byte ≡ None)
+HasNoSession s (Told sessions work) = ⊥
+HasNoSession s (Locked session kind now timeout result) = (is_open s session ≡ false) × (result ≡ Ok Failed)
+HasNoSession s (Released session result) = (is_open s session ≡ false) × (result ≡ Err NotHeld)
+HasNoSession s (Ticked now failed) = ⊥
+HasNoSession s (Informed info) = ⊥
+HasNoSession s (Due deadline) = ⊥
 
 -- From old, the call may be answered so and leave new.
-abbrev pub MayBe : State → Entry → State → Type 0
-MayBe s e t = Allows s e t ⊎ (IsAbsent s e × (t ≡ s))
+abbrev pub Admits : State → Entry → State → Type 0
+Admits s e t = Allows s e t ⊎ (HasNoSession s e × (t ≡ s))
 
 -- the session that opened, or none
 abbrev pub session_of : {E : Type 0} → Result ℕ E → Option ℕ

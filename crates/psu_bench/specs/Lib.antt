@@ -1,2 +1,4 @@
 pub mod Calls
 pub mod Rounds
+pub mod Tries
+pub mod Lives

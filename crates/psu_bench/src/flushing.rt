@@ -4,33 +4,36 @@ ghost use Rattle.psu_turn.specs.Seats.{IsOf, IsSame};
 ghost use Rattle.psu_exec.specs.Calls.{Entry, Taken};
 ghost use Rattle.psu_bench.specs.Rounds.{IsRound, AreRounds};
 
-use crate::{Bench, Seat};
+use crate::{Bench, Gate, Point, Seat};
 use psu_disk::Disk;
 use std::alloc::Allocator;
 use std::sync::Wait;
 
-/// Makes so many rounds: each takes a job, runs it outside the turn, and gives back what it came to.
-pub fn flusher<D: Disk + Drop, A: Allocator + Copy, R: Wait>(
+/// Makes so many rounds: each takes a job, runs it outside the turn, and gives back what it came to. The gate is asked before a job is
+/// run. With one round it returns at once.
+pub fn flusher<D: Disk + Drop, A: Allocator + Copy, R: Wait, G: Gate>(
     rt: &R,
     bench: &Bench<D, A>,
     mut seat: Seat<A>,
     rounds: u64,
+    gate: &G,
 ) -> Seat<A>
     requires own { IsOf bench.now seat }
     ensures same { IsSame seat result }
     ensures calls { (calls : List Entry) × (result.mine ≡ seat.mine ++ calls) × AreRounds rounds calls }
 {
     for _ in 0..rounds {
-        one_round(rt, bench, &mut seat);
+        one_round(rt, bench, &mut seat, gate);
     }
     seat
 }
 
 // One round. What is given back is no stranger's where nobody else takes jobs of this bench; a stranger's is let go.
-fn one_round<D: Disk + Drop, A: Allocator + Copy, R: Wait>(
+fn one_round<D: Disk + Drop, A: Allocator + Copy, R: Wait, G: Gate>(
     rt: &R,
     bench: &Bench<D, A>,
     seat: &mut Seat<A>,
+    gate: &G,
 )
     requires own { IsOf bench.now seat.old }
     ensures same { IsSame seat.old seat.new }
@@ -39,6 +42,7 @@ fn one_round<D: Disk + Drop, A: Allocator + Copy, R: Wait>(
 {
     match bench.take(rt, seat) {
         Ok(job) => {
+            gate.at(Point::BeforeRun);
             let finished = job.run();
             let _given = bench.give_back(rt, seat, finished);
         }

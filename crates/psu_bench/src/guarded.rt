@@ -1,13 +1,14 @@
 //! The state, called by threads that may close one another's sessions.
 ghost use Rattle.std.specs.Prelude.{◌≡◌};
-ghost use Rattle.psu_exec.specs.Calls.Entry.{Executed, Settled, Took, GaveBack, Opened, Closed, Cleared};
+ghost use Rattle.psu_exec.specs.Calls.Entry.{Executed, Settled, Took, GaveBack, Opened, Closed, Cleared, Sent, Delivered, Queried, Fetched, Told, Locked, Released, Ticked, Informed, Due};
 ghost use Rattle.psu_exec.specs.Shown.{outcome_of, over_of};
-ghost use Rattle.psu_bench.specs.Calls.{MayBe, session_of};
+ghost use Rattle.psu_bench.specs.Calls.{Admits, session_of};
 
 use crate::Call;
 use psu_disk::Disk;
 use psu_exec::{
-    Crowded, Device, Exec, Finished, Job, NoJob, Outcome, Request, Session, Sessions, Stranger,
+    Crowded, Device, Exec, Finished, Freed, Grant, Info, Job, Kind, LockRefusal, NoJob, Outcome,
+    Request, Session, Sessions, Stranger,
 };
 use psu_turn::Machine;
 use std::alloc::Allocator;
@@ -25,7 +26,7 @@ impl<D: Disk, A: Allocator + Copy> Machine for Guarded<D, A> {
 
     ghost state = { λ g. g.exec.device };
 
-    ghost allows = { MayBe };
+    ghost allows = { Admits };
 }
 
 impl<D: Disk, A: Allocator + Copy> Guarded<D, A> {
@@ -33,7 +34,7 @@ impl<D: Disk, A: Allocator + Copy> Guarded<D, A> {
 
     /// One unit of a session. Later where the session isn't open.
     pub fn execute(&mut self, session: Session, request: &Request<'_>) -> Outcome<A>
-        ensures call { MayBe self.old.exec.device (Executed session request.now (outcome_of result)) self.new.exec.device }
+        ensures call { Admits self.old.exec.device (Executed session request.now (outcome_of result)) self.new.exec.device }
     {
         if !self.exec.is_open(session) {
             return Outcome::Later;
@@ -43,7 +44,7 @@ impl<D: Disk, A: Allocator + Copy> Guarded<D, A> {
 
     /// What the wait of a session came to. Later where the session isn't open.
     pub fn settle(&mut self, session: Session) -> Outcome<A>
-        ensures call { MayBe self.old.exec.device (Settled session (outcome_of result)) self.new.exec.device }
+        ensures call { Admits self.old.exec.device (Settled session (outcome_of result)) self.new.exec.device }
     {
         if !self.exec.is_open(session) {
             return Outcome::Later;
@@ -53,21 +54,21 @@ impl<D: Disk, A: Allocator + Copy> Guarded<D, A> {
 
     /// A job, as `Exec::take` gives it.
     pub fn take(&mut self) -> Result<Job<D, A>, NoJob>
-        ensures call { MayBe self.old.exec.device (Took (taken_of result)) self.new.exec.device }
+        ensures call { Admits self.old.exec.device (Took (taken_of result)) self.new.exec.device }
     {
         self.exec.take()
     }
 
     /// A job's end, as `Exec::give_back` takes it.
     pub fn give_back(&mut self, finished: Finished<D, A>) -> Result<Sessions, Stranger<D, A>>
-        ensures call { MayBe self.old.exec.device (GaveBack (finished_of finished) (over_of result)) self.new.exec.device }
+        ensures call { Admits self.old.exec.device (GaveBack (finished_of finished) (over_of result)) self.new.exec.device }
     {
         self.exec.give_back(finished)
     }
 
     /// Opens the session of the least free number.
     pub fn open_session(&mut self) -> Result<Session, Crowded>
-        ensures call { MayBe self.old.exec.device (Opened (session_of result)) self.new.exec.device }
+        ensures call { Admits self.old.exec.device (Opened (session_of result)) self.new.exec.device }
     {
         match self.exec.open_session() {
             Ok(session) => Ok(session),
@@ -76,20 +77,113 @@ impl<D: Disk, A: Allocator + Copy> Guarded<D, A> {
     }
 
     /// Closes a session, where it is open.
-    pub fn close_session(&mut self, session: Session)
-        ensures call { MayBe self.old.exec.device (Closed session) self.new.exec.device }
+    pub fn close_session(&mut self, session: Session) -> Sessions
+        ensures call { Admits self.old.exec.device (Closed session result) self.new.exec.device }
     {
-        if self.exec.is_open(session) {
-            self.exec.close_session(session);
+        if !self.exec.is_open(session) {
+            return Sessions::new();
         }
+        self.exec.close_session(session)
     }
 
     /// Drops the wait of a session, where it is open.
     pub fn clear(&mut self, session: Session)
-        ensures call { MayBe self.old.exec.device (Cleared session) self.new.exec.device }
+        ensures call { Admits self.old.exec.device (Cleared session) self.new.exec.device }
     {
         if self.exec.is_open(session) {
             self.exec.clear(session);
         }
+    }
+
+    /// An answer is sent to a session, where it is open.
+    pub fn sent(&mut self, session: Session)
+        ensures call { Admits self.old.exec.device (Sent session) self.new.exec.device }
+    {
+        if self.exec.is_open(session) {
+            self.exec.sent(session);
+        }
+    }
+
+    /// What was sent to a session is delivered, where it is open.
+    pub fn delivered(&mut self, session: Session)
+        ensures call { Admits self.old.exec.device (Delivered session) self.new.exec.device }
+    {
+        if self.exec.is_open(session) {
+            self.exec.delivered(session);
+        }
+    }
+
+    /// The answer to a status query. 0 where the session isn't open.
+    pub fn status(&mut self, session: Session) -> u8
+        ensures call { Admits self.old.exec.device (Queried session result) self.new.exec.device }
+    {
+        if !self.exec.is_open(session) {
+            return 0;
+        }
+        self.exec.status(session)
+    }
+
+    /// The service request of a session. None where it isn't open.
+    pub fn requests(&mut self, session: Session) -> Option<u8>
+        ensures call { Admits self.old.exec.device (Fetched session result) self.new.exec.device }
+    {
+        if !self.exec.is_open(session) {
+            return None;
+        }
+        self.exec.requests(session)
+    }
+
+    /// Who asked for service, and whether there is a job, as `Exec::news` tells it.
+    pub fn news(&mut self) -> (Sessions, bool)
+        ensures call { Admits self.old.exec.device (Told result.0 result.1) self.new.exec.device }
+    {
+        self.exec.news()
+    }
+
+    /// A session asks for a lock. Failed where it isn't open.
+    pub fn lock(
+        &mut self,
+        session: Session,
+        kind: Kind,
+        now: u64,
+        timeout: u32,
+    ) -> Result<Grant, LockRefusal>
+        ensures call { Admits self.old.exec.device (Locked session kind now timeout result) self.new.exec.device }
+    {
+        if !self.exec.is_open(session) {
+            return Ok(Grant::Failed);
+        }
+        self.exec.lock(session, kind, now, timeout)
+    }
+
+    /// A session gives up a lock. It holds none where it isn't open.
+    pub fn release(&mut self, session: Session) -> Result<(Freed, Sessions), LockRefusal>
+        ensures call { Admits self.old.exec.device (Released session result) self.new.exec.device }
+    {
+        if !self.exec.is_open(session) {
+            return Err(LockRefusal::NotHeld);
+        }
+        self.exec.release(session)
+    }
+
+    /// Requests for locks fail in time, as `Exec::tick` does it.
+    pub fn tick(&mut self, now: u64) -> Sessions
+        ensures call { Admits self.old.exec.device (Ticked now result) self.new.exec.device }
+    {
+        self.exec.tick(now)
+    }
+
+    /// What is told of the locks.
+    pub fn info(&self) -> Info
+        ensures call { Admits self.now.exec.device (Informed result) self.now.exec.device }
+    {
+        self.exec.info()
+    }
+
+    /// When a request for a lock fails next.
+    pub fn next_deadline(&self) -> Option<u128>
+        ensures call { Admits self.now.exec.device (Due result) self.now.exec.device }
+    {
+        self.exec.next_deadline()
     }
 }

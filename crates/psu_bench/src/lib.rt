@@ -4,9 +4,18 @@
 mod bench;
 mod call;
 mod flushing;
+mod gate;
+mod gated;
 mod guarded;
+mod laws;
+mod point;
+mod working;
 
 pub use bench::{Bench, Seat};
 pub use call::Call;
 pub use flushing::flusher;
-pub use guarded::Guarded;
+pub use gate::{Gate, Open};
+pub use gated::Gated;
+pub use laws::histories_are_lives;
+pub use point::Point;
+pub use working::session_worker;

@@ -107,3 +107,4 @@ stays_backed s new (Entry.Locked session kind now timeout result) a h = rw a.2 h
 stays_backed s new (Entry.Released session result) a h = rw a.2 h
 stays_backed s new (Entry.Ticked now failed) a h = rw a.1 h
 stays_backed s new (Entry.Informed info) a h = rw a.1 h
+stays_backed s new (Entry.Due deadline) a h = rw a.1 h

@@ -28,3 +28,12 @@ open_after s new (Unstarted limit before edits unstarted.Worn) is = ap (λ (t : 
 open_after s new (Failed limit before edits cause) is = ap (λ (t : State). t.volatile.open_now) is
 open_after s new (Reopened limit map) (inl all) = ap (λ (t : State). t.volatile.open_now) all.1
 open_after s new (Reopened limit map) (inr none) = ap (λ (t : State). t.volatile.open_now) none.1
+
+-- and the locks are the same
+pub locks_after : (s new : State) (finished : JobEnd) → GivesBack s finished new → new.volatile.locks ≡ s.volatile.locks
+locks_after s new (Stored limit map) is = ap (λ (t : State). t.volatile.locks) is
+locks_after s new (Unstarted limit before edits unstarted.Memory) is = ap (λ (t : State). t.volatile.locks) is
+locks_after s new (Unstarted limit before edits unstarted.Worn) is = ap (λ (t : State). t.volatile.locks) is
+locks_after s new (Failed limit before edits cause) is = ap (λ (t : State). t.volatile.locks) is
+locks_after s new (Reopened limit map) (inl all) = ap (λ (t : State). t.volatile.locks) all.1
+locks_after s new (Reopened limit map) (inr none) = ap (λ (t : State). t.volatile.locks) none.1

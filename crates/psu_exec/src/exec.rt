@@ -7,8 +7,8 @@ ghost use Rattle.psu_nv.specs.Contents.{Contents as Kept, items_of, IsContents, 
 ghost use Rattle.psu_exec.specs.Device.{power_on, is_denied, is_open, is_broken, target, wait_of, followed, State, Answer, Error, Held, Later, refused};
 ghost use Rattle.psu_status.specs.Status.{first_request, prescribed};
 ghost use Rattle.psu_exec.specs.Calls.{Allows};
-ghost use Rattle.psu_exec.specs.Calls.Entry.{Executed, Settled, Took, GaveBack, Opened, Closed, Cleared, Sent, Delivered, Queried, Fetched, Told, Locked, Released, Ticked, Informed};
-ghost use Rattle.psu_locks.specs.Table.{FailsFirst, IsSettled, next_deadline};
+ghost use Rattle.psu_exec.specs.Calls.Entry.{Executed, Settled, Took, GaveBack, Opened, Closed, Cleared, Sent, Delivered, Queried, Fetched, Told, Locked, Released, Ticked, Informed, Due};
+ghost use Rattle.psu_locks.specs.Table.{FailsFirst, IsSettled};
 ghost use Rattle.psu_exec.specs.Consistent.{IsConsistent};
 ghost use Rattle.psu_exec.specs.Shown.{cause_of, outcome_of, over_of};
 ghost use Rattle.psu_exec.specs.Jobs.{home_edits, home_goal, home_map, home_limit, home_of, is_home_whole};
@@ -107,8 +107,9 @@ impl<D: Disk, A: Allocator + Copy> Exec<D, A> {
         ensures held { (outcome_of result ≡ Held) ↔ (is_denied self.old.device session ≡ true) }
         ensures same { outcome_of result ≡ Held → self.new.device ≡ self.old.device }
 
-        // What follows from the step: the condition still holds.
+        // What follows from the step: the condition still holds, and no lock changes.
         ensures still_open { is_open self.new.device session ≡ true }
+        ensures still_locked { self.new.device.volatile.locks ≡ self.old.device.volatile.locks }
     {
         self.device.execute(session, request)
     }
@@ -127,8 +128,9 @@ impl<D: Disk, A: Allocator + Copy> Exec<D, A> {
         ensures refused { (e : AnyError) → outcome_of result ≡ Error e → self.new.device.volatile ≡ (followed self.old.device (refused self.old.device e)).volatile }
         ensures kept { self.new.device.flush.contents ≡ self.old.device.flush.contents }
 
-        // What follows from the step: the condition still holds.
+        // What follows from the step: the condition still holds, and no lock changes.
         ensures still_open { is_open self.new.device session ≡ true }
+        ensures still_locked { self.new.device.volatile.locks ≡ self.old.device.volatile.locks }
     {
         self.device.settle(session)
     }
@@ -241,7 +243,7 @@ impl<D: Disk, A: Allocator + Copy> Exec<D, A> {
 
     /// The moment at which a request for a lock fails next, where one waits.
     pub fn next_deadline(&self) -> Option<u128>
-        ensures deadline { result ≡ next_deadline self.now.device.volatile.locks.waiting }
+        ensures step { Allows self.now.device (Due result) self.now.device }
         ensures first { IfSome result (λ deadline. FailsFirst self.now.device.volatile.locks.waiting deadline) }
 
         // What holds of the locks at every moment: no request waits that can be granted, and at most one of each session.
@@ -255,6 +257,10 @@ impl<D: Disk, A: Allocator + Copy> Exec<D, A> {
         requires { is_open self.old.device session ≡ true }
         ensures step { Allows self.old.device (Cleared session) self.new.device }
         ensures home { self.new.home ≡ self.old.home }
+
+        // What follows from the step: the condition still holds, and no lock changes.
+        ensures still_open { is_open self.new.device session ≡ true }
+        ensures still_locked { self.new.device.volatile.locks ≡ self.old.device.volatile.locks }
     {
         self.device.clear(session);
     }

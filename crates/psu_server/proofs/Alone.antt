@@ -1,5 +1,5 @@
 -- Where nothing goes wrong, there is one text.
-use Rattle.std.proofs.Common.{◌≡◌, ◌⊎◌, ℕ, suc, zero, ◌-◌, ◌≤◌, ◌==◌, Bool, true, false, if◌then◌else◌, List, [], ◌∷◌, ◌++◌, refl, sym, ap, ◌∙◌, subst, subst₂, inl, inr, arith, Option, Some, None, Result, Ok, Err}
+use Rattle.std.proofs.Common.{◌≡◌, ◌≢◌, ◌⊎◌, ℕ, suc, zero, ◌-◌, ◌≤◌, ◌==◌, Bool, true, false, if◌then◌else◌, List, [], ◌∷◌, ◌++◌, refl, sym, ap, ◌∙◌, subst, subst₂, inl, inr, arith, Option, Some, None, Result, Ok, Err}
 use Rattle.std.proofs.lemmas.Bool.{cases_Bool}
 use Rattle.std.proofs.lemmas.Bool.Decides.{nat_tests}
 use Rattle.psu_disk.specs.Disk.{DiskState}
@@ -13,7 +13,7 @@ use Rattle.psu_lex.specs.declared.scpi_error.ScpiError.{ScpiError}
 use Rattle.psu_instrument.specs.Macros.{CallGives, ExpandsAt, written}
 use Rattle.psu_tree.specs.declared.unit_request.Request.{Request}
 use Rattle.psu_exec.specs.declared.condition.Condition.TheVariants.{Whole}
-use Rattle.psu_exec.specs.Device.{Reply, Done, Answer, Error, Expand, Parked, Later, State, Flush, AnswersCalled, AnswersNow, MayAnswer, answer_call, after_unit, called, count_held, is_broken, is_later as comes_later, target, wait_of}
+use Rattle.psu_exec.specs.Device.{Reply, Done, Answer, Error, Expand, Parked, Held, Later, State, Flush, AnswersBeside, AnswersCalled, AnswersNow, MayAnswer, answer_call, after_unit, called, count_held, is_broken, is_denied, is_later as comes_later, target, wait_of}
 use Rattle.psu_exec.specs.Calls.{JobData, JobEnd, JobKind, Commit, Stored, Unstarted, Failed, Reopened, Job, Executed, Settled, Took, GaveBack, HasNone, HasWork, MaySettle, ends_wait, job_out, kind_for, opened, stored, with_stored, settle_answer, after_settle, settled, unparked, wait_less}
 use Rattle.psu_exec.specs.World.{World}
 use Rattle.psu_server.specs.Lines.{Message, Asks, messages}
@@ -151,7 +151,7 @@ calm_given inside body args o (Ok text) is g m = g
 calm_given inside body args o (Err error) is (inl short) m = let bad = m (is ∙ ap (λ (e : ScpiError). (let r : Reply = Error e in r)) short.0) in cc
 calm_given inside body args o (Err error) is (inr g) m = g
 
-calm_called : (s : State) (c : Request) (o : Reply) → Holds c → (body : Option (List ℕ)) → AnswersCalled s c body o → IsMeant none o → RepliesCalled s c body o
+calm_called : (s : State) (c : Request) (o : Reply) → Holds c → (body : Option (List ℕ)) → AnswersCalled s 1 c body o → IsMeant none o → RepliesCalled s c body o
 calm_called s c o holds None (inl e) m = e
 calm_called s c o holds None (inr e) m = let bad = m e.0 in cc
 calm_called s c o holds (Some body) h m = record {
@@ -162,13 +162,18 @@ calm_called s c o holds (Some body) h m = record {
   is = h.is;
 }
 
-calm_now : (s : State) (c : Request) (o : Reply) → Holds c → (late : Bool) → AnswersNow late s c o → IsMeant none o → RepliesNow late s c o
+calm_now : (s : State) (c : Request) (o : Reply) → Holds c → (late : Bool) → AnswersNow late s 1 c o → IsMeant none o → RepliesNow late s c o
 calm_now s c o holds true h m = h
 calm_now s c o holds false h m = calm_called s c o holds (called s c) h m
 
+-- no lock denies the one session
+calm_beside : (s : State) (c : Request) (o : Reply) → Holds c → (denied : Bool) → AnswersBeside denied s 1 c o → o ≢ Held → IsMeant none o → Replies s c o
+calm_beside s c o holds true h free m = absurd (free h)
+calm_beside s c o holds false h free m = calm_now s c o holds (comes_later s 1 c) h m
+
 -- a unit is answered as the script says
-calm_reply : (r : Rest) (s : State) (c : Request) (o : Reply) → s ≡ r.state → Holds c → MayAnswer s 1 c o → IsMeant none o → Replies r.state c o
-calm_reply r s c o same holds h m = subst (λ (z : State). Replies z c o) same (calm_now s c o holds (comes_later s 1 c) h m)
+calm_reply : (r : Rest) (s : State) (c : Request) (o : Reply) → s ≡ r.state → Holds c → MayAnswer s 1 c o → o ≢ Held → IsMeant none o → Replies r.state c o
+calm_reply r s c o same holds h free m = subst (λ (z : State). Replies z c o) same (calm_beside s c o holds (is_denied s 1) h free m)
 
 -- a call that leaves the disk, told of the script's state
 abbrev Answers : World → Request → Reply → World → Type 0
@@ -201,6 +206,7 @@ at_once r w new c (Answer a) q final call = record { reply = refl; quiet = recor
 at_once r w new c (Error e) q final call = record { reply = refl; quiet = record { still = still_on r w new c (Error e) q.still call; wait = q.wait } }
 at_once r w new c (Expand e) q final call = record { reply = refl; quiet = record { still = still_on r w new c (Expand e) q.still call; wait = q.wait } }
 at_once r w new c Parked q final call = cc
+at_once r w new c Held q final call = cc
 at_once r w new c Later q final call = cc
 
 -- the end of a wait
@@ -254,18 +260,22 @@ final_now (Answer a) e = refl
 final_now (Error x) e = refl
 final_now (Expand x) e = refl
 final_now Parked e = refl
+final_now Held e = refl
 final_now Later e = cc
+
+final_free : (o : Reply) → is_final o ≡ true → o ≢ Held
+final_free o final e = let bad = ap is_final (sym e) ∙ final in cc
 
 acts_alone : (r : Rest) (w new : World) (c : Request) (o : Reply) → Quiet r w → Holds c → Acts none w c o new → ActsAs r c o new
 acts_alone r w new c o q holds (final, inl (meant, call)) = record {
   first = o;
-  replies = calm_reply r w.state c o q.still.state holds call.1.2.1.may meant;
+  replies = calm_reply r w.state c o q.still.state holds call.1.2.1.may (final_free o final) meant;
   now = final_now o final;
   same = at_once r w new c o q final call;
 }
 acts_alone r w new c o q holds (final, inr (long, parked, over, call, f, settle)) = record {
   first = Parked;
-  replies = calm_reply r w.state c Parked q.still.state holds call.1.2.1.may (λ e. cc);
+  replies = calm_reply r w.state c Parked q.still.state holds call.1.2.1.may (λ e. cc) (λ e. cc);
   now = refl;
   same = settle_at (flushed (record r { state = after_unit r.state 1 c Parked })) over new o
       (flush_alone (record r { state = after_unit r.state 1 c Parked }) parked over (still_on r w parked c Parked q.still call) f) settle final long;
@@ -277,6 +287,7 @@ goes_now r c (Answer a) h = refl
 goes_now r c (Error e) h = refl
 goes_now r c (Expand e) h = refl
 goes_now r c Parked h = refl
+goes_now r c Held h = refl
 goes_now r c Later h = cc
 
 -- a unit goes on as the script says
@@ -290,7 +301,7 @@ unit_alone r w new c o q holds (inr (late, over, call, f, acts)) =
     } in
     let a = acts_alone (flushed r) over new c o rests holds acts in (
       after_reply (flushed r) c a.first,
-      (Later, calm_reply r w.state c Later q.still.state holds call.1.2.1.may (λ e. cc), (a.first, a.replies, refl)),
+      (Later, calm_reply r w.state c Later q.still.state holds call.1.2.1.may (λ e. cc) (λ e. cc), (a.first, a.replies, refl)),
       a.same,
     )
 
@@ -318,6 +329,7 @@ reply_alone Done r w new text all q u = (record { rest = r; text = with_answer t
 reply_alone (Answer a) r w new text all q u = (record { rest = r; text = with_answer text (Answer a) }, refl, told_here r w new text all (Answer a) q u)
 reply_alone (Error e) r w new text all q u = (record { rest = r; text = with_answer text (Error e) }, refl, told_here r w new text all (Error e) q u)
 reply_alone Parked r w new text all q u = (record { rest = r; text = with_answer text Parked }, refl, told_here r w new text all Parked q u)
+reply_alone Held r w new text all q u = (record { rest = r; text = with_answer text Held }, refl, told_here r w new text all Held q u)
 reply_alone Later r w new text all q u = (record { rest = r; text = with_answer text Later }, refl, told_here r w new text all Later q u)
 
 line_alone : (cs : List Request) (r : Rest) (w new : World) (text all : List ℕ) → Quiet r w → AllHold cs → LineRuns none w text cs all new → (told : Told) × Tells r text cs told × SameTold told all new

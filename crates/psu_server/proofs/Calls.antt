@@ -7,7 +7,7 @@ use Rattle.psu_items.specs.Map.{Item}
 use Rattle.psu_items.specs.Image.{Stands, EachStands}
 use Rattle.psu_items.proofs.Standing.{one_stands}
 use Rattle.psu_nv.specs.Contents.{items_of}
-use Rattle.psu_exec.specs.Device.{Reply, Done, Answer, Error, Expand, Parked, Later, count_held, target}
+use Rattle.psu_exec.specs.Device.{Reply, Done, Answer, Error, Expand, Parked, Held, Later, count_held, target}
 use Rattle.psu_exec.specs.Calls.{Entry, Executed, Settled, Took, GaveBack, Opened, Job, Allows}
 use Rattle.psu_exec.specs.Headline.{IsPrefix}
 use Rattle.psu_exec.specs.World.{World, Running, Event, Call, Happens, Run, IsStart, DiskAfter, after}
@@ -83,6 +83,7 @@ final_unit request (Answer text) e = refl
 final_unit request (Error error) e = refl
 final_unit request (Expand text) e = refl
 final_unit request Parked e = cc
+final_unit request Held e = cc
 final_unit request Later e = cc
 
 cat_none : (l : List Request) → l ++ [] ≡ l
@@ -129,6 +130,7 @@ reply_made Done can w new text all u = made_none w new u.0
 reply_made (Answer a) can w new text all u = made_none w new u.0
 reply_made (Error e) can w new text all u = made_none w new u.0
 reply_made Parked can w new text all u = made_none w new u.0
+reply_made Held can w new text all u = made_none w new u.0
 reply_made Later can w new text all u = made_none w new u.0
 
 line_made : (requests : List Request) (can : Mishaps) (w new : World) (text all : List ℕ) → LineRuns can w text requests all new → Made w new
@@ -154,6 +156,7 @@ reply_begun Done can w new text all u = made_none w new u.0
 reply_begun (Answer a) can w new text all u = made_none w new u.0
 reply_begun (Error e) can w new text all u = made_none w new u.0
 reply_begun Parked can w new text all u = made_none w new u.0
+reply_begun Held can w new text all u = made_none w new u.0
 reply_begun Later can w new text all u = made_none w new u.0
 
 line_begun : (requests : List Request) (can : Mishaps) (w new : World) (text all : List ℕ) → LineBegins can w text requests all new → Made w new

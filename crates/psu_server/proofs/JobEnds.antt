@@ -12,7 +12,7 @@ use Rattle.psu_exec.specs.Calls.{JobData, JobEnd, Stored, Unstarted, Failed, Reo
 use Rattle.psu_exec.specs.Device.{State, Flush, count_held, is_open, target, wait_of}
 use Rattle.psu_exec.specs.Jobs.{finished_of, finished_disk, home_of, home_disk, job_data, job_disk, job_home, EndStands, RunsTo}
 use Rattle.psu_exec.specs.World.{IsTrueOf}
-use Rattle.psu_exec.proofs.Giving.{FlushGives, flush_gives, open_after}
+use Rattle.psu_exec.proofs.Giving.{FlushGives, flush_gives, locks_after, open_after}
 use Rattle.psu_exec.specs.declared.condition.Condition.{Condition}
 use Rattle.psu_exec.specs.declared.condition.Condition.TheVariants.{Whole, Broken, Worn}
 use Rattle.psu_exec.specs.declared.exec.Exec.{Exec}
@@ -60,6 +60,10 @@ gave_home (Reopened limit map) s new over a = ⊎_elim (λ all. ap (λ (f : Flus
 -- the session stays open
 pub gave_open : (end : JobEnd) (s new : State) (over : List ℕ) → IsAccepted s end over new → is_open new 1 ≡ is_open s 1
 gave_open end s new over a = ap (λ (o : List Bool). slice_index_or o 0 false) (open_after s new end a.gives)
+
+-- the locks are the same
+pub gave_locks : (end : JobEnd) (s new : State) (over : List ℕ) → IsAccepted s end over new → new.volatile.locks ≡ s.volatile.locks
+gave_locks end s new over a = locks_after s new end a.gives
 
 -- what a job's end turns each wait into is none where there was none
 pub no_wait_after : (turn : Wait → Wait) (waits : List (Option Wait)) → slice_index_or waits 0 None ≡ None → slice_index_or (map (option_map turn) waits) 0 None ≡ None

@@ -1,7 +1,7 @@
 -- The units of a message, one after another.
 use Rattle.std.proofs.Common.{◌≡◌, ◌⊎◌, ℕ, false, List, [], ◌∷◌, ◌++◌, refl, sym, ap, ◌∙◌, subst, inl, inr, append_assoc, append-nil, ⊎_elim}
 use Rattle.psu_disk.specs.declared.disk.Disk.{Ghosts}
-use Rattle.psu_exec.specs.Device.{Reply, Done, Answer, Error, Expand, Parked, Later}
+use Rattle.psu_exec.specs.Device.{Reply, Done, Answer, Error, Expand, Parked, Held, Later}
 use Rattle.psu_exec.specs.World.{World}
 use Rattle.psu_exec.specs.declared.exec.Exec.{Exec}
 use Rattle.psu_tree.specs.declared.unit_request.Request.{Request}
@@ -211,6 +211,7 @@ told_reply (Answer a) can w text all plain is = (refl, is)
 told_reply (Error e) can w text all plain is = (refl, is)
 told_reply (Expand bytes) can w text all plain is = cc
 told_reply Parked can w text all plain is = (refl, is)
+told_reply Held can w text all plain is = (refl, is)
 told_reply Later can w text all plain is = (refl, is)
 
 pub line_told : {D A : Type 0} {G : Ghosts D} (old new : Exec D A G) (a b : Telling) (request : Request) (reply : Reply) → GoesOn old new (λ can w v. UnitRuns can w request reply v)

@@ -6,7 +6,7 @@ use Rattle.psu_lex.specs.declared.scpi_error.ScpiError.{ScpiError}
 use Rattle.psu_tree.specs.declared.command.Command.{Command}
 use Rattle.psu_tree.specs.declared.unit_request.Request.{Request}
 use Rattle.psu_instrument.specs.Macros.{ExpandsAt, body_called, written}
-use Rattle.psu_exec.specs.Device.{Reply, Done, Answer, Error, Expand, Parked, Later, State, answer_call, answer_meant, called, here, is_late, is_later, meant, reads_nonvolatile, wait_of}
+use Rattle.psu_exec.specs.Device.{Reply, Done, Answer, Error, Expand, Parked, Held, Later, State, answer_call, answer_meant, called, here, is_late, is_later, meant, reads_nonvolatile, wait_of}
 use Rattle.psu_server.specs.Lines.{Message}
 use Rattle.psu_server.specs.Script.{Rest, Went, Told, Expands, RepliesCalled, RepliesNow, Replies, GoesFrom, Goes, TellsInside, TellsReply, Tells, TellsMessage, Scripted, after_reply, flushed, line_text, with_answer}
 use Rattle.psu_server.proofs.Scripts.{Alike, Ones, Same, one_asked, one_asking}
@@ -29,7 +29,7 @@ one_call one a b same body x y p q =
     p.is ∙ ap answer_call (one_given one a.inside body (written p.parameters) p.given q.given p.gives gives) ∙ sym q.is
 
 one_called : OneExpansion → (s : State) (a b : Request) → Same a b → (body : Option (List ℕ)) (x y : Reply) → RepliesCalled s a body x → RepliesCalled s b body y → x ≡ y
-one_called one s a b same None x y p q = p ∙ ap (λ (z : Result Command ScpiError). answer_meant s.flush (meant (here s) z)) same.reading ∙ sym q
+one_called one s a b same None x y p q = p ∙ ap (λ (z : Result Command ScpiError). answer_meant s.flush (meant (here s 1) z)) same.reading ∙ sym q
 one_called one s a b same (Some body) x y p q = one_call one a b same body x y p q
 
 called_same : (s : State) (a b : Request) → Same a b → called s b ≡ called s a
@@ -58,6 +58,7 @@ reply_bare r a (Answer text) = refl
 reply_bare r a (Error e) = refl
 reply_bare r a (Expand text) = refl
 reply_bare r a Parked = refl
+reply_bare r a Held = refl
 reply_bare r a Later = refl
 
 -- a unit goes on by its reading and its reply alone
@@ -72,6 +73,7 @@ one_from one r a b same (Answer text) x y is is_too = is ∙ reply_alike r a b (
 one_from one r a b same (Error e) x y is is_too = is ∙ reply_alike r a b (Error e) same ∙ sym is_too
 one_from one r a b same (Expand text) x y is is_too = is ∙ reply_alike r a b (Expand text) same ∙ sym is_too
 one_from one r a b same Parked x y is is_too = is ∙ reply_alike r a b Parked same ∙ sym is_too
+one_from one r a b same Held x y is is_too = is ∙ reply_alike r a b Held same ∙ sym is_too
 
 one_unit : OneExpansion → (r : Rest) (a b : Request) → Same a b → (x y : Went) → Goes r a x → Goes r b y → x ≡ y
 one_unit one r a b same x y (p, replies, goes) (q, replies_too, goes_too) =
@@ -94,6 +96,7 @@ one_told o one Done r text x y p q = p ∙ sym q
 one_told o one (Answer a) r text x y p q = p ∙ sym q
 one_told o one (Error e) r text x y p q = p ∙ sym q
 one_told o one Parked r text x y p q = p ∙ sym q
+one_told o one Held r text x y p q = p ∙ sym q
 one_told o one Later r text x y p q = p ∙ sym q
 
 one_line : Ones → OneExpansion → (requests others : List Request) (r : Rest) (text : List ℕ) (x y : Told) → Alike requests others → Tells r text requests x → Tells r text others y → x ≡ y

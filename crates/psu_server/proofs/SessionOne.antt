@@ -4,7 +4,7 @@ use Rattle.psu_disk.specs.declared.disk.Disk.{Ghosts}
 use Rattle.psu_exec.specs.Calls.{Executed, Settled, Cleared, Allows, settle_answer, settled}
 use Rattle.psu_instrument.specs.declared.completion.Completion.{Completion}
 use Rattle.psu_instrument.specs.declared.completion.Completion.TheVariants as completion
-use Rattle.psu_exec.specs.Device.{Reply, Done, Answer, Error, Expand, Parked, Later, State, Flush, answer_complete, completion_in, here, meant, with_wait, wait_of}
+use Rattle.psu_exec.specs.Device.{Reply, Done, Answer, Error, Expand, Parked, Held, Later, State, Flush, answer_complete, completion_in, here, meant, with_wait, wait_of}
 use Rattle.psu_exec.specs.declared.exec.Exec.{Exec}
 use Rattle.psu_exec.specs.declared.home.Home.{Home}
 use Rattle.psu_tree.specs.declared.unit_request.Request.{Request}
@@ -61,12 +61,13 @@ kept_waits waits c n Done e = refl
 kept_waits waits c n (Answer text) e = refl
 kept_waits waits c n (Error error) e = refl
 kept_waits waits c n (Expand text) e = refl
+kept_waits waits c n Held e = refl
 kept_waits waits c n Later e = refl
 kept_waits waits c n Parked e = cc
 
 pub unit_free : (s new : State) (request : Request) (reply : Reply) → Allows s (Executed 1 request reply) new → is_parked reply ≡ false → wait_of s.flush 1 ≡ None → wait_of new.flush 1 ≡ None
 unit_free s new request reply t shut free =
-    ap (λ (z : State). wait_of z.flush 1) t.1.is ∙ ap (λ (waits : List (Option Wait)). slice_index_or waits 0 None) (kept_waits s.flush.waits (completion_in (meant (here s) request.reading)) s.flush.unflushed reply shut) ∙ free
+    ap (λ (z : State). wait_of z.flush 1) t.1.is ∙ ap (λ (waits : List (Option Wait)). slice_index_or waits 0 None) (kept_waits s.flush.waits (completion_in (meant (here s 1) request.reading)) s.flush.unflushed reply shut) ∙ free
 
 -- ---- and of the store
 

@@ -5,7 +5,7 @@ use Rattle.psu_lex.specs.declared.scpi_error.ScpiError.{ScpiError}
 use Rattle.psu_lex.specs.declared.scpi_error.ScpiError.TheVariants.{MacroRecursionError}
 use Rattle.psu_tree.specs.declared.unit_request.Request.{Request}
 use Rattle.psu_instrument.specs.Macros.{ExpandsAt, written}
-use Rattle.psu_exec.specs.Device.{Reply, Done, Answer, Error, Expand, Parked, Later, State, answer_call, answer_meant, called, here, is_later, meant}
+use Rattle.psu_exec.specs.Device.{Reply, Done, Answer, Error, Expand, Parked, Held, Later, State, answer_call, answer_meant, called, here, is_later, meant}
 use Rattle.psu_server.specs.Lines.{Message}
 use Rattle.psu_server.specs.Script.{Rest, Went, Told, RepliesCalled, RepliesNow, Replies, GoesFrom, Goes, TellsInside, TellsReply, Tells, TellsMessage, Scripted, after_reply, flushed, line_text, restarted, with_answer}
 use Rattle.psu_server.proofs.Readings.{SomeReading}
@@ -26,7 +26,7 @@ some_given some true body args = (Err MacroRecursionError, refl)
 some_given some false body args = some.expansion body args
 
 some_called : Somes → (s : State) (request : Request) → Holds request → (body : Option (List ℕ)) → (reply : Reply) × RepliesCalled s request body reply
-some_called some s request holds None = (answer_meant s.flush (meant (here s) request.reading), refl)
+some_called some s request holds None = (answer_meant s.flush (meant (here s 1) request.reading), refl)
 some_called some s request holds (Some body) =
     let given = some_given some request.inside body (written holds.0) in
     (answer_call given.0, record { parameters = holds.0; holds = holds.1; given = given.0; gives = given.1; is = refl })
@@ -46,6 +46,7 @@ some_from some r request holds (Answer text) = (after_reply r request (Answer te
 some_from some r request holds (Error e) = (after_reply r request (Error e), refl)
 some_from some r request holds (Expand text) = (after_reply r request (Expand text), refl)
 some_from some r request holds Parked = (after_reply r request Parked, refl)
+some_from some r request holds Held = (after_reply r request Held, refl)
 
 some_unit : Somes → (r : Rest) (request : Request) → Holds request → (went : Went) × Goes r request went
 some_unit some r request holds =
@@ -69,6 +70,7 @@ some_told some Done r text = (record { rest = r; text = with_answer text Done },
 some_told some (Answer a) r text = (record { rest = r; text = with_answer text (Answer a) }, refl)
 some_told some (Error e) r text = (record { rest = r; text = with_answer text (Error e) }, refl)
 some_told some Parked r text = (record { rest = r; text = with_answer text Parked }, refl)
+some_told some Held r text = (record { rest = r; text = with_answer text Held }, refl)
 some_told some Later r text = (record { rest = r; text = with_answer text Later }, refl)
 
 some_line : Somes → (requests : List Request) (r : Rest) (text : List ℕ) → AllHold requests → (told : Told) × Tells r text requests told

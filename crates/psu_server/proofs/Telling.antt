@@ -100,6 +100,7 @@ says_nothing t outcome.Done other = nothing_told t
 says_nothing t (outcome.Error e) other = nothing_told t
 says_nothing t (outcome.Expand bytes) other = nothing_told t
 says_nothing t outcome.Parked other = nothing_told t
+says_nothing t outcome.Held other = nothing_told t
 says_nothing t outcome.Later other = nothing_told t
 
 pub not_write : (cause : RunCause) → cause ≡ Memory → cause ≢ Write

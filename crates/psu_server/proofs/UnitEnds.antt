@@ -1,16 +1,15 @@
 -- Units, their waits, and what they leave.
-use Rattle.std.proofs.Common.{◌≡◌, ◌≢◌, ◌⊎◌, ℕ, ◌<◌, ◌==◌, ◌&&◌, not, nat_le, if◌then◌else◌, Bool, true, false, Option, Some, None, is_none, List, [], ◌∷◌, ◌++◌, refl, sym, ap, ◌∙◌, subst, inl, inr, arith, ⊎_elim, append-nil, Ok, Err}
+use Rattle.std.proofs.Common.{◌≡◌, ◌≢◌, ◌⊎◌, ℕ, ◌<◌, ◌==◌, ◌&&◌, not, nat_le, if◌then◌else◌, Bool, true, false, Option, Some, None, is_none, List, [], ◌∷◌, ◌++◌, refl, sym, ap, ◌∙◌, subst, inl, inr, arith, ⊎_elim, append-nil, Result, Ok, Err}
 use Rattle.std.proofs.lemmas.Bool.Decides.{nat_tests}
 use Rattle.psu_disk.specs.Disk.{HasFailed}
 use Rattle.psu_disk.specs.declared.disk.Disk.{Ghosts}
 use Rattle.psu_exec.specs.Calls.{Executed, Settled, Cleared, Allows, settle_answer}
-use Rattle.psu_exec.specs.Device.{Reply, Done, Answer, Error, Expand, Parked, Later, State, Flush, MayMean, is_late, is_whole, wait_of, answer_complete, answer_done, answer_meant, here, kept_unless, meant as meaning_of, parks, reads_nonvolatile}
+use Rattle.psu_exec.specs.Device.{Reply, Done, Answer, Error, Expand, Parked, Held, Later, State, Flush, AnswersBeside, AnswersCalled, AnswersNow, MayMean, answer_call, called, is_denied, is_late, is_later as comes_later, is_whole, wait_of, answer_complete, answer_done, answer_meant, here, kept_unless, meant as meaning_of, parks, reads_nonvolatile}
 use Rattle.psu_instrument.specs.Meaning.{Meaning, Refuses, Does, Keeps, Completes}
 use Rattle.psu_instrument.specs.declared.completion.Completion.{Completion}
 use Rattle.psu_instrument.specs.declared.completion.Completion.TheVariants as completion
 use Rattle.psu_exec.specs.Shown.{outcome_of}
 use Rattle.psu_exec.specs.World.{World}
-use Rattle.psu_exec.proofs.Answering.{IsCall, ways}
 use Rattle.psu_nv.specs.Commands as nv
 use Rattle.psu_nv.specs.Contents.{fits}
 use Rattle.psu_exec.specs.declared.condition.Condition.TheVariants.{Worn}
@@ -225,25 +224,27 @@ halts_cleared old mid new cause s t there =
 
 -- ---- units
 
-acts_at : (can : Mishaps) (reply : Reply) (w v : World) (request : Request) → is_parked reply ≡ false → IsMeant can reply × Calls w (Executed 1 request reply) v → Acted request reply can w v
-acts_at can Later w v request shut (m, c) = inl (refl, c)
-acts_at can Done w v request shut (m, c) = inr (refl, inl (m, c))
-acts_at can (Answer text) w v request shut (m, c) = inr (refl, inl (m, c))
-acts_at can (Error e) w v request shut (m, c) = inr (refl, inl (m, c))
-acts_at can (Expand text) w v request shut (m, c) = inr (refl, inl (m, c))
-acts_at can Parked w v request shut (m, c) = cc
+acts_at : (can : Mishaps) (reply : Reply) (w v : World) (request : Request) → is_parked reply ≡ false → reply ≢ Held → IsMeant can reply × Calls w (Executed 1 request reply) v → Acted request reply can w v
+acts_at can Later w v request shut free (m, c) = inl (refl, c)
+acts_at can Done w v request shut free (m, c) = inr (refl, inl (m, c))
+acts_at can (Answer text) w v request shut free (m, c) = inr (refl, inl (m, c))
+acts_at can (Error e) w v request shut free (m, c) = inr (refl, inl (m, c))
+acts_at can (Expand text) w v request shut free (m, c) = inr (refl, inl (m, c))
+acts_at can Parked w v request shut free (m, c) = cc
+acts_at can Held w v request shut free (m, c) = absurd (free refl)
 
 pub acted_now : {D A : Type 0} {G : Ghosts D} (old new : Exec D A G) (request : Request) (reply : Reply) → Allows old.device (Executed 1 request reply) new.device → new.home ≡ old.home
-    → is_parked reply ≡ false → GoesOn old new (Acted request reply)
-acted_now old new request reply t there shut =
+    → is_parked reply ≡ false → reply ≢ Held → GoesOn old new (Acted request reply)
+acted_now old new request reply t there shut free =
     goes_as old new (λ can w v. IsMeant can reply × Calls w (Executed 1 request reply) v) (Acted request reply) (executed_goes old new request reply t there)
-    (λ can w v x. acts_at can reply w v request shut x)
+    (λ can w v x. acts_at can reply w v request shut free x)
 
 parked_call : (w v : World) (request : Request) (reply : Reply) → is_parked reply ≡ true → Calls w (Executed 1 request reply) v → Calls w (Executed 1 request Parked) v
 parked_call w v request Parked e c = c
 parked_call w v request Done e c = cc
 parked_call w v request (Answer text) e c = cc
 parked_call w v request (Error error) e c = cc
+parked_call w v request Held e c = cc
 parked_call w v request Later e c = cc
 parked_call w v request (Expand text) e c = cc
 
@@ -276,6 +277,7 @@ late_call can Done w v request late (inr r) = cc
 late_call can (Answer text) w v request late (inr r) = cc
 late_call can (Error e) w v request late (inr r) = cc
 late_call can Parked w v request late (inr r) = cc
+late_call can Held w v request late (inr r) = cc
 late_call can (Expand text) w v request late (inr r) = cc
 
 abbrev AfterLate : Request → Mishaps → World → World → Type 0
@@ -356,18 +358,29 @@ full_tail : (wait : Option Wait) (n : ℕ) (nonvolatile : Bool) → wait ≡ Non
 full_tail None n nonvolatile free e = some_of n nonvolatile e
 full_tail (Some w) n nonvolatile free e = cc
 
-never_called : IsCall Later → ⊥
-never_called (Ok text, e) = cc
-never_called (Err error, e) = cc
+never_call : (given : Result (List ℕ) ScpiError) → Never (answer_call given)
+never_call (Ok text) e = cc
+never_call (Err error) e = cc
 
 never_means : (f : Flush) (m : Meaning) → MayMean f m Later → ⊥
 never_means f m (inl is) = never_meant f m (sym is)
 never_means f m (inr short) = let bad = short.0 in cc
 
+never_called : (s : State) (request : Request) (body : Option (List ℕ)) → AnswersCalled s 1 request body Later → ⊥
+never_called s request None h = never_means s.flush (meaning_of (here s 1) request.reading) h
+never_called s request (Some body) h = never_call h.given (sym h.is)
+
+late_now : (s : State) (request : Request) (late : Bool) → AnswersNow late s 1 request Later → late ≡ true
+late_now s request true h = refl
+late_now s request false h = absurd (never_called s request (called s request) h)
+
+late_beside : (s : State) (request : Request) (denied : Bool) → AnswersBeside denied s 1 request Later → comes_later s 1 request ≡ true
+late_beside s request true h = cc
+late_beside s request false h = late_now s request (comes_later s 1 request) h
+
 late_some : (s new : State) (request : Request) → Allows s (Executed 1 request Later) new → wait_of s.flush 1 ≡ None → 0 < s.flush.unflushed
 late_some s new request t free =
-    ⊎_elim (λ late. full_tail (wait_of s.flush 1) s.flush.unflushed (reads_nonvolatile request.reading (is_none s.flush.contents.enables)) free late.0)
-    (λ now. ⊎_elim (λ call. absurd (never_called call)) (λ means. absurd (never_means s.flush (meaning_of (here s) request.reading) means)) now.1) (ways s 1 request Later t.1.may)
+    full_tail (wait_of s.flush 1) s.flush.unflushed (reads_nonvolatile request.reading (is_none s.flush.contents.enables)) free (late_beside s request (is_denied s 1) t.1.may)
 
 late_halted : {D A : Type 0} {G : Ghosts D} (since : ℕ) (mid new : Exec D A G) (request : Request) (reply : Reply) → Ghosts.honest G → GoesOn mid new (Acted request reply) → is_later reply ≡ true
     → wait_of mid.device.flush 1 ≡ None → HasFailed since (failures_of mid) ⊎ (mid.device.flush.store ≡ Worn) ⊎ (mid.device.flush.unflushed ≡ 0) → IsHaltedBy since new Device
@@ -395,5 +408,6 @@ parked_of outcome.Done e = cc
 parked_of (outcome.Answer text) e = cc
 parked_of (outcome.Error error) e = cc
 parked_of outcome.Parked e = refl
+parked_of outcome.Held e = cc
 parked_of outcome.Later e = cc
 parked_of (outcome.Expand text) e = cc

@@ -70,7 +70,7 @@ pub record Expands (request : Request) (body : List ℕ) (reply : Reply) : Type 
 
 -- a call stands before what the unit reads as
 abbrev pub RepliesCalled : State → Request → Option (List ℕ) → Reply → Type 0
-RepliesCalled s request None reply = reply ≡ answer_meant s.flush (meant (here s) request.reading)
+RepliesCalled s request None reply = reply ≡ answer_meant s.flush (meant (here s 1) request.reading)
 RepliesCalled s request (Some body) reply = Expands request body reply
 
 abbrev pub RepliesNow : Bool → State → Request → Reply → Type 0

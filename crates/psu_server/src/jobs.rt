@@ -59,6 +59,7 @@ pub fn flush<D: Disk, A: Allocator + Copy>(exec: &mut Exec<D, A>) -> Result<(), 
     ensures halts { IfErr result (Halts exec.old exec.new []) }
     ensures idle { exec.new.device.flush.out ≡ false }
     ensures open { is_open exec.new.device 1 ≡ is_open exec.old.device 1 }
+    ensures locked { exec.new.device.volatile.locks ≡ exec.old.device.volatile.locks }
     ensures free { wait_of exec.old.device.flush 1 ≡ None → wait_of exec.new.device.flush 1 ≡ None }
 
     // What is left then is left for a reason.
@@ -87,6 +88,7 @@ pub fn reopen<D: Disk, A: Allocator + Copy>(exec: &mut Exec<D, A>) -> Result<(),
     ensures halts { IfErr result (Halts exec.old exec.new []) }
     ensures idle { exec.new.device.flush.out ≡ false }
     ensures open { is_open exec.new.device 1 ≡ is_open exec.old.device 1 }
+    ensures locked { exec.new.device.volatile.locks ≡ exec.old.device.volatile.locks }
     ensures free { wait_of exec.old.device.flush 1 ≡ None → wait_of exec.new.device.flush 1 ≡ None }
     ensures mended { OnOk result (is_broken exec.new.device.flush.store ≡ false) }
 {

@@ -2,7 +2,7 @@
 ghost use Rattle.std.specs.Prelude.{◌≡◌, ◌≤◌, ℕ, List, IfOk, IfErr, true, false, None};
 ghost use Rattle.psu_items.specs.Image.{EachStands};
 ghost use Rattle.psu_items.specs.Map.{Item};
-ghost use Rattle.psu_exec.specs.Device.{is_broken, is_open, wait_of};
+ghost use Rattle.psu_exec.specs.Device.{is_broken, is_denied, is_open, wait_of};
 ghost use Rattle.psu_exec.specs.declared.condition.Condition.TheVariants.{Worn};
 ghost use Rattle.psu_server.specs.Failures.{failures_of};
 ghost use Rattle.psu_server.specs.Jobs.{IsExplained};
@@ -16,13 +16,14 @@ use psu_exec::{Crowded, Ended, Exec, Session};
 use psu_items::Store;
 use std::alloc::Allocator;
 
-/// A device that is powered on: its one session is open and waits for nothing, and no job is out.
+/// A device that is powered on: its one session is open and waits for nothing, no lock denies it, and no job is out.
 #[derive(Drop)]
 pub struct Powered<D: Disk, A: Allocator + Copy> {
     pub exec: Exec<D, A>,
     pub session: Session,
     pub ghost first: { session ≡ 1 },
     pub ghost open: { is_open exec.device 1 ≡ true },
+    pub ghost allowed: { is_denied exec.device 1 ≡ false },
     pub ghost idle: { exec.device.flush.out ≡ false },
     pub ghost free: { wait_of exec.device.flush 1 ≡ None },
 }

@@ -37,7 +37,7 @@ fn is_later<A: Allocator + Copy>(outcome: &Outcome<A>) -> bool
 fn is_final<A: Allocator + Copy>(outcome: &Outcome<A>) -> bool
     ensures { result ≡ is_final (outcome_of outcome.now) }
 {
-    !matches!(outcome, Outcome::Parked | Outcome::Later)
+    !matches!(outcome, Outcome::Parked | Outcome::Held | Outcome::Later)
 }
 
 fn is_out_of_memory<A: Allocator + Copy>(outcome: &Outcome<A>) -> bool
@@ -61,6 +61,7 @@ fn wait_end<D: Disk, A: Allocator + Copy>(
     ensures halts { IfErr result (Halts exec.old exec.new []) }
     ensures idle { exec.new.device.flush.out ≡ false }
     ensures open { is_open exec.new.device 1 ≡ true }
+    ensures locked { exec.new.device.volatile.locks ≡ exec.old.device.volatile.locks }
 {
     flush(exec)?;
     let outcome = exec.settle(session);
@@ -88,6 +89,7 @@ fn wait<D: Disk, A: Allocator + Copy>(
     ensures halts { IfErr result (Halts exec.old exec.new []) }
     ensures idle { exec.new.device.flush.out ≡ false }
     ensures open { is_open exec.new.device 1 ≡ true }
+    ensures locked { exec.new.device.volatile.locks ≡ exec.old.device.volatile.locks }
 {
     match wait_end(exec, session) {
         Ok(outcome) => Ok(outcome),

@@ -2,8 +2,8 @@
 ghost use Rattle.std.specs.Prelude.{◌≡◌, IfSome, true};
 ghost use Rattle.psu_exec.specs.Device.{is_denied, is_open};
 ghost use Rattle.psu_exec.specs.Calls.{Allows};
-ghost use Rattle.psu_exec.specs.Calls.Entry.{Locked, Released, Ticked, Informed};
-ghost use Rattle.psu_locks.specs.Table.{FailsFirst, IsSettled, next_deadline};
+ghost use Rattle.psu_exec.specs.Calls.Entry.{Locked, Released, Ticked, Informed, Due};
+ghost use Rattle.psu_locks.specs.Table.{FailsFirst, IsSettled};
 
 use crate::{Device, Freed, Grant, Info, Kind, LockRefusal, Session, Sessions};
 use std::alloc::Allocator;
@@ -54,7 +54,7 @@ impl<A: Allocator + Copy> Device<A> {
 
     /// The moment at which a request that waits fails next.
     pub(crate) fn next_deadline(&self) -> Option<u128>
-        ensures deadline { result ≡ next_deadline self.now.volatile.locks.waiting }
+        ensures step { Allows self.now (Due result) self.now }
         ensures first { IfSome result (λ deadline. FailsFirst self.now.volatile.locks.waiting deadline) }
         ensures settled { IsSettled self.now.volatile.locks }
     {

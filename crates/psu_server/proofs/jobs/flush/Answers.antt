@@ -7,7 +7,7 @@ use Rattle.psu_server.specs.Lives.{world_of}
 use Rattle.psu_server.specs.Runs.{Jobs}
 use Rattle.psu_server.specs.Within.{IsLater}
 use Rattle.psu_server.proofs.Calls.{Executes, executes_join}
-use Rattle.psu_server.proofs.JobEnds.{gave_free, gave_home, gave_open, job_done}
+use Rattle.psu_server.proofs.JobEnds.{gave_free, gave_home, gave_locks, gave_open, job_done}
 use Rattle.psu_server.proofs.FlushEnds.{calm_after, flush_ends, flush_full, halts_short, job_executes, jobs_execute, jobs_more, out_free, out_reasons, run_later, same_explained, same_world}
 use Rattle.psu_server.proofs.Within.{later_on, later_same, within_here}
 use Rattle.psu_server.proofs.jobs.flush.Goals as goal
@@ -16,6 +16,7 @@ pub loop-init : goal.loop-init
 loop-init g c = record {
   idle = c.requires.idle;
   same_open = refl;
+  same_locks = refl;
   free = λ e. e;
   count = omega arith;
   jobs = λ h life. within_here _ (λ can. Jobs 0 can (world_of life c.args.exec.now) (world_of life c.args.exec.now)) (λ can. refl);
@@ -59,6 +60,7 @@ loop-preserved g c =
     let idle = gave_home run.finished _ _ run.over run.give in record {
       idle = idle;
       same_open = gave_open run.finished _ _ run.over run.give ∙ ap (λ (s : State). is_open s 1) c.in-Ok.ensures.step.1 ∙ c.loop.invariant.same_open;
+      same_locks = gave_locks run.finished _ _ run.over run.give ∙ ap (λ (s : State). s.volatile.locks) c.in-Ok.ensures.step.1 ∙ c.loop.invariant.same_locks;
       free = λ e. gave_free run.finished _ _ run.over run.give (out_free c.loop.exec.device c.take.new.self.device (job_data c.in-Ok.job) c.in-Ok.ensures.step (c.loop.invariant.free e));
       count = omega (arith, c.loop-test.true);
       jobs = λ h life. jobs_more c.args.exec.now c.loop.exec c.run_job.new.exec life c.loop.counter (c.loop.invariant.jobs h life)

@@ -12,6 +12,7 @@ abbrev pub invariant-loop : goal.invariant-loop
 invariant-loop g l = record {
   idle : l.exec.device.flush.out ≡ false;
   same_open : is_open l.exec.device 1 ≡ is_open l.initial.exec.device 1;
+  same_locks : l.exec.device.volatile.locks ≡ l.initial.exec.device.volatile.locks;
   free : wait_of l.initial.exec.device.flush 1 ≡ None → wait_of l.exec.device.flush 1 ≡ None;
   count : l.counter ≤ 4;
   jobs : g.D.Disk.honest → (life : Life) → Within (failures_of l.initial.exec) (failures_of l.exec) (λ can. Jobs l.counter can (world_of life l.initial.exec) (world_of life l.exec));

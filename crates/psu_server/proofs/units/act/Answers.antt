@@ -1,4 +1,5 @@
-use Rattle.std.proofs.Common.{◌∙◌, sym}
+use Rattle.std.proofs.Common.{◌∙◌, ℕ, ap, sym}
+use Rattle.psu_exec.specs.Device.{is_denied}
 use Rattle.psu_exec.specs.Shown.{outcome_of}
 use Rattle.psu_server.proofs.Fronts.{passed}
 use Rattle.psu_server.proofs.UnitEnds.{acted_now, acted_waited, parked_halts}
@@ -11,6 +12,9 @@ returns-then-not-is_parked-clause-acted g c =
     c.args.powered.now.first c.execute-outcome.ensures.step in
     acted_now c.args.powered.now.exec c.execute-outcome.new.self c.args.request.now (outcome_of c.execute-outcome.result) step c.execute-outcome.ensures.home
     (sym c.is_parked.ensures ∙ c.if-not-is_parked.true)
+    (λ held. let denied = c.execute-outcome.ensures.held.0 held in
+    let free = ap (λ (n : ℕ). is_denied c.args.powered.now.exec.device n) c.args.powered.now.first ∙ c.args.powered.now.allowed in
+    let bad = sym denied ∙ free in cc)
 
 pub returns-in_err-outcome-clause-halts : goal.returns-in_err-outcome-clause-halts
 returns-in_err-outcome-clause-halts g c =

@@ -1,0 +1,54 @@
+-- The histories of the bench as events of the theorem on power loss.
+use Rattle.std.specs.Prelude.{◌≡◌, ◌⊎◌, ℕ, Some, List, [], ◌∷◌}
+use Rattle.psu_disk.specs.Disk.{DiskState, Left}
+use Rattle.psu_items.specs.Image.{Stands}
+use Rattle.psu_nv.specs.Contents.{items_of}
+use Rattle.psu_exec.specs.Device.{State, target}
+use Rattle.psu_exec.specs.Calls.{Entry, GaveBack, JobEnd, Allows}
+use Rattle.psu_exec.specs.Headline.{IsPrefix}
+use Rattle.psu_exec.specs.World.{World, Running, Event, Call, DiskCall, Happens, IsStart, IsTrueOf, Run, after}
+use Rattle.psu_turn.specs.History.{Leads}
+use Rattle.psu_turn.specs.declared.numbered.Numbered.{Numbered}
+use Rattle.psu_bench.specs.Calls.{Admits, HasNoSession}
+
+-- What happens while threads run: a call, with the disk after it, or a disk call of the job that is out.
+pub data Happening : Type 0 where
+  Called : (call : Numbered Entry) → (disk : DiskState) → Happening
+  Moved : (disk : DiskState) → Happening
+
+-- the calls among them: a history
+abbrev pub calls_in : List Happening → List (Numbered Entry)
+calls_in [] = []
+calls_in (Called call disk ∷ more) = call ∷ calls_in more
+calls_in (Moved disk ∷ more) = calls_in more
+
+-- They happen one after another, from this world to that one. A call is an event, or one with a session that isn't open, and then nothing
+-- happens; a disk call is an event.
+abbrev pub Lives : World → List Happening → World → Type 0
+Lives w [] new = new ≡ w
+Lives w (Called call disk ∷ more) new =
+    ((mid : World) × Happens w (Call call.entry disk) mid × Lives mid more new)
+    ⊎ (HasNoSession w.state call.entry × (disk ≡ w.disk) × Lives w more new)
+Lives w (Moved disk ∷ more) new = (mid : World) × Happens w (DiskCall disk) mid × Lives mid more new
+
+-- What happens are events of the theorem on power loss, and its calls are a legal history.
+abbrev pub LivesAreEvents : Type 0
+LivesAreEvents = (w new : World) (happenings : List Happening) → Lives w happenings new
+    → ((events : List Event) × Run w events new) × Leads Admits w.state (calls_in happenings) new.state
+
+-- the disk of each end that is accepted is that of its end
+abbrev pub Carries : (State → JobEnd → DiskState) → Type 0
+Carries disks = (s new : State) (finished : JobEnd) (over : List ℕ) → Allows s (GaveBack finished (Some over)) new → IsTrueOf (target s.flush) finished (disks s finished)
+
+-- Each legal history happens, with the disks that accepted ends carry.
+abbrev pub HistoriesHappen : Type 0
+HistoriesHappen = (w : World) (history : List (Numbered Entry)) (last : State) (disks : State → JobEnd → DiskState)
+    → w.mode ≡ Running → Carries disks → Leads Admits w.state history last
+    → (happenings : List Happening) × (new : World) × (calls_in happenings ≡ history) × Lives w happenings new × (new.state ≡ last)
+
+-- Whatever threads do, what a power loss may leave stands for the contents after a front of the executed units that holds every unit before an
+-- answered `*OPC?`.
+abbrev pub ThreadsLeavePrefix : Type 0
+ThreadsLeavePrefix = (first now : World) (happenings : List Happening) (image : List ℕ)
+    → IsStart first → Lives first happenings now → Left now.disk image
+    → (k : ℕ) × IsPrefix now k × Stands image now.limit (items_of (after now k))

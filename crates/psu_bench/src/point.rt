@@ -1,0 +1,12 @@
+//! Points at which a gate is asked.
+
+/// Where a thread of the bench is.
+#[derive(Clone, Copy, Debug, PartialEq, Eq)]
+pub enum Point {
+    /// The flusher has a job, and has not begun to run it.
+    BeforeRun,
+    /// A page is about to be written.
+    BeforeWrite,
+    /// A session's unit has its outcome.
+    AfterAnswer,
+}

@@ -1,0 +1,76 @@
+// A gate that holds the flusher up until a session was answered.
+use psu_bench::{Gate, Point};
+use std::sync::atomic::{AtomicBool, AtomicU64, Ordering};
+use std::thread;
+
+const LOOKS: u32 = 1_000_000;
+
+/// At this point the first to come waits until an answer was given, for so many looks at most.
+#[derive(Drop)]
+pub struct Hold {
+    point: Point,
+    held: AtomicBool,
+    answered: AtomicBool,
+    overlapped: AtomicBool,
+    writes: AtomicU64,
+}
+
+impl Hold {
+    pub fn new(point: Point) -> Hold {
+        Hold {
+            point,
+            held: AtomicBool::new(false),
+            answered: AtomicBool::new(false),
+            overlapped: AtomicBool::new(false),
+            writes: AtomicU64::new(0),
+        }
+    }
+
+    /// Waits until the flusher is held, and tells whether it is.
+    pub fn is_held(&self) -> bool {
+        came_true(&self.held)
+    }
+
+    /// Whether an answer was given while the flusher was held.
+    pub fn overlapped(&self) -> bool {
+        self.overlapped.load(Ordering::SeqCst)
+    }
+
+    /// How many pages were to be written.
+    pub fn writes(&self) -> u64 {
+        self.writes.load(Ordering::SeqCst)
+    }
+
+    fn hold(&self) {
+        if self.held.swap(true, Ordering::SeqCst) {
+            return;
+        }
+        if came_true(&self.answered) {
+            self.overlapped.store(true, Ordering::SeqCst);
+        }
+    }
+}
+
+impl Gate for Hold {
+    fn at(&self, point: Point) {
+        if point == Point::BeforeWrite {
+            self.writes.fetch_add(1, Ordering::SeqCst);
+        }
+        if point == self.point {
+            self.hold();
+        }
+        if point == Point::AfterAnswer {
+            self.answered.store(true, Ordering::SeqCst);
+        }
+    }
+}
+
+fn came_true(flag: &AtomicBool) -> bool {
+    for _ in 0..LOOKS {
+        if flag.load(Ordering::SeqCst) {
+            return true;
+        }
+        thread::yield_now();
+    }
+    false
+}

@@ -1,0 +1,131 @@
+// Many threads on one bench.
+ghost use Rattle.std.specs.Prelude.{◌≡◌, ◌<◌, ◌≤◌};
+ghost use Rattle.psu_turn.specs.Seats.{IsOf};
+
+use crate::benches::{formatted, is_answer, powered_on, unit};
+use psu_bench::{Bench, Seat};
+use psu_disk::MemDisk;
+use psu_exec::{Outcome, Session};
+use std::alloc::Global;
+use std::sync::Wait;
+use std::thread::{Threads, join};
+
+const UNITS: u64 = 6_248;
+
+type Device = Bench<MemDisk<Global>, Global>;
+
+// A session of its own: it opens, is answered each time, and closes.
+fn one_thread<R: Wait>(rt: &R, bench: &Device, mut seat: Seat<Global>) -> (u64, Seat<Global>)
+    requires { IsOf bench.now seat }
+    ensures { IsOf bench.now result.1 }
+{
+    let Ok(session) = bench.open_session(rt, &mut seat) else {
+        return (0, seat);
+    };
+    let mut answers: u64 = 0;
+    for _ in 0..UNITS {
+        let outcome = unit(rt, bench, &mut seat, session, b"*SRE?");
+        if is_answer(&outcome, b"0") {
+            answers = answers.saturating_add(1);
+        }
+    }
+    let _granted = bench.close_session(rt, &mut seat, session);
+    (answers, seat)
+}
+
+// Two to the power of `doublings` threads, each with a seat that is split from this one; what they were answered in all.
+fn threads<R: Threads + Wait + Sync>(
+    rt: &R,
+    bench: &Device,
+    mut seat: Seat<Global>,
+    doublings: u32,
+) -> (u64, Seat<Global>)
+    requires { IsOf bench.now seat }
+    ensures { IsOf bench.now result.1 }
+{
+    if doublings == 0 {
+        return one_thread(rt, bench, seat);
+    }
+    let other = bench.split(&mut seat);
+    let ((some, mut seat), (more, other)) = join(
+        rt,
+        || -> (u64, Seat<Global>)
+            requires { IsOf bench.now seat }
+            ensures { IsOf bench.entry.now result.1 }
+        { threads(rt, bench, seat, doublings - 1) },
+        || -> (u64, Seat<Global>)
+            requires { IsOf bench.now other }
+            ensures { IsOf bench.entry.now result.1 }
+        { threads(rt, bench, other, doublings - 1) },
+    );
+    bench.join(&mut seat, other);
+    (some.saturating_add(more), seat)
+}
+
+// Sixteen threads make 6,250 calls each. Each unit is answered, and the one history has all the calls.
+#[test]
+fn sixteen_threads_make_100_000_calls(rt: HostRuntime) {
+    let exec = powered_on(&rt, rt.alloc(), formatted(&rt, rt.alloc()));
+    let Ok((bench, seat)) = Bench::new(rt.alloc(), exec) else {
+        panic!(rt; "no memory")
+    };
+    let (answers, mut seat) = threads(&rt, &bench, seat, 4);
+    assert_eq!(rt; answers, 99_968);
+    assert_eq!(rt; bench.progress(&mut seat), 100_000);
+    assert!(rt; !bench.close(&rt, seat).is_open(Session::at(0)));
+}
+
+// Units of a session until one comes later, or so many were answered.
+fn until_later<R: Wait>(
+    rt: &R,
+    bench: &Device,
+    mut seat: Seat<Global>,
+    session: Session,
+) -> (bool, Seat<Global>)
+    requires { IsOf bench.now seat }
+    ensures { IsOf bench.now result.1 }
+{
+    for _ in 0..1_000_000u32 {
+        if matches!(unit(rt, bench, &mut seat, session, b"*IDN?"), Outcome::Later) {
+            return (true, seat);
+        }
+    }
+    (false, seat)
+}
+
+fn closed<R: Wait>(rt: &R, bench: &Device, mut seat: Seat<Global>, session: Session) -> Seat<Global>
+    requires { IsOf bench.now seat }
+    ensures { IsOf bench.now result }
+{
+    let _granted = bench.close_session(rt, &mut seat, session);
+    seat
+}
+
+// A thread that goes on with a session which another closes is told to come later, and harms nobody.
+#[test]
+fn a_session_is_closed_under_anothers_feet(rt: HostRuntime) {
+    let exec = powered_on(&rt, rt.alloc(), formatted(&rt, rt.alloc()));
+    let Ok((bench, mut seat)) = Bench::new(rt.alloc(), exec) else {
+        panic!(rt; "no memory")
+    };
+    let Ok(session) = bench.open_session(&rt, &mut seat) else {
+        panic!(rt; "no session")
+    };
+    let asking = bench.split(&mut seat);
+    let closing = bench.split(&mut seat);
+    let ((later, asking), closing) = join(
+        &rt,
+        || -> (bool, Seat<Global>)
+            requires { IsOf bench.now asking }
+            ensures { IsOf bench.entry.now result.1 }
+        { until_later(&rt, &bench, asking, session) },
+        || -> Seat<Global>
+            requires { IsOf bench.now closing }
+            ensures { IsOf bench.entry.now result }
+        { closed(&rt, &bench, closing, session) },
+    );
+    assert!(rt; later);
+    bench.join(&mut seat, asking);
+    bench.join(&mut seat, closing);
+    assert!(rt; !bench.close(&rt, seat).is_open(session));
+}
