@@ -48,6 +48,7 @@ disk_then disks w (GaveBack finished (Some over)) = disks w.state finished
 disk_then disks w _ = w.disk
 
 disk_after : (disks : State → JobEnd → DiskState) → Carries disks → (w : World) (entry : Entry) (new : State) → Allows w.state entry new → DiskAfter w entry (disk_then disks w entry)
+unfolding disk_then
 disk_after disks carries w (GaveBack finished (Some over)) new allows = carries w.state new finished over allows
 disk_after disks carries w (GaveBack finished None) new allows = refl
 disk_after disks carries w (Executed session request reply) new allows = refl

@@ -18,7 +18,7 @@ tries_more session request before (r ∷ replies) last reply = ap (λ (l : List 
 
 length_more : (replies : List Reply) (last : Reply) → length (replies ++ last ∷ []) ≡ length replies + 1
 length_more [] last = refl
-length_more (r ∷ replies) last = ap (λ (n : ℕ). n + 1) (length_more replies last)
+length_more (r ∷ replies) last = let more = length_more replies last in omega (arith, more)
 
 -- What a worker has called so far: each reply before the last put the unit off.
 pub record Tried (session : ℕ) (request : Request) (tries left : ℕ) (old now : List Entry) (last : Reply) : Type 0 where

@@ -41,16 +41,17 @@ impl<D: Disk, A: Allocator + Copy> Bench<D, A> {
     ghost use Rattle.psu_exec.specs.Jobs.{finished_of, taken_of};
 
     /// A bench, with the first seat. Where there is no memory the state comes back as it was.
-    pub fn new(
-        alloc: A,
-        exec: Exec<D, A>,
-    ) -> Result<(Bench<D, A>, Seat<A>), NoMemory<Exec<D, A>>>
+    pub fn new(alloc: A, exec: Exec<D, A>) -> Result<(Bench<D, A>, Seat<A>), NoMemory<Exec<D, A>>>
         ensures seat { IfOk result (λ made. Begins made.0 exec.device made.1) }
         ensures back { IfErr result (λ refused. refused.object ≡ exec) }
     {
         match Turn::new(alloc, Guarded { exec }) {
             Ok((turn, seat)) => Ok((Bench { turn }, seat)),
-            Err(NoMemory { object: Guarded { exec } }) => Err(NoMemory { object: exec }),
+            Err(
+                NoMemory {
+                    object: Guarded { exec },
+                },
+            ) => Err(NoMemory { object: exec }),
         }
     }
 
@@ -68,7 +69,8 @@ impl<D: Disk, A: Allocator + Copy> Bench<D, A> {
     {
         let mut taken = self.turn.enter(rt, seat);
         let reply = taken.object.execute(session, request);
-        self.turn.leave::<Brand, _, _>(seat, taken, &(session, request), &reply);
+        self.turn
+            .leave::<Brand, _, _>(seat, taken, &(session, request), &reply);
         reply
     }
 
@@ -80,7 +82,8 @@ impl<D: Disk, A: Allocator + Copy> Bench<D, A> {
     {
         let mut taken = self.turn.enter(rt, seat);
         let reply = taken.object.settle(session);
-        self.turn.leave::<Brand, _, _>(seat, taken, &session, &reply);
+        self.turn
+            .leave::<Brand, _, _>(seat, taken, &session, &reply);
         reply
     }
 
@@ -101,8 +104,7 @@ impl<D: Disk, A: Allocator + Copy> Bench<D, A> {
         &self,
         rt: &R,
         seat: &mut Seat<A>,
-        finished: Finished<D,
-        A>,
+        finished: Finished<D, A>,
     ) -> Result<Sessions, Stranger<D, A>>
         requires own { IsOf self.now seat.old }
         ensures call { Calls Admits seat.old (GaveBack (finished_of finished) (over_of result)) seat.new }
@@ -128,19 +130,15 @@ impl<D: Disk, A: Allocator + Copy> Bench<D, A> {
     }
 
     /// Closes a session, in a turn, where it is open. Answers the sessions whose requests for a lock were then granted.
-    pub fn close_session<R: Wait>(
-        &self,
-        rt: &R,
-        seat: &mut Seat<A>,
-        session: Session,
-    ) -> Sessions
+    pub fn close_session<R: Wait>(&self, rt: &R, seat: &mut Seat<A>, session: Session) -> Sessions
         requires own { IsOf self.now seat.old }
         ensures call { Calls Admits seat.old (Closed session result) seat.new }
         ensures own { IsOf self.now seat.new }
     {
         let mut taken = self.turn.enter(rt, seat);
         let reply = taken.object.close_session(session);
-        self.turn.leave::<Brand, _, _>(seat, taken, &session, &reply);
+        self.turn
+            .leave::<Brand, _, _>(seat, taken, &session, &reply);
         reply
     }
 
@@ -185,7 +183,8 @@ impl<D: Disk, A: Allocator + Copy> Bench<D, A> {
     {
         let mut taken = self.turn.enter(rt, seat);
         let reply = taken.object.status(session);
-        self.turn.leave::<Brand, _, _>(seat, taken, &session, &reply);
+        self.turn
+            .leave::<Brand, _, _>(seat, taken, &session, &reply);
         reply
     }
 
@@ -197,7 +196,8 @@ impl<D: Disk, A: Allocator + Copy> Bench<D, A> {
     {
         let mut taken = self.turn.enter(rt, seat);
         let reply = taken.object.requests(session);
-        self.turn.leave::<Brand, _, _>(seat, taken, &session, &reply);
+        self.turn
+            .leave::<Brand, _, _>(seat, taken, &session, &reply);
         reply
     }
 
@@ -247,7 +247,8 @@ impl<D: Disk, A: Allocator + Copy> Bench<D, A> {
     {
         let mut taken = self.turn.enter(rt, seat);
         let reply = taken.object.release(session);
-        self.turn.leave::<Brand, _, _>(seat, taken, &session, &reply);
+        self.turn
+            .leave::<Brand, _, _>(seat, taken, &session, &reply);
         reply
     }
 

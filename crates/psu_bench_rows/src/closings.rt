@@ -1,4 +1,6 @@
 // Sessions that others close, and the counted turn by hand.
+ghost use Rattle.psu_turn.specs.Seats.{IsOf};
+
 use crate::benches::{formatted, is_answer, powered_on, unit};
 use psu_bench::{Bench, Seat};
 use psu_disk::MemDisk;
@@ -6,8 +8,6 @@ use psu_exec::{Grant, Info, Kind, LockRefusal, Outcome, Session};
 use std::alloc::Global;
 use std::sync::Wait;
 use std::thread::{Threads, join};
-
-ghost use Rattle.psu_turn.specs.Seats.{IsOf};
 
 // A session that isn't open: a unit comes later, no lock is granted or held, and the rest is nothing.
 #[test]
@@ -21,13 +21,27 @@ fn a_session_that_is_not_open_acts_on_nothing(rt: HostRuntime) {
     assert!(rt; matches!(bench.settle(&rt, &mut seat, one), Outcome::Later));
     assert_eq!(rt; bench.status(&rt, &mut seat, one), 0);
     assert_eq!(rt; bench.requests(&rt, &mut seat, one), None);
-    assert_eq!(rt; bench.lock(&rt, &mut seat, one, Kind::Exclusive, 0, 0), Ok(Grant::Failed));
-    assert!(rt; matches!(bench.release(&rt, &mut seat, one), Err(LockRefusal::NotHeld)));
+    assert_eq!(rt;
+        bench.lock(&rt, &mut seat, one, Kind::Exclusive, 0, 0),
+        Ok(Grant::Failed)
+    );
+    assert!(rt;
+        matches!(
+            bench.release(&rt, &mut seat, one),
+            Err(LockRefusal::NotHeld)
+        )
+    );
     assert!(rt; bench.close_session(&rt, &mut seat, one).is_empty());
     bench.clear(&rt, &mut seat, one);
     bench.sent(&rt, &mut seat, one);
     bench.delivered(&rt, &mut seat, one);
-    assert_eq!(rt; bench.info(&rt, &mut seat), Info { exclusive: false, holders: 0 });
+    assert_eq!(rt;
+        bench.info(&rt, &mut seat),
+        Info {
+            exclusive: false,
+            holders: 0
+        }
+    );
     assert_eq!(rt; bench.next_deadline(&rt, &mut seat), None);
     assert_eq!(rt; bench.progress(&mut seat), 12);
     assert!(rt; bench.close(&rt, seat).is_flushed());
@@ -79,7 +93,12 @@ fn another_thread_reads_what_was_set(rt: HostRuntime) {
     let Ok(session) = bench.open_session(&rt, &mut seat) else {
         panic!(rt; "no session")
     };
-    assert!(rt; matches!(unit(&rt, &bench, &mut seat, session, b"*SRE 4"), Outcome::Done));
+    assert!(rt;
+        matches!(
+            unit(&rt, &bench, &mut seat, session, b"*SRE 4"),
+            Outcome::Done
+        )
+    );
     let other = bench.split(&mut seat);
     let before = bench.progress(&mut seat);
     let (outcome, other) = asked_elsewhere(&rt, &bench, other, session, b"*SRE?");

@@ -86,7 +86,10 @@ fn until_later<R: Wait>(
     ensures { IsOf bench.now result.1 }
 {
     for _ in 0..1_000_000u32 {
-        if matches!(unit(rt, bench, &mut seat, session, b"*IDN?"), Outcome::Later) {
+        if matches!(
+            unit(rt, bench, &mut seat, session, b"*IDN?"),
+            Outcome::Later
+        ) {
             return (true, seat);
         }
     }

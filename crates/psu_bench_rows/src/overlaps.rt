@@ -42,7 +42,10 @@ fn beside<D: Disk + Drop + Send, R: Threads + Wait + Sync>(
     session: Session,
     units: [&[u8]; 2],
     hold: &Hold,
-) -> ((Outcome<Global>, Outcome<Global>, Seat<Global>), Seat<Global>)
+) -> (
+    (Outcome<Global>, Outcome<Global>, Seat<Global>),
+    Seat<Global>,
+)
     requires flushing { IsOf bench.now flushing }
     requires asking { IsOf bench.now asking }
     ensures asking { IsOf bench.now result.0.2 }
@@ -116,7 +119,11 @@ fn a_session_is_answered_before_a_page_is_written(rt: HostRuntime) {
 #[test]
 fn a_session_is_answered_while_a_store_is_reopened(rt: HostRuntime) {
     let hold = Hold::new(Point::BeforeRun);
-    let exec = powered_on(&rt, rt.alloc(), FailOnce::new(formatted(&rt, rt.alloc()), 8));
+    let exec = powered_on(
+        &rt,
+        rt.alloc(),
+        FailOnce::new(formatted(&rt, rt.alloc()), 8),
+    );
     let Ok((bench, mut seat)) = Bench::new(rt.alloc(), exec) else {
         panic!(rt; "no memory")
     };

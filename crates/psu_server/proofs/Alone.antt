@@ -16,6 +16,7 @@ use Rattle.psu_exec.specs.declared.condition.Condition.TheVariants.{Whole}
 use Rattle.psu_exec.specs.Device.{Reply, Done, Answer, Error, Expand, Parked, Held, Later, State, Flush, AnswersBeside, AnswersCalled, AnswersNow, MayAnswer, answer_call, after_unit, called, count_held, is_broken, is_denied, is_later as comes_later, target, wait_of}
 use Rattle.psu_exec.specs.Calls.{JobData, JobEnd, JobKind, Commit, Stored, Unstarted, Failed, Reopened, Job, Executed, Settled, Took, GaveBack, HasNone, HasWork, MaySettle, ends_wait, job_out, kind_for, opened, stored, with_stored, settle_answer, after_settle, settled, unparked, wait_less}
 use Rattle.psu_exec.specs.World.{World}
+use Rattle.psu_exec.proofs.Denied.{later_leaves}
 use Rattle.psu_server.specs.Lines.{Message, Asks, messages}
 use Rattle.psu_server.specs.Lives.{Calls, PowersOn}
 use Rattle.psu_server.specs.Script.{at_start, Rest, Went, Told, Replies, RepliesCalled, RepliesNow, Goes, GoesFrom, TellsInside, TellsReply, Tells, TellsMessage, flushed_by, flushed, waited, after_reply, restarted, Scripted, with_answer, line_text}
@@ -200,6 +201,17 @@ still_on r w new c o q call = record {
   disk = subst (λ (d : DiskState). EachStands d r.state.flush.limit (items_of r.stored)) (sym (disk_call w new c o call)) q.disk;
 }
 
+-- a unit that comes later leaves all as it is
+still_late : (r : Rest) (w new : World) (c : Request) → Still r w → Answers w c Later new → Still r new
+still_late r w new c q call = record {
+  state = ap (λ (z : World). z.state) call.1.4 ∙ later_leaves w.state call.1.0 1 c Later call.1.2.1 refl ∙ q.state;
+  whole = q.whole;
+  holds = q.holds;
+  kept = q.kept;
+  sound = q.sound;
+  disk = subst (λ (d : DiskState). EachStands d r.state.flush.limit (items_of r.stored)) (sym (disk_call w new c Later call)) q.disk;
+}
+
 at_once : (r : Rest) (w new : World) (c : Request) (o : Reply) → Quiet r w → is_final o ≡ true → Answers w c o new → Same (after_reply r c o) o new
 at_once r w new c Done q final call = record { reply = refl; quiet = record { still = still_on r w new c Done q.still call; wait = q.wait } }
 at_once r w new c (Answer a) q final call = record { reply = refl; quiet = record { still = still_on r w new c (Answer a) q.still call; wait = q.wait } }
@@ -296,7 +308,7 @@ unit_alone r w new c o q holds (inl acts) =
     let a = acts_alone r w new c o q holds acts in (after_reply r c a.first, (a.first, a.replies, goes_now r c a.first a.now), a.same)
 unit_alone r w new c o q holds (inr (late, over, call, f, acts)) =
     let rests : Quiet (flushed r) over = record {
-      still = flush_alone r late over (still_on r w late c Later q.still call) f;
+      still = flush_alone r late over (still_late r w late c q.still call) f;
       wait = wait_by (r.state.flush.unflushed == 0) r q.still.whole q.wait;
     } in
     let a = acts_alone (flushed r) over new c o rests holds acts in (

@@ -1,10 +1,11 @@
 -- What a call on session 1 leaves of its wait and of the store.
-use Rattle.std.proofs.Common.{◌≡◌, ℕ, ◌==◌, if◌then◌else◌, Bool, true, false, Option, Some, None, List, [], ◌∷◌, refl, sym, ap, ◌∙◌, subst, inl, inr, slice_index_or, slice_set}
+use Rattle.std.proofs.Common.{◌≡◌, ℕ, ◌==◌, if◌then◌else◌, not, Bool, true, false, Option, Some, None, List, [], ◌∷◌, refl, sym, ap, ◌∙◌, subst, inl, inr, slice_index_or, slice_set}
 use Rattle.psu_disk.specs.declared.disk.Disk.{Ghosts}
+use Rattle.psu_locks.specs.Locks.{Locks, may_command}
 use Rattle.psu_exec.specs.Calls.{Executed, Settled, Cleared, Allows, settle_answer, settled}
 use Rattle.psu_instrument.specs.declared.completion.Completion.{Completion}
 use Rattle.psu_instrument.specs.declared.completion.Completion.TheVariants as completion
-use Rattle.psu_exec.specs.Device.{Reply, Done, Answer, Error, Expand, Parked, Held, Later, State, Flush, answer_complete, completion_in, here, meant, with_wait, wait_of}
+use Rattle.psu_exec.specs.Device.{Reply, Done, Answer, Error, Expand, Parked, Held, Later, State, Flush, answer_complete, completion_in, here, is_denied, meant, with_wait, wait_of}
 use Rattle.psu_exec.specs.declared.exec.Exec.{Exec}
 use Rattle.psu_exec.specs.declared.home.Home.{Home}
 use Rattle.psu_tree.specs.declared.unit_request.Request.{Request}
@@ -25,6 +26,10 @@ executed_one s new request reply session one t = subst (λ (n : ℕ). Allows s (
 
 pub cleared_one : (s new : State) (session : ℕ) → session ≡ 1 → Allows s (Cleared session) new → Allows s (Cleared 1) new
 cleared_one s new session one t = subst (λ (n : ℕ). Allows s (Cleared n) new) one t
+
+-- what denies a session is the locks alone
+pub still_allowed : (s new : State) → new.volatile.locks ≡ s.volatile.locks → is_denied s 1 ≡ false → is_denied new 1 ≡ false
+still_allowed s new same free = ap (λ (l : Locks). not (may_command l.holders 1)) same ∙ free
 
 -- ---- what a call on a session leaves of its wait
 

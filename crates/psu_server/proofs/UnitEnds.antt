@@ -126,6 +126,7 @@ meant can (Error e) h = λ _. h refl
 meant can Done h = λ e. cc
 meant can (Answer r) h = λ e. cc
 meant can Parked h = λ e. cc
+meant can Held h = λ e. cc
 meant can (Expand text) h = λ e. cc
 meant can Later h = λ e. cc
 

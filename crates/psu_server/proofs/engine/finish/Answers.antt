@@ -3,6 +3,7 @@ use Rattle.std.proofs.lemmas.Bool.Decides.{nat_tests}
 use Rattle.psu_server.specs.Lines.{coming}
 use Rattle.psu_server.proofs.Feeding.{flushed_stops, halts_idle}
 use Rattle.psu_server.proofs.Fronts.{passed}
+use Rattle.psu_server.proofs.SessionOne.{still_allowed}
 use Rattle.psu_server.proofs.Reading.{answers_early, answers_flushed}
 use Rattle.psu_server.proofs.Starting.{halted_stops, left_stops}
 use Rattle.psu_server.proofs.engine.finish.Goals as goal
@@ -25,6 +26,7 @@ pub invariant_of-powered : goal.invariant_of-powered
 invariant_of-powered g c = record {
   first = c.in_ok-powered.powered.first;
   «open» = c.flush.ensures.open ∙ c.in_ok-powered.powered.open;
+  allowed = still_allowed c.in_ok-powered.powered.exec.device c.flush.new.exec.device c.flush.ensures.locked c.in_ok-powered.powered.allowed;
   idle = c.flush.ensures.idle;
   free = c.flush.ensures.free c.in_ok-powered.powered.free;
 }
@@ -33,6 +35,7 @@ pub invariant_of-powered-2 : goal.invariant_of-powered-2
 invariant_of-powered-2 g c = record {
   first = c.in_ok-powered.powered.first;
   «open» = c.flush.ensures.open ∙ c.in_ok-powered.powered.open;
+  allowed = still_allowed c.in_ok-powered.powered.exec.device c.flush.new.exec.device c.flush.ensures.locked c.in_ok-powered.powered.allowed;
   idle = c.flush.ensures.idle;
   free = c.flush.ensures.free c.in_ok-powered.powered.free;
 }

@@ -1,6 +1,7 @@
 use Rattle.std.proofs.Common.{◌∙◌, ◌∷◌, ap, is_none, subst, sym}
 use Rattle.psu_server.proofs.Feeding.{halts_idle, restart_runs, restart_stops_here}
 use Rattle.psu_server.proofs.Fronts.{passed}
+use Rattle.psu_server.proofs.SessionOne.{still_allowed}
 use Rattle.psu_server.proofs.Starting.{explained_later, halted_stops, not_started_write, restart_stops}
 use Rattle.psu_server.specs.Lines.{Message}
 use Rattle.psu_server.specs.Within.{IsLater}
@@ -29,6 +30,7 @@ pub invariant_of-powered : goal.invariant_of-powered
 invariant_of-powered g c = record {
   first = c.args.powered.first;
   «open» = c.reopen.ensures.open ∙ c.args.powered.open;
+  allowed = still_allowed c.args.powered.exec.device c.reopen.new.exec.device c.reopen.ensures.locked c.args.powered.allowed;
   idle = c.reopen.ensures.idle;
   free = c.reopen.ensures.free c.args.powered.free;
 }
@@ -37,6 +39,7 @@ pub invariant_of-powered-2 : goal.invariant_of-powered-2
 invariant_of-powered-2 g c = record {
   first = c.args.powered.first;
   «open» = c.reopen.ensures.open ∙ c.args.powered.open;
+  allowed = still_allowed c.args.powered.exec.device c.reopen.new.exec.device c.reopen.ensures.locked c.args.powered.allowed;
   idle = c.reopen.ensures.idle;
   free = c.reopen.ensures.free c.args.powered.free;
 }
