@@ -104,7 +104,33 @@ fn closed<R: Wait>(rt: &R, bench: &Device, mut seat: Seat<Global>, session: Sess
     seat
 }
 
-// A thread that goes on with a session which another closes is told to come later, and harms nobody.
+// One thread goes on with a session, and another closes it.
+fn closed_beside<R: Threads + Wait + Sync>(
+    rt: &R,
+    bench: &Device,
+    asking: Seat<Global>,
+    closing: Seat<Global>,
+    session: Session,
+) -> ((bool, Seat<Global>), Seat<Global>)
+    requires asking { IsOf bench.now asking }
+    requires closing { IsOf bench.now closing }
+    ensures asking { IsOf bench.now result.0.1 }
+    ensures closing { IsOf bench.now result.1 }
+{
+    join(
+        rt,
+        || -> (bool, Seat<Global>)
+            requires { IsOf bench.now asking }
+            ensures { IsOf bench.entry.now result.1 }
+        { until_later(rt, bench, asking, session) },
+        || -> Seat<Global>
+            requires { IsOf bench.now closing }
+            ensures { IsOf bench.entry.now result }
+        { closed(rt, bench, closing, session) },
+    )
+}
+
+// It is told to come later, and nobody is harmed.
 #[test]
 fn a_session_is_closed_under_anothers_feet(rt: HostRuntime) {
     let exec = powered_on(&rt, rt.alloc(), formatted(&rt, rt.alloc()));
@@ -116,17 +142,7 @@ fn a_session_is_closed_under_anothers_feet(rt: HostRuntime) {
     };
     let asking = bench.split(&mut seat);
     let closing = bench.split(&mut seat);
-    let ((later, asking), closing) = join(
-        &rt,
-        || -> (bool, Seat<Global>)
-            requires { IsOf bench.now asking }
-            ensures { IsOf bench.entry.now result.1 }
-        { until_later(&rt, &bench, asking, session) },
-        || -> Seat<Global>
-            requires { IsOf bench.now closing }
-            ensures { IsOf bench.entry.now result }
-        { closed(&rt, &bench, closing, session) },
-    );
+    let ((later, asking), closing) = closed_beside(&rt, &bench, asking, closing, session);
     assert!(rt; later);
     bench.join(&mut seat, asking);
     bench.join(&mut seat, closing);
