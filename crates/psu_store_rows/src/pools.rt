@@ -1,10 +1,12 @@
 // Pools that are full: every page comes back. And the last number that a root may have.
 use crate::spelled::{root, spelled};
-use crate::stores::{commit, empty, formatted, one_edit, opened, stored};
+use crate::stores::{commit, empty, formatted, is_just, one_edit, opened, stored};
 use psu_disk::MemDisk;
-use psu_items::{Batch, Commit, UnstartedCause};
+use psu_items::{Batch, Commit, Store, UnstartedCause};
 use std::alloc::{AllocError, Global};
 use std::test::Fail;
+
+type Kept = Store<MemDisk<Global>, Global>;
 
 // A value of one byte for each of the first keys of one byte.
 fn each_of(alloc: Global, keys: u8, value: u8) -> Result<Batch<Global>, AllocError> {
@@ -15,22 +17,44 @@ fn each_of(alloc: Global, keys: u8, value: u8) -> Result<Batch<Global>, AllocErr
     Ok(batch)
 }
 
+// The store after a commit of this value for each of the first keys.
+fn set_all(alloc: Global, store: Kept, keys: u8, value: u8) -> Result<Kept, Fail> {
+    stored(alloc, store, each_of(alloc, keys, value)?)
+}
+
+// The store that an opening finds on the disk of this one.
+fn again(alloc: Global, store: Kept) -> Result<Kept, Fail> {
+    opened(alloc, store.into_disk())
+}
+
+// Whether a store has 240 items, which cost 480 pages, each with this value.
+fn is_full_of(store: &Kept, value: u8) -> bool {
+    let pairs = store.items().pairs();
+    store.items().cost() == 480
+        && pairs.len() == 240
+        && pairs.iter().all(|pair| pair.value() == [value].as_slice())
+}
+
 // 240 items fill the limit of 480. A commit that changes them all takes the other half of the pool.
 #[test]
 fn two_hundred_and_forty_items(rt: HostRuntime) -> Result<(), Fail> {
     let alloc = rt.alloc();
     let mut store = opened(alloc, formatted(alloc, 492_544, 480)?)?;
     for value in 1..6u8 {
-        store = stored(alloc, store, each_of(alloc, 240, value)?)?;
-        store = opened(alloc, store.into_disk())?;
-        assert_eq!(rt; store.items().pairs().len(), 240);
-        assert_eq!(rt; store.items().cost(), 480);
-        for pair in store.items().pairs() {
-            assert_eq!(rt; pair.value(), [value].as_slice());
-        }
+        store = again(alloc, set_all(alloc, store, 240, value)?)?;
+        assert!(rt; is_full_of(&store, value), "{value}");
     }
     assert_eq!(rt; store.number(), 6);
     Ok(())
+}
+
+// Both items set to this value; from the value 40 on the store is opened again.
+fn both_set(alloc: Global, store: Kept, value: u8) -> Result<Kept, Fail> {
+    let store = set_all(alloc, store, 2, value)?;
+    if value < 40 {
+        return Ok(store);
+    }
+    again(alloc, store)
 }
 
 // Two items fill the limit of 4, and a commit that changes both takes the whole pool of 8 pages. The commits go on in one store, and
@@ -40,34 +64,46 @@ fn sixty_commits_in_a_pool_that_is_full(rt: HostRuntime) -> Result<(), Fail> {
     let alloc = rt.alloc();
     let mut store = opened(alloc, empty(alloc)?)?;
     for value in 0..60u8 {
-        store = stored(alloc, store, each_of(alloc, 2, value)?)?;
-        if value >= 40 {
-            store = opened(alloc, store.into_disk())?;
-        }
-        assert_eq!(rt; store.items().get(&[1]).ok_or("no 1")?, [value].as_slice());
-        assert_eq!(rt; store.items().pairs().len(), 2);
+        store = both_set(alloc, store, value)?;
+        assert!(rt;
+            is_just(store.items(), &[(0, value), (1, value)]),
+            "{value}"
+        );
     }
     assert_eq!(rt; store.number(), 61);
     Ok(())
+}
+
+// A batch that drops a key and gives this value to another.
+fn moved(alloc: Global, from: u8, to: u8, value: u8) -> Result<Batch<Global>, AllocError> {
+    let mut batch = Batch::new(alloc);
+    batch.remove([from].to_vec(alloc)?)?;
+    batch.assign([to].to_vec(alloc)?, [value].to_vec(alloc)?)?;
+    Ok(batch)
+}
+
+// A batch that drops a key.
+fn dropped(alloc: Global, key: u8) -> Result<Batch<Global>, AllocError> {
+    let mut batch = Batch::new(alloc);
+    batch.remove([key].to_vec(alloc)?)?;
+    Ok(batch)
+}
+
+// The key 0 gets a value, gives its place to the key 200, and that is dropped.
+fn passed_on(alloc: Global, store: Kept, value: u8) -> Result<Kept, Fail> {
+    let store = set_all(alloc, store, 1, value)?;
+    let store = stored(alloc, store, moved(alloc, 0, 200, value)?)?;
+    stored(alloc, store, dropped(alloc, 200)?)
 }
 
 // One item of a full image is changed again and again, and the other stays; then it gives its place to a third.
 #[test]
 fn sixty_commits_beside_what_stays(rt: HostRuntime) -> Result<(), Fail> {
     let alloc = rt.alloc();
-    let mut store = opened(alloc, empty(alloc)?)?;
-    store = stored(alloc, store, each_of(alloc, 2, 99)?)?;
+    let mut store = set_all(alloc, opened(alloc, empty(alloc)?)?, 2, 99)?;
     for value in 0..60u8 {
-        store = stored(alloc, store, each_of(alloc, 1, value)?)?;
-        let mut batch = Batch::new(alloc);
-        batch.remove([0].to_vec(alloc)?)?;
-        batch.assign([200].to_vec(alloc)?, [value].to_vec(alloc)?)?;
-        store = stored(alloc, store, batch)?;
-        let mut batch = Batch::new(alloc);
-        batch.remove([200].to_vec(alloc)?)?;
-        store = stored(alloc, store, batch)?;
-        assert_eq!(rt; store.items().get(&[1]).ok_or("no 1")?, [99].as_slice());
-        assert_eq!(rt; store.items().pairs().len(), 1);
+        store = passed_on(alloc, store, value)?;
+        assert!(rt; is_just(store.items(), &[(1, 99)]), "{value}");
     }
     assert_eq!(rt; store.number(), 182);
     Ok(())
@@ -78,19 +114,24 @@ fn numbered(alloc: Global, number: u64) -> Result<MemDisk<Global>, Fail> {
     spelled(alloc, 5_120, &[(0, &root(alloc, 0xa5, 4, number, &[])?)])
 }
 
+// The store of the last number: the one before it took a commit.
+fn worn(alloc: Global) -> Result<Kept, Fail> {
+    let store = opened(alloc, numbered(alloc, u64::MAX - 1)?)?;
+    again(alloc, stored(alloc, store, one_edit(alloc)?)?)
+}
+
 // The root of the last number takes no commit, and the one before takes one.
 #[test]
 fn the_last_number_is_worn(rt: HostRuntime) -> Result<(), Fail> {
     let alloc = rt.alloc();
-    let store = opened(alloc, numbered(alloc, u64::MAX - 1)?)?;
-    let store = stored(alloc, store, one_edit(alloc)?)?;
-    let store = opened(alloc, store.into_disk())?;
+    let store = worn(alloc)?;
     assert_eq!(rt; store.number(), u64::MAX);
-    let Commit::Unstarted(store, batch, cause) = commit(alloc, store, Batch::new(alloc))? else {
-        return Err(Fail::from("begun"));
-    };
-    assert_eq!(rt; cause, UnstartedCause::Worn);
-    assert!(rt; batch.edits().is_empty());
-    assert_eq!(rt; store.items().get(&[1]).ok_or("no 1")?, [36].as_slice());
-    Ok(())
+    match commit(alloc, store, Batch::new(alloc))? {
+        Commit::Unstarted(store, batch, cause) => {
+            assert_eq!(rt; cause, UnstartedCause::Worn);
+            assert!(rt; batch.edits().is_empty() && is_just(store.items(), &[(1, 36)]));
+            Ok(())
+        }
+        _ => Err(Fail::from("begun")),
+    }
 }
