@@ -1,33 +1,51 @@
 // Contents: what they are kept as, what they cost, and what is refused.
-use psu_items::Batch;
+use psu_items::{Batch, Items};
 use psu_lex::ScpiError;
 use psu_nv::{Contents, FileBytes, NvCommand, Part, Register};
 use psu_outputs::{Millivolts, Output, Setting, Settings};
 use std::alloc::Global;
+use std::process::Abort;
 use std::test::Fail;
 
-// The reset settings with a voltage at output 1, in millivolts.
-fn volts(millivolts: u32) -> Result<Settings, Fail> {
+// The reset settings with a voltage at output 1, in millivolts, where it is in range.
+fn volts(millivolts: u32) -> Settings {
     let mut settings = Settings::reset();
-    match settings.set(Output::First, Setting::Voltage(Millivolts(millivolts))) {
-        Ok(()) => Ok(settings),
-        Err(_) => Err(Fail::from("out of range")),
-    }
+    let _ = settings.set(Output::First, Setting::Voltage(Millivolts(millivolts)));
+    settings
 }
 
-// `*SAV` of a register.
-fn save(number: u8, settings: Settings) -> Result<NvCommand<'static>, Fail> {
+// `*SAV` of a register with a voltage at output 1.
+fn save(
+    contents: &mut Contents<Global>,
+    limit: u16,
+    number: u8,
+    millivolts: u32,
+) -> Result<(), ScpiError> {
     match Register::of(number) {
-        Some(register) => Ok(NvCommand::Save(register, settings)),
-        None => Err(Fail::from("no register")),
+        Some(register) => contents.change(limit, &NvCommand::Save(register, volts(millivolts))),
+        None => Err(ScpiError::DataOutOfRange),
     }
 }
 
 // `MMEMory:DATA` of a name.
-fn data<'a>(name: &'a [u8], bytes: &'a [u8]) -> Result<NvCommand<'a>, Fail> {
+fn write(contents: &mut Contents<Global>, name: &[u8], bytes: &[u8]) -> Result<(), ScpiError> {
     match FileBytes::of(bytes) {
-        Some(file) => Ok(NvCommand::StoreBytes(name, file)),
-        None => Err(Fail::from("too many bytes")),
+        Some(file) => contents.change(256, &NvCommand::StoreBytes(name, file)),
+        None => Err(ScpiError::TooMuchData),
+    }
+}
+
+// The reset settings with 5.25 V at output 1.
+const SAVED: [u8; 28] = [
+    0x14, 0x82, 0, 0, 0xea, 0x60, 0, 0, 0, 0, 0, 0xea, 0x60, 0, 0, 0, 0, 0, 0xea, 0x60, 0, 0, 0, 0,
+    0, 0xea, 0x60, 0,
+];
+
+// Whether the items are register 3 with these bytes alone.
+fn are_register_3(items: &Items<Global>) -> bool {
+    match items.pairs() {
+        [pair] => pair.key() == [2, 3].as_slice() && pair.value() == SAVED.as_slice(),
+        _ => false,
     }
 }
 
@@ -35,72 +53,63 @@ fn data<'a>(name: &'a [u8], bytes: &'a [u8]) -> Result<NvCommand<'a>, Fail> {
 fn a_register_is_28_bytes_under_its_number(rt: HostRuntime) -> Result<(), Fail> {
     let alloc = rt.alloc();
     let mut contents = Contents::fresh(alloc);
-    assert_eq!(rt; contents.encode_items(alloc)?.pairs().len(), 0);
-    assert_eq!(rt; contents.change(256, &save(3, volts(5_250)?)?), Ok(()));
-    let items = contents.encode_items(alloc)?;
-    let want = [
-        0x14, 0x82, 0, 0, 0xea, 0x60, 0, 0, 0, 0, 0, 0xea, 0x60, 0, 0, 0, 0, 0, 0xea, 0x60, 0, 0,
-        0, 0, 0, 0xea, 0x60, 0,
-    ];
-    assert_eq!(rt; items.pairs().len(), 1);
-    assert_eq!(rt; items.pairs()[0].key(), [2, 3].as_slice());
-    assert_eq!(rt; items.pairs()[0].value(), want.as_slice());
+    assert!(rt; contents.encode_items(alloc)?.pairs().is_empty());
+    assert_eq!(rt; save(&mut contents, 256, 3, 5_250), Ok(()));
+    assert!(rt; are_register_3(&contents.encode_items(alloc)?));
     let register = Register::of(3).ok_or("no register")?;
-    let part = Part::Register(register);
-    let value = contents.encode_part(alloc, part)?.ok_or("absent")?;
-    assert_eq!(rt; value.as_slice(), want.as_slice());
+    let value = contents.encode_part(alloc, Part::Register(register))?;
+    assert!(rt; value.ok_or("absent")?.as_slice() == SAVED.as_slice());
     assert!(rt; contents.encode_part(alloc, Part::User)?.is_none());
     Ok(())
+}
+
+// Whether a batch gives register 0 its 28 bytes, and drops the file A.
+fn are_two_edits(batch: &Batch<Global>) -> bool {
+    match batch.edits() {
+        [one, two] => one.key() == [2, 0].as_slice()
+            && matches!(one.value(), Some(value) if value.len() == 28)
+            && two.key() == [5, b'A'].as_slice()
+            && two.value().is_none(),
+        _ => false,
+    }
 }
 
 #[test]
 fn a_batch_has_the_parts_that_changed(rt: HostRuntime) -> Result<(), Fail> {
     let alloc = rt.alloc();
     let mut contents = Contents::fresh(alloc);
-    assert_eq!(rt; contents.change(256, &save(0, volts(5_250)?)?), Ok(()));
+    assert_eq!(rt; save(&mut contents, 256, 0, 5_250), Ok(()));
     let register = Register::of(0).ok_or("no register")?;
     let mut batch = Batch::new(alloc);
     contents.edit(alloc, &mut batch, Part::Register(register))?;
     contents.edit(alloc, &mut batch, Part::File(b"A"))?;
-    assert_eq!(rt; batch.edits().len(), 2);
-    assert_eq!(rt; batch.edits()[0].key(), [2, 0].as_slice());
-    assert_eq!(rt; batch.edits()[0].value().ok_or("removed")?.len(), 28);
-    assert_eq!(rt; batch.edits()[1].key(), [5, b'A'].as_slice());
-    assert!(rt; batch.edits()[1].value().is_none());
+    assert!(rt; are_two_edits(&batch));
     Ok(())
 }
+
+const FULL: Result<(), ScpiError> = Err(ScpiError::MediaFull);
 
 // A file of 32,768 bytes has 32,769 in its item, so 65 pages and one for the item; one of 29,183 bytes has 57 and one.
 #[test]
 fn files_fill_256_pages(rt: HostRuntime) -> Result<(), Fail> {
-    let alloc = rt.alloc();
-    let mut contents = Contents::fresh(alloc);
-    let bytes = vec![in alloc; 0; 32_768]?;
-    for name in [b"A", b"B", b"C"] {
-        assert_eq!(rt; contents.change(256, &data(name, &bytes)?), Ok(()));
+    let mut contents = Contents::fresh(rt.alloc());
+    let bytes = [0; 32_768];
+    let rows: [(&[u8], &[u8], Result<(), ScpiError>, u128); 9] = [
+        (b"A", &bytes, Ok(()), 66),
+        (b"B", &bytes, Ok(()), 132),
+        (b"C", &bytes, Ok(()), 198),
+        (b"D", &bytes[..29_183], Ok(()), 256),
+        (b"E", &[], FULL, 256),
+        (b"D", &bytes[..28_671], Ok(()), 255),
+        (b"E", &[], FULL, 255),
+        (b"D", &bytes[..28_159], Ok(()), 254),
+        (b"E", &[], Ok(()), 256),
+    ];
+    for (name, file, want, cost) in rows {
+        let given = write(&mut contents, name, file);
+        assert_eq!(rt; (given, contents.cost()), (want, cost), "{name:?}");
     }
-    assert_eq!(rt; contents.cost(), 198);
-    assert_eq!(rt;
-        contents.change(256, &data(b"D", &bytes[..29_183])?),
-        Ok(())
-    );
-    assert_eq!(rt; contents.cost(), 256);
-    let full = Err(ScpiError::MediaFull);
-    assert_eq!(rt; contents.change(256, &data(b"E", &[])?), full);
-    assert_eq!(rt; contents.names().len(), 4);
-    assert_eq!(rt;
-        contents.change(256, &data(b"D", &bytes[..28_671])?),
-        Ok(())
-    );
-    assert_eq!(rt; contents.cost(), 255);
-    assert_eq!(rt; contents.change(256, &data(b"E", &[])?), full);
-    assert_eq!(rt;
-        contents.change(256, &data(b"D", &bytes[..28_159])?),
-        Ok(())
-    );
-    assert_eq!(rt; contents.cost(), 254);
-    assert_eq!(rt; contents.change(256, &data(b"E", &[])?), Ok(()));
-    assert_eq!(rt; contents.cost(), 256);
+    assert_eq!(rt; contents.names().len(), 5);
     assert!(rt; contents.fits(256) && !contents.fits(255));
     Ok(())
 }
@@ -108,52 +117,81 @@ fn files_fill_256_pages(rt: HostRuntime) -> Result<(), Fail> {
 #[test]
 fn four_pages_hold_two_registers(rt: HostRuntime) -> Result<(), Fail> {
     let mut contents = Contents::fresh(rt.alloc());
-    let one = volts(1_000)?;
-    assert_eq!(rt; contents.change(4, &save(0, one)?), Ok(()));
-    assert_eq!(rt; contents.cost(), 2);
-    assert_eq!(rt; contents.change(4, &save(1, one)?), Ok(()));
-    assert_eq!(rt; contents.cost(), 4);
-    assert_eq!(rt;
-        contents.change(4, &save(2, one)?),
-        Err(ScpiError::MediaFull)
-    );
-    assert_eq!(rt; contents.cost(), 4);
-    assert_eq!(rt; contents.change(4, &save(0, volts(0)?)?), Ok(()));
-    assert_eq!(rt; contents.cost(), 2);
-    assert_eq!(rt; contents.change(4, &save(2, one)?), Ok(()));
-    assert_eq!(rt; contents.cost(), 4);
+    let rows = [
+        (0, 1_000, Ok(()), 2),
+        (1, 1_000, Ok(()), 4),
+        (2, 1_000, FULL, 4),
+        (0, 0, Ok(()), 2),
+        (2, 1_000, Ok(()), 4),
+    ];
+    for (register, millivolts, want, cost) in rows {
+        let given = save(&mut contents, 4, register, millivolts);
+        assert_eq!(rt; (given, contents.cost()), (want, cost), "{register}");
+    }
     let register = Register::of(2).ok_or("no register")?;
-    assert_eq!(rt; contents.register(register), one);
+    assert_eq!(rt; contents.register(register), volts(1_000));
     Ok(())
+}
+
+// Changes contents by one command after the other, and looks at each answer.
+fn changes(
+    rt: &impl Abort,
+    contents: &mut Contents<Global>,
+    rows: &[(NvCommand<'_>, Result<(), ScpiError>)],
+) {
+    for (place, (command, want)) in rows.iter().enumerate() {
+        assert_eq!(rt; contents.change(256, command), *want, "{place}");
+    }
+}
+
+// Contents with the macros A1 to D8.
+fn with_32_macros(alloc: Global) -> Result<Contents<Global>, Fail> {
+    let mut contents = Contents::fresh(alloc);
+    for high in [b'A', b'B', b'C', b'D'] {
+        for low in [b'1', b'2', b'3', b'4', b'5', b'6', b'7', b'8'] {
+            let label = [high, low];
+            if contents
+                .change(256, &NvCommand::DefineMacro(&label, b"*CLS"))
+                .is_err()
+            {
+                return Err(Fail::from("refused"));
+            }
+        }
+    }
+    Ok(contents)
 }
 
 #[test]
 fn the_33rd_macro_does_not_fit(rt: HostRuntime) -> Result<(), Fail> {
-    let mut contents = Contents::fresh(rt.alloc());
-    for high in [b'A', b'B', b'C', b'D'] {
-        for low in [b'1', b'2', b'3', b'4', b'5', b'6', b'7', b'8'] {
-            let label = [high, low];
-            let define = NvCommand::DefineMacro(&label, b"*CLS");
-            assert_eq!(rt; contents.change(256, &define), Ok(()));
-        }
-    }
+    let mut contents = with_32_macros(rt.alloc())?;
     assert_eq!(rt; contents.labels().len(), 32);
-    let more = NvCommand::DefineMacro(b"E", b"*CLS");
-    assert_eq!(rt; contents.change(256, &more), Err(ScpiError::MediaFull));
-    let again = NvCommand::DefineMacro(b"a1", b"*RST");
-    assert_eq!(rt;
-        contents.change(256, &again),
-        Err(ScpiError::MacroRedefinitionNotAllowed)
+    changes(
+        &rt,
+        &mut contents,
+        &[
+            (NvCommand::DefineMacro(b"E", b"*CLS"), FULL),
+            (
+                NvCommand::DefineMacro(b"a1", b"*RST"),
+                Err(ScpiError::MacroRedefinitionNotAllowed),
+            ),
+            (NvCommand::RemoveMacro(b"b3"), Ok(())),
+            (NvCommand::DefineMacro(b"E", b"*CLS"), Ok(())),
+        ],
     );
-    assert_eq!(rt; contents.body(b"a1").ok_or("no macro")?, b"*CLS".as_slice());
-    assert_eq!(rt;
-        contents.change(256, &NvCommand::RemoveMacro(b"b3")),
-        Ok(())
-    );
-    assert_eq!(rt; contents.change(256, &more), Ok(()));
-    let last = contents.labels().last().ok_or("no macro")?;
-    assert_eq!(rt; last.label(), b"E".as_slice());
+    assert!(rt; contents.body(b"a1") == Some(b"*CLS".as_slice()));
+    assert!(rt; matches!(contents.labels().last(), Some(last) if last.label() == b"E".as_slice()));
     Ok(())
+}
+
+// Whether the items are the files R and T, and T has the type byte of a state and 28 bytes behind it.
+fn are_two_states(items: &Items<Global>) -> bool {
+    match items.pairs() {
+        [one, two] => one.key() == [5, b'R'].as_slice()
+            && two.key() == [5, b'T'].as_slice()
+            && two.value().len() == 29
+            && two.value().first() == Some(&1),
+        _ => false,
+    }
 }
 
 #[test]
@@ -161,24 +199,19 @@ fn a_file_is_copied_with_its_type(rt: HostRuntime) -> Result<(), Fail> {
     let alloc = rt.alloc();
     let mut contents = Contents::fresh(alloc);
     let register = Register::of(0).ok_or("no register")?;
-    let store = NvCommand::StoreState(register, b"S");
-    assert_eq!(rt; contents.change(256, &store), Ok(()));
-    assert_eq!(rt; contents.change(256, &NvCommand::Copy(b"S", b"T")), Ok(()));
-    assert_eq!(rt; contents.change(256, &NvCommand::Move(b"S", b"R")), Ok(()));
-    assert_eq!(rt;
-        contents.change(256, &NvCommand::Copy(b"T", b"R")),
-        Err(ScpiError::FileNameError)
-    );
-    assert_eq!(rt;
-        contents.change(256, &NvCommand::Delete(b"S")),
-        Err(ScpiError::FileNameNotFound)
+    changes(
+        &rt,
+        &mut contents,
+        &[
+            (NvCommand::StoreState(register, b"S"), Ok(())),
+            (NvCommand::Copy(b"S", b"T"), Ok(())),
+            (NvCommand::Move(b"S", b"R"), Ok(())),
+            (NvCommand::Copy(b"T", b"R"), Err(ScpiError::FileNameError)),
+            (NvCommand::Delete(b"S"), Err(ScpiError::FileNameNotFound)),
+        ],
     );
     let items = contents.encode_items(alloc)?;
-    assert_eq!(rt; items.pairs().len(), 2);
-    assert_eq!(rt; items.pairs()[0].key(), [5, b'R'].as_slice());
-    assert_eq!(rt; items.pairs()[1].key(), [5, b'T'].as_slice());
-    assert_eq!(rt; items.pairs()[1].value().len(), 29);
-    assert_eq!(rt; items.pairs()[1].value()[0], 1);
+    assert!(rt; are_two_states(&items));
     assert_eq!(rt; items.cost(), contents.cost());
     Ok(())
 }

@@ -1,5 +1,6 @@
 // What the calls of a store cost: how often the disk is called, and how many bytes are written.
-use crate::stores::{formatted, opened, stored};
+use crate::images::formatted;
+use crate::stores::{opened, stored};
 use psu_disk::{Disk, DiskFault, MemDisk};
 use psu_exec::{Ended, Exec, Outcome};
 use psu_items::Batch;
@@ -83,7 +84,7 @@ impl<D: Disk> Disk for Counted<D> {
 fn with_file(alloc: Global) -> Result<MemDisk<Global>, Fail> {
     let mut batch = Batch::new(alloc);
     batch.assign([5, 65].to_vec(alloc)?, vec![in alloc; 0; 32_769]?)?;
-    let store = opened(alloc, formatted(alloc, 263_168, 256)?)?;
+    let store = opened(alloc, formatted(alloc).ok_or("not formatted")?)?;
     Ok(stored(alloc, store, batch)?.into_disk())
 }
 
@@ -98,7 +99,8 @@ fn enables(alloc: Global) -> Result<Batch<Global>, AllocError> {
 #[test]
 fn an_opening_reads_each_page_once(rt: HostRuntime) -> Result<(), Fail> {
     let alloc = rt.alloc();
-    let disk = opened(alloc, Counted::new(formatted(alloc, 263_168, 256)?))?.into_disk();
+    let disk = Counted::new(formatted(alloc).ok_or("not formatted")?);
+    let disk = opened(alloc, disk)?.into_disk();
     assert_eq!(rt; disk.reads, 2);
     assert_eq!(rt; disk.bytes_read, 1_024);
     let store = opened(alloc, Counted::new(with_file(alloc)?))?;

@@ -2,6 +2,7 @@
 use psu_items::Items;
 use psu_nv::{Contents, DecodeFault};
 use std::alloc::{AllocError, Global};
+use std::process::Abort;
 use std::test::Fail;
 
 // The map of a key and a value.
@@ -35,122 +36,142 @@ fn settings(first: [u8; 7]) -> [u8; 28] {
     bytes
 }
 
+const BAD_KEY: Option<DecodeFault> = Some(DecodeFault::BadKey);
+
+const BAD_VALUE: Option<DecodeFault> = Some(DecodeFault::BadValue);
+
+// Looks at maps of a key and a value, and at why each is refused.
+fn rows(
+    rt: &impl Abort,
+    alloc: Global,
+    rows: &[(&[u8], &[u8], Option<DecodeFault>)],
+) -> Result<(), Fail> {
+    for (key, value, want) in rows {
+        assert_eq!(rt; fault(alloc, key, value)?, *want, "{key:?} {value:?}");
+    }
+    Ok(())
+}
+
 #[test]
 fn keys_that_no_contents_have(rt: HostRuntime) -> Result<(), Fail> {
-    let alloc = rt.alloc();
-    let bad = Some(DecodeFault::BadKey);
-    assert_eq!(rt; fault(alloc, &[], &[1])?, bad);
-    assert_eq!(rt; fault(alloc, &[0], &[1])?, bad);
-    assert_eq!(rt; fault(alloc, &[6], &[1])?, bad);
-    assert_eq!(rt; fault(alloc, &[1, 0], &[32, 128])?, bad);
-    assert_eq!(rt; fault(alloc, &[2], &settings([1; 7]))?, bad);
-    assert_eq!(rt;
-        fault(alloc, &[2, 10], &settings([1, 1, 0, 0, 0, 0, 0]))?,
-        bad
-    );
-    assert_eq!(rt;
-        fault(alloc, &[2, 1, 0], &settings([1, 1, 0, 0, 0, 0, 0]))?,
-        bad
-    );
-    assert_eq!(rt; fault(alloc, &[3, 3], b"text")?, bad);
-    assert_eq!(rt; fault(alloc, &[4, 1], &[1, b'A', 0, 0])?, bad);
-    assert_eq!(rt; fault(alloc, &[5], &[0])?, bad);
-    assert_eq!(rt; fault(alloc, b"\x05a/b", &[0])?, bad);
-    Ok(())
+    let good = settings([1, 1, 0, 0, 0, 0, 0]);
+    rows(
+        &rt,
+        rt.alloc(),
+        &[
+            (&[], &[1], BAD_KEY),
+            (&[0], &[1], BAD_KEY),
+            (&[6], &[1], BAD_KEY),
+            (&[1, 0], &[32, 128], BAD_KEY),
+            (&[2], &settings([1; 7]), BAD_KEY),
+            (&[2, 10], &good, BAD_KEY),
+            (&[2, 1, 0], &good, BAD_KEY),
+            (&[3, 3], b"text", BAD_KEY),
+            (&[4, 1], &[1, b'A', 0, 0], BAD_KEY),
+            (&[5], &[0], BAD_KEY),
+            (b"\x05a/b", &[0], BAD_KEY),
+        ],
+    )
 }
 
 #[test]
 fn a_name_of_32_bytes(rt: HostRuntime) -> Result<(), Fail> {
-    let alloc = rt.alloc();
-    let mut longest = [b'A'; 33];
-    longest[0] = 5;
-    assert_eq!(rt; fault(alloc, &longest, &[0])?, None);
     let mut longer = [b'A'; 34];
     longer[0] = 5;
-    assert_eq!(rt; fault(alloc, &longer, &[0])?, Some(DecodeFault::BadKey));
-    Ok(())
+    rows(
+        &rt,
+        rt.alloc(),
+        &[(&longer[..33], &[0], None), (&longer, &[0], BAD_KEY)],
+    )
 }
 
 #[test]
 fn enables(rt: HostRuntime) -> Result<(), Fail> {
-    let alloc = rt.alloc();
-    let bad = Some(DecodeFault::BadValue);
-    assert_eq!(rt; fault(alloc, &[1], &[32, 128])?, None);
-    assert_eq!(rt; fault(alloc, &[1], &[])?, bad);
-    assert_eq!(rt; fault(alloc, &[1], &[32])?, bad);
-    assert_eq!(rt; fault(alloc, &[1], &[32, 128, 0])?, bad);
-    assert_eq!(rt; fault(alloc, &[1], &[96, 128])?, bad);
-    Ok(())
+    rows(
+        &rt,
+        rt.alloc(),
+        &[
+            (&[1], &[32, 128], None),
+            (&[1], &[], BAD_VALUE),
+            (&[1], &[32], BAD_VALUE),
+            (&[1], &[32, 128, 0], BAD_VALUE),
+            (&[1], &[96, 128], BAD_VALUE),
+        ],
+    )
 }
 
 #[test]
 fn registers(rt: HostRuntime) -> Result<(), Fail> {
-    let alloc = rt.alloc();
-    let most = settings([0xea, 0x60, 0x13, 0x88, 0xea, 0x60, 3]);
-    assert_eq!(rt; fault(alloc, &[2, 9], &most)?, None);
-    let bad = Some(DecodeFault::BadValue);
-    assert_eq!(rt; fault(alloc, &[2, 9], &[0; 27])?, bad);
-    assert_eq!(rt; fault(alloc, &[2, 9], &[0; 29])?, bad);
-    for first in [
-        [0, 0, 0, 0, 0xea, 0x60, 0],
-        [0xea, 0x61, 0, 0, 0, 0, 0],
-        [0, 0, 0x13, 0x89, 0, 0, 0],
-        [0, 0, 0, 0, 0xea, 0x61, 0],
-        [0, 0, 0, 0, 0, 0, 4],
-    ] {
-        assert_eq!(rt; fault(alloc, &[2, 0], &settings(first))?, bad);
-    }
-    Ok(())
+    rows(
+        &rt,
+        rt.alloc(),
+        &[
+            (
+                &[2, 9],
+                &settings([0xea, 0x60, 0x13, 0x88, 0xea, 0x60, 3]),
+                None,
+            ),
+            (&[2, 9], &[0; 27], BAD_VALUE),
+            (&[2, 9], &[0; 29], BAD_VALUE),
+            // The settings of `*RST`, which no item holds, and each value one beyond its greatest.
+            (&[2, 0], &settings([0, 0, 0, 0, 0xea, 0x60, 0]), BAD_VALUE),
+            (&[2, 0], &settings([0xea, 0x61, 0, 0, 0, 0, 0]), BAD_VALUE),
+            (&[2, 0], &settings([0, 0, 0x13, 0x89, 0, 0, 0]), BAD_VALUE),
+            (&[2, 0], &settings([0, 0, 0, 0, 0xea, 0x61, 0]), BAD_VALUE),
+            (&[2, 0], &settings([0, 0, 0, 0, 0, 0, 4]), BAD_VALUE),
+        ],
+    )
 }
 
 #[test]
 fn user_data_and_files(rt: HostRuntime) -> Result<(), Fail> {
-    let alloc = rt.alloc();
-    let bad = Some(DecodeFault::BadValue);
-    assert_eq!(rt; fault(alloc, &[3], &[7; 1])?, None);
-    assert_eq!(rt; fault(alloc, &[3], &[7; 63])?, None);
-    assert_eq!(rt; fault(alloc, &[3], &[])?, bad);
-    assert_eq!(rt; fault(alloc, &[3], &[7; 64])?, bad);
-    for kind in [0, 1, 2] {
-        assert_eq!(rt; fault(alloc, b"\x05a-B_9.x", &[kind, 7])?, None);
-    }
-    assert_eq!(rt; fault(alloc, b"\x05a", &[3, 7])?, bad);
-    assert_eq!(rt; fault(alloc, b"\x05a", &[])?, bad);
-    let mut longest = vec![in alloc; 0; 32_769]?;
-    assert_eq!(rt; fault(alloc, b"\x05a", &longest)?, None);
-    longest.push(0)?;
-    assert_eq!(rt; fault(alloc, b"\x05a", &longest)?, bad);
-    Ok(())
+    let longer = [0; 32_770];
+    rows(
+        &rt,
+        rt.alloc(),
+        &[
+            (&[3], &[7], None),
+            (&[3], &[7; 63], None),
+            (&[3], &[], BAD_VALUE),
+            (&[3], &[7; 64], BAD_VALUE),
+            (b"\x05a-B_9.x", &[0, 7], None),
+            (b"\x05a-B_9.x", &[1, 7], None),
+            (b"\x05a-B_9.x", &[2, 7], None),
+            (b"\x05a", &[3, 7], BAD_VALUE),
+            (b"\x05a", &[], BAD_VALUE),
+            (b"\x05a", &longer[..32_769], None),
+            (b"\x05a", &longer, BAD_VALUE),
+        ],
+    )
 }
 
 #[test]
 fn macros(rt: HostRuntime) -> Result<(), Fail> {
-    let alloc = rt.alloc();
-    let bad = Some(DecodeFault::BadValue);
-    assert_eq!(rt; fault(alloc, &[4], b"\x01A\x00\x04*CLS")?, None);
-    assert_eq!(rt; fault(alloc, &[4], b"\x01A\x00\x00\x02A_\x00\x01x")?, None);
-    for value in [
-        b"".as_slice(),
-        b"\x00\x00\x00",
-        b"\x029A\x00\x00",
-        b"\x0dABCDEFGHIJKLM\x00\x00",
-        b"\x05A\x00\x00",
-        b"\x01A",
-        b"\x01A\x00",
-        b"\x01A\x00\x05*CLS",
-        b"\x01A\x00\x04*CLS\x01",
-        b"\x01A\x00\x00\x01a\x00\x00",
-    ] {
-        assert_eq!(rt; fault(alloc, &[4], value)?, bad);
-    }
-    assert_eq!(rt; fault(alloc, &[4], b"\x0cABCDEFGHIJKL\x00\x00")?, None);
-    let mut body = vec![in alloc; b'x'; 1_028]?;
+    let mut body = [b'x'; 1_028];
     body[..4].copy_from_slice(b"\x01A\x04\x00");
-    assert_eq!(rt; fault(alloc, &[4], &body)?, None);
-    body.push(b'x')?;
-    body[3] = 1;
-    assert_eq!(rt; fault(alloc, &[4], &body)?, bad);
-    Ok(())
+    let mut longer = [b'x'; 1_029];
+    longer[..4].copy_from_slice(b"\x01A\x04\x01");
+    rows(
+        &rt,
+        rt.alloc(),
+        &[
+            (&[4], b"\x01A\x00\x04*CLS", None),
+            (&[4], b"\x01A\x00\x00\x02A_\x00\x01x", None),
+            (&[4], b"", BAD_VALUE),
+            (&[4], b"\x00\x00\x00", BAD_VALUE),
+            (&[4], b"\x029A\x00\x00", BAD_VALUE),
+            (&[4], b"\x0dABCDEFGHIJKLM\x00\x00", BAD_VALUE),
+            (&[4], b"\x05A\x00\x00", BAD_VALUE),
+            (&[4], b"\x01A", BAD_VALUE),
+            (&[4], b"\x01A\x00", BAD_VALUE),
+            (&[4], b"\x01A\x00\x05*CLS", BAD_VALUE),
+            (&[4], b"\x01A\x00\x04*CLS\x01", BAD_VALUE),
+            (&[4], b"\x01A\x00\x00\x01a\x00\x00", BAD_VALUE),
+            (&[4], b"\x0cABCDEFGHIJKL\x00\x00", None),
+            (&[4], &body, None),
+            (&[4], &longer, BAD_VALUE),
+        ],
+    )
 }
 
 #[test]

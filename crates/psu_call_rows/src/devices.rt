@@ -2,10 +2,11 @@
 ghost use Rattle.std.specs.Prelude.{◌≡◌, true};
 ghost use Rattle.psu_exec.specs.Device.{is_open};
 
-use crate::stores::{committed, empty, one_edit};
+use crate::images::least;
+use crate::stores;
 use psu_disk::{Choice, FailOnce, Fuse, MemDisk};
 use psu_exec::{Ended, Exec, Finished, NoJob, Outcome, PowerCause, Session};
-use psu_items::{Commit, Store};
+use psu_items::{Batch, Store};
 use psu_lex::Unit;
 use psu_tree::{Path, request};
 use std::alloc::Global;
@@ -15,10 +16,7 @@ use std::test::Fail;
 type Power = Exec<FailOnce<MemDisk<Global>>, Global>;
 
 fn disk(rt: &impl Abort, alloc: Global) -> MemDisk<Global> {
-    match empty(alloc) {
-        Ok(disk) => disk,
-        Err(_) => panic!(rt; "no format"),
-    }
+    least(alloc).expect(rt, "a disk")
 }
 
 // A device whose disk fails once, after so many calls.
@@ -258,9 +256,10 @@ fn the_tail_is_full(rt: HostRuntime) {
 #[test]
 fn bad_items_do_not_power_on(rt: HostRuntime) -> Result<(), Fail> {
     let alloc = rt.alloc();
-    let Commit::Stored(store) = committed(alloc, empty(alloc)?, one_edit(alloc)?)? else {
-        return Err(Fail::from("not stored"));
-    };
+    let mut batch = Batch::new(alloc);
+    batch.assign([1].to_vec(alloc)?, [36].to_vec(alloc)?)?;
+    let store = stores::opened(alloc, least(alloc).ok_or("not formatted")?)?;
+    let store = stores::stored(alloc, store, batch)?;
     match Exec::power_on(alloc, store) {
         Ok(_) => Err(Fail::from("powered on")),
         Err(fault) => {

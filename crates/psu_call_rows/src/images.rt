@@ -1,5 +1,5 @@
 // Formatted images in memory.
-use psu_disk::{Disk, MemDisk};
+use psu_disk::MemDisk;
 use psu_items::Store;
 use std::alloc::Global;
 
@@ -13,19 +13,14 @@ pub fn least(alloc: Global) -> Option<MemDisk<Global>> {
     image(alloc, 5_120, 4)
 }
 
-/// A formatted image of so many bytes under this limit.
-pub fn image(alloc: Global, size: u64, limit: u16) -> Option<MemDisk<Global>> {
-    match MemDisk::new(alloc, size) {
-        Ok(disk) => laid_out(alloc, disk, limit),
-        Err(_) => None,
-    }
-}
-
-/// A disk that is laid out for an empty map of this limit; none where the limit or the room is not one that an image can have.
-pub fn laid_out(alloc: Global, disk: MemDisk<Global>, limit: u16) -> Option<MemDisk<Global>> {
-    if limit < 4 || limit > 480 || disk.size() < 512 * (2 + 2 * u64::from(limit)) {
+// A formatted image of so many bytes under this limit; none where the limit or the room is not one that an image can have.
+fn image(alloc: Global, size: u64, limit: u16) -> Option<MemDisk<Global>> {
+    if limit < 4 || limit > 480 || size < 512 * (2 + 2 * u64::from(limit)) {
         return None;
     }
+    let Ok(disk) = MemDisk::new(alloc, size) else {
+        return None;
+    };
     match Store::format(alloc, disk, limit) {
         Ok(store) => Some(store.into_disk()),
         Err(_) => None,

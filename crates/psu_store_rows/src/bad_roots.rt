@@ -1,7 +1,8 @@
 // Roots that are refused, and roots that are good though they differ: what is looked at, and in which order.
 use crate::spelled::{put, put_all, root, spelled};
+use crate::stores::opened;
 use psu_disk::MemDisk;
-use psu_items::{OpenCause, Store};
+use psu_items::{Items, OpenCause, Store};
 use std::alloc::Global;
 use std::test::Fail;
 
@@ -37,20 +38,25 @@ pub fn found_with(alloc: Global, parts: &[(u64, &[u8])]) -> Result<Result<usize,
     Ok(found(alloc, disk))
 }
 
+// Whether the items are the two of the image.
+fn are_the_two(items: &Items<Global>) -> bool {
+    let mut long = [8; 600];
+    long[512..].fill(9);
+    match items.pairs() {
+        [one, two] => one.key() == [1].as_slice()
+            && one.value() == [36].as_slice()
+            && two.key() == [2, 9].as_slice()
+            && two.value() == long.as_slice(),
+        _ => false,
+    }
+}
+
 #[test]
 fn the_image_holds_two_items(rt: HostRuntime) -> Result<(), Fail> {
     let alloc = rt.alloc();
-    let Ok(store) = Store::open(alloc, image(alloc)?) else {
-        return Err(Fail::from("not opened"));
-    };
-    assert_eq!(rt; store.limit(), 6);
-    assert_eq!(rt; store.number(), 1);
-    assert_eq!(rt; store.version(), 1);
-    assert_eq!(rt; store.items().pairs().len(), 2);
-    assert_eq!(rt; store.items().get(&[1]).ok_or("no 1")?, [36].as_slice());
-    let mut long = [8; 600];
-    long[512..].fill(9);
-    assert!(rt; store.items().get(&[2, 9]).ok_or("no 2, 9")? == long.as_slice());
+    let store = opened(alloc, image(alloc)?)?;
+    assert_eq!(rt; (store.limit(), store.number(), store.version()), (6, 1, 1));
+    assert!(rt; are_the_two(store.items()));
     Ok(())
 }
 

@@ -3,7 +3,7 @@
 ghost use Rattle.std.specs.Prelude.{◌≡◌, ◌+◌, ◌*◌};
 
 use crate::images::laid_out;
-use crate::spelled::{bytes_of, head, put, root, spelled, word};
+use crate::spelled::{bytes_of, head, put_all, root, spelled, word};
 use crate::stores::{formatted, one_edit, opened, stored};
 use psu_disk::MemDisk;
 use psu_items::{Batch, Store};
@@ -105,27 +105,53 @@ fn longer_edit(alloc: Global) -> Result<Batch<Global>, AllocError> {
     Ok(batch)
 }
 
+// The bytes after the first commit, and after the second.
+fn two_commits(alloc: Global) -> Result<(Vec<u8>, Vec<u8>), Fail> {
+    let mut disk = with_one(alloc)?.into_disk();
+    let before = bytes_of(alloc, &mut disk)?;
+    let mut disk = stored(alloc, opened(alloc, disk)?, longer_edit(alloc)?)?.into_disk();
+    Ok((before, bytes_of(alloc, &mut disk)?))
+}
+
+// The image after both commits: the first item on its pages, and the second on its head and these two. The root names the heads so.
+fn after_two(
+    alloc: Global,
+    kept: [u16; 2],
+    new: u16,
+    pages: [u16; 2],
+    names: [u16; 2],
+) -> Result<MemDisk<Global>, Fail> {
+    let mut disk = after_one(alloc, kept[0], kept[1])?;
+    put_all(
+        &mut disk,
+        &[
+            (0, &root(alloc, 0xa5, 8, 3, &names)?),
+            (512, &[0]),
+            (at(new), &head(alloc, &[2], 600, &pages)?),
+            (at(pages[0]), &[7; 512]),
+            (at(pages[1]), &[7; 88]),
+        ],
+    )?;
+    Ok(disk)
+}
+
 // The item that stays keeps its pages, and the other takes a head and two pages of its own. The first root names both heads.
 #[test]
 fn an_image_after_two_commits(rt: HostRuntime) -> Result<(), Fail> {
     let alloc = rt.alloc();
-    let mut disk = with_one(alloc)?.into_disk();
-    let before = bytes_of(alloc, &mut disk)?;
-    let kept = word(&before, 530);
-    let kept_value = word(&before, first_page(kept));
-    let mut disk = stored(alloc, opened(alloc, disk)?, longer_edit(alloc)?)?.into_disk();
-    let got = bytes_of(alloc, &mut disk)?;
+    let (before, got) = two_commits(alloc)?;
+    let of_head = word(&before, 530);
+    let kept = [of_head, word(&before, first_page(of_head))];
     let names = [word(&got, 18), word(&got, 20)];
-    assert!(rt; names.contains(&kept));
-    let new = if names[0] == kept { names[1] } else { names[0] };
+    assert!(rt; names.contains(&of_head));
+    let new = if names[0] == of_head {
+        names[1]
+    } else {
+        names[0]
+    };
     let pages = [word(&got, first_page(new)), word(&got, first_page(new) + 2)];
-    assert!(rt; are_apart(&[kept, kept_value, new, pages[0], pages[1]]));
-    let mut want = after_one(alloc, kept, kept_value)?;
-    put(&mut want, 0, &root(alloc, 0xa5, 8, 3, &names)?)?;
-    put(&mut want, 512, &[0])?;
-    put(&mut want, at(new), &head(alloc, &[2], 600, &pages)?)?;
-    put(&mut want, at(pages[0]), &[7; 512])?;
-    put(&mut want, at(pages[1]), &[7; 88])?;
+    assert!(rt; are_apart(&[kept[0], kept[1], new, pages[0], pages[1]]));
+    let mut want = after_two(alloc, kept, new, pages, names)?;
     let want = bytes_of(alloc, &mut want)?;
     assert!(rt; got == want);
     Ok(())

@@ -1,4 +1,5 @@
 // The map of items by itself.
+use crate::stores::is_just;
 use psu_items::Items;
 use std::test::Fail;
 
@@ -9,10 +10,8 @@ fn a_map_is_in_the_order_of_its_keys(rt: HostRuntime) -> Result<(), Fail> {
     for (key, value) in [(5, 10), (1, 20), (3, 30), (1, 40)] {
         items.insert([key].to_vec(alloc)?, [value].to_vec(alloc)?)?;
     }
-    assert_eq!(rt; items.pairs().len(), 3);
-    assert_eq!(rt; items.pairs()[0].key(), [1].as_slice());
-    assert_eq!(rt; items.pairs()[0].value(), [40].as_slice());
-    assert_eq!(rt; items.get(&[3]).ok_or("no 3")?, [30].as_slice());
+    assert!(rt; is_just(&items, &[(1, 40), (3, 30), (5, 10)]));
+    assert!(rt; items.get(&[3]) == Some([30].as_slice()));
     assert!(rt; items.get(&[3, 0]).is_none());
     Ok(())
 }

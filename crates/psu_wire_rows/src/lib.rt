@@ -1,0 +1,30 @@
+//! Tests of what stands by itself between the wire and the execution, each through its crate. Expected values are worked by hand from
+//! the standards' rules.
+#![tactic(auto)]
+
+#[cfg(test)]
+mod answers;
+#[cfg(test)]
+mod commands;
+#[cfg(test)]
+mod frames;
+#[cfg(test)]
+mod grammar;
+#[cfg(test)]
+mod headers;
+#[cfg(test)]
+mod hislip;
+#[cfg(test)]
+mod locks;
+#[cfg(test)]
+mod outputs;
+#[cfg(test)]
+mod readings;
+#[cfg(test)]
+mod sessions;
+#[cfg(test)]
+mod status;
+#[cfg(test)]
+mod streams;
+#[cfg(test)]
+mod tree;
