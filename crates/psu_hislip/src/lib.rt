@@ -5,6 +5,7 @@
 
 mod action;
 mod channel;
+mod cut;
 mod device_clear;
 mod error_code;
 mod fatal_code;
