@@ -1,4 +1,5 @@
 // Each allocation of a feed, of a message and of an answer refused in turn: nothing has changed.
+use crate::frames::origin;
 use bumpalo::Bump;
 use psu_hislip::{Action, Channel, Message, SessionCore, Side};
 use std::alloc::{AllocError, Global};
@@ -58,8 +59,8 @@ fn on<'a>(
 // Whether the transmission that BEGIN began is executed whole.
 fn is_whole(actions: &[Action<&Bump>]) -> bool {
     match (actions.first(), actions.last()) {
-        (Some(Action::Delivered), Some(Action::Execute(2, bytes))) => bytes.as_slice()
-            == b"*IDN?\n".as_slice(),
+        (Some(Action::Delivered), Some(Action::Execute(origin, bytes))) => origin.id == 2
+            && bytes.as_slice() == b"*IDN?\n".as_slice(),
         _ => false,
     }
 }
@@ -95,8 +96,8 @@ fn message_is_refused(alloc: Global, left: usize, second: bool) -> Option<bool> 
 fn answer_is_refused(alloc: Global, left: usize) -> Option<bool> {
     let arena = Bump::try_with_capacity(alloc, 4096).ok()?;
     leave(&arena, left)?;
-    match SessionCore::new(&arena, 1).answer(2, b"a\n") {
-        Ok(frames) => (frames.as_slice() == ANSWER).then_some(false),
+    match SessionCore::new(&arena, 1).answer(origin(2), b"a\n") {
+        Ok(frames) => (frames?.as_slice() == ANSWER).then_some(false),
         Err(_) => Some(true),
     }
 }

@@ -1,5 +1,5 @@
 -- What a channel awaits, from one step to the next.
-use Rattle.std.proofs.Common.{◌≡◌, ◌≢◌, ℕ, ◌-◌, ◌<◌, ◌≤◌, List, [], ◌∷◌, ◌++◌, length, take, drop, refl, sym, ap, ◌∙◌, subst, arith, append_assoc, inl, inr, length-append, length-drop, Bool, true, ◌==◌, Option, Some, None, Vec, length-take-le}
+use Rattle.std.proofs.Common.{◌≡◌, ◌≢◌, ℕ, ◌-◌, ◌<◌, ◌≤◌, List, [], ◌∷◌, ◌++◌, length, take, drop, refl, sym, ap, ◌∙◌, subst, arith, append_assoc, inl, inr, length-append, length-drop, Bool, true, false, ◌==◌, Option, Some, None, Vec, length-take-le}
 use Rattle.std.proofs.lemmas.List.{append-nil, take-append-le, take-append-drop, take_all}
 use Rattle.psu_hislip.specs.declared.header.Header.{Header}
 use Rattle.psu_hislip.specs.Header.{header_bytes, Fits}
@@ -111,6 +111,10 @@ pub no_more : (xs : List ℕ) (b : Bool) → b ≡ (length xs == 0) → b ≡ tr
 no_more [] b e t = refl
 no_more (x ∷ xs) b e t = absurd (grind (arith, e, t))
 
+pub some_more : (xs : List ℕ) (b : Bool) → b ≡ (length xs == 0) → b ≡ false → 0 < length xs
+some_more [] b e t = absurd (grind (arith, e, t))
+some_more (x ∷ xs) b e t = omega arith
+
 -- nothing is left of a piece
 pub all_steps : (r s : Awaited) (piece left : List ℕ) (ms : List Received) → ((front : List ℕ) × (piece ≡ front ++ left) × Moves r front ms s) → left ≡ [] → Moves r piece ms s
 all_steps r s piece left ms f none =
@@ -216,6 +220,6 @@ fed_whole h p piece wanted s head none before after m first stream gave begins e
     let whole = moves_then old (Begun []) s part rest (Frame h (p ++ part) ∷ []) (all_received cut.0) (moves_payload h p part fits n small) moves in
     let named = subst (λ (z : Received). Moves old (part ++ rest) (z ∷ all_received cut.0) s) (sym is) whole in
     let all = subst (λ (z : List ℕ). Moves old z (received first ∷ all_received cut.0) s)
-        (ap (λ (z : List ℕ). part ++ z) (whole_tail piece wanted) ∙ take-append-drop wanted piece) named in
+    (ap (λ (z : List ℕ). part ++ z) (whole_tail piece wanted) ∙ take-append-drop wanted piece) named in
     fed_on old s stream piece gave (all_received (set after 0 first)) quiet
     (subst (λ z. Moves old piece (all_received z) s) (put_first after before none cut.0 m first empty pushed cut.1) all) f

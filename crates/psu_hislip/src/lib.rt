@@ -4,6 +4,7 @@
 #![tactic(auto)]
 
 mod action;
+mod answer;
 mod channel;
 mod cut;
 mod device_clear;
@@ -16,6 +17,7 @@ mod header;
 mod laws;
 mod message;
 mod message_type;
+mod origin;
 mod rest;
 mod session_core;
 mod side;
@@ -30,9 +32,11 @@ pub use fatal_code::FatalCode;
 pub use first::First;
 pub use header::Header;
 pub use laws::{
-    fed_is_the_stream, one_division, pieces_do_not_count, some_division, whole_transmission,
+    fed_is_the_stream, one_division, parts_are_an_answer, pieces_do_not_count, some_division,
+    whole_transmission,
 };
 pub use message::Message;
 pub use message_type::MessageType;
+pub use origin::Origin;
 pub use session_core::SessionCore;
 pub use side::Side;
