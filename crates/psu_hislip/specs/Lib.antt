@@ -10,3 +10,4 @@ pub mod Action
 pub mod Transmission
 pub mod Core
 pub mod Answer
+pub mod LockResponses

@@ -15,6 +15,7 @@ mod first;
 mod frames;
 mod header;
 mod laws;
+mod lock_responses;
 mod message;
 mod message_type;
 mod origin;
@@ -35,6 +36,7 @@ pub use laws::{
     fed_is_the_stream, one_division, parts_are_an_answer, pieces_do_not_count, some_division,
     whole_transmission,
 };
+pub use lock_responses::{lock_info_response, lock_response, release_response};
 pub use message::Message;
 pub use message_type::MessageType;
 pub use origin::Origin;
