@@ -6,3 +6,6 @@ pub mod Divisions
 pub mod Cuts
 pub mod Exists
 pub mod Transmissions
+pub mod Cases
+pub mod Rows
+pub mod Runs

@@ -11,3 +11,4 @@ pub mod Transmission
 pub mod Core
 pub mod Answer
 pub mod LockResponses
+pub mod Runs

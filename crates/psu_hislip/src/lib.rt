@@ -21,6 +21,7 @@ mod message_type;
 mod origin;
 mod rest;
 mod session_core;
+mod session_laws;
 mod side;
 mod step;
 mod transmission;
