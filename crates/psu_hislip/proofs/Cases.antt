@@ -15,7 +15,7 @@ use Rattle.psu_hislip.specs.declared.fatal_code.FatalCode.{FatalCode}
 use Rattle.psu_hislip.specs.declared.error_code.ErrorCode.{ErrorCode}
 use Rattle.psu_hislip.specs.declared.error_code.ErrorCode.TheVariants.{UnrecognizedType, UnrecognizedVendorType}
 use Rattle.psu_hislip.specs.declared.message_type.MessageType.{MessageType}
-use Rattle.psu_hislip.specs.declared.message_type.MessageType.TheVariants.{FatalError, Error, DeviceClearComplete}
+use Rattle.psu_hislip.specs.declared.message_type.MessageType.TheVariants.{FatalError, Error, Data, DataEnd, Trigger, DeviceClearComplete, AsyncDeviceClear}
 use Rattle.psu_hislip.proofs.Types.{code_of_type}
 
 pub data Cases (core : Core) (side : Side) (m : Received) : Type 0 where
@@ -109,3 +109,37 @@ by_failed core side m false e = by_fatal core side m e (fatal core side m) refl
 
 pub cases : (core : Core) (side : Side) (m : Received) → Cases core side m
 cases core side m = by_failed core side m core.failed refl
+
+-- # Frames that have no error
+
+-- types of which every frame is good
+abbrev pub is_good : Side → Option MessageType → Bool
+is_good Sync (Some Data) = true
+is_good Sync (Some DataEnd) = true
+is_good Sync (Some Trigger) = true
+is_good Sync (Some DeviceClearComplete) = true
+is_good Async (Some AsyncDeviceClear) = true
+is_good side type = false
+
+good_frame : (side : Side) (type : MessageType) (h : Header) (p : List ℕ) → type_of h.kind ≡ Some type → is_good side (Some type) ≡ true → error side (Frame h p) ≡ None
+good_frame Sync Data h p t g = rw (code_of_type h.kind Data t)
+good_frame Sync DataEnd h p t g = rw (code_of_type h.kind DataEnd t)
+good_frame Sync Trigger h p t g = rw (code_of_type h.kind Trigger t)
+good_frame Sync DeviceClearComplete h p t g = rw (code_of_type h.kind DeviceClearComplete t)
+good_frame Async AsyncDeviceClear h p t g = rw (code_of_type h.kind AsyncDeviceClear t)
+good_frame side type h p t g = absurd (cc)
+
+has_error : (side : Side) (h : Header) (p : List ℕ) (code : ErrorCode) → error side (Frame h p) ≡ Some code → (o : Option MessageType) → type_of h.kind ≡ o → is_good side o ≡ false
+has_error Sync h p code e (Some Data) t = absurd (cc (good_frame Sync Data h p t refl))
+has_error Sync h p code e (Some DataEnd) t = absurd (cc (good_frame Sync DataEnd h p t refl))
+has_error Sync h p code e (Some Trigger) t = absurd (cc (good_frame Sync Trigger h p t refl))
+has_error Sync h p code e (Some DeviceClearComplete) t = absurd (cc (good_frame Sync DeviceClearComplete h p t refl))
+has_error Async h p code e (Some AsyncDeviceClear) t = absurd (cc (good_frame Async AsyncDeviceClear h p t refl))
+has_error side h p code e o t = refl
+
+pub erroneous : (side : Side) (m : Received) (code : ErrorCode) → error side m ≡ Some code → is_good side (type_told m) ≡ false
+erroneous side (Frame h p) code e = has_error side h p code e (type_of h.kind) refl
+erroneous Sync (Oversize h) code e = refl
+erroneous Async (Oversize h) code e = refl
+erroneous Sync BadHeader code e = refl
+erroneous Async BadHeader code e = refl

@@ -1,16 +1,19 @@
 -- Runs of a session.
-use Rattle.std.proofs.Common.{◌≡◌, ℕ, Bool, true, false, Option, Some, None, List, [], ◌∷◌, ◌++◌, refl, sym, ap, ◌∙◌, flat_map}
+use Rattle.std.proofs.Common.{◌≡◌, ℕ, ◌==◌, Bool, true, false, Option, Some, None, List, [], ◌∷◌, ◌++◌, refl, sym, ap, ◌∙◌, flat_map}
 use Rattle.std.proofs.lemmas.Grind.{flat_map-append}
 use Rattle.psu_hislip.specs.Header.{header_bytes}
-use Rattle.psu_hislip.specs.Faults.{error_code}
+use Rattle.psu_hislip.specs.Faults.{error_code, fatal_code}
 use Rattle.psu_hislip.specs.Action.{Act}
 use Rattle.psu_hislip.specs.Core.{Core, Outcome, told, reply, is_sync, error}
-use Rattle.psu_hislip.specs.Runs.{Told, outcome, actions_of, core_after, type_told, is_complete, AreClosed, answer_of, answers, due, unless_faulty, answers_due}
+use Rattle.std.specs.List.{list_any}
+use Rattle.psu_hislip.specs.MessageType.{code_of}
+use Rattle.psu_hislip.specs.declared.fatal_code.FatalCode.{FatalCode}
+use Rattle.psu_hislip.specs.Runs.{Told, sends_fatal_error, outcome, actions_of, core_after, type_told, is_complete, AreClosed, answer_of, answers, due, unless_faulty, answers_due}
 use Rattle.psu_hislip.specs.declared.side.Side.{Side}
 use Rattle.psu_hislip.specs.declared.side.Side.TheVariants.{Sync, Async}
 use Rattle.psu_hislip.specs.declared.error_code.ErrorCode.{ErrorCode}
 use Rattle.psu_hislip.specs.declared.message_type.MessageType.{MessageType}
-use Rattle.psu_hislip.specs.declared.message_type.MessageType.TheVariants.{Error, DeviceClearComplete}
+use Rattle.psu_hislip.specs.declared.message_type.MessageType.TheVariants.{FatalError, Error, DeviceClearComplete, AsyncInitialize}
 use Rattle.psu_hislip.proofs.Rows.{row_answers}
 use Rattle.psu_hislip.proofs.Cases.{Cases, cases}
 use Rattle.psu_hislip.proofs.Cases.Cases.{Ended, Fails, Discarded, Erroneous, Row}
@@ -48,6 +51,10 @@ still_good core ts e false f = f
 pub not_failed : (core : Core) (ts : List Told) → (core_after core ts).failed ≡ false → core.failed ≡ false
 not_failed core ts e = still_good core ts e core.failed refl
 
+pub core_after-append : (core : Core) (xs ys : List Told) → core_after core (xs ++ ys) ≡ core_after (core_after core xs) ys
+core_after-append core [] ys = refl
+core_after-append core (x ∷ xs) ys = core_after-append (outcome core x).core xs ys
+
 -- # Answers
 
 no_due : (side : Side) (o : Option MessageType) → is_sync side ≡ true → is_complete side o ≡ false → due side o ≡ []
@@ -80,3 +87,20 @@ run_answers core (t ∷ ts) e =
     flat_map-append answer_of (outcome core t).actions (actions_of next ts)
     ∙ ap (λ (z : List ℕ). z ++ answers (actions_of next ts)) (message_answers core t (not_failed next ts e) (cases core t.side t.message))
     ∙ ap (λ (z : List ℕ). answers_due t ++ z) (run_answers next ts e)
+
+-- # FatalError
+
+no_fatal : (side : Side) (o : Option MessageType) → list_any (λ code. code == code_of FatalError) (due side o) ≡ false
+no_fatal Sync (Some DeviceClearComplete) = refl
+no_fatal Async (Some AsyncInitialize) = refl
+no_fatal side o = refl
+
+pub ends : (core : Core) (t : Told) → sends_fatal_error (outcome core t).actions ≡ true → Cases core t.side t.message
+    → (code : FatalCode) × ((outcome core t).actions ≡ reply t.side FatalError (fatal_code code) ∷ Act.Closed ∷ []) × ((outcome core t).core.failed ≡ true)
+unfolding header_bytes
+ends core t e (Ended f o) = absurd (cc (ap (λ (z : Outcome). sends_fatal_error z.actions) o))
+ends core t e (Fails code f o) = (code, ap (λ (z : Outcome). z.actions) o, ap (λ (z : Outcome). z.core.failed) o)
+ends core t e (Discarded f b s c o) = absurd (cc (ap (λ (z : Outcome). sends_fatal_error z.actions) o))
+ends core t e (Erroneous code f n o) = absurd (cc (ap (λ (z : Outcome). sends_fatal_error z.actions) o))
+ends core t e (Row type h p f m i n k g o) =
+    absurd (cc (ap (λ (z : Outcome). sends_fatal_error z.actions) o, ap (λ (z : List ℕ). list_any (λ code. code == code_of FatalError) z) (row_answers core t.side type h p k), no_fatal t.side (Some type)))

@@ -1,5 +1,6 @@
 -- Runs of a session: the messages of both channels in the order in which the session was told of them, and what they asked for.
 use Rattle.std.specs.Prelude.{◌≡◌, ℕ, ◌==◌, Bool, true, false, if◌then◌else◌, Option, Some, None, List, [], ◌∷◌, ◌++◌, slice_index_or, filter, flat_map, replicate, length}
+use Rattle.std.specs.List.{list_any}
 use Rattle.psu_hislip.specs.MessageType.{code_of, type_of}
 use Rattle.psu_hislip.specs.Stream.{Received}
 use Rattle.psu_hislip.specs.Stream.Received.{Frame, Oversize, BadHeader}
@@ -11,7 +12,7 @@ use Rattle.psu_hislip.specs.declared.error_code.ErrorCode.{ErrorCode}
 use Rattle.psu_hislip.specs.declared.origin.Origin.{Origin}
 use Rattle.psu_hislip.specs.declared.side.Side.TheVariants.{Sync, Async}
 use Rattle.psu_hislip.specs.declared.message_type.MessageType.{MessageType}
-use Rattle.psu_hislip.specs.declared.message_type.MessageType.TheVariants.{Error, AsyncLock, AsyncLockResponse, DeviceClearComplete, DeviceClearAcknowledge, AsyncRemoteLocalControl, AsyncRemoteLocalResponse, AsyncMaximumMessageSize, AsyncMaximumMessageSizeResponse, AsyncInitialize, AsyncInitializeResponse, AsyncDeviceClear, AsyncStatusQuery, AsyncStatusResponse, AsyncDeviceClearAcknowledge, AsyncLockInfo, AsyncLockInfoResponse}
+use Rattle.psu_hislip.specs.declared.message_type.MessageType.TheVariants.{FatalError, Error, Data, DataEnd, Trigger, AsyncLock, AsyncLockResponse, DeviceClearComplete, DeviceClearAcknowledge, AsyncRemoteLocalControl, AsyncRemoteLocalResponse, AsyncMaximumMessageSize, AsyncMaximumMessageSizeResponse, AsyncInitialize, AsyncInitializeResponse, AsyncDeviceClear, AsyncStatusQuery, AsyncStatusResponse, AsyncDeviceClearAcknowledge, AsyncLockInfo, AsyncLockInfoResponse}
 
 -- a message and the channel on which it came
 pub record Told : Type 0 where
@@ -53,6 +54,22 @@ is_complete side type = false
 abbrev pub completes_clear : Told → Bool
 completes_clear t = is_complete t.side (type_told t.message)
 
+-- Data, DataEnd and Trigger
+abbrev pub is_input : Side → Option MessageType → Bool
+is_input Sync (Some Data) = true
+is_input Sync (Some DataEnd) = true
+is_input Sync (Some Trigger) = true
+is_input side type = false
+
+abbrev pub brings_input : Told → Bool
+brings_input t = is_input t.side (type_told t.message)
+
+-- the last DeviceClearComplete of a run has no Data, DataEnd or Trigger behind it
+abbrev pub EndsComplete : List Told → Type 0
+EndsComplete run =
+    (earlier : List Told) × (complete : Told) × (since : List Told) × (run ≡ earlier ++ complete ∷ since) × (completes_clear complete ≡ true)
+    × (list_any brings_input since ≡ false)
+
 -- # What is executed
 
 abbrev pub is_execution : Act → Bool
@@ -87,6 +104,10 @@ answer_of action = []
 
 abbrev pub answers : List Act → List ℕ
 answers actions = flat_map answer_of actions
+
+-- a FatalError is among the answers
+abbrev pub sends_fatal_error : List Act → Bool
+sends_fatal_error actions = list_any (λ code. code == code_of FatalError) (answers actions)
 
 -- the type of the answer that a type of a client's has, where it has one
 abbrev pub due : Side → Option MessageType → List ℕ

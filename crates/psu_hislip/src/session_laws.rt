@@ -1,11 +1,17 @@
 // Laws of whole runs of a session: the messages of both channels, in the order in which it is told of them.
-ghost use Rattle.std.specs.Prelude.{◌≡◌, List, true, false, flat_map};
-ghost use Rattle.psu_hislip.specs.Core.{Core};
-ghost use Rattle.psu_hislip.specs.Runs.{Told, AreClosed, actions_of, core_after, answers, answers_due};
+ghost use Rattle.std.specs.Prelude.{◌≡◌, List, [], ◌∷◌, true, false, flat_map};
+ghost use Rattle.psu_hislip.specs.Faults.{fatal_code};
+ghost use Rattle.psu_hislip.specs.Core.{Core, reply};
+ghost use Rattle.psu_hislip.specs.Action.Act.{Closed};
+ghost use Rattle.psu_hislip.specs.Runs.{Told, outcome, AreClosed, actions_of, core_after, answers, answers_due, sends_fatal_error};
+ghost use Rattle.psu_hislip.specs.declared.fatal_code.FatalCode.{FatalCode};
+ghost use Rattle.psu_hislip.specs.declared.message_type.MessageType.TheVariants.{FatalError};
 
-/// After a FatalError each message gives Closed, and nothing else.
+/// A message that gives a FatalError gives Closed after it, and then each message gives Closed alone.
 pub fn closed_after_a_fatal_error()
-    ensures { (core : Core) (later : List Told) → core.failed ≡ true → AreClosed core later }
+    ensures gives { (core : Core) (t : Told) → sends_fatal_error (outcome core t).actions ≡ true
+        → (code : FatalCode) × ((outcome core t).actions ≡ reply t.side FatalError (fatal_code code) ∷ Closed ∷ []) }
+    ensures then { (core : Core) (t : Told) (later : List Told) → sends_fatal_error (outcome core t).actions ≡ true → AreClosed (outcome core t).core later }
 {}
 
 /// Unless a session fails, each message of a type with an answer has got just one, of the type that it asks for and in the order
