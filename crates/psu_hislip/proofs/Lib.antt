@@ -9,3 +9,5 @@ pub mod Transmissions
 pub mod Cases
 pub mod Rows
 pub mod Runs
+pub mod Clears
+pub mod Origins

@@ -1,9 +1,10 @@
 // Laws of whole runs of a session: the messages of both channels, in the order in which it is told of them.
-ghost use Rattle.std.specs.Prelude.{◌≡◌, List, [], ◌∷◌, true, false, flat_map};
+ghost use Rattle.std.specs.Prelude.{◌≡◌, ◌≢◌, ◌<◌, ◌^◌, ℕ, All, length, List, [], ◌∷◌, ◌++◌, true, false, flat_map};
+ghost use Rattle.std.specs.List.{list_any};
 ghost use Rattle.psu_hislip.specs.Faults.{fatal_code};
 ghost use Rattle.psu_hislip.specs.Core.{Core, reply};
 ghost use Rattle.psu_hislip.specs.Action.Act.{Closed};
-ghost use Rattle.psu_hislip.specs.Runs.{Told, outcome, AreClosed, actions_of, core_after, answers, answers_due, sends_fatal_error};
+ghost use Rattle.psu_hislip.specs.Runs.{Told, outcome, started, begins_clear, completes_clear, EndsComplete, executions, clears_in, origins, AreClosed, actions_of, core_after, answers, answers_due, sends_fatal_error};
 ghost use Rattle.psu_hislip.specs.declared.fatal_code.FatalCode.{FatalCode};
 ghost use Rattle.psu_hislip.specs.declared.message_type.MessageType.TheVariants.{FatalError};
 
@@ -18,4 +19,19 @@ pub fn closed_after_a_fatal_error()
 /// in which the messages came; no other message has got any but an Error.
 pub fn one_answer_for_each_message()
     ensures { (core : Core) (run : List Told) → (core_after core run).failed ≡ false → answers (actions_of core run) ≡ flat_map answers_due run }
+{}
+
+/// Between an AsyncDeviceClear and the next DeviceClearComplete nothing is executed, unless one had come already that no Data,
+/// DataEnd or Trigger followed.
+pub fn nothing_executed_in_a_clear()
+    ensures { (session : ℕ) (before between : List Told) (clear : Told) → begins_clear clear ≡ true → (EndsComplete before → ⊥) → list_any completes_clear between ≡ false
+        → executions (actions_of (core_after (started session) (before ++ clear ∷ [])) between) ≡ [] }
+{}
+
+/// Nothing that came before an AsyncDeviceClear has a current origin after it, so no frame of an answer to it is given any more. (The
+/// clears are counted modulo 2^64.)
+pub fn no_answer_of_before_a_clear()
+    ensures { (session : ℕ) (before later : List Told) → 0 < clears_in later → length (before ++ later) < 2 ^ 64
+        → (core_after (started session) (before ++ later)).failed ≡ false
+        → All (λ o. o.clears ≢ (core_after (started session) (before ++ later)).clears) (origins (actions_of (started session) before)) }
 {}
