@@ -11,3 +11,4 @@ pub mod Rows
 pub mod Runs
 pub mod Clears
 pub mod Origins
+pub mod Transmitted

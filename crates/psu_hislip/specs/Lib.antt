@@ -12,3 +12,4 @@ pub mod Core
 pub mod Answer
 pub mod LockResponses
 pub mod Runs
+pub mod Transmitted

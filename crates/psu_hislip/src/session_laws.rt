@@ -1,10 +1,12 @@
 // Laws of whole runs of a session: the messages of both channels, in the order in which it is told of them.
-ghost use Rattle.std.specs.Prelude.{◌≡◌, ◌≢◌, ◌<◌, ◌^◌, ℕ, All, length, List, [], ◌∷◌, ◌++◌, true, false, flat_map};
+ghost use Rattle.std.specs.Prelude.{◌≡◌, ◌≢◌, ◌<◌, ◌^◌, ℕ, All, length, List, [], ◌∷◌, ◌++◌, true, false, Some, map, flat_map};
 ghost use Rattle.std.specs.List.{list_any};
 ghost use Rattle.psu_hislip.specs.Faults.{fatal_code};
-ghost use Rattle.psu_hislip.specs.Core.{Core, reply};
+ghost use Rattle.psu_hislip.specs.Core.{Core, reply, is_begun};
 ghost use Rattle.psu_hislip.specs.Action.Act.{Closed};
 ghost use Rattle.psu_hislip.specs.Runs.{Told, outcome, started, begins_clear, completes_clear, EndsComplete, executions, clears_in, origins, AreClosed, actions_of, core_after, answers, answers_due, sends_fatal_error};
+ghost use Rattle.psu_hislip.specs.Transmitted.{Transmission, piece_in, pieces_of, asked, transmissions};
+ghost use Rattle.psu_hislip.specs.Transmitted.Piece.{More};
 ghost use Rattle.psu_hislip.specs.declared.fatal_code.FatalCode.{FatalCode};
 ghost use Rattle.psu_hislip.specs.declared.message_type.MessageType.TheVariants.{FatalError};
 
@@ -34,4 +36,14 @@ pub fn no_answer_of_before_a_clear()
     ensures { (session : ℕ) (before later : List Told) → 0 < clears_in later → length (before ++ later) < 2 ^ 64
         → (core_after (started session) (before ++ later)).failed ≡ false
         → All (λ o. o.clears ≢ (core_after (started session) (before ++ later)).clears) (origins (actions_of (started session) before)) }
+{}
+
+/// What is executed is the transmissions that the client sent, in order and once each: of a run from the beginning of a
+/// transmission on, without a device clear, whose payloads are whole transmissions and then some that go on. One that has more
+/// than 65,536 bytes is told as that.
+pub fn each_transmission_once()
+    ensures { (core : Core) (run : List Told) (whole : List Transmission) (rest : List (List ℕ)) → (core_after core run).failed ≡ false
+        → core.transmission ≡ Some [] → is_begun core.clear ≡ false → list_any begins_clear run ≡ false
+        → flat_map piece_in run ≡ flat_map pieces_of whole ++ map More rest
+        → transmissions (actions_of core run) ≡ map (asked core.clears) whole }
 {}
