@@ -16,7 +16,7 @@ use Rattle.psu_hislip.proofs.Runs.{failed_before, not_failed, core_after-append}
 use Rattle.psu_hislip.proofs.Cases.{Cases, cases, is_good, erroneous}
 use Rattle.psu_hislip.proofs.Cases.Cases.{Ended, Fails, Discarded, Erroneous, Row}
 
-abbrev is_early : DeviceClear → Bool
+abbrev pub is_early : DeviceClear → Bool
 is_early Idle = false
 is_early Begun = false
 is_early Early = true
@@ -189,7 +189,7 @@ pub in_clear : (session : ℕ) (before : List Told) (t : Told) → begins_clear 
 in_clear session before t b bare =
     let core = core_after (started session) before in
     let late : core.failed ≡ false → is_early core.clear ≡ true → ⊥ =
-    λ f e. elim (remembers (started session) before f e) [ | inl w ↦ absurd (cc (w.0)) | inr w ↦ bare w ] in
+    λ f e. elim (remembers (started session) before f e) [ inl w ↦ absurd (cc (w.0)) | inr w ↦ bare w ] in
     after_clear core t b late core.failed refl (is_early core.clear) refl
 
 pub none_in_a_clear : (session : ℕ) (before : List Told) (t : Told) (between : List Told) → begins_clear t ≡ true → (EndsComplete before → ⊥) → list_any completes_clear between ≡ false

@@ -12,3 +12,4 @@ pub mod Runs
 pub mod Clears
 pub mod Origins
 pub mod Transmitted
+pub mod Stretches

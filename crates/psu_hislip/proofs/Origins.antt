@@ -90,9 +90,12 @@ IsAtMostOne core xs = (xs ≡ []) ⊎ ((h : Header) × (xs ≡ origin core h ∷
 row_origins : (core : Core) (side : Side) (type : MessageType) (h : Header) (p : List ℕ) → takes side type ≡ true → IsAtMostOne core (origins (row core type h p).actions)
 row_origins core Sync Data h p k = inl (read_origins (is_delivered h))
 row_origins core Sync DataEnd h p k =
-    inr (h, flat_map-append origin_of (delivered h) (executed (origin core h) (added core.transmission p) ∷ [])
-    ∙ ap (λ (z : List Origin). z ++ origins (executed (origin core h) (added core.transmission p) ∷ [])) (read_origins (is_delivered h))
-    ∙ executed_origins (origin core h) (added core.transmission p))
+    inr (
+      h,
+      flat_map-append origin_of (delivered h) (executed (origin core h) (added core.transmission p) ∷ [])
+          ∙ ap (λ (z : List Origin). z ++ origins (executed (origin core h) (added core.transmission p) ∷ [])) (read_origins (is_delivered h))
+          ∙ executed_origins (origin core h) (added core.transmission p),
+    )
 row_origins core Sync Trigger h p k = inr (h, refl)
 row_origins core Sync DeviceClearComplete h p k = inl refl
 row_origins core Async AsyncInitialize h p k = inl refl

@@ -186,7 +186,7 @@ run_step core next first later one pieces acc trs rest begun same e (Silent none
 run_step core next first later one pieces acc trs rest begun same e (Goes p is adds quiet) again =
     ap (λ (z : List Act). z ++ transmissions later) quiet
     ∙ again (acc ++ p ∷ []) trs rest (adds ∙ ap (λ z. added z p) begun ∙ sym (all_added-push (Some []) acc p))
-        (moved acc p pieces ∙ ap (λ z. map More acc ++ (z ++ pieces)) (sym is) ∙ e)
+    (moved acc p pieces ∙ ap (λ z. map More acc ++ (z ++ pieces)) (sym is) ∙ e)
     ∙ ap (λ z. map (asked z) trs) same
 run_step core next first later one pieces acc trs rest begun same e (Ends id p is empty asks) again =
     let split = first_whole acc id p pieces trs rest (ap (λ z. map More acc ++ (z ++ pieces)) (sym is) ∙ e) in
@@ -206,4 +206,4 @@ run_transmissions core (t ∷ ts) good b none acc trs rest begun e =
     let step = message_step core t (not_failed next ts good) b clear.0 (cases core t.side t.message) in
     filter-append is_transmission (outcome core t).actions (actions_of next ts)
     ∙ run_step core next (outcome core t).actions (actions_of next ts) (piece_in t) (flat_map piece_in ts) acc trs rest begun step.clears e step.adds
-        (λ acc trs rest begun e. run_transmissions next ts good step.taken clear.1 acc trs rest begun e)
+    (λ acc trs rest begun e. run_transmissions next ts good step.taken clear.1 acc trs rest begun e)

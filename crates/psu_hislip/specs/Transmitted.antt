@@ -1,11 +1,12 @@
 -- The transmissions of a run, as the client sent them.
-use Rattle.std.specs.Prelude.{ℕ, Bool, true, false, if◌then◌else◌, Option, Some, List, [], ◌∷◌, ◌++◌, length, nat_lt, filter, map}
+use Rattle.std.specs.Prelude.{◌≡◌, ℕ, Bool, true, false, if◌then◌else◌, Option, Some, None, List, [], ◌∷◌, ◌++◌, length, nat_lt, filter, map, flat_map}
+use Rattle.std.specs.List.{list_any}
 use Rattle.psu_hislip.specs.MessageType.{type_of}
 use Rattle.psu_hislip.specs.Stream.{Received}
 use Rattle.psu_hislip.specs.Stream.Received.{Frame, Oversize, BadHeader}
 use Rattle.psu_hislip.specs.Action.{Act}
 use Rattle.psu_hislip.specs.Answer.{joined}
-use Rattle.psu_hislip.specs.Runs.{Told}
+use Rattle.psu_hislip.specs.Runs.{Told, begins_clear, completes_clear, EndsComplete}
 use Rattle.psu_hislip.specs.declared.header.Header.{Header}
 use Rattle.psu_hislip.specs.declared.side.Side.{Side}
 use Rattle.psu_hislip.specs.declared.side.Side.TheVariants.{Sync}
@@ -56,3 +57,34 @@ is_transmission action = false
 -- what is asked for the transmissions of a run
 abbrev pub transmissions : List Act → List Act
 transmissions actions = filter is_transmission actions
+
+-- its bytes, or none where they are too many
+abbrev pub text_kept : Transmission → Option (List ℕ)
+text_kept transmission = if nat_lt 65536 (length (text_of transmission)) then None else Some (text_of transmission)
+
+abbrev pub text_asked : Act → Option (List ℕ)
+text_asked (Act.Execute origin bytes) = Some bytes
+text_asked action = None
+
+-- # Sessions with device clears
+
+-- What comes up to the end of a device clear: what came before it, with the transmissions that are whole and the payloads that the
+-- clear cuts off; its AsyncDeviceClear; what comes until its DeviceClearComplete; and that.
+pub record Stretch : Type 0 where
+  pub told : List Told
+  pub whole : List Transmission
+  pub cut : List (List ℕ)
+  pub clear : Told
+  pub between : List Told
+  pub complete : Told
+
+abbrev pub run_of : Stretch → List Told
+run_of s = s.told ++ s.clear ∷ (s.between ++ s.complete ∷ [])
+
+pub record IsStretch (s : Stretch) : Type 0 where
+  pub no_clear : list_any begins_clear s.told ≡ false
+  pub pieces : flat_map piece_in s.told ≡ flat_map pieces_of s.whole ++ map More s.cut
+  pub in_order : EndsComplete s.told → ⊥
+  pub begins : begins_clear s.clear ≡ true
+  pub goes_on : list_any completes_clear s.between ≡ false
+  pub completes : completes_clear s.complete ≡ true

@@ -5,7 +5,7 @@ ghost use Rattle.psu_hislip.specs.Faults.{fatal_code};
 ghost use Rattle.psu_hislip.specs.Core.{Core, reply, is_begun};
 ghost use Rattle.psu_hislip.specs.Action.Act.{Closed};
 ghost use Rattle.psu_hislip.specs.Runs.{Told, outcome, started, begins_clear, completes_clear, EndsComplete, executions, clears_in, origins, AreClosed, actions_of, core_after, answers, answers_due, sends_fatal_error};
-ghost use Rattle.psu_hislip.specs.Transmitted.{Transmission, piece_in, pieces_of, asked, transmissions};
+ghost use Rattle.psu_hislip.specs.Transmitted.{Transmission, piece_in, pieces_of, asked, transmissions, text_kept, text_asked, Stretch, IsStretch, run_of};
 ghost use Rattle.psu_hislip.specs.Transmitted.Piece.{More};
 ghost use Rattle.psu_hislip.specs.declared.fatal_code.FatalCode.{FatalCode};
 ghost use Rattle.psu_hislip.specs.declared.message_type.MessageType.TheVariants.{FatalError};
@@ -46,4 +46,14 @@ pub fn each_transmission_once()
         → core.transmission ≡ Some [] → is_begun core.clear ≡ false → list_any begins_clear run ≡ false
         → flat_map piece_in run ≡ flat_map pieces_of whole ++ map More rest
         → transmissions (actions_of core run) ≡ map (asked core.clears) whole }
+{}
+
+/// The same of a whole session with device clears: each drops the payloads before it that no DataEnd ended, and what comes until its
+/// DeviceClearComplete.
+pub fn each_transmission_once_between_clears()
+    ensures { (session : ℕ) (stretches : List Stretch) (last : List Told) (whole : List Transmission) (rest : List (List ℕ)) → All IsStretch stretches
+        → list_any begins_clear last ≡ false → flat_map piece_in last ≡ flat_map pieces_of whole ++ map More rest
+        → (core_after (started session) (flat_map run_of stretches ++ last)).failed ≡ false
+        → map text_asked (transmissions (actions_of (started session) (flat_map run_of stretches ++ last)))
+        ≡ map text_kept (flat_map (λ (s : Stretch). s.whole) stretches ++ whole) }
 {}
