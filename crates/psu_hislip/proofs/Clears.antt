@@ -12,7 +12,7 @@ use Rattle.psu_hislip.specs.declared.device_clear.DeviceClear.{DeviceClear}
 use Rattle.psu_hislip.specs.declared.device_clear.DeviceClear.TheVariants.{Idle, Begun, Early}
 use Rattle.psu_hislip.specs.declared.message_type.MessageType.{MessageType}
 use Rattle.psu_hislip.specs.declared.message_type.MessageType.TheVariants.{AsyncLock, AsyncLockResponse, Data, DataEnd, DeviceClearComplete, AsyncRemoteLocalControl, Trigger, AsyncMaximumMessageSize, AsyncInitialize, AsyncDeviceClear, AsyncStatusQuery, AsyncLockInfo}
-use Rattle.psu_hislip.proofs.Runs.{failed_before, not_failed, core_after-append}
+use Rattle.psu_hislip.proofs.Runs.{ends_badly, failed_before, not_failed, core_after-append}
 use Rattle.psu_hislip.proofs.Cases.{Cases, cases, is_good, erroneous}
 use Rattle.psu_hislip.proofs.Cases.Cases.{Ended, Fails, Discarded, Erroneous, Row}
 
@@ -153,8 +153,8 @@ row_early core side type h p k e = absurd (cc)
 
 message_early : (core : Core) (t : Told) → (outcome core t).core.failed ≡ false → is_early (outcome core t).core.clear ≡ true → Cases core t.side t.message
     → ((is_early core.clear ≡ true) × (brings_input t ≡ false)) ⊎ (completes_clear t ≡ true)
-message_early core t good e (Ended f o) = absurd (cc (ap (λ (z : Outcome). z.core.failed) o))
-message_early core t good e (Fails code f o) = absurd (cc (ap (λ (z : Outcome). z.core.failed) o))
+message_early core t good e (Ended f o) = absurd (ends_badly _ _ o f good)
+message_early core t good e (Fails code f o) = absurd (ends_badly _ _ o refl good)
 message_early core t good e (Discarded f d s c o) = absurd (begun_late core.clear d (ap (λ (z : Outcome). is_early z.core.clear) (sym o) ∙ e))
 message_early core t good e (Erroneous code f n o) =
     inl (ap (λ (z : Outcome). is_early z.core.clear) (sym o) ∙ e, input_good t.side (type_told t.message) (erroneous t.side t.message code n))

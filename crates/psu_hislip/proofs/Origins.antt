@@ -13,7 +13,7 @@ use Rattle.psu_hislip.specs.declared.side.Side.{Side}
 use Rattle.psu_hislip.specs.declared.side.Side.TheVariants.{Sync, Async}
 use Rattle.psu_hislip.specs.declared.message_type.MessageType.{MessageType}
 use Rattle.psu_hislip.specs.declared.message_type.MessageType.TheVariants.{AsyncLock, AsyncLockResponse, Data, DataEnd, DeviceClearComplete, AsyncRemoteLocalControl, Trigger, AsyncMaximumMessageSize, AsyncInitialize, AsyncDeviceClear, AsyncStatusQuery, AsyncLockInfo}
-use Rattle.psu_hislip.proofs.Runs.{not_failed}
+use Rattle.psu_hislip.proofs.Runs.{ends_badly, not_failed}
 use Rattle.psu_hislip.proofs.Cases.{Cases, cases, is_good, erroneous}
 use Rattle.psu_hislip.proofs.Cases.Cases.{Ended, Fails, Discarded, Erroneous, Row}
 
@@ -46,8 +46,8 @@ sync_no_clear Sync o e = refl
 sync_no_clear Async o e = absurd (cc)
 
 pub message_clears : (core : Core) (t : Told) → (outcome core t).core.failed ≡ false → Cases core t.side t.message → (outcome core t).core.clears ≡ counted (begins_clear t) core.clears
-message_clears core t e (Ended f o) = absurd (cc (ap (λ (z : Outcome). z.core.failed) o))
-message_clears core t e (Fails code f o) = absurd (cc (ap (λ (z : Outcome). z.core.failed) o))
+message_clears core t e (Ended f o) = absurd (ends_badly _ _ o f e)
+message_clears core t e (Fails code f o) = absurd (ends_badly _ _ o refl e)
 message_clears core t e (Discarded f b s c o) = ap (λ (z : Outcome). z.core.clears) o ∙ ap (λ b. counted b core.clears) (sym (sync_no_clear t.side (type_told t.message) s))
 message_clears core t e (Erroneous code f n o) =
     ap (λ (z : Outcome). z.core.clears) o ∙ ap (λ b. counted b core.clears) (sym (no_clear t.side (type_told t.message) (erroneous t.side t.message code n)))

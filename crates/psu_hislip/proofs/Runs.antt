@@ -27,6 +27,9 @@ first_core core t ts o e = ap (λ (z : Outcome). core_after z.core ts) e
 
 -- # Failed sessions
 
+pub ends_badly : (a b : Outcome) → a ≡ b → b.core.failed ≡ true → a.core.failed ≡ false → ⊥
+ends_badly a b same failed good = absurd (cc (ap (λ (z : Outcome). z.core.failed) same))
+
 outcome_closed : (core : Core) (t : Told) → core.failed ≡ true → Cases core t.side t.message → outcome core t ≡ told (Act.Closed ∷ []) core
 outcome_closed core t e (Ended f o) = o
 outcome_closed core t e (Fails code f o) = absurd (cc)
@@ -71,8 +74,8 @@ unfolding header_bytes
 error_answer side control = refl
 
 message_answers : (core : Core) (t : Told) → (outcome core t).core.failed ≡ false → Cases core t.side t.message → answers (outcome core t).actions ≡ answers_due t
-message_answers core t e (Ended f o) = absurd (cc (ap (λ (z : Outcome). z.core.failed) o))
-message_answers core t e (Fails code f o) = absurd (cc (ap (λ (z : Outcome). z.core.failed) o))
+message_answers core t e (Ended f o) = absurd (ends_badly _ _ o f e)
+message_answers core t e (Fails code f o) = absurd (ends_badly _ _ o refl e)
 message_answers core t e (Discarded f b s c o) =
     ap (λ (z : Outcome). answers z.actions) o ∙ sym (faulty (error t.side t.message) (due t.side (type_told t.message)) (no_due t.side (type_told t.message) s c))
 message_answers core t e (Erroneous code f n o) =

@@ -15,7 +15,7 @@ use Rattle.psu_hislip.specs.declared.device_clear.DeviceClear.{DeviceClear}
 use Rattle.psu_hislip.specs.declared.device_clear.DeviceClear.TheVariants.{Idle, Begun, Early}
 use Rattle.psu_hislip.specs.declared.message_type.MessageType.{MessageType}
 use Rattle.psu_hislip.specs.declared.message_type.MessageType.TheVariants.{DeviceClearComplete}
-use Rattle.psu_hislip.proofs.Runs.{not_failed, core_after-append}
+use Rattle.psu_hislip.proofs.Runs.{ends_badly, not_failed, core_after-append}
 use Rattle.psu_hislip.proofs.Clears.{InClear, is_early, clear_row, clear_begins, nothing_executed, remembers}
 use Rattle.psu_hislip.proofs.Transmitted.{run_transmissions}
 use Rattle.psu_hislip.proofs.Cases.{Cases, cases, is_good, erroneous}
@@ -75,8 +75,8 @@ ended Early e = absurd (cc)
 
 clear_ends : (core : Core) (t : Told) → completes_clear t ≡ true → (outcome core t).core.failed ≡ false → InClear core → Cases core t.side t.message
     → IsFresh (outcome core t).core × (transmissions (outcome core t).actions ≡ [])
-clear_ends core t c e begun (Ended f o) = absurd (cc (ap (λ (z : Outcome). z.core.failed) o))
-clear_ends core t c e begun (Fails code f o) = absurd (cc (ap (λ (z : Outcome). z.core.failed) o))
+clear_ends core t c e begun (Ended f o) = absurd (ends_badly _ _ o f e)
+clear_ends core t c e begun (Fails code f o) = absurd (ends_badly _ _ o refl e)
 clear_ends core t c e begun (Discarded f d s n o) = absurd (cc)
 clear_ends core t c e begun (Erroneous code f n o) = absurd (cc (erroneous t.side t.message code n, (complete_type t.side (type_told t.message) c).0))
 clear_ends core t c e (inl failed) (Row type h p f m i n k g o) = absurd (cc)

@@ -22,7 +22,7 @@ use Rattle.psu_hislip.specs.declared.device_clear.DeviceClear.TheVariants.{Idle,
 use Rattle.psu_hislip.specs.declared.message_type.MessageType.{MessageType}
 use Rattle.psu_hislip.specs.declared.message_type.MessageType.TheVariants.{AsyncLock, AsyncLockResponse, Data, DataEnd, DeviceClearComplete, AsyncRemoteLocalControl, Trigger, AsyncMaximumMessageSize, AsyncInitialize, AsyncDeviceClear, AsyncStatusQuery, AsyncLockInfo}
 use Rattle.psu_hislip.proofs.Transmissions.{whole_transmission}
-use Rattle.psu_hislip.proofs.Runs.{not_failed}
+use Rattle.psu_hislip.proofs.Runs.{ends_badly, not_failed}
 use Rattle.psu_hislip.proofs.Clears.{neither}
 use Rattle.psu_hislip.proofs.Cases.{Cases, cases, is_good, erroneous}
 use Rattle.psu_hislip.proofs.Cases.Cases.{Ended, Fails, Discarded, Erroneous, Row}
@@ -97,8 +97,8 @@ piece_is t type h p m i =
     ap (λ z. piece_of t.side z h p) (sym i ∙ ap type_told m) ∙ ap (λ z. piece_told t.side z) (sym m)
 
 message_step : (core : Core) (t : Told) → (outcome core t).core.failed ≡ false → is_begun core.clear ≡ false → begins_clear t ≡ false → Cases core t.side t.message → Step core (piece_in t) (outcome core t)
-message_step core t e b c (Ended f o) = absurd (cc (ap (λ (z : Outcome). z.core.failed) o))
-message_step core t e b c (Fails code f o) = absurd (cc (ap (λ (z : Outcome). z.core.failed) o))
+message_step core t e b c (Ended f o) = absurd (ends_badly _ _ o f e)
+message_step core t e b c (Fails code f o) = absurd (ends_badly _ _ o refl e)
 message_step core t e b c (Discarded f d s n o) = absurd (cc)
 message_step core t e b c (Erroneous code f n o) =
     subst (λ (z : Outcome). Step core (piece_in t) z) (sym o)
