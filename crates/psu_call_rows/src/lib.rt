@@ -8,6 +8,8 @@ mod bad_heads;
 #[cfg(test)]
 mod bad_roots;
 #[cfg(test)]
+mod clears;
+#[cfg(test)]
 mod commands;
 #[cfg(test)]
 mod contents;
