@@ -1,5 +1,5 @@
 -- What a channel awaits, from one step to the next.
-use Rattle.std.proofs.Common.{◌≡◌, ◌≢◌, ℕ, ◌-◌, ◌<◌, ◌≤◌, List, [], ◌∷◌, ◌++◌, length, take, drop, refl, sym, ap, ◌∙◌, subst, arith, append_assoc, inl, inr, length-append, length-drop, Bool, true, ◌==◌, Option, Some, None}
+use Rattle.std.proofs.Common.{◌≡◌, ◌≢◌, ℕ, ◌-◌, ◌<◌, ◌≤◌, List, [], ◌∷◌, ◌++◌, length, take, drop, refl, sym, ap, ◌∙◌, subst, arith, append_assoc, inl, inr, length-append, length-drop, Bool, true, false, ◌==◌, Option, Some, None, Vec, length-take-le}
 use Rattle.std.proofs.lemmas.List.{append-nil, take-append-le, take-append-drop, take_all}
 use Rattle.psu_hislip.specs.declared.header.Header.{Header}
 use Rattle.psu_hislip.specs.Header.{header_bytes, Fits}
@@ -7,10 +7,11 @@ use Rattle.psu_hislip.specs.Stream.{Received, IsStream, received}
 use Rattle.psu_hislip.specs.Stream.Received.{Frame, Oversize, BadHeader}
 use Rattle.psu_hislip.specs.Channel.{Awaited, Follows, Moves, Fed}
 use Rattle.psu_hislip.specs.Channel.Awaited.{Begun, Passing, Ended}
-use Rattle.psu_hislip.specs.Rest.{awaited, IsRest, all_received, given}
+use Rattle.psu_hislip.specs.Rest.{awaited, IsRest, IsCutOf, all_received, given}
 use Rattle.psu_hislip.specs.declared.message.Message.{Message}
 use Rattle.psu_hislip.specs.declared.rest.Rest.{Rest}
 use Rattle.psu_hislip.specs.declared.rest.Rest.TheVariants as rest
+use Rattle.std.proofs.Math.ListN.{set}
 use Rattle.psu_hislip.proofs.Headers.{length-header_bytes, header_begins, same_header}
 
 -- ---- no message stands
@@ -90,7 +91,6 @@ settled (rest.Header head) short = subst (λ (z : List ℕ). IsStream z []) (sym
 settled (rest.Payload h p) k = subst (λ (z : List ℕ). IsStream z []) (sym (append-nil (header_bytes h ++ p.items))) (none_begun h p.items k.0 k.1 k.2)
 settled (rest.Passing n) some = inl (some, refl)
 settled rest.Ended some = refl
-settled rest.Failed some = refl
 
 pub fed_none : Fed (Begun []) [] []
 fed_none = (none_short [] (omega arith), moves_none (Begun []))
@@ -111,17 +111,115 @@ pub no_more : (xs : List ℕ) (b : Bool) → b ≡ (length xs == 0) → b ≡ tr
 no_more [] b e t = refl
 no_more (x ∷ xs) b e t = absurd (grind (arith, e, t))
 
+pub some_more : (xs : List ℕ) (b : Bool) → b ≡ (length xs == 0) → b ≡ false → 0 < length xs
+some_more [] b e t = absurd (grind (arith, e, t))
+some_more (x ∷ xs) b e t = omega arith
+
 -- nothing is left of a piece
 pub all_steps : (r s : Awaited) (piece left : List ℕ) (ms : List Received) → ((front : List ℕ) × (piece ≡ front ++ left) × Moves r front ms s) → left ≡ [] → Moves r piece ms s
 all_steps r s piece left ms f none =
     subst (λ (z : List ℕ). Moves r z ms s) (sym (f.1 ∙ ap (λ (z : List ℕ). f.0 ++ z) none ∙ append-nil f.0)) f.2
 
--- what a step gave
-pub a_message : {A : Type 0} (before pushed after : List (Message A)) (m : Option (Message A)) (x : Message A) → m ≡ Some x → after ≡ pushed → pushed ≡ before ++ x ∷ []
-    → all_received after ≡ all_received before ++ given m
-a_message before pushed after m x e same a =
-    ap all_received (same ∙ a) ∙ all_received-append before (x ∷ []) ∙ ap (λ z. all_received before ++ given z) (sym e)
+-- # Messages cut of a piece
 
-pub no_message : {A : Type 0} (before after : List (Message A)) (m : Option (Message A)) → m ≡ None → after ≡ before
-    → all_received after ≡ all_received before ++ given m
-no_message before after m e a = ap all_received a ∙ sym (append-nil (all_received before)) ∙ ap (λ z. all_received before ++ given z) (sym e)
+abbrev listed : {A : Type 0} → Option (Message A) → List (Message A)
+listed None = []
+listed (Some message) = message ∷ []
+
+all_received-listed : {A : Type 0} (m : Option (Message A)) → all_received (listed m) ≡ given m
+all_received-listed None = refl
+all_received-listed (Some message) = refl
+
+pub cut_none : {A : Type 0} (before : List (Message A)) (r : Awaited) (piece : List ℕ) → (front : List ℕ) × (piece ≡ front ++ piece) × IsCutOf before r front before r
+cut_none before r piece = ([], refl, ([], sym (append-nil before), moves_none r))
+
+-- a step more
+cut_step : {A : Type 0} (before mid after : List (Message A)) (m : Option (Message A)) (r s t : Awaited) (piece left : List ℕ) (used : ℕ)
+    → ((front : List ℕ) × (piece ≡ front ++ left) × IsCutOf before r front mid s) → Moves s (take used left) (given m) t → after ≡ mid ++ listed m
+    → (front : List ℕ) × (piece ≡ front ++ take (length left - used) (drop used left)) × IsCutOf before r front after t
+cut_step before mid after m r s t piece left used f moves e =
+    let cut = f.2 in
+    let all = a_step r s t piece left used (all_received cut.0) (given m) (f.0, f.1, cut.2) moves in
+    let gives : all_received cut.0 ++ given m ≡ all_received (cut.0 ++ listed m) =
+    ap (λ (z : List Received). all_received cut.0 ++ z) (sym (all_received-listed m)) ∙ sym (all_received-append cut.0 (listed m)) in (
+      all.0,
+      all.1,
+      (
+        cut.0 ++ listed m,
+        e ∙ ap (λ z. z ++ listed m) cut.1 ∙ append_assoc before cut.0 (listed m),
+        subst (λ (z : List Received). Moves r all.0 z t) gives all.2,
+      ),
+    )
+
+pub cut_message : {A : Type 0} (before mid pushed after : List (Message A)) (m : Option (Message A)) (x : Message A) (r s t : Awaited) (piece left : List ℕ) (used : ℕ)
+    → ((front : List ℕ) × (piece ≡ front ++ left) × IsCutOf before r front mid s) → Moves s (take used left) (given m) t
+    → m ≡ Some x → after ≡ pushed → pushed ≡ mid ++ x ∷ []
+    → (front : List ℕ) × (piece ≡ front ++ take (length left - used) (drop used left)) × IsCutOf before r front after t
+cut_message before mid pushed after m x r s t piece left used f moves is same e =
+    cut_step before mid after m r s t piece left used f moves (same ∙ e ∙ ap (λ z. mid ++ listed z) (sym is))
+
+pub cut_no_message : {A : Type 0} (before mid after : List (Message A)) (m : Option (Message A)) (r s t : Awaited) (piece left : List ℕ) (used : ℕ)
+    → ((front : List ℕ) × (piece ≡ front ++ left) × IsCutOf before r front mid s) → Moves s (take used left) (given m) t → m ≡ None → after ≡ mid
+    → (front : List ℕ) × (piece ≡ front ++ take (length left - used) (drop used left)) × IsCutOf before r front after t
+cut_no_message before mid after m r s t piece left used f moves is same =
+    cut_step before mid after m r s t piece left used f moves (same ∙ sym (append-nil mid) ∙ ap (λ z. mid ++ listed z) (sym is))
+
+-- nothing is left of the piece
+pub cut_whole_piece : {A : Type 0} (before after : List (Message A)) (r s : Awaited) (piece left : List ℕ)
+    → ((front : List ℕ) × (piece ≡ front ++ left) × IsCutOf before r front after s) → left ≡ [] → IsCutOf before r piece after s
+cut_whole_piece before after r s piece left f none =
+    let cut = f.2 in (cut.0, cut.1, all_steps r s piece left (all_received cut.0) (f.0, f.1, cut.2) none)
+
+-- # A feed
+
+pub fed_cut : {A : Type 0} (r s : Awaited) (before after : List (Message A)) (stream piece : List ℕ) (gave : List Received) → before ≡ [] → Follows s [] []
+    → IsCutOf before r piece after s → Fed r stream gave → Fed s (stream ++ piece) (gave ++ all_received after)
+fed_cut r s before after stream piece gave none quiet cut f =
+    let same : cut.0 ≡ after = sym (cut.1 ∙ ap (λ z. z ++ cut.0) none) in
+    fed_on r s stream piece gave (all_received after) quiet (subst (λ z. Moves r piece (all_received z) s) same cut.2) f
+
+pub payload_awaited : {A : Type 0} (r : Rest A) (h : Header) (p : Vec ℕ A) (now : Awaited) → r ≡ rest.Payload h p → awaited r ≡ now → now ≡ Begun (header_bytes h ++ p.items)
+payload_awaited r h p now is view = sym view ∙ ap awaited is
+
+pub payload_rest : {A : Type 0} (r : Rest A) (h : Header) (p : Vec ℕ A) → r ≡ rest.Payload h p → IsRest r → Fits h × (length p.items < h.length) × (h.length ≤ 65536)
+payload_rest r h p is good = subst IsRest is good
+
+-- a part of a payload
+pub fed_part : {A : Type 0} (h : Header) (p part next : List ℕ) (messages : List (Message A)) (stream : List ℕ) (gave : List Received) → next ≡ p ++ part → messages ≡ [] → Fits h
+    → length (p ++ part) < h.length → h.length ≤ 65536 → Fed (Begun (header_bytes h ++ p)) stream gave
+    → Fed (Begun (header_bytes h ++ next)) (stream ++ part) (gave ++ all_received messages)
+fed_part h p part next messages stream gave e none fits short small f =
+    let old = Begun (header_bytes h ++ p) in
+    let moves = subst (λ (z : List ℕ). Moves old part [] (Begun z)) (append_assoc (header_bytes h) p part) (moves_begun (header_bytes h ++ p) part) in
+    let quiet = subst (λ (z : List ℕ). IsStream z []) (sym (append-nil (header_bytes h ++ (p ++ part)))) (none_begun h (p ++ part) fits short small) in
+    subst (λ (z : List ℕ). Fed (Begun (header_bytes h ++ z)) (stream ++ part) (gave ++ all_received messages)) (sym e)
+    (fed_on old (Begun (header_bytes h ++ (p ++ part))) stream part gave (all_received messages) quiet
+    (subst (λ z. Moves old part (all_received z) (Begun (header_bytes h ++ (p ++ part)))) (sym none) moves) f)
+
+moves_payload : (h : Header) (p part : List ℕ) → Fits h → length (p ++ part) ≡ h.length → h.length ≤ 65536
+    → Moves (Begun (header_bytes h ++ p)) part (Frame h (p ++ part) ∷ []) (Begun [])
+moves_payload h p part fits n small more later s =
+    (more, (fits, append_assoc (header_bytes h) p (part ++ more) ∙ ap (λ (z : List ℕ). header_bytes h ++ z) (sym (append_assoc p part more)), n, small), s)
+
+put_first : {A : Type 0} (xs before none more : List A) (m first : A) → none ≡ [] → before ≡ none ++ m ∷ [] → xs ≡ before ++ more → first ∷ more ≡ set xs 0 first
+put_first xs before none more m first n b e =
+    let all : xs ≡ m ∷ more = e ∙ ap (λ z. z ++ more) (b ∙ ap (λ z. z ++ m ∷ []) n) in
+    ap (λ z. set z 0 first) (sym all)
+
+-- the end of a payload, and then the messages of what follows it
+pub fed_whole : {A : Type 0} (h : Header) (p piece : List ℕ) (wanted : ℕ) (s : Awaited) (head : List ℕ) (none before after : List (Message A)) (m first : Message A) (stream : List ℕ) (gave : List Received)
+    → head ≡ [] → none ≡ [] → before ≡ none ++ m ∷ [] → IsCutOf before (Begun head) (take (length piece - wanted) (drop wanted piece)) after s
+    → received first ≡ Frame h (p ++ take wanted piece) → Fits h → length p < h.length → h.length ≤ 65536 → wanted ≡ h.length - length p → wanted ≤ length piece
+    → Follows s [] [] → Fed (Begun (header_bytes h ++ p)) stream gave → Fed s (stream ++ piece) (gave ++ all_received (set after 0 first))
+fed_whole h p piece wanted s head none before after m first stream gave begins empty pushed cut is fits short small want long quiet f =
+    let old = Begun (header_bytes h ++ p) in
+    let part = take wanted piece in
+    let rest = take (length piece - wanted) (drop wanted piece) in
+    let moves = subst (λ (z : List ℕ). Moves (Begun z) rest (all_received cut.0) s) begins cut.2 in
+    let n : length (p ++ part) ≡ h.length = omega (arith, length-append p part, length-take-le wanted piece long) in
+    let whole = moves_then old (Begun []) s part rest (Frame h (p ++ part) ∷ []) (all_received cut.0) (moves_payload h p part fits n small) moves in
+    let named = subst (λ (z : Received). Moves old (part ++ rest) (z ∷ all_received cut.0) s) (sym is) whole in
+    let all = subst (λ (z : List ℕ). Moves old z (received first ∷ all_received cut.0) s)
+    (ap (λ (z : List ℕ). part ++ z) (whole_tail piece wanted) ∙ take-append-drop wanted piece) named in
+    fed_on old s stream piece gave (all_received (set after 0 first)) quiet
+    (subst (λ z. Moves old piece (all_received z) s) (put_first after before none cut.0 m first empty pushed cut.1) all) f

@@ -6,3 +6,10 @@ pub mod Divisions
 pub mod Cuts
 pub mod Exists
 pub mod Transmissions
+pub mod Cases
+pub mod Rows
+pub mod Runs
+pub mod Clears
+pub mod Origins
+pub mod Transmitted
+pub mod Stretches

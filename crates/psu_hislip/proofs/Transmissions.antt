@@ -3,6 +3,7 @@ use Rattle.std.proofs.Common.{◌≡◌, ℕ, Option, Some, None, List, [], ◌�
 use Rattle.std.proofs.lemmas.Bool.{cases_lt, lt-ltb, le-ltb}
 use Rattle.std.proofs.lemmas.List.{append-nil}
 use Rattle.psu_hislip.specs.Action.{Act}
+use Rattle.psu_hislip.specs.declared.origin.Origin.{Origin}
 use Rattle.psu_hislip.specs.Answer.{joined}
 use Rattle.psu_hislip.specs.Transmission.{added, all_added, executed}
 
@@ -22,14 +23,14 @@ all_added-kept text [] = ap kept (sym (append-nil text))
 all_added-kept text (p ∷ ps) =
     ap (λ z. all_added z ps) (added-kept text p) ∙ all_added-kept (text ++ p) ps ∙ ap kept (append_assoc text p (joined ps))
 
-executed-kept : (id : ℕ) (text : List ℕ) → executed id (kept text) ≡ (if nat_lt 65536 (length text) then Act.TooMuch else Act.Execute id text)
-executed-kept id text =
+executed-kept : (origin : Origin) (text : List ℕ) → executed origin (kept text) ≡ (if nat_lt 65536 (length text) then Act.TooMuch origin else Act.Execute origin text)
+executed-kept origin text =
     elim (cases_lt 65536 (length text)) [
       | inl long ↦ rw (lt-ltb 65536 (length text) long)
       | inr short ↦ rw (le-ltb 65536 (length text) short)
     ]
 
-pub whole_transmission : (id : ℕ) (payloads : List (List ℕ)) (last : List ℕ) → executed id (added (all_added (Some []) payloads) last)
-    ≡ (if nat_lt 65536 (length (joined payloads ++ last)) then Act.TooMuch else Act.Execute id (joined payloads ++ last))
-whole_transmission id payloads last =
-    ap (λ z. executed id (added z last)) (all_added-kept [] payloads) ∙ ap (executed id) (added-kept (joined payloads) last) ∙ executed-kept id (joined payloads ++ last)
+pub whole_transmission : (origin : Origin) (payloads : List (List ℕ)) (last : List ℕ) → executed origin (added (all_added (Some []) payloads) last)
+    ≡ (if nat_lt 65536 (length (joined payloads ++ last)) then Act.TooMuch origin else Act.Execute origin (joined payloads ++ last))
+whole_transmission origin payloads last =
+    ap (λ z. executed origin (added z last)) (all_added-kept [] payloads) ∙ ap (executed origin) (added-kept (joined payloads) last) ∙ executed-kept origin (joined payloads ++ last)

@@ -1,14 +1,15 @@
 -- What a message asks for.
 use Rattle.std.specs.Prelude.{ℕ, Bool, List, [], ◌∷◌}
 use Rattle.psu_hislip.specs.declared.side.Side.{Side}
+use Rattle.psu_hislip.specs.declared.origin.Origin.{Origin}
 use Rattle.psu_hislip.specs.declared.action.Action as rust
 use Rattle.psu_hislip.specs.declared.action.Action.TheVariants as action
 
 pub data Act : Type 0 where
   Send : Side → List ℕ → Act
-  Execute : ℕ → List ℕ → Act
-  TooMuch : Act
-  Trigger : Act
+  Execute : Origin → List ℕ → Act
+  TooMuch : Origin → Act
+  Trigger : Origin → Act
   Delivered : Act
   Status : Bool → Act
   Lock : ℕ → List ℕ → Act
@@ -20,9 +21,9 @@ pub data Act : Type 0 where
 -- an action of the code, without where its bytes lie in memory
 abbrev pub act : {A : Type 0} → rust.Action A → Act
 act (action.Send side bytes) = Send side bytes.items
-act (action.Execute id bytes) = Execute id bytes.items
-act action.TooMuch = TooMuch
-act action.Trigger = Trigger
+act (action.Execute origin bytes) = Execute origin bytes.items
+act (action.TooMuch origin) = TooMuch origin
+act (action.Trigger origin) = Trigger origin
 act action.Delivered = Delivered
 act (action.Status delivered) = Status delivered
 act (action.Lock timeout string) = Lock timeout string.items

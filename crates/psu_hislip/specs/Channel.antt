@@ -3,12 +3,11 @@ use Rattle.std.specs.Prelude.{◌≡◌, ◌⊎◌, ℕ, ◌<◌, List, [], ◌+
 use Rattle.psu_hislip.specs.Stream.{Received, IsStream}
 
 -- What a channel waits for after the messages that it has given: a message that has begun with these bytes, so many bytes of an
--- oversize frame, nothing any more, or nothing since memory was refused.
+-- oversize frame, or nothing any more.
 pub data Awaited : Type 0 where
   Begun : List ℕ → Awaited
   Passing : ℕ → Awaited
   Ended : Awaited
-  Failed : Awaited
 
 -- what is awaited, and then more bytes, come to these messages
 abbrev pub Follows : Awaited → List ℕ → List Received → Type 0
@@ -17,7 +16,6 @@ Follows (Passing n) more messages =
     ((length more < n) × (messages ≡ []))
     ⊎ ((passed : List ℕ) × (rest : List ℕ) × (more ≡ passed ++ rest) × (length passed ≡ n) × IsStream rest messages)
 Follows Ended more messages = messages ≡ []
-Follows Failed more messages = messages ≡ []
 
 -- with these bytes a channel gives these messages, and then waits for something else
 abbrev pub Moves : Awaited → List ℕ → List Received → Awaited → Type 0

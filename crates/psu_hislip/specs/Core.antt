@@ -1,6 +1,6 @@
 -- The core of a session: what each message asks for, and what the core is then. Source: IVI-6.1; what it leaves open is this
 -- project's profile.
-use Rattle.std.specs.Prelude.{ℕ, ◌%◌, ◌==◌, ◌&&◌, ◌||◌, not, nat_lt, nat_le, Bool, true, false, if◌then◌else◌, Option, Some, None, List, [], ◌∷◌, ◌++◌, length}
+use Rattle.std.specs.Prelude.{ℕ, ◌+◌, ◌^◌, ◌%◌, ◌==◌, ◌&&◌, ◌||◌, not, nat_lt, nat_le, Bool, true, false, if◌then◌else◌, Option, Some, None, List, [], ◌∷◌, ◌++◌, length}
 use Rattle.std.specs.Int.{w64, from_be_bytes}
 use Rattle.psu_hislip.specs.Header.{header_bytes}
 use Rattle.psu_hislip.specs.MessageType.{code_of, type_of}
@@ -10,6 +10,7 @@ use Rattle.psu_hislip.specs.Frame.{header_of, frame_bytes}
 use Rattle.psu_hislip.specs.Action.{Act}
 use Rattle.psu_hislip.specs.Transmission.{added, executed}
 use Rattle.psu_hislip.specs.declared.header.Header.{Header}
+use Rattle.psu_hislip.specs.declared.origin.Origin.{Origin}
 use Rattle.psu_hislip.specs.declared.side.Side.{Side}
 use Rattle.psu_hislip.specs.declared.side.Side.TheVariants.{Sync, Async}
 use Rattle.psu_hislip.specs.declared.device_clear.DeviceClear.{DeviceClear}
@@ -22,7 +23,7 @@ use Rattle.psu_hislip.specs.declared.message_type.MessageType.{MessageType}
 use Rattle.psu_hislip.specs.declared.message_type.MessageType.TheVariants.{Initialize, FatalError, Error, AsyncLock, AsyncLockResponse, Data, DataEnd, DeviceClearComplete, DeviceClearAcknowledge, AsyncRemoteLocalControl, AsyncRemoteLocalResponse, Trigger, AsyncMaximumMessageSize, AsyncMaximumMessageSizeResponse, AsyncInitialize, AsyncInitializeResponse, AsyncDeviceClear, AsyncStatusQuery, AsyncDeviceClearAcknowledge, AsyncLockInfo}
 
 -- The session's number; whether its asynchronous channel is joined; whether it has failed; the greatest message that the client
--- takes; the bytes of the transmission so far, or none where they are too many; the device clear.
+-- takes; the bytes of the transmission so far, or none where they are too many; the device clear; how many there were, modulo 2^64.
 pub record Core : Type 0 where
   pub session : ℕ
   pub joined : Bool
@@ -30,6 +31,7 @@ pub record Core : Type 0 where
   pub size : Option ℕ
   pub transmission : Option (List ℕ)
   pub clear : DeviceClear
+  pub clears : ℕ
 
 -- the actions of a message, and the core after them
 pub record Outcome : Type 0 where
@@ -109,10 +111,6 @@ is_delivered h = h.control % 2 == 1
 abbrev pub delivered : Header → List Act
 delivered h = if is_delivered h then Act.Delivered ∷ [] else []
 
--- the next transmission begins
-abbrev pub without_bytes : Core → Core
-without_bytes core = record core { transmission = Some [] }
-
 -- # Device clear
 
 abbrev pub is_begun : DeviceClear → Bool
@@ -120,22 +118,37 @@ is_begun Idle = false
 is_begun Begun = true
 is_begun Early = false
 
--- what is discarded until the clear is complete
-abbrev pub unless_begun : Core → Outcome → Outcome
-unless_begun core outcome = if is_begun core.clear then told [] core else outcome
+-- AsyncDeviceClear begins one, unless its DeviceClearComplete has come already
+abbrev pub after_begin : DeviceClear → DeviceClear
+after_begin Idle = Begun
+after_begin Begun = Begun
+after_begin Early = Idle
 
--- DeviceClearComplete; one that comes before its AsyncDeviceClear is remembered
-abbrev pub completed : Core → DeviceClear → Outcome
-completed core Begun = told (reply Sync DeviceClearAcknowledge 0 ∷ []) (record core { clear = Idle })
-completed core Idle = told [] (record core { clear = Early })
-completed core Early = told [] core
+-- DeviceClearComplete ends one, or is remembered
+abbrev pub after_complete : DeviceClear → DeviceClear
+after_complete Begun = Idle
+after_complete Idle = Early
+after_complete Early = Early
 
 -- AsyncDeviceClear drops the transmission
-abbrev pub cleared : Core → DeviceClear → Outcome
-cleared core Early =
-    told (Act.Clear ∷ reply Async AsyncDeviceClearAcknowledge 0 ∷ reply Sync DeviceClearAcknowledge 0 ∷ []) (record (without_bytes core) { clear = Idle })
-cleared core Idle = told (Act.Clear ∷ reply Async AsyncDeviceClearAcknowledge 0 ∷ []) (record (without_bytes core) { clear = Begun })
-cleared core Begun = told (Act.Clear ∷ reply Async AsyncDeviceClearAcknowledge 0 ∷ []) (record (without_bytes core) { clear = Begun })
+abbrev pub cleared : Core → Outcome
+cleared core =
+    told (Act.Clear ∷ reply Async AsyncDeviceClearAcknowledge 0 ∷ [])
+    (record core { transmission = Some []; clear = after_begin core.clear; clears = (core.clears + 1) % 2 ^ 64 })
+
+-- DeviceClearComplete is answered whenever it comes
+abbrev pub completed : Core → Outcome
+completed core = told (reply Sync DeviceClearAcknowledge 0 ∷ []) (record core { clear = after_complete core.clear })
+
+abbrev pub completes : Received → Bool
+completes (Received.Frame h payload) = h.kind == code_of DeviceClearComplete
+completes (Received.Oversize h) = false
+completes Received.BadHeader = false
+
+-- in a clear all of the synchronous channel is discarded but what completes it
+abbrev pub unless_discarded : Core → Side → Received → Outcome → Outcome
+unless_discarded core side message outcome =
+    if is_sync side && is_begun core.clear && not (completes message) then told [] core else outcome
 
 -- # The rows of the types
 
@@ -152,8 +165,15 @@ own_size = 0 ∷ 0 ∷ 0 ∷ 0 ∷ 0 ∷ 1 ∷ 0 ∷ 0 ∷ []
 abbrev pub joining : Core → Outcome
 joining core = told (reply Async AsyncInitializeResponse 0 ∷ []) (record core { joined = true })
 
-abbrev pub triggered : Core → Outcome
-triggered core = unless_begun core (told (Act.Trigger ∷ []) core)
+abbrev pub origin : Core → Header → Origin
+origin core h = record { id = h.parameter; clears = core.clears }
+
+-- Data, DataEnd and Trigger: a DeviceClearComplete that no clear waited for is forgotten
+abbrev pub gone_on : Core → Option (List ℕ) → Core
+gone_on core transmission = record core { transmission = transmission; clear = Idle }
+
+abbrev pub triggered : Core → Header → Outcome
+triggered core h = told (Act.Trigger (origin core h) ∷ []) (gone_on core core.transmission)
 
 -- the client's size, most significant byte first
 abbrev pub sized : Core → List ℕ → Outcome
@@ -162,12 +182,12 @@ sized core size =
 
 abbrev pub row : Core → MessageType → Header → List ℕ → Outcome
 row core AsyncInitialize h payload = joining core
-row core Data h payload = unless_begun core (told (delivered h) (record core { transmission = added core.transmission payload }))
+row core Data h payload = told (delivered h) (gone_on core (added core.transmission payload))
 row core DataEnd h payload =
-    unless_begun core (told (delivered h ++ executed h.parameter (added core.transmission payload) ∷ []) (without_bytes core))
-row core Trigger h payload = triggered core
-row core DeviceClearComplete h payload = completed core core.clear
-row core AsyncDeviceClear h payload = cleared core core.clear
+    told (delivered h ++ executed (origin core h) (added core.transmission payload) ∷ []) (gone_on core (Some []))
+row core Trigger h payload = triggered core h
+row core DeviceClearComplete h payload = completed core
+row core AsyncDeviceClear h payload = cleared core
 row core AsyncLock h payload = told (locked h payload ∷ []) core
 row core AsyncLockInfo h payload = told (Act.Info ∷ []) core
 row core AsyncRemoteLocalControl h payload = told (reply Async AsyncRemoteLocalResponse 0 ∷ []) core
@@ -199,4 +219,5 @@ unless_fatal core side (Some code) outcome = told (reply side FatalError (fatal_
 abbrev pub outcome_of : Core → Side → Received → Outcome
 outcome_of core side message =
     if core.failed then told (Act.Closed ∷ []) core
-    else unless_fatal core side (fatal core side message) (unless_error core side (error side message) (without_fault core message))
+    else unless_fatal core side (fatal core side message)
+    (unless_discarded core side message (unless_error core side (error side message) (without_fault core message)))

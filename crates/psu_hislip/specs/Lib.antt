@@ -10,3 +10,6 @@ pub mod Action
 pub mod Transmission
 pub mod Core
 pub mod Answer
+pub mod LockResponses
+pub mod Runs
+pub mod Transmitted

@@ -1,6 +1,7 @@
 -- A transmission: the payloads of its Data and its DataEnd, end to end. How long it may be is this project's profile.
 use Rattle.std.specs.Prelude.{ℕ, ◌+◌, nat_lt, if◌then◌else◌, Option, Some, None, List, [], ◌∷◌, ◌++◌, length}
 use Rattle.psu_hislip.specs.Action.{Act}
+use Rattle.psu_hislip.specs.declared.origin.Origin.{Origin}
 
 -- with more bytes; over 65,536 none are kept
 abbrev pub added : Option (List ℕ) → List ℕ → Option (List ℕ)
@@ -12,6 +13,6 @@ all_added transmission [] = transmission
 all_added transmission (more ∷ later) = all_added (added transmission more) later
 
 -- what a whole transmission asks for
-abbrev pub executed : ℕ → Option (List ℕ) → Act
-executed id None = Act.TooMuch
-executed id (Some bytes) = Act.Execute id bytes
+abbrev pub executed : Origin → Option (List ℕ) → Act
+executed origin None = Act.TooMuch origin
+executed origin (Some bytes) = Act.Execute origin bytes

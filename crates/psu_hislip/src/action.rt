@@ -1,5 +1,5 @@
 // What a message of a session asks for.
-use crate::Side;
+use crate::{Origin, Side};
 use std::alloc::Allocator;
 
 /// What a message of a session asks for.
@@ -7,12 +7,12 @@ use std::alloc::Allocator;
 pub enum Action<A: Allocator + Copy> {
     /// These bytes are to be sent on this channel.
     Send(Side, Vec<u8, A>),
-    /// The transmission of this MessageID is whole and is to be executed.
-    Execute(u32, Vec<u8, A>),
+    /// A transmission is whole and is to be executed.
+    Execute(Origin, Vec<u8, A>),
     /// A transmission had more than 65,536 bytes, and none were kept: the instrument reports too much data.
-    TooMuch,
+    TooMuch(Origin),
     /// A trigger came: the instrument, which waits for none, reports that it is ignored.
-    Trigger,
+    Trigger(Origin),
     /// The client has read the whole of the last answer.
     Delivered,
     /// The status byte is asked for, and whether the client has read the whole of the last answer.
@@ -24,7 +24,7 @@ pub enum Action<A: Allocator + Copy> {
     Release,
     /// It is asked who holds locks.
     Info,
-    /// A device clear: what the session has begun is dropped.
+    /// A device clear: all that the session has begun is dropped, what has an origin before it among that.
     Clear,
     /// The session has ended.
     Closed,

@@ -1,13 +1,12 @@
 // A channel of a session: the messages of its stream.
-ghost use Rattle.std.specs.Prelude.{◌≡◌, ◌≢◌, ◌↔◌, ℕ, List, [], ◌++◌, IsTrue, IfOk, OnOk, OnErr};
+ghost use Rattle.std.specs.Prelude.{◌≡◌, ℕ, List, [], ◌++◌, IfOk, OnErr};
 ghost use Rattle.psu_hislip.specs.Stream.{Received};
 ghost use Rattle.psu_hislip.specs.Channel.{Awaited, Fed};
-ghost use Rattle.psu_hislip.specs.Channel.Awaited.{Failed};
 ghost use Rattle.psu_hislip.specs.Rest.{awaited, all_received, IsRest};
 
 use crate::Message;
+use crate::cut::Cut;
 use crate::rest::Rest;
-use crate::step::Step;
 use arrayvec::ArrayVec;
 use std::alloc::{AllocError, Allocator};
 use std::marker::Model;
@@ -41,38 +40,35 @@ impl<A: Allocator + Copy> Channel<A> {
 
     /// The messages that end in this piece of the stream, however it is cut. What is kept is a header and one payload.
     ///
-    /// Where memory is refused the channel has failed, and gives nothing any more.
+    /// Where memory is refused nothing has changed, and the piece can be fed again.
     pub fn feed(&mut self, piece: &[u8]) -> Result<Vec<Message<A>, A>, AllocError>
         ensures fed { (stream : List ℕ) (given : List Received) → Fed self.old stream given
             → IfOk result (λ messages. Fed self.new (stream ++ piece.now) (given ++ all_received messages.items)) }
-        ensures refused { OnErr result (self.new ≡ Failed) }
-        ensures failed { OnOk result (self.old ≢ Failed) }
+        ensures refused { OnErr result (self.new ≡ self.old) }
     {
-        if self.is_failed() {
-            return Err(AllocError);
-        }
         let mut messages = Vec::new(self.alloc);
-        let mut left = piece;
-        while !left.is_empty() {
-            let rest = mem::replace(&mut self.rest, Rest::Failed);
-            let Step {
-                used,
-                message,
-                rest,
-            } = Step::take(self.alloc, rest, left)?;
-            if let Some(message) = message {
-                messages.push(message)?;
-            }
-            left = &left[used..];
-            self.rest = rest;
+        if let Some(rest) = self.rest.copied() {
+            let cut = Cut::take(self.alloc, messages, rest, piece)?;
+            self.rest = cut.rest;
+            return Ok(cut.messages);
         }
-        Ok(messages)
-    }
-
-    /// Whether memory was refused to a feed.
-    pub fn is_failed(&self) -> bool
-        ensures { IsTrue result ↔ (self.now ≡ Failed) }
-    {
-        matches!(self.rest, Rest::Failed)
+        let Rest::Payload(header, payload) = &mut self.rest else {
+            return Ok(messages);
+        };
+        let wanted = header.length as usize - payload.len();
+        if piece.len() < wanted {
+            payload.extend_from_slice(piece)?;
+            return Ok(messages);
+        }
+        // The frame that has begun has its place before the others; its payload follows once nothing can be refused.
+        messages.push(Message::Frame(*header, Vec::new(self.alloc)))?;
+        let rest = Rest::Header(ArrayVec::new());
+        let mut cut = Cut::take(self.alloc, messages, rest, &piece[wanted..])?;
+        payload.extend_from_slice(&piece[..wanted])?;
+        let header = *header;
+        let payload = mem::replace(payload, Vec::new(self.alloc));
+        cut.messages[0] = Message::Frame(header, payload);
+        self.rest = cut.rest;
+        Ok(cut.messages)
     }
 }

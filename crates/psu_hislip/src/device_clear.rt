@@ -7,6 +7,6 @@ pub enum DeviceClear {
     Idle,
     /// AsyncDeviceClear has come: what comes on the synchronous channel is discarded.
     Begun,
-    /// DeviceClearComplete has come before its AsyncDeviceClear.
+    /// DeviceClearComplete has come and no clear waited for it, and no Data, DataEnd or Trigger has come since.
     Early,
 }

@@ -1,9 +1,10 @@
 // Laws of the definitions.
-ghost use Rattle.std.specs.Prelude.{ℕ, List, [], ◌++◌, ◌≡◌, ◌<◌, All, length, nat_lt, Some, if◌then◌else◌};
+ghost use Rattle.std.specs.Prelude.{ℕ, List, [], ◌++◌, ◌≡◌, ◌<◌, ◌≤◌, All, length, nat_lt, Some, if◌then◌else◌};
 ghost use Rattle.psu_hislip.specs.Stream.{Received, IsStream};
 ghost use Rattle.psu_hislip.specs.Channel.{Awaited, Fed};
 ghost use Rattle.psu_hislip.specs.Action.Act.{TooMuch, Execute};
-ghost use Rattle.psu_hislip.specs.Answer.{joined};
+ghost use Rattle.psu_hislip.specs.Answer.{joined, IsAnswer, IsAnswerCutAnywhere, Part, AreParts, bytes_of, all_frames};
+ghost use Rattle.psu_hislip.specs.declared.origin.Origin.{Origin};
 ghost use Rattle.psu_hislip.specs.Transmission.{added, all_added, executed};
 
 /// What a channel has given are the messages of the stream that it was fed.
@@ -29,6 +30,13 @@ pub fn pieces_do_not_count()
 
 /// What is executed are the payloads of the frames since the last DataEnd, end to end, unless they have more than 65,536 bytes.
 pub fn whole_transmission()
-    ensures { (id : ℕ) (payloads : List (List ℕ)) (last : List ℕ) → executed id (added (all_added (Some []) payloads) last)
-        ≡ (if nat_lt 65536 (length (joined payloads ++ last)) then TooMuch else Execute id (joined payloads ++ last)) }
+    ensures { (origin : Origin) (payloads : List (List ℕ)) (last : List ℕ) → executed origin (added (all_added (Some []) payloads) last)
+        ≡ (if nat_lt 65536 (length (joined payloads ++ last)) then TooMuch origin else Execute origin (joined payloads ++ last)) }
+{}
+
+/// The frames of the parts of an answer and then of its end, one after the other, are an answer of the whole: its bytes as Data of
+/// at most the client's greatest payload, none empty, and the last as DataEnd, all with one MessageID.
+pub fn parts_are_an_answer()
+    ensures { (greatest size id : ℕ) (parts : List Part) (rest end : List ℕ) → AreParts greatest id parts → 0 < size → size ≤ greatest
+        → IsAnswer size id rest end → IsAnswerCutAnywhere greatest id (bytes_of parts ++ rest) (all_frames parts ++ end) }
 {}

@@ -4,7 +4,9 @@
 #![tactic(auto)]
 
 mod action;
+mod answer;
 mod channel;
+mod cut;
 mod device_clear;
 mod error_code;
 mod fatal_code;
@@ -13,10 +15,13 @@ mod first;
 mod frames;
 mod header;
 mod laws;
+mod lock_responses;
 mod message;
 mod message_type;
+mod origin;
 mod rest;
 mod session_core;
+mod session_laws;
 mod side;
 mod step;
 mod transmission;
@@ -29,9 +34,12 @@ pub use fatal_code::FatalCode;
 pub use first::First;
 pub use header::Header;
 pub use laws::{
-    fed_is_the_stream, one_division, pieces_do_not_count, some_division, whole_transmission,
+    fed_is_the_stream, one_division, parts_are_an_answer, pieces_do_not_count, some_division,
+    whole_transmission,
 };
+pub use lock_responses::{lock_info_response, lock_response, release_response};
 pub use message::Message;
 pub use message_type::MessageType;
+pub use origin::Origin;
 pub use session_core::SessionCore;
 pub use side::Side;

@@ -1,28 +1,23 @@
 // The core of a session.
-ghost use Rattle.std.specs.Prelude.{◌≡◌, ◌+◌, ◌<◌, [], length, IfOk, OnOk, OnErr, None, Some, false};
+ghost use Rattle.std.specs.Prelude.{◌≡◌, ◌+◌, ◌<◌, ◌&&◌, not, [], length, ◌≢◌, ◌↔◌, IsTrue, IfOk, IfSome, IsNone, OnOk, OnErr, None, Some, false};
 ghost use Rattle.psu_hislip.specs.Stream.{received};
 ghost use Rattle.psu_hislip.specs.Action.{act, acts};
-ghost use Rattle.psu_hislip.specs.Core.{joins, initializes, misplaced, fatal, ill_formed, told, is_delivered, delivered, completed, cleared, locked, sized, joining, triggered, row, outcome_of};
+ghost use Rattle.psu_hislip.specs.Core.{is_sync, joins, initializes, misplaced, fatal, ill_formed, is_delivered, delivered, is_begun, completes, completed, cleared, origin, locked, sized, joining, triggered, row, outcome_of};
 ghost use Rattle.psu_hislip.specs.Frame.{header_of};
-ghost use Rattle.psu_hislip.specs.Answer.{answer_size, IsAnswer};
+ghost use Rattle.psu_hislip.specs.Answer.{answer_size, IsAnswer, IsPart};
 ghost use Rattle.psu_hislip.specs.declared.device_clear.DeviceClear.TheVariants.{Idle};
 ghost use Rattle.psu_hislip.specs.declared.message_type.MessageType.TheVariants.{InitializeResponse, Data, DataEnd, AsyncMaximumMessageSize};
 
+use crate::answer::{answer_frames, answer_size, part_frames};
 use crate::faults::error;
 use crate::frames::{one, put, put_frame, reply};
 use crate::transmission::Transmission;
-use crate::{Action, DeviceClear, FatalCode, Header, Message, MessageType, Side};
+use crate::{Action, DeviceClear, FatalCode, Header, Message, MessageType, Origin, Side};
 use std::alloc::{AllocError, Allocator};
 use std::marker::Model;
 
 /// The most bytes of a shared lock's string.
 const LOCK_STRING: usize = 256;
-
-/// The most bytes of a payload that is sent.
-const PAYLOAD: u64 = 65_520;
-
-/// How many bytes a header has.
-const HEADER: u64 = 16;
 
 /// The greatest message that the server takes, 65,536 bytes, as AsyncMaximumMessageSizeResponse has it.
 const SIZE: [u8; 8] = [0, 0, 0, 0, 0, 1, 0, 0];
@@ -31,7 +26,7 @@ const SIZE: [u8; 8] = [0, 0, 0, 0, 0, 1, 0, 0];
 const VERSION: u32 = 0x0100_0000;
 
 /// A session between its messages: whether it is joined or has failed, the client's message size, the transmission that has
-/// begun, and the device clear. Contracts see just that.
+/// begun, the device clear and how many there were. Contracts see just that.
 #[derive(Drop)]
 pub struct SessionCore<A: Allocator + Copy> {
     alloc: A,
@@ -41,6 +36,7 @@ pub struct SessionCore<A: Allocator + Copy> {
     size: Option<u64>,
     transmission: Transmission<A>,
     clear: DeviceClear,
+    clears: u64,
 }
 
 impl<A: Allocator + Copy> Model for SessionCore<A> {
@@ -48,7 +44,7 @@ impl<A: Allocator + Copy> Model for SessionCore<A> {
 
     ghost Value = { Core };
 
-    ghost view = { λ c. record { session = c.session; joined = c.joined; failed = c.failed; size = c.size; transmission = c.transmission; clear = c.clear } };
+    ghost view = { λ c. record { session = c.session; joined = c.joined; failed = c.failed; size = c.size; transmission = c.transmission; clear = c.clear; clears = c.clears } };
 }
 
 fn initializes(header: Header) -> bool
@@ -96,7 +92,7 @@ fn locked<A: Allocator + Copy>(
 impl<A: Allocator + Copy> SessionCore<A> {
     /// The core of a session of this number, whose synchronous channel alone is there.
     pub fn new(alloc: A, session: u16) -> SessionCore<A>
-        ensures { result ≡ record { session = session; joined = false; failed = false; size = None; transmission = Some []; clear = Idle } }
+        ensures { result ≡ record { session = session; joined = false; failed = false; size = None; transmission = Some []; clear = Idle; clears = 0 } }
     {
         SessionCore {
             alloc,
@@ -106,6 +102,7 @@ impl<A: Allocator + Copy> SessionCore<A> {
             size: None,
             transmission: Transmission::new(alloc),
             clear: DeviceClear::Idle,
+            clears: 0,
         }
     }
 
@@ -115,6 +112,28 @@ impl<A: Allocator + Copy> SessionCore<A> {
     {
         let parameter = VERSION + self.session as u32;
         Header::new(MessageType::InitializeResponse, 0, parameter, 0)
+    }
+
+    /// Whether the asynchronous channel is there. An AsyncInitialize of a new connection is this session's only while it isn't and
+    /// the session has not failed.
+    pub fn is_joined(&self) -> bool
+        ensures { result ≡ self.now.joined }
+    {
+        self.joined
+    }
+
+    /// Whether the session has ended with a FatalError.
+    pub fn is_failed(&self) -> bool
+        ensures { result ≡ self.now.failed }
+    {
+        self.failed
+    }
+
+    /// Whether no device clear has come since a message of this origin. Nothing more is done for one that isn't current.
+    pub fn is_current(&self, origin: Origin) -> bool
+        ensures { IsTrue result ↔ (origin.clears ≡ self.now.clears) }
+    {
+        origin.clears == self.clears
     }
 
     // Whether this is the AsyncInitialize that joins the session's second connection.
@@ -157,16 +176,32 @@ impl<A: Allocator + Copy> SessionCore<A> {
         }
     }
 
+    // Whether a message is discarded: in a clear all of the synchronous channel is but what completes it.
+    fn discards(&self, side: Side, message: &Message<A>) -> bool
+        ensures { result ≡ (is_sync side && is_begun self.now.clear && not (completes (received message.now))) }
+    {
+        side == Side::Sync
+            && self.clear == DeviceClear::Begun
+            && !matches!(message, Message::Frame(header, _) if header.kind == MessageType::DeviceClearComplete.code())
+    }
+
+    fn origin(&self, header: Header) -> Origin
+        ensures { result ≡ origin self.now header }
+    {
+        Origin {
+            id: header.parameter,
+            clears: self.clears,
+        }
+    }
+
     fn data(&mut self, header: Header, payload: &[u8]) -> Result<Vec<Action<A>, A>, AllocError>
         ensures done { IfOk result (λ actions. acts actions.items ≡ (row self.old Data header payload.now).actions) }
         ensures core { OnOk result (self.new ≡ (row self.old Data header payload.now).core) }
         ensures refused { OnErr result (self.new ≡ self.old) }
     {
-        if self.clear == DeviceClear::Begun {
-            return Ok(Vec::new(self.alloc));
-        }
         let actions = delivered(self.alloc, header)?;
         self.transmission.add(payload)?;
+        self.clear = DeviceClear::Idle;
         Ok(actions)
     }
 
@@ -175,50 +210,52 @@ impl<A: Allocator + Copy> SessionCore<A> {
         ensures core { OnOk result (self.new ≡ (row self.old DataEnd header payload.now).core) }
         ensures refused { OnErr result (self.new ≡ self.old) }
     {
-        if self.clear == DeviceClear::Begun {
-            return Ok(Vec::new(self.alloc));
-        }
         let mut actions = delivered(self.alloc, header)?;
-        let last = self.transmission.executed(header.parameter, payload)?;
+        let last = self.transmission.executed(self.origin(header), payload)?;
         put(&mut actions, last)?;
         self.transmission.clear();
+        self.clear = DeviceClear::Idle;
+        Ok(actions)
+    }
+
+    fn trigger(&mut self, header: Header) -> Result<Vec<Action<A>, A>, AllocError>
+        ensures done { IfOk result (λ actions. acts actions.items ≡ (triggered self.old header).actions) }
+        ensures core { OnOk result (self.new ≡ (triggered self.old header).core) }
+        ensures refused { OnErr result (self.new ≡ self.old) }
+    {
+        let actions = one(self.alloc, Action::Trigger(self.origin(header)))?;
+        self.clear = DeviceClear::Idle;
         Ok(actions)
     }
 
     fn device_clear(&mut self) -> Result<Vec<Action<A>, A>, AllocError>
-        ensures done { IfOk result (λ actions. acts actions.items ≡ (cleared self.old self.old.clear).actions) }
-        ensures core { OnOk result (self.new ≡ (cleared self.old self.old.clear).core) }
+        ensures done { IfOk result (λ actions. acts actions.items ≡ (cleared self.old).actions) }
+        ensures core { OnOk result (self.new ≡ (cleared self.old).core) }
         ensures refused { OnErr result (self.new ≡ self.old) }
     {
         let kind = MessageType::AsyncDeviceClearAcknowledge;
         let mut actions = one(self.alloc, Action::Clear)?;
         put(&mut actions, reply(self.alloc, Side::Async, kind, 0)?)?;
-        let is_early = self.clear == DeviceClear::Early;
-        if is_early {
-            let kind = MessageType::DeviceClearAcknowledge;
-            put(&mut actions, reply(self.alloc, Side::Sync, kind, 0)?)?;
-        }
         self.transmission.clear();
-        self.clear = if is_early {
-            DeviceClear::Idle
-        } else {
-            DeviceClear::Begun
+        self.clear = match self.clear {
+            DeviceClear::Early => DeviceClear::Idle,
+            _ => DeviceClear::Begun,
         };
+        self.clears = self.clears.wrapping_add(1);
         Ok(actions)
     }
 
     fn complete_clear(&mut self) -> Result<Vec<Action<A>, A>, AllocError>
-        ensures done { IfOk result (λ actions. acts actions.items ≡ (completed self.old self.old.clear).actions) }
-        ensures core { OnOk result (self.new ≡ (completed self.old self.old.clear).core) }
+        ensures done { IfOk result (λ actions. acts actions.items ≡ (completed self.old).actions) }
+        ensures core { OnOk result (self.new ≡ (completed self.old).core) }
         ensures refused { OnErr result (self.new ≡ self.old) }
     {
-        if self.clear != DeviceClear::Begun {
-            self.clear = DeviceClear::Early;
-            return Ok(Vec::new(self.alloc));
-        }
         let kind = MessageType::DeviceClearAcknowledge;
         let actions = one(self.alloc, reply(self.alloc, Side::Sync, kind, 0)?)?;
-        self.clear = DeviceClear::Idle;
+        self.clear = match self.clear {
+            DeviceClear::Begun => DeviceClear::Idle,
+            _ => DeviceClear::Early,
+        };
         Ok(actions)
     }
 
@@ -254,15 +291,6 @@ impl<A: Allocator + Copy> SessionCore<A> {
         Ok(actions)
     }
 
-    fn trigger(&self) -> Result<Vec<Action<A>, A>, AllocError>
-        ensures { IfOk result (λ actions. told (acts actions.items) self.now ≡ triggered self.now) }
-    {
-        if self.clear == DeviceClear::Begun {
-            return Ok(Vec::new(self.alloc));
-        }
-        one(self.alloc, Action::Trigger)
-    }
-
     // What a message without fault asks for, by its type.
     fn row(
         &mut self,
@@ -279,7 +307,7 @@ impl<A: Allocator + Copy> SessionCore<A> {
             MessageType::AsyncInitialize => self.join(),
             MessageType::Data => self.data(header, payload),
             MessageType::DataEnd => self.data_end(header, payload),
-            MessageType::Trigger => self.trigger(),
+            MessageType::Trigger => self.trigger(header),
             MessageType::DeviceClearComplete => self.complete_clear(),
             MessageType::AsyncDeviceClear => self.device_clear(),
             MessageType::AsyncLock => one(self.alloc, locked(self.alloc, header, payload)?),
@@ -297,7 +325,9 @@ impl<A: Allocator + Copy> SessionCore<A> {
     /// What a message on one of the session's channels asks for, in order. The first message of the asynchronous channel, its
     /// AsyncInitialize, is one of them; that of the synchronous channel is not.
     ///
-    /// After a fatal fault each message gives the one action Closed. Where memory is refused nothing has changed.
+    /// What the messages of both channels ask for is done in the order of these calls, and what is to be sent on the synchronous
+    /// channel goes out in the order in which this call, `part` and `answer` gave it. After a fatal fault each message gives the
+    /// one action Closed. Where memory is refused nothing has changed, and the message can be told again.
     pub fn on(&mut self, side: Side, message: &Message<A>) -> Result<Vec<Action<A>, A>, AllocError>
         ensures done { IfOk result (λ actions. acts actions.items ≡ (outcome_of self.old side (received message.now)).actions) }
         ensures core { OnOk result (self.new ≡ (outcome_of self.old side (received message.now)).core) }
@@ -313,6 +343,9 @@ impl<A: Allocator + Copy> SessionCore<A> {
             self.failed = true;
             return Ok(actions);
         }
+        if self.discards(side, message) {
+            return Ok(Vec::new(self.alloc));
+        }
         if let Some(code) = error(side, message) {
             let kind = MessageType::Error;
             return one(self.alloc, reply(self.alloc, side, kind, code.code())?);
@@ -326,30 +359,31 @@ impl<A: Allocator + Copy> SessionCore<A> {
         }
     }
 
-    // The most bytes of a payload of an answer.
-    fn answer_size(&self) -> usize
-        ensures size { result ≡ answer_size self.now.size }
-        ensures some { 0 < result }
+    /// The frames of an answer to a transmission of this origin; none where a device clear has come since.
+    ///
+    /// A payload has at most the bytes that the client takes less a header's 16, but at least 1 and at most 65,520; an empty answer
+    /// is one empty frame.
+    pub fn answer(&self, origin: Origin, bytes: &[u8]) -> Result<Option<Vec<u8, A>>, AllocError>
+        ensures dropped { IfOk result (λ answer. IsNone answer ↔ (origin.clears ≢ self.now.clears)) }
+        ensures frames { IfOk result (λ answer. IfSome answer (λ frames. IsAnswer (answer_size self.now.size) origin.id bytes.now frames.items)) }
     {
-        match self.size {
-            None => PAYLOAD as usize,
-            Some(size) => size.saturating_sub(HEADER).min(PAYLOAD).max(1) as usize,
+        if !self.is_current(origin) {
+            return Ok(None);
         }
+        let frames = answer_frames(self.alloc, answer_size(self.size), origin.id, bytes)?;
+        Ok(Some(frames))
     }
 
-    /// The frames of an answer to the transmission of this MessageID. A payload has at most the bytes that the client takes less a
-    /// header's 16, but at least 1 and at most 65,520; an empty answer is one empty frame.
-    pub fn answer(&self, id: u32, bytes: &[u8]) -> Result<Vec<u8, A>, AllocError>
-        ensures { IfOk result (λ frames. IsAnswer (answer_size self.now.size) id bytes.now frames.items) }
+    /// The frames of a part of an answer to a transmission of this origin, which goes on; none where a device clear has come since.
+    /// After its parts the answer ends with an `answer` of the rest.
+    pub fn part(&self, origin: Origin, bytes: &[u8]) -> Result<Option<Vec<u8, A>>, AllocError>
+        ensures dropped { IfOk result (λ part. IsNone part ↔ (origin.clears ≢ self.now.clears)) }
+        ensures frames { IfOk result (λ part. IfSome part (λ frames. IsPart (answer_size self.now.size) origin.id bytes.now frames.items)) }
     {
-        let size = self.answer_size();
-        let mut frames = Vec::new(self.alloc);
-        let mut rest = bytes;
-        while rest.len() > size {
-            put_frame(&mut frames, MessageType::Data, id, &rest[..size])?;
-            rest = &rest[size..];
+        if !self.is_current(origin) {
+            return Ok(None);
         }
-        put_frame(&mut frames, MessageType::DataEnd, id, rest)?;
-        Ok(frames)
+        let frames = part_frames(self.alloc, answer_size(self.size), origin.id, bytes)?;
+        Ok(Some(frames))
     }
 }

@@ -161,7 +161,6 @@ impl<A: Allocator + Copy> Step<A> {
                 message: None,
                 rest: Rest::Ended,
             }),
-            Rest::Failed => Err(AllocError),
         }
     }
 }

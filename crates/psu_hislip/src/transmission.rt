@@ -3,7 +3,7 @@ ghost use Rattle.std.specs.Prelude.{◌≡◌, Some, [], IfOk, OnOk, OnErr};
 ghost use Rattle.psu_hislip.specs.Action.{act};
 ghost use Rattle.psu_hislip.specs.Transmission.{added, executed};
 
-use crate::Action;
+use crate::{Action, Origin};
 use std::alloc::{AllocError, Allocator};
 use std::marker::Model;
 
@@ -54,16 +54,16 @@ impl<A: Allocator + Copy> Transmission<A> {
     }
 
     /// What the transmission asks for, with the payload of its DataEnd.
-    pub fn executed(&self, id: u32, payload: &[u8]) -> Result<Action<A>, AllocError>
-        ensures { IfOk result (λ action. act action ≡ executed id (added self.now payload.now)) }
+    pub fn executed(&self, origin: Origin, payload: &[u8]) -> Result<Action<A>, AllocError>
+        ensures { IfOk result (λ action. act action ≡ executed origin (added self.now payload.now)) }
     {
         if self.is_over || payload.len() > MOST - self.bytes.len() {
-            return Ok(Action::TooMuch);
+            return Ok(Action::TooMuch(origin));
         }
         let mut bytes = Vec::with_capacity(self.alloc, self.bytes.len() + payload.len())?;
         bytes.extend_from_slice(&self.bytes)?;
         bytes.extend_from_slice(payload)?;
-        Ok(Action::Execute(id, bytes))
+        Ok(Action::Execute(origin, bytes))
     }
 
     /// The next one begins.

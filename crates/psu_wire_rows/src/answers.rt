@@ -1,5 +1,5 @@
 // A command, its answer, and the sizes of answers.
-use crate::frames::{bare, executes, joined, sends, tell};
+use crate::frames::{bare, executes, joined, origin, sends, tell};
 use psu_hislip::{Action, Channel, Message, SessionCore, Side};
 use std::alloc::Global;
 
@@ -57,8 +57,9 @@ fn a_command_and_a_status_query(rt: HostRuntime) {
         )
     );
     let frames = core
-        .answer(0xffff_ff00, b"EXAMPLE,PSU4,0,1.0\n")
-        .expect(&rt, "memory");
+        .answer(origin(0xffff_ff00), b"EXAMPLE,PSU4,0,1.0\n")
+        .expect(&rt, "memory")
+        .expect(&rt, "an answer");
     let expected =
         b"\x48\x53\x07\x00\xff\xff\xff\x00\x00\x00\x00\x00\x00\x00\x00\x13EXAMPLE,PSU4,0,1.0\n";
     assert!(rt; frames.as_slice() == expected.as_slice());
@@ -88,12 +89,21 @@ fn answers_by_the_size_of_the_client(rt: HostRuntime) {
     for (size, length, expected) in sizes {
         let core = sized(alloc, size).expect(&rt, "a core");
         assert!(rt; length <= 65_521);
-        let frames = core.answer(2, &text[..length]).expect(&rt, "memory");
+        let frames = core
+            .answer(origin(2), &text[..length])
+            .expect(&rt, "memory")
+            .expect(&rt, "an answer");
         assert!(rt; payloads(alloc, &frames) == Some(expected));
-        let frames = core.answer(2, b"").expect(&rt, "memory");
+        let frames = core
+            .answer(origin(2), b"")
+            .expect(&rt, "memory")
+            .expect(&rt, "an answer");
         assert!(rt; payloads(alloc, &frames) == Some((1, 0, 0)));
     }
     let core = joined(alloc).expect(&rt, "a core");
-    let frames = core.answer(2, &text).expect(&rt, "memory");
+    let frames = core
+        .answer(origin(2), &text)
+        .expect(&rt, "memory")
+        .expect(&rt, "an answer");
     assert!(rt; payloads(alloc, &frames) == Some((2, 65_520, 1)));
 }

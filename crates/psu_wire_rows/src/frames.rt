@@ -1,5 +1,5 @@
 // What the tests of frames and sessions share: messages by the bytes of the profile's table.
-use psu_hislip::{Action, Channel, First, SessionCore, Side};
+use psu_hislip::{Action, Channel, First, Origin, SessionCore, Side};
 use std::alloc::Global;
 
 /// What a message asked for.
@@ -24,6 +24,11 @@ pub fn first(alloc: Global, stream: &[u8]) -> Option<First> {
     let mut channel = Channel::new(alloc);
     let messages = channel.feed(stream).ok()?;
     Some(First::of(messages.first()?))
+}
+
+/// A message of this MessageID in a session that has had no device clear.
+pub fn origin(id: u32) -> Origin {
+    Origin { id, clears: 0 }
 }
 
 /// Session 1, joined.
@@ -61,8 +66,8 @@ pub fn sends(told: &Told, side: Side, bytes: &[u8]) -> bool {
 pub fn executes(told: &Told, count: usize, number: u32, text: &[u8]) -> bool {
     match told {
         Some(actions) => match actions.last() {
-            Some(Action::Execute(id, bytes)) => actions.len() == count
-                && *id == number
+            Some(Action::Execute(origin, bytes)) => actions.len() == count
+                && origin.id == number
                 && bytes.as_slice() == text,
             _ => false,
         },

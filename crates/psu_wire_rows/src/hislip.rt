@@ -1,4 +1,5 @@
-// Each allocation of a feed, of a message and of an answer refused in turn: nothing has changed, or the channel has failed.
+// Each allocation of a feed, of a message and of an answer refused in turn: nothing has changed.
+use crate::frames::origin;
 use bumpalo::Bump;
 use psu_hislip::{Action, Channel, Message, SessionCore, Side};
 use std::alloc::{AllocError, Global};
@@ -31,17 +32,16 @@ fn feed_is_refused(alloc: Global, left: usize) -> Option<bool> {
     let arena = Bump::try_with_capacity(alloc, 4096).ok()?;
     leave(&arena, left)?;
     let mut channel = Channel::new(&arena);
-    match channel.feed(END) {
-        Ok(messages) => match messages.first()? {
-            Message::Frame(_, payload) if payload.as_slice() == b"N?\n".as_slice() =>
-                (!channel.is_failed()).then_some(false),
-            _ => None,
-        },
+    let (messages, refused) = match channel.feed(END) {
+        Ok(messages) => (messages, false),
         Err(_) => {
             arena.set_allocation_limit(None);
-            let goes_on = channel.feed(END).is_ok() || channel.feed(b"").is_ok();
-            (channel.is_failed() && !goes_on).then_some(true)
+            (channel.feed(END).ok()?, true)
         }
+    };
+    match messages.first()? {
+        Message::Frame(_, payload) if payload.as_slice() == b"N?\n".as_slice() => Some(refused),
+        _ => None,
     }
 }
 
@@ -59,8 +59,8 @@ fn on<'a>(
 // Whether the transmission that BEGIN began is executed whole.
 fn is_whole(actions: &[Action<&Bump>]) -> bool {
     match (actions.first(), actions.last()) {
-        (Some(Action::Delivered), Some(Action::Execute(2, bytes))) => bytes.as_slice()
-            == b"*IDN?\n".as_slice(),
+        (Some(Action::Delivered), Some(Action::Execute(origin, bytes))) => origin.id == 2
+            && bytes.as_slice() == b"*IDN?\n".as_slice(),
         _ => false,
     }
 }
@@ -96,8 +96,8 @@ fn message_is_refused(alloc: Global, left: usize, second: bool) -> Option<bool> 
 fn answer_is_refused(alloc: Global, left: usize) -> Option<bool> {
     let arena = Bump::try_with_capacity(alloc, 4096).ok()?;
     leave(&arena, left)?;
-    match SessionCore::new(&arena, 1).answer(2, b"a\n") {
-        Ok(frames) => (frames.as_slice() == ANSWER).then_some(false),
+    match SessionCore::new(&arena, 1).answer(origin(2), b"a\n") {
+        Ok(frames) => (frames?.as_slice() == ANSWER).then_some(false),
         Err(_) => Some(true),
     }
 }

@@ -2,4 +2,4 @@ use Rattle.psu_hislip.proofs.Transmissions.{whole_transmission}
 use Rattle.psu_hislip.proofs.laws.whole_transmission.Goals as goal
 
 pub returns : goal.returns
-returns c = λ id payloads last. whole_transmission id payloads last
+returns c = λ origin payloads last. whole_transmission origin payloads last

@@ -1,32 +1,35 @@
-use Rattle.std.proofs.Common.{◌≡◌, List, ◌++◌, take, sym, ap, subst}
-use Rattle.psu_hislip.specs.Stream.{Received}
-use Rattle.psu_hislip.specs.Channel.{Awaited, Fed, Moves}
-use Rattle.psu_hislip.specs.Rest.{awaited, all_received, given}
-use Rattle.psu_hislip.proofs.Channels.{a_step, settled, fed_on, all_steps, no_more, a_message, no_message}
+use Rattle.std.proofs.Common.{ℕ, ◌-◌, List, sym, subst, ap, ◌∙◌, arith, length-append}
+use Rattle.psu_hislip.specs.Channel.{Awaited, Fed}
+use Rattle.psu_hislip.specs.Rest.{awaited}
+use Rattle.psu_hislip.specs.Stream.Received.{Frame}
+use Rattle.psu_hislip.specs.declared.message.Message.TheVariants as message
+use Rattle.psu_hislip.proofs.Channels.{fed_cut, fed_part, fed_whole, settled, payload_awaited, payload_rest}
 use Rattle.psu_hislip.proofs.channel.Channel.feed.Goals as goal
-use Rattle.psu_hislip.proofs.channel.Channel.feed.Goals.{in-Some+in_ok-push, in_default}
 
-pub loop-left-preserved : goal.loop-left-preserved
-loop-left-preserved g c =
-    let step = c.in_ok-used.field-0 in
-    let moved = subst (λ z. Moves (awaited z) (take step.used c.loop-left.left.now) (given step.message) (awaited step.rest)) c.replace-rest.ensures.value c.in_ok-used.ensures.moves in
-    let all = a_step (awaited c.self.inside.rest) (awaited c.loop-left.self-inside.rest) (awaited step.rest) c.args.piece.now c.loop-left.left.now step.used
-    (all_received c.loop-left.messages.items) (given step.message) c.loop-left.invariant.so_far moved in
-    let more : all_received c.match-message.messages.items ≡ all_received c.loop-left.messages.items ++ given step.message =
-    elim c.match-message.branch [
-      | in-Some+in_ok-push w ↦ a_message c.loop-left.messages.items w.push.new.self.items c.match-message.messages.items step.message w.in-Some.message w.in-Some.is (ap (λ z. z.items) w.messages-is) w.in_ok-push.ensures.items
-      | in_default w ↦ no_message c.loop-left.messages.items c.match-message.messages.items step.message w.in_default.is (ap (λ z. z.items) w.messages-is)
-    ] in
-    record {
-      good = c.in_ok-used.ensures.rest;
-      so_far = (all.0, all.1, subst (λ (z : List Received). Moves (awaited c.self.inside.rest) all.0 z (awaited step.rest)) (sym more) all.2);
-    }
+pub returns-in-Some-clause-fed : goal.returns-in-Some-clause-fed
+returns-in-Some-clause-fed g c = λ stream given f.
+    fed_cut (awaited c.in-Some.rest) (awaited c.in_ok-cut.cut.rest) c.new-messages.result.items c.in_ok-cut.cut.messages.items stream c.args.piece.now given
+    c.new-messages.ensures.items (settled c.in_ok-cut.cut.rest c.in_ok-cut.ensures.rest) c.in_ok-cut.ensures.messages
+    (subst (λ (z : Awaited). Fed z stream given) (sym c.self.view_is ∙ sym c.in-Some.ensures.same) f)
+
+pub returns-then-piece-wanted-clause-fed : goal.returns-then-piece-wanted-clause-fed
+returns-then-piece-wanted-clause-fed g c = λ stream given f.
+    let h = c.in-Payload.header in
+    let p = c.in-Payload.payload in
+    let piece = c.args.piece.now in
+    let good = payload_rest c.self.inside.rest h p c.in-Payload.is c.self.invariant in
+    fed_part h p.items piece c.extend_from_slice.new.self.items c.new-messages.result.items stream given c.in_ok-extend_from_slice.ensures.items
+    c.new-messages.ensures.items good.0 (omega (arith, length-append p.items piece, c.if-piece-wanted.true, c.len.ensures, good.1)) good.2
+    (subst (λ (z : Awaited). Fed z stream given) (payload_awaited c.self.inside.rest h p c.args.self.now c.in-Payload.is c.self.view_is) f)
 
 pub returns-clause-fed : goal.returns-clause-fed
-returns-clause-fed g c = λ stream before f.
-    let old = awaited c.self.inside.rest in
-    let new = awaited c.loop-left.self-inside.rest in
-    let none = no_more c.loop-left.left.now c.is_empty.result c.is_empty.ensures c.loop-left-test.false in
-    let all = all_steps old new c.args.piece.now c.loop-left.left.now (all_received c.loop-left.messages.items) c.loop-left.invariant.so_far none in
-    fed_on old new stream c.args.piece.now before (all_received c.loop-left.messages.items) (settled c.loop-left.self-inside.rest c.loop-left.invariant.good) all
-    (subst (λ (z : Awaited). Fed z stream before) (sym c.self.view_is) f)
+returns-clause-fed g c = λ stream given f.
+    let h = c.in-Payload.header in
+    let p = c.in-Payload.payload in
+    let good = payload_rest c.self.inside.rest h p c.in-Payload.is c.self.invariant in
+    let whole = ap (λ z. Frame h z.items) c.replace-payload.ensures.value ∙ ap (λ (z : List ℕ). Frame h z) c.in_ok-extend_from_slice-2.ensures.items in
+    fed_whole h p.items c.args.piece.now (h.length - c.len.result) (awaited c.in_ok-cut-2.cut.rest) c.new-2.result.items c.new-messages.result.items c.push.new.self.items
+    c.in_ok-cut-2.cut.messages.items _ (message.Frame h c.replace-payload.result) stream given
+    c.new-2.ensures c.new-messages.ensures.items c.in_ok-push.ensures.items c.in_ok-cut-2.ensures.messages whole
+    good.0 good.1 good.2 (omega (arith, c.len.ensures)) c.if-piece-wanted.false (settled c.in_ok-cut-2.cut.rest c.in_ok-cut-2.ensures.rest)
+    (subst (λ (z : Awaited). Fed z stream given) (payload_awaited c.self.inside.rest h p c.args.self.now c.in-Payload.is c.self.view_is) f)

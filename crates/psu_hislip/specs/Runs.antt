@@ -1,0 +1,148 @@
+-- Runs of a session: the messages of both channels in the order in which the session was told of them, and what they asked for.
+use Rattle.std.specs.Prelude.{◌≡◌, ℕ, ◌==◌, Bool, true, false, if◌then◌else◌, Option, Some, None, List, [], ◌∷◌, ◌++◌, slice_index_or, filter, flat_map, replicate, length}
+use Rattle.std.specs.List.{list_any}
+use Rattle.psu_hislip.specs.MessageType.{code_of, type_of}
+use Rattle.psu_hislip.specs.Stream.{Received}
+use Rattle.psu_hislip.specs.Stream.Received.{Frame, Oversize, BadHeader}
+use Rattle.psu_hislip.specs.Action.{Act}
+use Rattle.psu_hislip.specs.Core.{Core, Outcome, outcome_of, error}
+use Rattle.psu_hislip.specs.declared.side.Side.{Side}
+use Rattle.psu_hislip.specs.declared.device_clear.DeviceClear.TheVariants.{Idle}
+use Rattle.psu_hislip.specs.declared.error_code.ErrorCode.{ErrorCode}
+use Rattle.psu_hislip.specs.declared.origin.Origin.{Origin}
+use Rattle.psu_hislip.specs.declared.side.Side.TheVariants.{Sync, Async}
+use Rattle.psu_hislip.specs.declared.message_type.MessageType.{MessageType}
+use Rattle.psu_hislip.specs.declared.message_type.MessageType.TheVariants.{FatalError, Error, Data, DataEnd, Trigger, AsyncLock, AsyncLockResponse, DeviceClearComplete, DeviceClearAcknowledge, AsyncRemoteLocalControl, AsyncRemoteLocalResponse, AsyncMaximumMessageSize, AsyncMaximumMessageSizeResponse, AsyncInitialize, AsyncInitializeResponse, AsyncDeviceClear, AsyncStatusQuery, AsyncStatusResponse, AsyncDeviceClearAcknowledge, AsyncLockInfo, AsyncLockInfoResponse}
+
+-- a message and the channel on which it came
+pub record Told : Type 0 where
+  pub side : Side
+  pub message : Received
+
+abbrev pub outcome : Core → Told → Outcome
+outcome core t = outcome_of core t.side t.message
+
+-- what a run asks for, and the session after it
+abbrev pub actions_of : Core → List Told → List Act
+actions_of core [] = []
+actions_of core (t ∷ ts) = (outcome core t).actions ++ actions_of (outcome core t).core ts
+
+abbrev pub core_after : Core → List Told → Core
+core_after core [] = core
+core_after core (t ∷ ts) = core_after (outcome core t).core ts
+
+-- # Messages by their types
+
+abbrev pub type_told : Received → Option MessageType
+type_told (Frame h payload) = type_of h.kind
+type_told (Oversize h) = None
+type_told BadHeader = None
+
+-- AsyncDeviceClear begins a device clear
+abbrev pub is_clear : Side → Option MessageType → Bool
+is_clear Async (Some AsyncDeviceClear) = true
+is_clear side type = false
+
+abbrev pub begins_clear : Told → Bool
+begins_clear t = is_clear t.side (type_told t.message)
+
+-- and DeviceClearComplete completes it
+abbrev pub is_complete : Side → Option MessageType → Bool
+is_complete Sync (Some DeviceClearComplete) = true
+is_complete side type = false
+
+abbrev pub completes_clear : Told → Bool
+completes_clear t = is_complete t.side (type_told t.message)
+
+-- Data, DataEnd and Trigger
+abbrev pub is_input : Side → Option MessageType → Bool
+is_input Sync (Some Data) = true
+is_input Sync (Some DataEnd) = true
+is_input Sync (Some Trigger) = true
+is_input side type = false
+
+abbrev pub brings_input : Told → Bool
+brings_input t = is_input t.side (type_told t.message)
+
+-- the last DeviceClearComplete of a run has no Data, DataEnd or Trigger behind it
+abbrev pub EndsComplete : List Told → Type 0
+EndsComplete run =
+    (earlier : List Told) × (complete : Told) × (since : List Told) × (run ≡ earlier ++ complete ∷ since) × (completes_clear complete ≡ true)
+    × (list_any brings_input since ≡ false)
+
+-- # What is executed
+
+abbrev pub is_execution : Act → Bool
+is_execution (Act.Execute origin bytes) = true
+is_execution (Act.TooMuch origin) = true
+is_execution (Act.Trigger origin) = true
+is_execution action = false
+
+abbrev pub executions : List Act → List Act
+executions actions = filter is_execution actions
+
+-- # Closed sessions
+
+-- each message gives Closed alone
+abbrev pub AreClosed : Core → List Told → Type 0
+AreClosed core ts = actions_of core ts ≡ replicate (length ts) Act.Closed
+
+-- # Answers
+
+-- the third byte of a message is its type, and that of Error does not count as an answer
+abbrev pub answer_of_bytes : List ℕ → List ℕ
+answer_of_bytes bytes = if slice_index_or bytes 2 0 == code_of Error then [] else slice_index_or bytes 2 0 ∷ []
+
+-- the type of the answer that an action sends, or asks the caller for
+abbrev pub answer_of : Act → List ℕ
+answer_of (Act.Send side bytes) = answer_of_bytes bytes
+answer_of (Act.Status delivered) = code_of AsyncStatusResponse ∷ []
+answer_of (Act.Lock timeout string) = code_of AsyncLockResponse ∷ []
+answer_of Act.Release = code_of AsyncLockResponse ∷ []
+answer_of Act.Info = code_of AsyncLockInfoResponse ∷ []
+answer_of action = []
+
+abbrev pub answers : List Act → List ℕ
+answers actions = flat_map answer_of actions
+
+-- a FatalError is among the answers
+abbrev pub sends_fatal_error : List Act → Bool
+sends_fatal_error actions = list_any (λ code. code == code_of FatalError) (answers actions)
+
+-- the type of the answer that a type of a client's has, where it has one
+abbrev pub due : Side → Option MessageType → List ℕ
+due Sync (Some DeviceClearComplete) = code_of DeviceClearAcknowledge ∷ []
+due Async (Some AsyncInitialize) = code_of AsyncInitializeResponse ∷ []
+due Async (Some AsyncLock) = code_of AsyncLockResponse ∷ []
+due Async (Some AsyncLockInfo) = code_of AsyncLockInfoResponse ∷ []
+due Async (Some AsyncRemoteLocalControl) = code_of AsyncRemoteLocalResponse ∷ []
+due Async (Some AsyncMaximumMessageSize) = code_of AsyncMaximumMessageSizeResponse ∷ []
+due Async (Some AsyncDeviceClear) = code_of AsyncDeviceClearAcknowledge ∷ []
+due Async (Some AsyncStatusQuery) = code_of AsyncStatusResponse ∷ []
+due side type = []
+
+-- a message with an error has none
+abbrev pub unless_faulty : Option ErrorCode → List ℕ → List ℕ
+unless_faulty None codes = codes
+unless_faulty (Some code) codes = []
+
+abbrev pub answers_due : Told → List ℕ
+answers_due t = unless_faulty (error t.side t.message) (due t.side (type_told t.message))
+
+-- # Origins
+
+abbrev pub origin_of : Act → List Origin
+origin_of (Act.Execute origin bytes) = origin ∷ []
+origin_of (Act.TooMuch origin) = origin ∷ []
+origin_of (Act.Trigger origin) = origin ∷ []
+origin_of action = []
+
+abbrev pub origins : List Act → List Origin
+origins actions = flat_map origin_of actions
+
+abbrev pub clears_in : List Told → ℕ
+clears_in ts = length (filter begins_clear ts)
+
+-- a session whose synchronous channel alone is there
+abbrev pub started : ℕ → Core
+started session = record { session = session; joined = false; failed = false; size = None; transmission = Some []; clear = Idle; clears = 0 }

@@ -1,0 +1,76 @@
+// The frames of answers.
+ghost use Rattle.std.specs.Prelude.{◌≡◌, ◌<◌, List, ℕ, IfOk};
+ghost use Rattle.psu_hislip.specs.Answer.{answer_size, data_of, IsCut, IsAnswer, IsPart};
+
+use crate::MessageType;
+use crate::frames::put_frame;
+use std::alloc::{AllocError, Allocator};
+
+/// The most bytes of a payload that is sent.
+const PAYLOAD: u64 = 65_520;
+
+/// How many bytes a header has.
+const HEADER: u64 = 16;
+
+/// The most bytes of a payload for a client that takes messages of this size.
+pub fn answer_size(size: Option<u64>) -> usize
+    ensures size { result ≡ answer_size size }
+    ensures some { 0 < result }
+{
+    match size {
+        None => PAYLOAD as usize,
+        Some(size) => size.saturating_sub(HEADER).min(PAYLOAD).max(1) as usize,
+    }
+}
+
+// The full pieces as Data, and what is left for a last frame.
+fn cut<A: Allocator + Copy>(
+    alloc: A,
+    size: usize,
+    id: u32,
+    bytes: &[u8],
+) -> Result<(Vec<u8, A>, &[u8]), AllocError>
+    requires { 0 < size }
+    ensures { IfOk result (λ cut. (full : List (List ℕ)) × IsCut size bytes.now full cut.1.now × (cut.0.items ≡ data_of id full)) }
+{
+    let mut frames = Vec::new(alloc);
+    let mut rest = bytes;
+    while rest.len() > size {
+        put_frame(&mut frames, MessageType::Data, id, &rest[..size])?;
+        rest = &rest[size..];
+    }
+    Ok((frames, rest))
+}
+
+/// The frames of an answer that leaves whole.
+pub fn answer_frames<A: Allocator + Copy>(
+    alloc: A,
+    size: usize,
+    id: u32,
+    bytes: &[u8],
+) -> Result<Vec<u8, A>, AllocError>
+    requires { 0 < size }
+    ensures { IfOk result (λ frames. IsAnswer size id bytes.now frames.items) }
+{
+    let (mut frames, last) = cut(alloc, size, id, bytes)?;
+    put_frame(&mut frames, MessageType::DataEnd, id, last)?;
+    Ok(frames)
+}
+
+/// The frames of a part of an answer that goes on.
+pub fn part_frames<A: Allocator + Copy>(
+    alloc: A,
+    size: usize,
+    id: u32,
+    bytes: &[u8],
+) -> Result<Vec<u8, A>, AllocError>
+    requires { 0 < size }
+    ensures { IfOk result (λ frames. IsPart size id bytes.now frames.items) }
+{
+    let (mut frames, last) = cut(alloc, size, id, bytes)?;
+    if last.is_empty() {
+        return Ok(frames);
+    }
+    put_frame(&mut frames, MessageType::Data, id, last)?;
+    Ok(frames)
+}
