@@ -21,6 +21,7 @@ pub fn flusher<D: Disk + Drop, A: Allocator + Copy, R: Wait, G: Gate>(
     requires own { IsOf bench.now seat }
     ensures same { IsSame seat result }
     ensures calls { (calls : List Entry) × (result.mine ≡ seat.mine ++ calls) × AreRounds rounds calls }
+    ensures own { IsOf bench.now result }
 {
     for _ in 0..rounds {
         one_round(rt, bench, &mut seat, gate);

@@ -46,17 +46,18 @@ fn threads<R: Threads + Wait + Sync>(
     if doublings == 0 {
         return one_thread(rt, bench, seat);
     }
+    let half = doublings - 1;
     let other = bench.split(&mut seat);
     let ((some, mut seat), (more, other)) = join(
         rt,
         || -> (u64, Seat<Global>)
             requires { IsOf bench.now seat }
             ensures { IsOf bench.entry.now result.1 }
-        { threads(rt, bench, seat, doublings - 1) },
+        { threads(rt, bench, seat, half) },
         || -> (u64, Seat<Global>)
             requires { IsOf bench.now other }
             ensures { IsOf bench.entry.now result.1 }
-        { threads(rt, bench, other, doublings - 1) },
+        { threads(rt, bench, other, half) },
     );
     bench.join(&mut seat, other);
     (some.saturating_add(more), seat)
@@ -104,20 +105,19 @@ fn closed<R: Wait>(rt: &R, bench: &Device, mut seat: Seat<Global>, session: Sess
     seat
 }
 
-// One thread goes on with a session, and another closes it.
+// One thread goes on with a session, and another closes it. Tells whether the first was told to come later.
 fn closed_beside<R: Threads + Wait + Sync>(
     rt: &R,
     bench: &Device,
-    asking: Seat<Global>,
-    closing: Seat<Global>,
+    seat: &mut Seat<Global>,
     session: Session,
-) -> ((bool, Seat<Global>), Seat<Global>)
-    requires asking { IsOf bench.now asking }
-    requires closing { IsOf bench.now closing }
-    ensures asking { IsOf bench.now result.0.1 }
-    ensures closing { IsOf bench.now result.1 }
+) -> bool
+    requires { IsOf bench.now seat.old }
+    ensures { IsOf bench.now seat.new }
 {
-    join(
+    let asking = bench.split(seat);
+    let closing = bench.split(seat);
+    let ((later, asking), closing) = join(
         rt,
         || -> (bool, Seat<Global>)
             requires { IsOf bench.now asking }
@@ -127,7 +127,10 @@ fn closed_beside<R: Threads + Wait + Sync>(
             requires { IsOf bench.now closing }
             ensures { IsOf bench.entry.now result }
         { closed(rt, bench, closing, session) },
-    )
+    );
+    bench.join(seat, asking);
+    bench.join(seat, closing);
+    later
 }
 
 // It is told to come later, and nobody is harmed.
@@ -140,11 +143,6 @@ fn a_session_is_closed_under_anothers_feet(rt: HostRuntime) {
     let Ok(session) = bench.open_session(&rt, &mut seat) else {
         panic!(rt; "no session")
     };
-    let asking = bench.split(&mut seat);
-    let closing = bench.split(&mut seat);
-    let ((later, asking), closing) = closed_beside(&rt, &bench, asking, closing, session);
-    assert!(rt; later);
-    bench.join(&mut seat, asking);
-    bench.join(&mut seat, closing);
+    assert!(rt; closed_beside(&rt, &bench, &mut seat, session));
     assert!(rt; !bench.close(&rt, seat).is_open(session));
 }

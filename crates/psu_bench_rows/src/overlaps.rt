@@ -37,21 +37,17 @@ fn answered<D: Disk, R: Wait>(
 fn beside<D: Disk + Drop + Send, R: Threads + Wait + Sync>(
     rt: &R,
     bench: &Bench<D, Global>,
-    flushing: Seat<Global>,
-    asking: Seat<Global>,
+    seat: &mut Seat<Global>,
     session: Session,
     units: [&[u8]; 2],
     hold: &Hold,
-) -> (
-    (Outcome<Global>, Outcome<Global>, Seat<Global>),
-    Seat<Global>,
-)
-    requires flushing { IsOf bench.now flushing }
-    requires asking { IsOf bench.now asking }
-    ensures asking { IsOf bench.now result.0.2 }
-    ensures flushing { IsOf bench.now result.1 }
+) -> (Outcome<Global>, Outcome<Global>)
+    requires { IsOf bench.now seat.old }
+    ensures { IsOf bench.now seat.new }
 {
-    join(
+    let flushing = bench.split(seat);
+    let asking = bench.split(seat);
+    let ((one, two, asking), flushing) = join(
         rt,
         || -> (Outcome<Global>, Outcome<Global>, Seat<Global>)
             requires { IsOf bench.now asking }
@@ -61,7 +57,20 @@ fn beside<D: Disk + Drop + Send, R: Threads + Wait + Sync>(
             requires { IsOf bench.now flushing }
             ensures { IsOf bench.entry.now result }
         { flusher(rt, bench, flushing, 1, hold) },
-    )
+    );
+    bench.join(seat, asking);
+    bench.join(seat, flushing);
+    (one, two)
+}
+
+// A round of the flusher that nobody holds up.
+fn flush<D: Disk + Drop, R: Wait>(rt: &R, bench: &Bench<D, Global>, seat: &mut Seat<Global>)
+    requires { IsOf bench.now seat.old }
+    ensures { IsOf bench.now seat.new }
+{
+    let flushing = bench.split(seat);
+    let flushing = flusher(rt, bench, flushing, 1, &Open);
+    bench.join(seat, flushing);
 }
 
 fn opened<D: Disk, R: Wait + Abort>(
@@ -92,22 +101,10 @@ fn a_session_is_answered_before_a_page_is_written(rt: HostRuntime) {
     assert!(rt; matches!(unit(&rt, &bench, &mut seat, one, b"VOLT 7"), Outcome::Done));
     assert!(rt; matches!(unit(&rt, &bench, &mut seat, one, b"*SAV 1"), Outcome::Done));
     assert!(rt; matches!(unit(&rt, &bench, &mut seat, one, b"*OPC?"), Outcome::Parked));
-    let flushing = bench.split(&mut seat);
-    let asking = bench.split(&mut seat);
-    let ((volts, name, asking), flushing) = beside(
-        &rt,
-        &bench,
-        flushing,
-        asking,
-        two,
-        [b"VOLT?", b"*IDN?"],
-        &hold,
-    );
+    let (volts, name) = beside(&rt, &bench, &mut seat, two, [b"VOLT?", b"*IDN?"], &hold);
     assert!(rt; hold.overlapped());
     assert!(rt; is_answer(&volts, b"7.000"));
     assert!(rt; is_answer(&name, b"EXAMPLE,PSU4,0,1.0"));
-    bench.join(&mut seat, asking);
-    bench.join(&mut seat, flushing);
     assert!(rt; bench.progress(&mut seat) >= 2);
     assert!(rt; is_answer(&bench.settle(&rt, &mut seat, one), b"1"));
     assert_eq!(rt; hold.writes(), 5);
@@ -129,23 +126,11 @@ fn a_session_is_answered_while_a_store_is_reopened(rt: HostRuntime) {
     };
     let one = opened(&rt, &bench, &mut seat);
     assert!(rt; matches!(unit(&rt, &bench, &mut seat, one, b"*SAV 1"), Outcome::Done));
-    let flushing = bench.split(&mut seat);
-    let flushing = flusher(&rt, &bench, flushing, 1, &Open);
-    let asking = bench.split(&mut seat);
-    let ((save, name, asking), flushing) = beside(
-        &rt,
-        &bench,
-        flushing,
-        asking,
-        one,
-        [b"*SAV 2", b"*IDN?"],
-        &hold,
-    );
+    flush(&rt, &bench, &mut seat);
+    let (save, name) = beside(&rt, &bench, &mut seat, one, [b"*SAV 2", b"*IDN?"], &hold);
     assert!(rt; hold.overlapped());
     assert!(rt; matches!(save, Outcome::Error(ScpiError::StorageFault)));
     assert!(rt; is_answer(&name, b"EXAMPLE,PSU4,0,1.0"));
-    bench.join(&mut seat, asking);
-    bench.join(&mut seat, flushing);
     assert!(rt; matches!(unit(&rt, &bench, &mut seat, one, b"*SAV 2"), Outcome::Done));
     let exec = bench.close(&rt, seat);
     assert!(rt; !exec.is_flushed());
