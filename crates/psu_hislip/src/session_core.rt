@@ -1,11 +1,11 @@
 // The core of a session.
-ghost use Rattle.std.specs.Prelude.{◌≡◌, ◌+◌, ◌<◌, ◌&&◌, not, [], length, ◌≢◌, ◌↔◌, IsTrue, IfOk, IfSome, IsNone, OnOk, OnErr, None, Some, false};
+ghost use Rattle.std.specs.Prelude.{◌≡◌, ◌+◌, ◌&&◌, not, length, ◌≢◌, ◌↔◌, IsTrue, IfOk, IfSome, IsNone, OnOk, OnErr, None};
 ghost use Rattle.psu_hislip.specs.Stream.{received};
 ghost use Rattle.psu_hislip.specs.Action.{act, acts};
 ghost use Rattle.psu_hislip.specs.Core.{is_sync, joins, initializes, misplaced, fatal, ill_formed, is_delivered, delivered, is_begun, completes, completed, cleared, origin, locked, sized, joining, triggered, row, outcome_of};
 ghost use Rattle.psu_hislip.specs.Frame.{header_of};
+ghost use Rattle.psu_hislip.specs.Runs.{started};
 ghost use Rattle.psu_hislip.specs.Answer.{answer_size, IsAnswer, IsPart};
-ghost use Rattle.psu_hislip.specs.declared.device_clear.DeviceClear.TheVariants.{Idle};
 ghost use Rattle.psu_hislip.specs.declared.message_type.MessageType.TheVariants.{InitializeResponse, Data, DataEnd, AsyncMaximumMessageSize};
 
 use crate::answer::{answer_frames, answer_size, part_frames};
@@ -92,7 +92,7 @@ fn locked<A: Allocator + Copy>(
 impl<A: Allocator + Copy> SessionCore<A> {
     /// The core of a session of this number, whose synchronous channel alone is there.
     pub fn new(alloc: A, session: u16) -> SessionCore<A>
-        ensures { result ≡ record { session = session; joined = false; failed = false; size = None; transmission = Some []; clear = Idle; clears = 0 } }
+        ensures { result ≡ started session }
     {
         SessionCore {
             alloc,

@@ -7,6 +7,7 @@ ghost use Rattle.psu_hislip.specs.Action.Act.{Closed};
 ghost use Rattle.psu_hislip.specs.Runs.{Told, outcome, started, begins_clear, completes_clear, EndsComplete, executions, clears_in, origins, AreClosed, actions_of, core_after, answers, answers_due, sends_fatal_error};
 ghost use Rattle.psu_hislip.specs.Transmitted.{Transmission, piece_in, pieces_of, asked, transmissions, text_kept, text_asked, Stretch, IsStretch, run_of};
 ghost use Rattle.psu_hislip.specs.Transmitted.Piece.{More};
+ghost use Rattle.psu_hislip.specs.SomeSession.{first_stretch, last_words};
 ghost use Rattle.psu_hislip.specs.declared.fatal_code.FatalCode.{FatalCode};
 ghost use Rattle.psu_hislip.specs.declared.message_type.MessageType.TheVariants.{FatalError};
 
@@ -56,4 +57,11 @@ pub fn each_transmission_once_between_clears()
         → (core_after (started session) (flat_map run_of stretches ++ last)).failed ≡ false
         → map text_asked (transmissions (actions_of (started session) (flat_map run_of stretches ++ last)))
         ≡ map text_kept (flat_map (λ (s : Stretch). s.whole) stretches ++ whole) }
+{}
+
+/// There is such a session: what the laws ask for can be.
+pub fn a_session_with_a_clear()
+    ensures stretch { IsStretch first_stretch }
+    ensures good { (core_after (started 1) (run_of first_stretch ++ last_words)).failed ≡ false }
+    ensures texts { map text_asked (transmissions (actions_of (started 1) (run_of first_stretch ++ last_words))) ≡ Some (65 ∷ 66 ∷ []) ∷ Some (69 ∷ []) ∷ [] }
 {}
