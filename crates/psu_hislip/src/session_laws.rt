@@ -18,8 +18,8 @@ pub fn closed_after_a_fatal_error()
     ensures then { (core : Core) (t : Told) (later : List Told) → sends_fatal_error (outcome core t).actions ≡ true → AreClosed (outcome core t).core later }
 {}
 
-/// Unless a session fails, each message of a type with an answer has got just one, of the type that it asks for and in the order
-/// in which the messages came; no other message has got any but an Error.
+/// Unless a session fails, each message of a type with an answer has got just one, on its channel, of the type that it asks for and
+/// in the order in which the messages came; no other message has got any but an Error.
 pub fn one_answer_for_each_message()
     ensures { (core : Core) (run : List Told) → (core_after core run).failed ≡ false → answers (actions_of core run) ≡ flat_map answers_due run }
 {}
@@ -49,8 +49,8 @@ pub fn each_transmission_once()
         → transmissions (actions_of core run) ≡ map (asked core.clears) whole }
 {}
 
-/// The same of a whole session with device clears: each drops the payloads before it that no DataEnd ended, and what comes until its
-/// DeviceClearComplete.
+/// The same of a whole session with device clears whose messages come in their order: each drops the payloads before it that no
+/// DataEnd ended, and what comes until its DeviceClearComplete.
 pub fn each_transmission_once_between_clears()
     ensures { (session : ℕ) (stretches : List Stretch) (last : List Told) (whole : List Transmission) (rest : List (List ℕ)) → All IsStretch stretches
         → list_any begins_clear last ≡ false → flat_map piece_in last ≡ flat_map pieces_of whole ++ map More rest
