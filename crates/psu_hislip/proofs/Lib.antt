@@ -13,3 +13,4 @@ pub mod Clears
 pub mod Origins
 pub mod Transmitted
 pub mod Stretches
+pub mod SomeSession

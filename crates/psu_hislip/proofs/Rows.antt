@@ -5,7 +5,7 @@ use Rattle.psu_hislip.specs.Header.{header_bytes}
 use Rattle.psu_hislip.specs.Action.{Act}
 use Rattle.psu_hislip.specs.Transmission.{executed, added}
 use Rattle.psu_hislip.specs.Core.{Core, reply, takes, row, delivered, is_delivered, origin}
-use Rattle.psu_hislip.specs.Runs.{answer_of, answers, due}
+use Rattle.psu_hislip.specs.Runs.{Answer, answer_on, answer_of, answers, due}
 use Rattle.psu_hislip.specs.declared.header.Header.{Header}
 use Rattle.psu_hislip.specs.declared.origin.Origin.{Origin}
 use Rattle.psu_hislip.specs.declared.side.Side.{Side}
@@ -23,7 +23,7 @@ executed_answers : (o : Origin) (bytes : Option (List ℕ)) → answers (execute
 executed_answers o None = refl
 executed_answers o (Some bytes) = refl
 
-locked_answer : (b c : Bool) (timeout : ℕ) (string : List ℕ) → answers ((if b then Act.Release else (if c then reply Async AsyncLockResponse 3 else Act.Lock timeout string)) ∷ []) ≡ 5 ∷ []
+locked_answer : (b c : Bool) (timeout : ℕ) (string : List ℕ) → answers ((if b then Act.Release else (if c then reply Async AsyncLockResponse 3 else Act.Lock timeout string)) ∷ []) ≡ answer_on Async AsyncLockResponse
 unfolding header_bytes
 locked_answer true c timeout string = refl
 locked_answer false true timeout string = refl
@@ -34,7 +34,7 @@ unfolding header_bytes
 row_answers core Sync Data h p k = read_answers (is_delivered h)
 row_answers core Sync DataEnd h p k =
     flat_map-append answer_of (delivered h) (executed (origin core h) (added core.transmission p) ∷ [])
-    ∙ ap (λ (z : List ℕ). z ++ answers (executed (origin core h) (added core.transmission p) ∷ [])) (read_answers (is_delivered h))
+    ∙ ap (λ (z : List Answer). z ++ answers (executed (origin core h) (added core.transmission p) ∷ [])) (read_answers (is_delivered h))
     ∙ executed_answers (origin core h) (added core.transmission p)
 row_answers core Sync Trigger h p k = refl
 row_answers core Sync DeviceClearComplete h p k = refl

@@ -8,7 +8,7 @@ use Rattle.psu_hislip.specs.Core.{Core, Outcome, told, reply, is_sync, error}
 use Rattle.std.specs.List.{list_any}
 use Rattle.psu_hislip.specs.MessageType.{code_of}
 use Rattle.psu_hislip.specs.declared.fatal_code.FatalCode.{FatalCode}
-use Rattle.psu_hislip.specs.Runs.{Told, sends_fatal_error, outcome, actions_of, core_after, type_told, is_complete, AreClosed, answer_of, answers, due, unless_faulty, answers_due}
+use Rattle.psu_hislip.specs.Runs.{Told, Answer, sends_fatal_error, outcome, actions_of, core_after, type_told, is_complete, AreClosed, answer_of, answers, due, unless_faulty, answers_due}
 use Rattle.psu_hislip.specs.declared.side.Side.{Side}
 use Rattle.psu_hislip.specs.declared.side.Side.TheVariants.{Sync, Async}
 use Rattle.psu_hislip.specs.declared.error_code.ErrorCode.{ErrorCode}
@@ -65,7 +65,7 @@ no_due Sync (Some DeviceClearComplete) s c = absurd (cc)
 no_due Sync o s c = refl
 no_due Async o s c = absurd (cc)
 
-faulty : (o : Option ErrorCode) (codes : List ℕ) → codes ≡ [] → unless_faulty o codes ≡ []
+faulty : (o : Option ErrorCode) (codes : List Answer) → codes ≡ [] → unless_faulty o codes ≡ []
 faulty None codes e = e
 faulty (Some code) codes e = refl
 
@@ -88,12 +88,12 @@ run_answers core [] e = refl
 run_answers core (t ∷ ts) e =
     let next = (outcome core t).core in
     flat_map-append answer_of (outcome core t).actions (actions_of next ts)
-    ∙ ap (λ (z : List ℕ). z ++ answers (actions_of next ts)) (message_answers core t (not_failed next ts e) (cases core t.side t.message))
-    ∙ ap (λ (z : List ℕ). answers_due t ++ z) (run_answers next ts e)
+    ∙ ap (λ (z : List Answer). z ++ answers (actions_of next ts)) (message_answers core t (not_failed next ts e) (cases core t.side t.message))
+    ∙ ap (λ (z : List Answer). answers_due t ++ z) (run_answers next ts e)
 
 -- # FatalError
 
-no_fatal : (side : Side) (o : Option MessageType) → list_any (λ code. code == code_of FatalError) (due side o) ≡ false
+no_fatal : (side : Side) (o : Option MessageType) → list_any (λ (answer : Answer). answer.type == code_of FatalError) (due side o) ≡ false
 no_fatal Sync (Some DeviceClearComplete) = refl
 no_fatal Async (Some AsyncInitialize) = refl
 no_fatal side o = refl
@@ -106,4 +106,4 @@ ends core t e (Fails code f o) = (code, ap (λ (z : Outcome). z.actions) o, ap (
 ends core t e (Discarded f b s c o) = absurd (cc (ap (λ (z : Outcome). sends_fatal_error z.actions) o))
 ends core t e (Erroneous code f n o) = absurd (cc (ap (λ (z : Outcome). sends_fatal_error z.actions) o))
 ends core t e (Row type h p f m i n k g o) =
-    absurd (cc (ap (λ (z : Outcome). sends_fatal_error z.actions) o, ap (λ (z : List ℕ). list_any (λ code. code == code_of FatalError) z) (row_answers core t.side type h p k), no_fatal t.side (Some type)))
+    absurd (cc (ap (λ (z : Outcome). sends_fatal_error z.actions) o, ap (λ (z : List Answer). list_any (λ (answer : Answer). answer.type == code_of FatalError) z) (row_answers core t.side type h p k), no_fatal t.side (Some type)))

@@ -1,6 +1,6 @@
 -- The core of a session: what each message asks for, and what the core is then. Source: IVI-6.1; what it leaves open is this
 -- project's profile.
-use Rattle.std.specs.Prelude.{ℕ, ◌+◌, ◌^◌, ◌%◌, ◌==◌, ◌&&◌, ◌||◌, not, nat_lt, nat_le, Bool, true, false, if◌then◌else◌, Option, Some, None, List, [], ◌∷◌, ◌++◌, length}
+use Rattle.std.specs.Prelude.{◌≡◌, ℕ, ◌+◌, ◌^◌, ◌%◌, ◌==◌, ◌&&◌, ◌||◌, not, nat_lt, nat_le, Bool, true, false, if◌then◌else◌, Option, Some, None, List, [], ◌∷◌, ◌++◌, length}
 use Rattle.std.specs.Int.{w64, from_be_bytes}
 use Rattle.psu_hislip.specs.Header.{header_bytes}
 use Rattle.psu_hislip.specs.MessageType.{code_of, type_of}
@@ -167,6 +167,10 @@ joining core = told (reply Async AsyncInitializeResponse 0 ∷ []) (record core 
 
 abbrev pub origin : Core → Header → Origin
 origin core h = record { id = h.parameter; clears = core.clears }
+
+-- nothing has ended what a message of this origin asked for: neither a FatalError nor a device clear has come since
+abbrev pub IsCurrent : Core → Origin → Type 0
+IsCurrent core origin = (core.failed ≡ false) × (origin.clears ≡ core.clears)
 
 -- Data, DataEnd and Trigger: a DeviceClearComplete that no clear waited for is forgotten
 abbrev pub gone_on : Core → Option (List ℕ) → Core

@@ -13,3 +13,4 @@ pub mod Answer
 pub mod LockResponses
 pub mod Runs
 pub mod Transmitted
+pub mod SomeSession

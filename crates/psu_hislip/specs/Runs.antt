@@ -89,44 +89,52 @@ AreClosed core ts = actions_of core ts ≡ replicate (length ts) Act.Closed
 
 -- # Answers
 
--- the third byte of a message is its type, and that of Error does not count as an answer
-abbrev pub answer_of_bytes : List ℕ → List ℕ
-answer_of_bytes bytes = if slice_index_or bytes 2 0 == code_of Error then [] else slice_index_or bytes 2 0 ∷ []
+-- a message of the server's: its channel and the code of its type
+pub record Answer : Type 0 where
+  pub side : Side
+  pub type : ℕ
 
--- the type of the answer that an action sends, or asks the caller for
-abbrev pub answer_of : Act → List ℕ
-answer_of (Act.Send side bytes) = answer_of_bytes bytes
-answer_of (Act.Status delivered) = code_of AsyncStatusResponse ∷ []
-answer_of (Act.Lock timeout string) = code_of AsyncLockResponse ∷ []
-answer_of Act.Release = code_of AsyncLockResponse ∷ []
-answer_of Act.Info = code_of AsyncLockInfoResponse ∷ []
+abbrev pub answer_on : Side → MessageType → List Answer
+answer_on side type = record { side = side; type = code_of type } ∷ []
+
+-- the third byte of a message is its type, and Error does not count as an answer
+abbrev pub answer_sent : Side → List ℕ → List Answer
+answer_sent side bytes = if slice_index_or bytes 2 0 == code_of Error then [] else record { side = side; type = slice_index_or bytes 2 0 } ∷ []
+
+-- the answer that an action sends, or asks the caller for
+abbrev pub answer_of : Act → List Answer
+answer_of (Act.Send side bytes) = answer_sent side bytes
+answer_of (Act.Status delivered) = answer_on Async AsyncStatusResponse
+answer_of (Act.Lock timeout string) = answer_on Async AsyncLockResponse
+answer_of Act.Release = answer_on Async AsyncLockResponse
+answer_of Act.Info = answer_on Async AsyncLockInfoResponse
 answer_of action = []
 
-abbrev pub answers : List Act → List ℕ
+abbrev pub answers : List Act → List Answer
 answers actions = flat_map answer_of actions
 
 -- a FatalError is among the answers
 abbrev pub sends_fatal_error : List Act → Bool
-sends_fatal_error actions = list_any (λ code. code == code_of FatalError) (answers actions)
+sends_fatal_error actions = list_any (λ answer. answer.type == code_of FatalError) (answers actions)
 
--- the type of the answer that a type of a client's has, where it has one
-abbrev pub due : Side → Option MessageType → List ℕ
-due Sync (Some DeviceClearComplete) = code_of DeviceClearAcknowledge ∷ []
-due Async (Some AsyncInitialize) = code_of AsyncInitializeResponse ∷ []
-due Async (Some AsyncLock) = code_of AsyncLockResponse ∷ []
-due Async (Some AsyncLockInfo) = code_of AsyncLockInfoResponse ∷ []
-due Async (Some AsyncRemoteLocalControl) = code_of AsyncRemoteLocalResponse ∷ []
-due Async (Some AsyncMaximumMessageSize) = code_of AsyncMaximumMessageSizeResponse ∷ []
-due Async (Some AsyncDeviceClear) = code_of AsyncDeviceClearAcknowledge ∷ []
-due Async (Some AsyncStatusQuery) = code_of AsyncStatusResponse ∷ []
+-- the answer that a type of a client's has, where it has one
+abbrev pub due : Side → Option MessageType → List Answer
+due Sync (Some DeviceClearComplete) = answer_on Sync DeviceClearAcknowledge
+due Async (Some AsyncInitialize) = answer_on Async AsyncInitializeResponse
+due Async (Some AsyncLock) = answer_on Async AsyncLockResponse
+due Async (Some AsyncLockInfo) = answer_on Async AsyncLockInfoResponse
+due Async (Some AsyncRemoteLocalControl) = answer_on Async AsyncRemoteLocalResponse
+due Async (Some AsyncMaximumMessageSize) = answer_on Async AsyncMaximumMessageSizeResponse
+due Async (Some AsyncDeviceClear) = answer_on Async AsyncDeviceClearAcknowledge
+due Async (Some AsyncStatusQuery) = answer_on Async AsyncStatusResponse
 due side type = []
 
 -- a message with an error has none
-abbrev pub unless_faulty : Option ErrorCode → List ℕ → List ℕ
-unless_faulty None codes = codes
-unless_faulty (Some code) codes = []
+abbrev pub unless_faulty : Option ErrorCode → List Answer → List Answer
+unless_faulty None answers = answers
+unless_faulty (Some code) answers = []
 
-abbrev pub answers_due : Told → List ℕ
+abbrev pub answers_due : Told → List Answer
 answers_due t = unless_faulty (error t.side t.message) (due t.side (type_told t.message))
 
 -- # Origins

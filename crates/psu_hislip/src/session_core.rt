@@ -1,11 +1,11 @@
 // The core of a session.
-ghost use Rattle.std.specs.Prelude.{◌≡◌, ◌+◌, ◌<◌, ◌&&◌, not, [], length, ◌≢◌, ◌↔◌, IsTrue, IfOk, IfSome, IsNone, OnOk, OnErr, None, Some, false};
+ghost use Rattle.std.specs.Prelude.{◌≡◌, ◌+◌, ◌&&◌, not, length, ◌↔◌, IsTrue, IfOk, IfSome, IsSome, OnOk, OnErr, None};
 ghost use Rattle.psu_hislip.specs.Stream.{received};
 ghost use Rattle.psu_hislip.specs.Action.{act, acts};
-ghost use Rattle.psu_hislip.specs.Core.{is_sync, joins, initializes, misplaced, fatal, ill_formed, is_delivered, delivered, is_begun, completes, completed, cleared, origin, locked, sized, joining, triggered, row, outcome_of};
+ghost use Rattle.psu_hislip.specs.Core.{is_sync, joins, initializes, misplaced, fatal, ill_formed, is_delivered, delivered, is_begun, completes, completed, cleared, origin, IsCurrent, locked, sized, joining, triggered, row, outcome_of};
 ghost use Rattle.psu_hislip.specs.Frame.{header_of};
+ghost use Rattle.psu_hislip.specs.Runs.{started};
 ghost use Rattle.psu_hislip.specs.Answer.{answer_size, IsAnswer, IsPart};
-ghost use Rattle.psu_hislip.specs.declared.device_clear.DeviceClear.TheVariants.{Idle};
 ghost use Rattle.psu_hislip.specs.declared.message_type.MessageType.TheVariants.{InitializeResponse, Data, DataEnd, AsyncMaximumMessageSize};
 
 use crate::answer::{answer_frames, answer_size, part_frames};
@@ -92,7 +92,7 @@ fn locked<A: Allocator + Copy>(
 impl<A: Allocator + Copy> SessionCore<A> {
     /// The core of a session of this number, whose synchronous channel alone is there.
     pub fn new(alloc: A, session: u16) -> SessionCore<A>
-        ensures { result ≡ record { session = session; joined = false; failed = false; size = None; transmission = Some []; clear = Idle; clears = 0 } }
+        ensures { result ≡ started session }
     {
         SessionCore {
             alloc,
@@ -129,11 +129,12 @@ impl<A: Allocator + Copy> SessionCore<A> {
         self.failed
     }
 
-    /// Whether no device clear has come since a message of this origin. Nothing more is done for one that isn't current.
+    /// Whether neither a device clear nor a FatalError has come since a message of this origin. Nothing more is done for one that
+    /// isn't current.
     pub fn is_current(&self, origin: Origin) -> bool
-        ensures { IsTrue result ↔ (origin.clears ≡ self.now.clears) }
+        ensures { IsTrue result ↔ IsCurrent self.now origin }
     {
-        origin.clears == self.clears
+        !self.failed && origin.clears == self.clears
     }
 
     // Whether this is the AsyncInitialize that joins the session's second connection.
@@ -359,12 +360,13 @@ impl<A: Allocator + Copy> SessionCore<A> {
         }
     }
 
-    /// The frames of an answer to a transmission of this origin; none where a device clear has come since.
+    /// The frames of an answer to a transmission of this origin; none where it isn't current any more.
     ///
     /// A payload has at most the bytes that the client takes less a header's 16, but at least 1 and at most 65,520; an empty answer
     /// is one empty frame.
     pub fn answer(&self, origin: Origin, bytes: &[u8]) -> Result<Option<Vec<u8, A>>, AllocError>
-        ensures dropped { IfOk result (λ answer. IsNone answer ↔ (origin.clears ≢ self.now.clears)) }
+        ensures current { IfOk result (λ answer. IsSome answer ↔ IsCurrent self.now origin) }
+        ensures refused { OnErr result (IsCurrent self.now origin) }
         ensures frames { IfOk result (λ answer. IfSome answer (λ frames. IsAnswer (answer_size self.now.size) origin.id bytes.now frames.items)) }
     {
         if !self.is_current(origin) {
@@ -374,10 +376,11 @@ impl<A: Allocator + Copy> SessionCore<A> {
         Ok(Some(frames))
     }
 
-    /// The frames of a part of an answer to a transmission of this origin, which goes on; none where a device clear has come since.
-    /// After its parts the answer ends with an `answer` of the rest.
+    /// The frames of a part of an answer to a transmission of this origin, which goes on; none where it isn't current any more. After
+    /// its parts the answer ends with an `answer` of the rest.
     pub fn part(&self, origin: Origin, bytes: &[u8]) -> Result<Option<Vec<u8, A>>, AllocError>
-        ensures dropped { IfOk result (λ part. IsNone part ↔ (origin.clears ≢ self.now.clears)) }
+        ensures current { IfOk result (λ part. IsSome part ↔ IsCurrent self.now origin) }
+        ensures refused { OnErr result (IsCurrent self.now origin) }
         ensures frames { IfOk result (λ part. IfSome part (λ frames. IsPart (answer_size self.now.size) origin.id bytes.now frames.items)) }
     {
         if !self.is_current(origin) {

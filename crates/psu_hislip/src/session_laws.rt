@@ -1,24 +1,28 @@
 // Laws of whole runs of a session: the messages of both channels, in the order in which it is told of them.
-ghost use Rattle.std.specs.Prelude.{◌≡◌, ◌≢◌, ◌<◌, ◌^◌, ℕ, All, length, List, [], ◌∷◌, ◌++◌, true, false, Some, map, flat_map};
+ghost use Rattle.std.specs.Prelude.{◌≡◌, ◌<◌, ◌^◌, ℕ, All, length, List, [], ◌∷◌, ◌++◌, true, false, Some, map, flat_map};
 ghost use Rattle.std.specs.List.{list_any};
 ghost use Rattle.psu_hislip.specs.Faults.{fatal_code};
-ghost use Rattle.psu_hislip.specs.Core.{Core, reply, is_begun};
+ghost use Rattle.psu_hislip.specs.Core.{Core, IsCurrent, reply, is_begun};
 ghost use Rattle.psu_hislip.specs.Action.Act.{Closed};
 ghost use Rattle.psu_hislip.specs.Runs.{Told, outcome, started, begins_clear, completes_clear, EndsComplete, executions, clears_in, origins, AreClosed, actions_of, core_after, answers, answers_due, sends_fatal_error};
 ghost use Rattle.psu_hislip.specs.Transmitted.{Transmission, piece_in, pieces_of, asked, transmissions, text_kept, text_asked, Stretch, IsStretch, run_of};
 ghost use Rattle.psu_hislip.specs.Transmitted.Piece.{More};
+ghost use Rattle.psu_hislip.specs.SomeSession.{first_stretch, last_words};
+ghost use Rattle.psu_hislip.specs.declared.origin.Origin.{Origin};
 ghost use Rattle.psu_hislip.specs.declared.fatal_code.FatalCode.{FatalCode};
 ghost use Rattle.psu_hislip.specs.declared.message_type.MessageType.TheVariants.{FatalError};
 
-/// A message that gives a FatalError gives Closed after it, and then each message gives Closed alone.
+/// A message that gives a FatalError gives Closed after it, and then each message gives Closed alone and no answer is current.
 pub fn closed_after_a_fatal_error()
     ensures gives { (core : Core) (t : Told) → sends_fatal_error (outcome core t).actions ≡ true
         → (code : FatalCode) × ((outcome core t).actions ≡ reply t.side FatalError (fatal_code code) ∷ Closed ∷ []) }
     ensures then { (core : Core) (t : Told) (later : List Told) → sends_fatal_error (outcome core t).actions ≡ true → AreClosed (outcome core t).core later }
+    ensures silent { (core : Core) (t : Told) (later : List Told) (o : Origin) → sends_fatal_error (outcome core t).actions ≡ true
+        → IsCurrent (core_after (outcome core t).core later) o → ⊥ }
 {}
 
-/// Unless a session fails, each message of a type with an answer has got just one, of the type that it asks for and in the order
-/// in which the messages came; no other message has got any but an Error.
+/// Unless a session fails, each message of a type with an answer has got just one, on its channel, of the type that it asks for and
+/// in the order in which the messages came; no other message has got any but an Error.
 pub fn one_answer_for_each_message()
     ensures { (core : Core) (run : List Told) → (core_after core run).failed ≡ false → answers (actions_of core run) ≡ flat_map answers_due run }
 {}
@@ -30,12 +34,11 @@ pub fn nothing_executed_in_a_clear()
         → executions (actions_of (core_after (started session) (before ++ clear ∷ [])) between) ≡ [] }
 {}
 
-/// Nothing that came before an AsyncDeviceClear has a current origin after it, so no frame of an answer to it is given any more. (The
-/// clears are counted modulo 2^64.)
+/// Nothing that came before an AsyncDeviceClear is current after it, so no frame of an answer to it is given any more. (The clears are
+/// counted modulo 2^64.)
 pub fn no_answer_of_before_a_clear()
     ensures { (session : ℕ) (before later : List Told) → 0 < clears_in later → length (before ++ later) < 2 ^ 64
-        → (core_after (started session) (before ++ later)).failed ≡ false
-        → All (λ o. o.clears ≢ (core_after (started session) (before ++ later)).clears) (origins (actions_of (started session) before)) }
+        → All (λ o. IsCurrent (core_after (started session) (before ++ later)) o → ⊥) (origins (actions_of (started session) before)) }
 {}
 
 /// What is executed is the transmissions that the client sent, in order and once each: of a run from the beginning of a
@@ -48,12 +51,19 @@ pub fn each_transmission_once()
         → transmissions (actions_of core run) ≡ map (asked core.clears) whole }
 {}
 
-/// The same of a whole session with device clears: each drops the payloads before it that no DataEnd ended, and what comes until its
-/// DeviceClearComplete.
+/// The same of a whole session with device clears whose messages come in their order: each drops the payloads before it that no
+/// DataEnd ended, and what comes until its DeviceClearComplete.
 pub fn each_transmission_once_between_clears()
     ensures { (session : ℕ) (stretches : List Stretch) (last : List Told) (whole : List Transmission) (rest : List (List ℕ)) → All IsStretch stretches
         → list_any begins_clear last ≡ false → flat_map piece_in last ≡ flat_map pieces_of whole ++ map More rest
         → (core_after (started session) (flat_map run_of stretches ++ last)).failed ≡ false
         → map text_asked (transmissions (actions_of (started session) (flat_map run_of stretches ++ last)))
         ≡ map text_kept (flat_map (λ (s : Stretch). s.whole) stretches ++ whole) }
+{}
+
+/// There is such a session: what the laws ask for can be.
+pub fn a_session_with_a_clear()
+    ensures stretch { IsStretch first_stretch }
+    ensures good { (core_after (started 1) (run_of first_stretch ++ last_words)).failed ≡ false }
+    ensures texts { map text_asked (transmissions (actions_of (started 1) (run_of first_stretch ++ last_words))) ≡ Some (65 ∷ 66 ∷ []) ∷ Some (69 ∷ []) ∷ [] }
 {}

@@ -4,4 +4,5 @@ use Rattle.psu_hislip.proofs.Origins.{none_current}
 use Rattle.psu_hislip.proofs.session_laws.no_answer_of_before_a_clear.Goals as goal
 
 pub returns : goal.returns
-returns c = λ session before later some few e. none_current (started session) before later (omega arith) e some few
+returns c = λ session before later some few k d h current.
+    none_current (started session) before later (omega arith) current.0 some few k d h current.1
