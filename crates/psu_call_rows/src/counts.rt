@@ -1,12 +1,12 @@
 // What the calls of a store cost: how often the disk is called, and how many bytes are written.
 use crate::images::formatted;
+use crate::sessions_bench::{gives_back, opened as open_session, powered_on_with, says};
 use crate::stores::{opened, stored};
 use psu_disk::{Disk, DiskFault, MemDisk};
-use psu_exec::{Ended, Exec, Outcome};
+use psu_exec::Ended;
 use psu_items::Batch;
-use psu_lex::Unit;
-use psu_tree::{Path, request};
 use std::alloc::{AllocError, Global};
+use std::process::Abort;
 use std::test::Fail;
 
 /// A disk that counts its calls, the bytes that are read, and those that are written.
@@ -149,32 +149,25 @@ fn what_stays_is_not_written(rt: HostRuntime) -> Result<(), Fail> {
     Ok(())
 }
 
-// The same of the execution: the job of `*PSC 0` beside the file.
+// The disk once the job of `*PSC 0` beside the file has run.
+fn after_a_flag(rt: &impl Abort, alloc: Global) -> Result<Counted<MemDisk<Global>>, Fail> {
+    let mut exec = powered_on_with(rt, alloc, Counted::new(with_file(alloc)?));
+    let session = open_session(rt, &mut exec, 1);
+    says(rt, &mut exec, session, b"*PSC 0", b"done");
+    match exec.take() {
+        Ok(job) => gives_back(rt, &mut exec, job.run(), 0),
+        Err(_) => return Err(Fail::from("no job")),
+    }
+    match exec.end() {
+        Ended::Whole(store) => Ok(store.into_disk()),
+        _ => Err(Fail::from("no whole store")),
+    }
+}
+
+// The same of the execution.
 #[test]
 fn a_flag_beside_a_file(rt: HostRuntime) -> Result<(), Fail> {
-    let alloc = rt.alloc();
-    let store = opened(alloc, Counted::new(with_file(alloc)?))?;
-    let Ok(mut exec) = Exec::power_on(alloc, store) else {
-        return Err(Fail::from("no power-on"));
-    };
-    let Ok(session) = exec.open_session() else {
-        return Err(Fail::from("crowded"));
-    };
-    let unit = Unit {
-        text: b"*PSC 0",
-        first: true,
-        fault: None,
-    };
-    let outcome = exec.execute(session, &request(&mut Path::root(), &unit, false));
-    assert!(rt; matches!(outcome, Outcome::Done));
-    let Ok(job) = exec.take() else {
-        return Err(Fail::from("no job"));
-    };
-    assert!(rt; exec.give_back(job.run()).is_ok());
-    let Ended::Whole(store) = exec.end() else {
-        return Err(Fail::from("no whole store"));
-    };
-    let disk = store.into_disk();
+    let disk = after_a_flag(&rt, rt.alloc())?;
     assert_eq!(rt; disk.reads, 68);
     assert!(rt; disk.writes <= 5 && disk.bytes_written <= 2_048);
     assert_eq!(rt; disk.syncs, 4);

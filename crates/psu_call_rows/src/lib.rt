@@ -1,12 +1,8 @@
-//! Tests of the calls below the run, each through its crate. Expected values are worked by hand from the rules of the instrument.
+//! Tests of the calls on the execution, below the run. Expected values are worked by hand from the rules of the instrument.
 #![tactic(auto)]
 
 #[cfg(test)]
-mod contents;
-#[cfg(test)]
 mod counts;
-#[cfg(test)]
-mod decoding;
 #[cfg(test)]
 mod devices;
 #[cfg(test)]
@@ -23,5 +19,3 @@ mod sessions_locks;
 mod sessions_status;
 #[cfg(test)]
 mod stores;
-#[cfg(test)]
-mod wants;

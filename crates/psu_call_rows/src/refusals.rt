@@ -1,43 +1,38 @@
 // Each allocation of a take and of a settle refused: nothing has changed, and with memory both go on.
-ghost use Rattle.std.specs.Prelude.{◌≡◌, true};
-ghost use Rattle.psu_exec.specs.Device.{is_open};
-
 use crate::images::least;
+use crate::sessions_bench::{gives_back, opened, powered_on_with, say_all, settles};
 use bumpalo::Bump;
 use psu_disk::MemDisk;
 use psu_exec::{Condition, Exec, Job, NoJob, Outcome, ScpiError, Session};
-use psu_items::Store;
-use psu_lex::Unit;
-use psu_tree::{Path, request};
 use std::alloc::Global;
 use std::process::Abort;
-use std::test::Fail;
 
 type Power<'a> = Exec<MemDisk<Global>, &'a Bump<Global>>;
 
 type Taken<'a> = Job<MemDisk<Global>, &'a Bump<Global>>;
 
-fn powered_on<'a>(rt: &impl Abort, arena: &'a Bump<Global>, disk: MemDisk<Global>) -> Power<'a> {
-    let store = match Store::open(arena, disk) {
-        Ok(store) => store,
-        Err(_) => panic!(rt; "not opened"),
-    };
-    match Exec::power_on(arena, store) {
-        Ok(exec) => exec,
-        Err(_) => panic!(rt; "no power-on"),
+fn arena(rt: &impl Abort, alloc: Global) -> Bump<Global> {
+    match Bump::try_with_capacity(alloc, 20_000) {
+        Ok(arena) => arena,
+        Err(_) => panic!(rt; "no arena"),
     }
 }
 
-fn outcome<'a>(exec: &mut Power<'a>, session: Session, text: &[u8]) -> Outcome<&'a Bump<Global>>
-    requires { is_open exec.old.device session ≡ true }
-    ensures { is_open exec.new.device session ≡ true }
-{
-    let unit = Unit {
-        text,
-        first: true,
-        fault: None,
-    };
-    exec.execute(session, &request(&mut Path::root(), &unit, false))
+// A device whose memory is the arena's.
+fn powered_on<'a>(rt: &impl Abort, alloc: Global, arena: &'a Bump<Global>) -> Power<'a> {
+    powered_on_with(rt, arena, least(alloc).expect(rt, "a disk"))
+}
+
+// A session with a change and a wait for it.
+fn waiting<'a>(rt: &impl Abort, exec: &mut Power<'a>) -> Session {
+    let session = opened(rt, exec, 1);
+    say_all(
+        rt,
+        exec,
+        session,
+        &[(b"*PSC 0", b"done"), (b"*OPC?", b"parked")],
+    );
+    session
 }
 
 // Takes the arena's memory but so many bytes.
@@ -51,58 +46,57 @@ fn leave(rt: &impl Abort, arena: &Bump<Global>, left: usize) {
     }
 }
 
+// What holds where memory was refused for a job: nothing has changed.
+fn is_as_before<'a>(rt: &impl Abort, exec: &mut Power<'a>, session: Session) {
+    assert!(rt; matches!(exec.condition(), Condition::Whole));
+    assert!(rt; !exec.is_flushed());
+    settles(rt, exec, session, b"parked");
+}
+
 // Takes a job, where memory isn't refused for it; else nothing has changed.
-fn taken<'a>(rt: &impl Abort, exec: &mut Power<'a>, session: Session) -> Option<Taken<'a>>
-    requires { is_open exec.old.device session ≡ true }
-    ensures { is_open exec.new.device session ≡ true }
-{
+fn taken<'a>(rt: &impl Abort, exec: &mut Power<'a>, session: Session) -> Option<Taken<'a>> {
     match exec.take() {
         Ok(job) => Some(job),
         Err(cause) => {
             assert!(rt; matches!(cause, NoJob::Memory));
-            assert!(rt; matches!(exec.condition(), Condition::Whole));
-            assert!(rt; !exec.is_flushed());
-            assert!(rt; matches!(exec.settle(session), Outcome::Parked));
+            is_as_before(rt, exec, session);
             None
         }
     }
 }
 
 // The job's end answers the wait.
-fn end<'a>(rt: &impl Abort, exec: &mut Power<'a>, session: Session, job: Taken<'a>)
-    requires { is_open exec.old.device session ≡ true }
-{
-    assert!(rt; exec.give_back(job.run()).is_ok());
-    match exec.settle(session) {
-        Outcome::Answer(text) => assert_eq!(rt; text.as_slice(), "1".as_bytes()),
-        _ => panic!(rt; "no answer"),
+fn ends<'a>(rt: &impl Abort, exec: &mut Power<'a>, session: Session, job: Taken<'a>) {
+    gives_back(rt, exec, job.run(), 1);
+    settles(rt, exec, session, b"1");
+}
+
+// A job is taken, and its end answers the wait.
+fn flushes<'a>(rt: &impl Abort, exec: &mut Power<'a>, session: Session) {
+    match taken(rt, exec, session) {
+        Some(job) => ends(rt, exec, session, job),
+        None => panic!(rt; "no job"),
     }
 }
 
 // Whether a take with so much memory was refused; then another is not.
 fn take_is_refused(rt: &impl Abort, alloc: Global, left: usize) -> bool {
-    let Ok(arena) = Bump::try_with_capacity(alloc, 20_000) else {
-        panic!(rt; "no arena");
-    };
-    let disk = least(alloc).expect(rt, "a disk");
-    let mut exec = powered_on(rt, &arena, disk);
-    let Ok(session) = exec.open_session() else {
-        panic!(rt; "crowded");
-    };
-    assert!(rt; matches!(outcome(&mut exec, session, b"*PSC 0"), Outcome::Done));
-    assert!(rt; matches!(outcome(&mut exec, session, b"*OPC?"), Outcome::Parked));
+    let arena = arena(rt, alloc);
+    let mut exec = powered_on(rt, alloc, &arena);
+    let session = waiting(rt, &mut exec);
     leave(rt, &arena, left);
     let first = taken(rt, &mut exec, session);
     arena.set_allocation_limit(None);
-    if let Some(job) = first {
-        end(rt, &mut exec, session, job);
-        return false;
+    match first {
+        Some(job) => {
+            ends(rt, &mut exec, session, job);
+            false
+        }
+        None => {
+            flushes(rt, &mut exec, session);
+            true
+        }
     }
-    match taken(rt, &mut exec, session) {
-        Some(job) => end(rt, &mut exec, session, job),
-        None => panic!(rt; "no job"),
-    }
-    true
 }
 
 #[test]
@@ -116,30 +110,34 @@ fn each_allocation_of_a_take_refused(rt: HostRuntime) {
     assert!(rt; refused > 0 && refused < 64, "{refused} refused");
 }
 
+// Whether memory is refused for the answer of a wait that is over.
+fn settle_is_refused<'a>(rt: &impl Abort, exec: &mut Power<'a>, session: Session) -> bool {
+    if !exec.is_open(session) {
+        panic!(rt; "the session is gone");
+    }
+    matches!(exec.settle(session), Outcome::Error(ScpiError::OutOfMemory))
+}
+
+// One job, by which the session's wait is over.
+fn flush<'a>(rt: &impl Abort, exec: &mut Power<'a>) {
+    match exec.take() {
+        Ok(job) => gives_back(rt, exec, job.run(), 1),
+        Err(_) => panic!(rt; "no job"),
+    }
+}
+
 #[test]
 fn the_allocation_of_a_settle_refused(rt: HostRuntime) {
-    let Ok(arena) = Bump::try_with_capacity(rt.alloc(), 20_000) else {
-        panic!(&rt; "no arena");
-    };
-    let disk = least(rt.alloc()).expect(&rt, "a disk");
-    let mut exec = powered_on(&rt, &arena, disk);
-    let Ok(session) = exec.open_session() else {
-        panic!(&rt; "crowded");
-    };
-    assert!(rt; matches!(outcome(&mut exec, session, b"*PSC 0"), Outcome::Done));
-    assert!(rt; matches!(outcome(&mut exec, session, b"*OPC?"), Outcome::Parked));
-    match exec.take() {
-        Ok(job) => assert!(rt; exec.give_back(job.run()).is_ok()),
-        Err(_) => panic!(&rt; "no job"),
-    }
+    let arena = arena(&rt, rt.alloc());
+    let mut exec = powered_on(&rt, rt.alloc(), &arena);
+    let session = waiting(&rt, &mut exec);
+    flush(&rt, &mut exec);
     leave(&rt, &arena, 0);
     // Two refusals: the wait stays over.
-    assert!(rt; matches!(exec.settle(session), Outcome::Error(ScpiError::OutOfMemory)));
-    assert!(rt; matches!(exec.settle(session), Outcome::Error(ScpiError::OutOfMemory)));
-    arena.set_allocation_limit(None);
-    match exec.settle(session) {
-        Outcome::Answer(text) => assert_eq!(rt; text.as_slice(), "1".as_bytes()),
-        _ => panic!(&rt; "no answer"),
+    for _ in 0..2 {
+        assert!(rt; settle_is_refused(&rt, &mut exec, session));
     }
-    assert!(rt; matches!(exec.settle(session), Outcome::Done));
+    arena.set_allocation_limit(None);
+    settles(&rt, &mut exec, session, b"1");
+    settles(&rt, &mut exec, session, b"done");
 }

@@ -1,22 +1,29 @@
-// A device in memory with sessions: its calls, each for a session that is open.
+// A device with sessions: its calls, each for a session that is open, one step a function.
 ghost use Rattle.std.specs.Prelude.{◌≡◌, true};
 ghost use Rattle.psu_exec.specs.Device.{is_open};
 
 use crate::images::formatted;
-use psu_disk::MemDisk;
-use psu_exec::{Exec, Grant, Kind, LockRefusal, LockString, NoJob, Outcome, Session};
+use psu_disk::{Disk, MemDisk};
+use psu_exec::{Exec, Finished, Grant, Kind, LockRefusal, LockString, NoJob, Outcome, Session};
 use psu_items::Store;
 use psu_lex::Unit;
 use psu_tree::{Path, request};
-use std::alloc::Global;
+use std::alloc::{Allocator, Global};
 use std::process::Abort;
 
 /// A device on a disk in memory.
 pub type Power = Exec<MemDisk<Global>, Global>;
 
-/// A device that is powered on with fresh contents.
-pub fn powered_on(rt: &impl Abort, alloc: Global) -> Power {
-    let store = match Store::open(alloc, formatted(alloc).expect(rt, "a disk")) {
+/// A unit, and what is said of it: its answer, or the name of another outcome.
+pub type Row<'a> = (&'a [u8], &'a [u8]);
+
+/// A device that is powered on with what a disk holds.
+pub fn powered_on_with<D: Disk + Drop, A: Allocator + Copy>(
+    rt: &impl Abort,
+    alloc: A,
+    disk: D,
+) -> Exec<D, A> {
+    let store = match Store::open(alloc, disk) {
         Ok(store) => store,
         Err(_) => panic!(rt; "not opened"),
     };
@@ -26,14 +33,23 @@ pub fn powered_on(rt: &impl Abort, alloc: Global) -> Power {
     }
 }
 
+/// A device that is powered on with fresh contents.
+pub fn powered_on(rt: &impl Abort, alloc: Global) -> Power {
+    powered_on_with(rt, alloc, formatted(alloc).expect(rt, "a disk"))
+}
+
 /// Opens the session that is to have this number.
-pub fn opened(rt: &impl Abort, exec: &mut Power, number: u8) -> Session {
+pub fn opened<D: Disk, A: Allocator + Copy>(
+    rt: &impl Abort,
+    exec: &mut Exec<D, A>,
+    number: u8,
+) -> Session {
     let session = exec.open_session().expect(rt, "a session");
     assert_eq!(rt; session.number(), number);
     session
 }
 
-fn look(rt: &impl Abort, exec: &Power, session: Session)
+fn look<D: Disk, A: Allocator + Copy>(rt: &impl Abort, exec: &Exec<D, A>, session: Session)
     ensures { is_open exec.now.device session ≡ true }
 {
     if !exec.is_open(session) {
@@ -42,7 +58,12 @@ fn look(rt: &impl Abort, exec: &Power, session: Session)
 }
 
 /// Executes a unit without strings and blocks.
-pub fn unit(rt: &impl Abort, exec: &mut Power, session: Session, text: &[u8]) -> Outcome<Global> {
+pub fn unit<D: Disk, A: Allocator + Copy>(
+    rt: &impl Abort,
+    exec: &mut Exec<D, A>,
+    session: Session,
+    text: &[u8],
+) -> Outcome<A> {
     look(rt, exec, session);
     let unit = Unit {
         text,
@@ -52,32 +73,80 @@ pub fn unit(rt: &impl Abort, exec: &mut Power, session: Session, text: &[u8]) ->
     exec.execute(session, &request(&mut Path::root(), &unit, false))
 }
 
-/// Executes a unit, and looks at its answer.
-pub fn answers(rt: &impl Abort, exec: &mut Power, session: Session, text: &[u8], want: &[u8]) {
-    match unit(rt, exec, session, text) {
-        Outcome::Answer(answer) => assert_eq!(rt; answer.as_slice(), want, "at {text:?}"),
-        _ => panic!(rt; "no answer at {text:?}"),
+// What an outcome says: its answer, or its name.
+fn said<A: Allocator + Copy>(outcome: &Outcome<A>) -> &[u8] {
+    match outcome {
+        Outcome::Done => b"done".as_slice(),
+        Outcome::Answer(text) => text.as_slice(),
+        Outcome::Error(_) => b"error".as_slice(),
+        Outcome::Expand(_) => b"expand".as_slice(),
+        Outcome::Parked => b"parked".as_slice(),
+        Outcome::Held => b"held".as_slice(),
+        Outcome::Later => b"later".as_slice(),
+    }
+}
+
+/// Executes a unit, and looks at what is said of it.
+pub fn says<D: Disk, A: Allocator + Copy>(
+    rt: &impl Abort,
+    exec: &mut Exec<D, A>,
+    session: Session,
+    text: &[u8],
+    want: &[u8],
+) {
+    let outcome = unit(rt, exec, session, text);
+    assert_eq!(rt; said(&outcome), want, "at {text:?}");
+}
+
+/// Executes units one after another.
+pub fn say_all<D: Disk, A: Allocator + Copy>(
+    rt: &impl Abort,
+    exec: &mut Exec<D, A>,
+    session: Session,
+    rows: &[Row<'_>],
+) {
+    for (text, want) in rows {
+        says(rt, exec, session, text, want);
+    }
+}
+
+/// Settles a session's wait, and looks at what is said of it.
+pub fn settles<D: Disk, A: Allocator + Copy>(
+    rt: &impl Abort,
+    exec: &mut Exec<D, A>,
+    session: Session,
+    want: &[u8],
+) {
+    look(rt, exec, session);
+    let outcome = exec.settle(session);
+    assert_eq!(rt; said(&outcome), want);
+}
+
+/// Hands the end of a job back, by which so many sessions' waits are over.
+pub fn gives_back<D: Disk + Drop, A: Allocator + Copy>(
+    rt: &impl Abort,
+    exec: &mut Exec<D, A>,
+    finished: Finished<D, A>,
+    over: usize,
+) {
+    match exec.give_back(finished) {
+        Ok(sessions) => assert_eq!(rt; sessions.as_slice().len(), over),
+        Err(_) => panic!(rt; "a stranger"),
     }
 }
 
 /// Executes a unit that is done without an answer.
 pub fn does(rt: &impl Abort, exec: &mut Power, session: Session, text: &[u8]) {
-    assert!(rt;
-        matches!(unit(rt, exec, session, text), Outcome::Done),
-        "at {text:?}"
-    );
+    says(rt, exec, session, text, b"done");
 }
 
 /// Executes a unit that is refused.
 pub fn fails(rt: &impl Abort, exec: &mut Power, session: Session, text: &[u8]) {
-    assert!(rt;
-        matches!(unit(rt, exec, session, text), Outcome::Error(_)),
-        "at {text:?}"
-    );
+    says(rt, exec, session, text, b"error");
 }
 
-/// One job, from its take to its end.
-pub fn flush(rt: &impl Abort, exec: &mut Power) {
+/// One job, from its take to its end; none where there is nothing to do.
+pub fn flush<D: Disk + Drop>(rt: &impl Abort, exec: &mut Exec<D, Global>) {
     match exec.take() {
         Ok(job) => assert!(rt; exec.give_back(job.run()).is_ok()),
         Err(cause) => assert!(rt; matches!(cause, NoJob::Nothing)),

@@ -1,0 +1,10 @@
+//! Tests of what the instrument keeps: its contents, their changes, and what is read of a map. Expected values are worked by hand
+//! from the rules of the instrument.
+#![tactic(auto)]
+
+#[cfg(test)]
+mod contents;
+#[cfg(test)]
+mod decoding;
+#[cfg(test)]
+mod wants;
