@@ -144,7 +144,7 @@ fn changes(
     }
 }
 
-// Contents with the macros A1 to D8.
+// Contents with 32 macros, each named by a letter and a digit.
 fn with_32_macros(alloc: Global) -> Result<Contents<Global>, Fail> {
     let mut contents = Contents::fresh(alloc);
     for high in [b'A', b'B', b'C', b'D'] {
