@@ -121,7 +121,7 @@ impl Disk for FileDisk {
     }
 
     fn sync(&mut self) -> Result<(), DiskFault> {
-        if self.file.sync_all().is_err() {
+        if self.file.sync_data().is_err() {
             return Err(self.fail());
         }
         Ok(())
