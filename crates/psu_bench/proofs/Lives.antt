@@ -1,18 +1,21 @@
 -- A history happens, call by call.
-use Rattle.std.proofs.Common.{◌≡◌, ◌⊎◌, ℕ, Some, None, List, [], ◌∷◌, refl, sym, ap, ◌∙◌, subst, inl, inr}
+use Rattle.std.proofs.Common.{◌≡◌, ◌⊎◌, ℕ, Some, None, List, [], ◌∷◌, refl, sym, ap, subst, inl, inr}
+use Rattle.std.specs.Prelude.{⊤}
 use Rattle.psu_disk.specs.Disk.{DiskState, Left}
 use Rattle.psu_items.specs.Image.{Stands}
 use Rattle.psu_nv.specs.Contents.{items_of}
 use Rattle.psu_exec.specs.Device.{State}
-use Rattle.psu_exec.specs.Calls.{Entry, JobEnd, Allows}
+use Rattle.psu_exec.specs.Calls.{Entry}
 use Rattle.psu_exec.specs.Calls.Entry.{Executed, Settled, Took, GaveBack, Opened, Closed, Cleared, Sent, Delivered, Queried, Fetched, Told, Locked, Released, Ticked, Informed, Due}
 use Rattle.psu_exec.specs.Headline.{IsPrefix}
-use Rattle.psu_exec.specs.World.{World, Running, Event, Call, DiskCall, DiskAfter, Happens, IsStart, Run, after, recorded}
+use Rattle.psu_exec.specs.Lives.{broken_life}
+use Rattle.psu_exec.specs.World.{World, Running, Event, Call, DiskCall, Loss, Restart, DiskAfter, Happens, IsStart, Run, after, recorded}
+use Rattle.psu_exec.proofs.BrokenLife.{breaks_and_mends}
 use Rattle.psu_exec.proofs.Events.{prefix_is_left}
 use Rattle.psu_turn.specs.History.{Leads}
 use Rattle.psu_turn.specs.declared.numbered.Numbered.{Numbered}
-use Rattle.psu_bench.specs.Calls.{Admits}
-use Rattle.psu_bench.specs.Lives.{Happening, Called, Moved, Carries, HistoriesHappen, Lives, LivesAreEvents, ThreadsLeavePrefix, calls_in}
+use Rattle.psu_bench.specs.Calls.{Admits, HasNoSession}
+use Rattle.psu_bench.specs.Lives.{Happening, Called, Moved, HasDisk, HistoriesHappen, LeadsOverDisks, Lives, LivesAreEvents, SomeHistoryHappens, ThreadsLeavePrefix, by_one, calls_in}
 
 -- ---- what happens are events
 
@@ -40,54 +43,134 @@ leads_of (Moved disk ∷ more) w new (mid, happens, rest) = subst (λ (s : State
 pub lives_are_events : LivesAreEvents
 lives_are_events w new happenings lives = (events_of happenings w new lives, leads_of happenings w new lives)
 
--- ---- each history happens
+-- ---- a history happens where its ends are true of disks
 
--- the disk after a call
-disk_then : (State → JobEnd → DiskState) → World → Entry → DiskState
-disk_then disks w (GaveBack finished (Some over)) = disks w.state finished
-disk_then disks w _ = w.disk
+-- a disk that may stand after a call
+disk_after : (w : World) (entry : Entry) → HasDisk w.state entry → (disk : DiskState) × DiskAfter w entry disk
+disk_after w (GaveBack finished (Some over)) has = has
+disk_after w (GaveBack finished None) has = (w.disk, refl)
+disk_after w (Executed session request reply) has = (w.disk, refl)
+disk_after w (Settled session reply) has = (w.disk, refl)
+disk_after w (Took taken) has = (w.disk, refl)
+disk_after w (Opened session) has = (w.disk, refl)
+disk_after w (Closed session granted) has = (w.disk, refl)
+disk_after w (Cleared session) has = (w.disk, refl)
+disk_after w (Sent session) has = (w.disk, refl)
+disk_after w (Delivered session) has = (w.disk, refl)
+disk_after w (Queried session byte) has = (w.disk, refl)
+disk_after w (Fetched session byte) has = (w.disk, refl)
+disk_after w (Told sessions work) has = (w.disk, refl)
+disk_after w (Locked session kind now timeout result) has = (w.disk, refl)
+disk_after w (Released session result) has = (w.disk, refl)
+disk_after w (Ticked now failed) has = (w.disk, refl)
+disk_after w (Informed info) has = (w.disk, refl)
+disk_after w (Due deadline) has = (w.disk, refl)
 
-disk_after : (disks : State → JobEnd → DiskState) → Carries disks → (w : World) (entry : Entry) (new : State) → Allows w.state entry new → DiskAfter w entry (disk_then disks w entry)
-unfolding disk_then
-disk_after disks carries w (GaveBack finished (Some over)) new allows = carries w.state new finished over allows
-disk_after disks carries w (GaveBack finished None) new allows = refl
-disk_after disks carries w (Executed session request reply) new allows = refl
-disk_after disks carries w (Settled session reply) new allows = refl
-disk_after disks carries w (Took taken) new allows = refl
-disk_after disks carries w (Opened session) new allows = refl
-disk_after disks carries w (Closed session granted) new allows = refl
-disk_after disks carries w (Cleared session) new allows = refl
-disk_after disks carries w (Sent session) new allows = refl
-disk_after disks carries w (Delivered session) new allows = refl
-disk_after disks carries w (Queried session byte) new allows = refl
-disk_after disks carries w (Fetched session byte) new allows = refl
-disk_after disks carries w (Told sessions work) new allows = refl
-disk_after disks carries w (Locked session kind now timeout result) new allows = refl
-disk_after disks carries w (Released session result) new allows = refl
-disk_after disks carries w (Ticked now failed) new allows = refl
-disk_after disks carries w (Informed info) new allows = refl
-disk_after disks carries w (Due deadline) new allows = refl
+Happened : World → List (Numbered Entry) → State → Type 0
+Happened w history last = (happenings : List Happening) × (new : World) × (calls_in happenings ≡ history) × Lives w happenings new × (new.state ≡ last)
 
-pub histories_happen : HistoriesHappen
-histories_happen w [] last disks running carries leads = ([], w, refl, refl, leads)
-histories_happen w (call ∷ history) last disks running carries (next, inl allows, rest) =
-    let disk = disk_then disks w call.entry in
-    let mid : World = record w { state = next; history = recorded w.state call.entry w.history; disk = disk } in
-    let r = histories_happen mid history last disks running carries rest in (
-      Called call disk ∷ r.0,
+happen : (history : List (Numbered Entry)) (w : World) (last : State) → w.mode ≡ Running → LeadsOverDisks w.state history last → Happened w history last
+unfolding Happened
+happen [] w last running leads = ([], w, refl, refl, leads)
+happen (call ∷ history) w last running (next, inl allows, has, rest) =
+    let after = disk_after w call.entry has in
+    let mid : World = record w { state = next; history = recorded w.state call.entry w.history; disk = after.0 } in
+    let r = happen history mid last running rest in (
+      Called call after.0 ∷ r.0,
       r.1,
       ap (λ (l : List (Numbered Entry)). call ∷ l) r.2,
-      inl (mid, (next, running, allows, disk_after disks carries w call.entry next allows, refl), r.3),
+      inl (mid, (next, running, allows, after.1, refl), r.3),
       r.4,
     )
-histories_happen w (call ∷ history) last disks running carries (next, inr (absent, same), rest) =
-    let r = histories_happen w history last disks running carries (subst (λ (s : State). Leads Admits s history last) same rest) in (
+happen (call ∷ history) w last running (next, inr (absent, same), has, rest) =
+    let r = happen history w last running (subst (λ (s : State). LeadsOverDisks s history last) same rest) in (
       Called call w.disk ∷ r.0,
       r.1,
       ap (λ (l : List (Numbered Entry)). call ∷ l) r.2,
       inr (absent, refl, r.3),
       r.4,
     )
+
+-- ---- and there alone
+
+has_after : (w : World) (entry : Entry) (disk : DiskState) → DiskAfter w entry disk → HasDisk w.state entry
+has_after w (GaveBack finished (Some over)) disk is = (disk, is)
+has_after w (GaveBack finished None) disk is = tt
+has_after w (Executed session request reply) disk is = tt
+has_after w (Settled session reply) disk is = tt
+has_after w (Took taken) disk is = tt
+has_after w (Opened session) disk is = tt
+has_after w (Closed session granted) disk is = tt
+has_after w (Cleared session) disk is = tt
+has_after w (Sent session) disk is = tt
+has_after w (Delivered session) disk is = tt
+has_after w (Queried session byte) disk is = tt
+has_after w (Fetched session byte) disk is = tt
+has_after w (Told sessions work) disk is = tt
+has_after w (Locked session kind now timeout result) disk is = tt
+has_after w (Released session result) disk is = tt
+has_after w (Ticked now failed) disk is = tt
+has_after w (Informed info) disk is = tt
+has_after w (Due deadline) disk is = tt
+
+-- a call with a session that isn't open gives no end back
+has_absent : (s : State) (entry : Entry) → HasNoSession s entry → HasDisk s entry
+has_absent s (GaveBack finished over) absent = absurd absent
+has_absent s (Executed session request reply) absent = tt
+has_absent s (Settled session reply) absent = tt
+has_absent s (Took taken) absent = tt
+has_absent s (Opened session) absent = tt
+has_absent s (Closed session granted) absent = tt
+has_absent s (Cleared session) absent = tt
+has_absent s (Sent session) absent = tt
+has_absent s (Delivered session) absent = tt
+has_absent s (Queried session byte) absent = tt
+has_absent s (Fetched session byte) absent = tt
+has_absent s (Told sessions work) absent = tt
+has_absent s (Locked session kind now timeout result) absent = tt
+has_absent s (Released session result) absent = tt
+has_absent s (Ticked now failed) absent = tt
+has_absent s (Informed info) absent = tt
+has_absent s (Due deadline) absent = tt
+
+led : (happenings : List Happening) (w new : World) → Lives w happenings new → LeadsOverDisks w.state (calls_in happenings) new.state
+led [] w new same = sym (ap (λ (z : World). z.state) same)
+led (Called call disk ∷ more) w new (inl (mid, happens, rest)) =
+    (mid.state, subst (λ (s : State). Admits w.state call.entry s) (sym (ap (λ (z : World). z.state) happens.4)) (inl happens.2), has_after w call.entry disk happens.3, led more mid new rest)
+led (Called call disk ∷ more) w new (inr (absent, same, rest)) = (w.state, inr (absent, refl), has_absent w.state call.entry absent, led more w new rest)
+led (Moved disk ∷ more) w new (mid, happens, rest) = subst (λ (s : State). LeadsOverDisks s (calls_in more) new.state) (still w mid disk happens) (led more mid new rest)
+
+led_to : (w : World) (history : List (Numbered Entry)) (last : State) → Happened w history last → LeadsOverDisks w.state history last
+unfolding Happened
+led_to w history last (happenings, new, same, lives, is) =
+    subst (λ (h : List (Numbered Entry)). LeadsOverDisks w.state h last) same (subst (λ (s : State). LeadsOverDisks w.state (calls_in happenings) s) is (led happenings w new lives))
+
+pub histories_happen : HistoriesHappen
+unfolding Happened
+histories_happen w history last running = (happen history w last running, led_to w history last)
+
+-- ---- one that does
+
+-- no power is lost
+Goes : List Event → Type 0
+Goes [] = ⊤
+Goes (Call entry disk ∷ more) = Goes more
+Goes (DiskCall disk ∷ more) = Goes more
+Goes (Loss image ∷ more) = ⊥
+Goes (Restart limit contents ∷ more) = ⊥
+
+lives_of : (events : List Event) (w new : World) → Goes events → Run w events new → Lives w (by_one events) new
+unfolding Goes
+lives_of [] w new goes same = same
+lives_of (Call entry disk ∷ more) w new goes (mid, happens, rest) = inl (mid, happens, lives_of more mid new goes rest)
+lives_of (DiskCall disk ∷ more) w new goes (mid, happens, rest) = (mid, happens, lives_of more mid new goes rest)
+lives_of (Loss image ∷ more) w new goes run = absurd goes
+lives_of (Restart limit contents ∷ more) w new goes run = absurd goes
+
+pub some_history_happens : SomeHistoryHappens
+unfolding Goes
+some_history_happens first torn disk start moves either mends each =
+    let life = breaks_and_mends first torn disk start moves either mends each in (life.0, lives_of (broken_life first torn disk) first life.0 tt life.2, life.3)
 
 -- ---- what a power loss leaves
 

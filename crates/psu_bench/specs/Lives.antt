@@ -1,13 +1,14 @@
 -- The histories of the bench as events of the theorem on power loss.
-use Rattle.std.specs.Prelude.{◌≡◌, ◌⊎◌, ℕ, Some, List, [], ◌∷◌}
+use Rattle.std.specs.Prelude.{◌≡◌, ◌⊎◌, ◌↔◌, ℕ, Some, List, [], ◌∷◌, ⊤}
 use Rattle.psu_disk.specs.Disk.{DiskState, Left}
-use Rattle.psu_items.specs.Image.{Stands}
+use Rattle.psu_items.specs.Image.{Stands, EachStands, EachIsEither}
 use Rattle.psu_nv.specs.Contents.{items_of}
 use Rattle.psu_exec.specs.Device.{State, target}
-use Rattle.psu_exec.specs.Calls.{Entry, GaveBack, JobEnd, Allows}
+use Rattle.psu_exec.specs.Calls.{Entry, GaveBack}
 use Rattle.psu_exec.specs.Headline.{IsPrefix}
-use Rattle.psu_exec.specs.World.{World, Running, Event, Call, DiskCall, Happens, IsStart, IsTrueOf, Run, after}
-use Rattle.psu_turn.specs.History.{Leads}
+use Rattle.psu_exec.specs.Lives.{cleared, broken_life}
+use Rattle.psu_exec.specs.World.{World, Running, Event, Call, DiskCall, Loss, Restart, Happens, IsStart, IsTrueOf, Moves, Run, after, answered}
+use Rattle.psu_turn.specs.History.{Leads, numbered}
 use Rattle.psu_turn.specs.declared.numbered.Numbered.{Numbered}
 use Rattle.psu_bench.specs.Calls.{Admits, HasNoSession}
 
@@ -36,15 +37,34 @@ abbrev pub LivesAreEvents : Type 0
 LivesAreEvents = (w new : World) (happenings : List Happening) → Lives w happenings new
     → ((events : List Event) × Run w events new) × Leads Admits w.state (calls_in happenings) new.state
 
--- the disk of each end that is accepted is that of its end
-abbrev pub Carries : (State → JobEnd → DiskState) → Type 0
-Carries disks = (s new : State) (finished : JobEnd) (over : List ℕ) → Allows s (GaveBack finished (Some over)) new → IsTrueOf (target s.flush) finished (disks s finished)
+-- where the call gives back an end that is accepted, that end is true of some disk
+abbrev pub HasDisk : State → Entry → Type 0
+HasDisk s (GaveBack finished (Some over)) = (disk : DiskState) × IsTrueOf (target s.flush) finished disk
+HasDisk s _ = ⊤
 
--- Each legal history happens, with the disks that accepted ends carry.
+-- a legal history whose accepted ends are each true of some disk
+abbrev pub LeadsOverDisks : State → List (Numbered Entry) → State → Type 0
+LeadsOverDisks first [] last = first ≡ last
+LeadsOverDisks first (call ∷ more) last = (next : State) × Admits first call.entry next × HasDisk first call.entry × LeadsOverDisks next more last
+
+-- Those histories happen, and no others.
 abbrev pub HistoriesHappen : Type 0
-HistoriesHappen = (w : World) (history : List (Numbered Entry)) (last : State) (disks : State → JobEnd → DiskState)
-    → w.mode ≡ Running → Carries disks → Leads Admits w.state history last
-    → (happenings : List Happening) × (new : World) × (calls_in happenings ≡ history) × Lives w happenings new × (new.state ≡ last)
+HistoriesHappen = (w : World) (history : List (Numbered Entry)) (last : State) → w.mode ≡ Running
+    → LeadsOverDisks w.state history last ↔ ((happenings : List Happening) × (new : World) × (calls_in happenings ≡ history) × Lives w happenings new × (new.state ≡ last))
+
+-- what one thread does where these events happen, up to a power loss
+abbrev pub by_one : List Event → List Happening
+by_one [] = []
+by_one (Call entry disk ∷ more) = Called (numbered 1 entry) disk ∷ by_one more
+by_one (DiskCall disk ∷ more) = Moved disk ∷ by_one more
+by_one (Loss image ∷ more) = []
+by_one (Restart limit contents ∷ more) = []
+
+-- There are such histories: one with a job whose disk fails, a reopening of the store, and a 1 that is answered for what it then holds.
+abbrev pub SomeHistoryHappens : Type 0
+SomeHistoryHappens = (first : World) (torn disk : DiskState)
+    → IsStart first → Moves first.disk torn → EachIsEither torn first.limit (items_of first.start) (items_of (cleared first)) → Moves torn disk → EachStands disk first.limit (items_of (cleared first))
+    → (last : World) × Lives first (by_one (broken_life first torn disk)) last × (answered last.history ≡ 3)
 
 -- Whatever threads do, what a power loss may leave stands for the contents after a front of the executed units that holds every unit before an
 -- answered `*OPC?`.

@@ -7,6 +7,7 @@ pub trait Gate {
 }
 
 /// A gate that holds nobody up.
+#[derive(Clone, Copy, Debug, PartialEq, Eq)]
 pub struct Open;
 
 impl Gate for Open {

@@ -1,10 +1,12 @@
 //! Laws of the histories.
-ghost use Rattle.psu_bench.specs.Lives.{HistoriesHappen, LivesAreEvents, ThreadsLeavePrefix};
+ghost use Rattle.psu_bench.specs.Lives.{HistoriesHappen, LivesAreEvents, SomeHistoryHappens, ThreadsLeavePrefix};
 
-/// The theorem on power loss holds of threads: each legal history of a bench, with the disk calls of its jobs between its calls, is a list
-/// of events of the theorem, its calls with closed sessions apart, which leave everything as it is.
+/// The theorem on power loss holds of threads: what happens while they run, the calls of a legal history and the disk calls of its jobs, is a
+/// list of events of the theorem, calls with closed sessions apart, which leave everything as it is. The histories that happen are those
+/// whose accepted ends are each true of some disk, and there are such.
 pub fn histories_are_lives()
     ensures events { LivesAreEvents }
     ensures each { HistoriesHappen }
+    ensures some { SomeHistoryHappens }
     ensures prefix { ThreadsLeavePrefix }
 {}
