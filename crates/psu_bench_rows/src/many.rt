@@ -10,7 +10,7 @@ use std::alloc::Global;
 use std::sync::Wait;
 use std::thread::{Threads, join};
 
-const UNITS: u64 = 1_248;
+const UNITS: u64 = 6_248;
 
 type Device = Bench<MemDisk<Global>, Global>;
 
@@ -63,16 +63,16 @@ fn threads<R: Threads + Wait + Sync>(
     (some.saturating_add(more), seat)
 }
 
-// Sixteen threads make 1,250 calls each. Each unit is answered, and the one history has all the calls.
+// Sixteen threads make 6,250 calls each. Each unit is answered, and the one history has all the calls.
 #[test]
-fn sixteen_threads_make_20_000_calls(rt: HostRuntime) {
+fn sixteen_threads_make_100_000_calls(rt: HostRuntime) {
     let exec = powered_on(&rt, rt.alloc(), formatted(&rt, rt.alloc()));
     let Ok((bench, seat)) = Bench::new(rt.alloc(), exec) else {
         panic!(rt; "no memory")
     };
     let (answers, mut seat) = threads(&rt, &bench, seat, 4);
-    assert_eq!(rt; answers, 19_968);
-    assert_eq!(rt; bench.progress(&mut seat), 20_000);
+    assert_eq!(rt; answers, 99_968);
+    assert_eq!(rt; bench.progress(&mut seat), 100_000);
     assert!(rt; !bench.close(&rt, seat).is_open(Session::at(0)));
 }
 
