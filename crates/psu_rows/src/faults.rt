@@ -1,8 +1,11 @@
 // Runs that end in a fault: readers and writers that fail, input that is too long, images that can't be opened.
 use crate::images::{SIZE, formatted};
+use crate::runs::{cause_of, run_from, run_on};
 use psu_disk::{Disk, FailOnce, MemDisk};
 use psu_server::{RunCause, StartCause, run};
+use std::alloc::Global;
 use std::io::{self, ErrorKind, Read, Write};
+use std::process::Abort;
 
 /// A reader that gives at most some bytes at a call, and fails after some calls.
 #[derive(Drop)]
@@ -69,93 +72,127 @@ const INPUT: &[u8] = b"*IDN?\n*PSC 0;*SRE 4;*OPC?\n!POWER\n*SRE?";
 
 const OUTPUT: &[u8] = b"EXAMPLE,PSU4,0,1.0\n1\n4\n";
 
+// A run of so many calls of a reader, which gives this much at each. It writes a front of the output, and all of it where it ends well.
+fn read_by(rt: &impl Abort, alloc: Global, piece: usize, calls: u32) {
+    let mut reader = Halting {
+        rest: INPUT,
+        piece,
+        calls,
+    };
+    let disk = formatted(alloc).expect(rt, "an image");
+    let ended = run_from(alloc, alloc, &mut reader, disk);
+    match ended.cause {
+        None => assert_eq!(rt; ended.text.as_slice(), OUTPUT),
+        Some(cause) => assert_eq!(rt; cause, RunCause::Read),
+    }
+    assert!(rt; OUTPUT.starts_with(ended.text.as_slice()));
+}
+
 #[test]
 fn a_reader_that_fails_leaves_what_was_written(rt: HostRuntime) {
     for piece in [1usize, 2, 7, 40] {
         for calls in [0u32, 1, 2, 5, 6, 20, 39, 41] {
-            let mut reader = Halting {
-                rest: INPUT,
-                piece,
-                calls,
-            };
-            let mut output = Vec::new(rt.alloc());
-            let disk = formatted(rt.alloc()).expect(&rt, "an image");
-            match run(rt.alloc(), &mut reader, &mut output, disk) {
-                Ok(_) => assert_eq!(rt; output.as_slice(), OUTPUT),
-                Err(fault) => assert_eq!(rt; fault.cause, RunCause::Read),
-            }
-            assert!(rt; OUTPUT.starts_with(output.as_slice()));
+            read_by(&rt, rt.alloc(), piece, calls);
         }
     }
+}
+
+// A run whose writer takes so many bytes: it ends well where that is all of the output, and else writes as much.
+fn written_into(rt: &impl Abort, alloc: Global, room: usize) {
+    let mut reader: &[u8] = INPUT;
+    let mut output = Filling {
+        bytes: Vec::new(alloc),
+        room,
+    };
+    let disk = formatted(alloc).expect(rt, "an image");
+    match cause_of(run(alloc, &mut reader, &mut output, disk)) {
+        None => assert!(rt; room >= OUTPUT.len()),
+        Some(cause) => {
+            assert_eq!(rt; cause, RunCause::Write);
+            assert!(rt; room < OUTPUT.len());
+        }
+    }
+    assert_eq!(rt; output.bytes.as_slice(), &OUTPUT[..room.min(OUTPUT.len())]);
 }
 
 #[test]
 fn a_writer_that_fails_is_a_fault(rt: HostRuntime) {
     for room in [0usize, 1, 18, 19, 20, 22, 23, 24] {
-        let mut reader: &[u8] = INPUT;
-        let mut output = Filling {
-            bytes: Vec::new(rt.alloc()),
-            room,
-        };
-        let disk = formatted(rt.alloc()).expect(&rt, "an image");
-        match run(rt.alloc(), &mut reader, &mut output, disk) {
-            Ok(_) => assert!(rt; room >= OUTPUT.len()),
-            Err(fault) => {
-                assert_eq!(rt; fault.cause, RunCause::Write);
-                assert!(rt; room < OUTPUT.len());
-            }
-        }
-        assert_eq!(rt; output.bytes.as_slice(), &OUTPUT[..room.min(OUTPUT.len())]);
+        written_into(&rt, rt.alloc(), room);
     }
+}
+
+// Why a run of so many bytes ends early, if it does. It writes nothing.
+fn flooded(rt: &impl Abort, alloc: Global, left: usize, piece: usize) -> Option<RunCause> {
+    let mut reader = Flood {
+        byte: b'x',
+        left,
+        piece,
+    };
+    let disk = formatted(alloc).expect(rt, "an image");
+    let ended = run_from(alloc, alloc, &mut reader, disk);
+    assert!(rt; ended.text.is_empty());
+    ended.cause
 }
 
 #[test]
 fn input_is_bounded(rt: HostRuntime) {
     let floods = [
         // So many reads of a byte and one more that finds the end; then a read too many.
-        (1_048_575usize, 1usize, true),
-        (1_048_576, 1, false),
+        (1_048_575usize, 1usize, None),
+        (1_048_576, 1, Some(RunCause::TooLong)),
         // So many bytes; then a byte too many.
-        (16_777_216, 65_536, true),
-        (16_777_217, 65_536, false),
+        (16_777_216, 65_536, None),
+        (16_777_217, 65_536, Some(RunCause::TooLong)),
     ];
-    for (left, piece, ends) in floods {
-        let mut reader = Flood {
-            byte: b'x',
-            left,
-            piece,
-        };
-        let mut output = Vec::new(rt.alloc());
-        let disk = formatted(rt.alloc()).expect(&rt, "an image");
-        match run(rt.alloc(), &mut reader, &mut output, disk) {
-            Ok(_) => assert!(rt; ends, "{left} by {piece}"),
-            Err(fault) => {
-                assert_eq!(rt; fault.cause, RunCause::TooLong);
-                assert!(rt; !ends, "{left} by {piece}");
-            }
-        }
-        assert!(rt; output.is_empty());
+    for (left, piece, want) in floods {
+        let cause = flooded(&rt, rt.alloc(), left, piece);
+        assert_eq!(rt; cause, want, "{left} by {piece}");
     }
+}
+
+// Looks at a run on a disk without a root: it reads and writes nothing.
+fn is_not_opened(rt: &impl Abort, alloc: Global, size: u64) {
+    let mut reader: &[u8] = INPUT;
+    let disk = MemDisk::new(alloc, size).expect(rt, "memory");
+    let ended = run_from(alloc, alloc, &mut reader, disk);
+    assert_eq!(rt; ended.cause, Some(RunCause::Open(StartCause::NoRoot)));
+    assert_eq!(rt; reader, INPUT);
+    assert!(rt; ended.text.is_empty());
 }
 
 #[test]
 fn an_image_that_is_none_is_not_opened(rt: HostRuntime) {
-    let mut reader: &[u8] = INPUT;
-    let mut output = Vec::new(rt.alloc());
     for size in [0, 1_023, SIZE] {
-        let disk = MemDisk::new(rt.alloc(), size).expect(&rt, "memory");
-        match run(rt.alloc(), &mut reader, &mut output, disk) {
-            Ok(_) => assert!(rt; false, "it was opened"),
-            Err(fault) => {
-                assert_eq!(rt; fault.cause, RunCause::Open(StartCause::NoRoot));
-            }
-        }
-        assert_eq!(rt; reader, INPUT);
-        assert!(rt; output.is_empty());
+        is_not_opened(&rt, rt.alloc(), size);
     }
 }
 
 const SAVES: &[u8] = b"*PSC 0;*OPC?\n*ESR?\n*OPC?\n!POWER\n*PSC?\n";
+
+// The way in which a run of saves came out, where one call failed.
+fn way_of(cause: Option<RunCause>, text: &[u8]) -> Option<usize> {
+    let opening = Some(RunCause::Open(StartCause::Device));
+    let ways = [
+        (None, "1\n128\n1\n0\n"),
+        (None, "136\n1\n0\n"),
+        (opening, ""),
+        (opening, "1\n128\n1\n"),
+    ];
+    for (way, (ended, told)) in ways.iter().enumerate() {
+        if cause == *ended && text == told.as_bytes() {
+            return Some(way);
+        }
+    }
+    None
+}
+
+// A run of saves on a disk of which this call fails.
+fn saved_on_failing(rt: &impl Abort, alloc: Global, call: u64) -> Option<usize> {
+    let disk = formatted(alloc).expect(rt, "an image");
+    let ended = run_on(alloc, SAVES, FailOnce::new(disk, call));
+    way_of(ended.cause, ended.text.as_slice())
+}
 
 // A commit that fails answers its `*OPC?` with -320, which sets DDE (8) beside PON (128); the store is opened again, and the next
 // `*OPC?` is answered: what it confirmed is there when power returns. An opening that fails ends the run.
@@ -163,70 +200,51 @@ const SAVES: &[u8] = b"*PSC 0;*OPC?\n*ESR?\n*OPC?\n!POWER\n*PSC?\n";
 fn a_disk_that_fails_once_is_opened_again(rt: HostRuntime) {
     let mut seen = [false; 4];
     for call in 0..60 {
-        let mut reader: &[u8] = SAVES;
-        let mut output = Vec::new(rt.alloc());
-        let disk = formatted(rt.alloc()).expect(&rt, "an image");
-        let ended = match run(
-            rt.alloc(),
-            &mut reader,
-            &mut output,
-            FailOnce::new(disk, call),
-        ) {
-            Ok(_) => None,
-            Err(fault) => Some(fault.cause),
-        };
-        let opening = Some(RunCause::Open(StartCause::Device));
-        let ways = [
-            (None, "1\n128\n1\n0\n"),
-            (None, "136\n1\n0\n"),
-            (opening, ""),
-            (opening, "1\n128\n1\n"),
-        ];
-        let mut found = false;
-        for (way, (cause, text)) in ways.iter().enumerate() {
-            if ended == *cause && output.as_slice() == text.as_bytes() {
-                seen[way] = true;
-                found = true;
-            }
+        match saved_on_failing(&rt, rt.alloc(), call) {
+            Some(way) if way < 4 => seen[way] = true,
+            _ => panic!(&rt; "at call {call}"),
         }
-        assert!(rt; found, "at call {call}");
     }
     assert!(rt; seen[0] && seen[1] && seen[2] && seen[3]);
 }
 
-// Two calls that fail: one of the commit, and one of the reopening after it.
+// Two calls that fail. Where power comes back what was answered is there; where an opening failed no more was written.
+fn fails_twice(rt: &impl Abort, alloc: Global, first: u64, second: u64) {
+    let disk = formatted(alloc).expect(rt, "an image");
+    let failing = FailOnce::new(FailOnce::new(disk, first.saturating_add(second)), first);
+    let ended = run_on(alloc, b"*PSC 0;*OPC?\n*OPC?\n!POWER\n*PSC?\n", failing);
+    if ended.cause.is_none() {
+        assert!(rt; ended.text.ends_with(b"1\n0\n"), "at {first}, {second}");
+    } else {
+        assert!(rt; !ended.text.ends_with(b"0\n"), "at {first}, {second}");
+    }
+}
+
+// One of the commit, and one of the reopening after it.
 #[test]
 fn a_reopening_that_fails_is_tried_again(rt: HostRuntime) {
-    for first in 3..11 {
-        for second in 0..4 {
-            let mut reader: &[u8] = b"*PSC 0;*OPC?\n*OPC?\n!POWER\n*PSC?\n";
-            let mut output = Vec::new(rt.alloc());
-            let disk = formatted(rt.alloc()).expect(&rt, "an image");
-            let failing = FailOnce::new(FailOnce::new(disk, first + second), first);
-            let ended = run(rt.alloc(), &mut reader, &mut output, failing).is_ok();
-            // Where power comes back what was answered is there; where an opening failed no more was written.
-            if ended {
-                assert!(rt; output.ends_with(b"1\n0\n"), "at {first}, {second}");
-            } else {
-                assert!(rt; !output.ends_with(b"0\n"), "at {first}, {second}");
-            }
+    for first in 3..11u64 {
+        for second in 0..4u64 {
+            fails_twice(&rt, rt.alloc(), first, second);
         }
     }
 }
 
-#[test]
-fn an_image_of_the_last_number_takes_no_commit(rt: HostRuntime) {
-    let mut reader: &[u8] = b"*PSC 0;*OPC?;*ESR?\n!POWER\n*PSC?;*SRE 1;*PSC 0\n";
-    let mut output = Vec::new(rt.alloc());
-    let mut disk = formatted(rt.alloc()).expect(&rt, "an image");
+// A formatted image whose root has the last number that there is.
+fn of_the_last_number(rt: &impl Abort, alloc: Global) -> MemDisk<Global> {
+    let mut disk = formatted(alloc).expect(rt, "an image");
     assert!(rt; disk.size() >= 16);
     assert!(rt; disk.write(8, &[255; 8]).is_ok());
     assert!(rt; disk.sync().is_ok());
-    match run(rt.alloc(), &mut reader, &mut output, disk) {
-        Ok(_) => assert!(rt; false, "it ends well"),
-        Err(fault) => assert_eq!(rt; fault.cause, RunCause::Device),
-    }
-    assert_eq!(rt; output.as_slice(), b"136\n1\n".as_slice());
+    disk
+}
+
+#[test]
+fn an_image_of_the_last_number_takes_no_commit(rt: HostRuntime) {
+    let input = b"*PSC 0;*OPC?;*ESR?\n!POWER\n*PSC?;*SRE 1;*PSC 0\n";
+    let ended = run_on(rt.alloc(), input, of_the_last_number(&rt, rt.alloc()));
+    assert_eq!(rt; ended.cause, Some(RunCause::Device));
+    assert_eq!(rt; ended.text.as_slice(), b"136\n1\n".as_slice());
 }
 
 /// A writer that counts the calls of `write`.

@@ -1,7 +1,8 @@
 // Images that are refused, each for its cause, and one whose number is the last that there is.
 use crate::images::{SIZE, formatted};
+use crate::runs::run_on;
 use psu_disk::{Disk, MemDisk};
-use psu_server::{RecoverFault, RunCause, recover, run};
+use psu_server::{RecoverFault, RunCause, recover};
 use std::alloc::Global;
 use std::process::Abort;
 
@@ -16,17 +17,21 @@ fn spoiled(rt: &impl Abort, alloc: Global, writes: &[(u64, &[u8])]) -> MemDisk<G
     disk
 }
 
+// Why an image is refused.
+fn refusal(alloc: Global, disk: MemDisk<Global>) -> Option<RecoverFault> {
+    match recover(alloc, disk) {
+        Ok(_) => None,
+        Err(fault) => Some(fault),
+    }
+}
+
 // Looks at why each of these images is refused, and at the text of that.
 fn are_refused(rt: &impl Abort, alloc: Global, rows: &[(&[(u64, &[u8])], RecoverFault, &str)]) {
     for (writes, want, text) in rows {
-        match recover(alloc, spoiled(rt, alloc, writes)) {
-            Ok(_) => panic!(rt; "a report in the place of {text}"),
-            Err(fault) => {
-                assert!(rt; fault == *want, "{fault} in the place of {text}");
-                let told = format!(in alloc; "{fault}").expect(rt, "memory");
-                assert!(rt; told.as_bytes() == text.as_bytes());
-            }
-        }
+        let fault = refusal(alloc, spoiled(rt, alloc, writes));
+        assert!(rt; fault == Some(*want), "{fault:?} in the place of {text}");
+        let told = format!(in alloc; "{want}").expect(rt, "memory");
+        assert!(rt; told.as_bytes() == text.as_bytes());
     }
 }
 
@@ -92,11 +97,10 @@ fn spoiled_heads_are_refused(rt: HostRuntime) {
 #[test]
 fn the_last_number_takes_no_save(rt: HostRuntime) {
     let disk = spoiled(&rt, rt.alloc(), &[(8, &[255; 8])]);
-    let mut reader = b"*SAV 1;*OPC?\nSYST:ERR?\n".as_slice();
-    let mut text = Vec::new(rt.alloc());
-    match run(rt.alloc(), &mut reader, &mut text, disk) {
-        Ok(_) => panic!(&rt; "it ends well"),
-        Err(fault) => assert_eq!(rt; fault.cause, RunCause::Device),
-    }
-    assert_eq!(rt; text.as_slice(), b"-320,\"Storage fault\"\n".as_slice());
+    let ended = run_on(rt.alloc(), b"*SAV 1;*OPC?\nSYST:ERR?\n", disk);
+    assert_eq!(rt; ended.cause, Some(RunCause::Device));
+    assert_eq!(rt;
+        ended.text.as_slice(),
+        b"-320,\"Storage fault\"\n".as_slice()
+    );
 }

@@ -1,6 +1,7 @@
 // Lines that no honest controller sends: each is one error, or nothing, and what follows is executed.
 use crate::images::{formatted, written, written_on};
-use psu_server::{RunCause, run};
+use crate::runs::{Ran, run_from};
+use psu_server::RunCause;
 use std::alloc::{AllocError, Global};
 use std::io::{self, Read};
 
@@ -115,15 +116,9 @@ fn a_reader_that_never_ends(rt: HostRuntime) {
         rest: b"VOLT 1;*SAV 1;VOLT?\n*IDN?\n*IDN?",
         calls: 0,
     };
-    let mut text = Vec::new(rt.alloc());
     let image = formatted(rt.alloc()).expect(&rt, "an image");
-    let disk = match run(rt.alloc(), &mut reader, &mut text, image) {
-        Ok(_) => panic!(&rt; "it ends well"),
-        Err(fault) => {
-            assert_eq!(rt; fault.cause, RunCause::TooLong);
-            fault.disk
-        }
-    };
+    let Ran { text, cause, disk } = run_from(rt.alloc(), rt.alloc(), &mut reader, image);
+    assert_eq!(rt; cause, Some(RunCause::TooLong));
     assert_eq!(rt; reader.calls, 1_048_576);
     assert_eq!(rt; text.as_slice(), b"1.000\nEXAMPLE,PSU4,0,1.0\n".as_slice());
     let held = written_on(rt.alloc(), disk, b"*RCL 1;VOLT?\n").expect(&rt, "the image opens");

@@ -1,5 +1,6 @@
 // The worked rows of the whole instrument, as inputs of a run on a formatted image and its output.
 use crate::images::{least, run_rows, written, written_on};
+use crate::texts::joined;
 use std::alloc::AllocError;
 
 #[test]
@@ -69,18 +70,16 @@ fn rows_of_the_instrument(rt: HostRuntime) {
 // User data have 63 bytes at most.
 #[test]
 fn user_data_of_63_bytes(rt: HostRuntime) {
-    let mut input = Vec::new(rt.alloc());
-    let mut want = Vec::new(rt.alloc());
-    put(
-        &mut input,
-        b"DIAG:PUD:PROT OFF\n*PUD #264",
-        b'x',
-        64,
-        b"\nSYST:ERR?\n",
-    )
-    .expect(&rt, "memory");
-    put(&mut input, b"*PUD #263", b'x', 63, b";*PUD?\n").expect(&rt, "memory");
-    put(&mut want, b"-223,\"Too much data\"\n#263", b'x', 63, b"\n").expect(&rt, "memory");
+    let parts: [(&[u8], usize); 5] = [
+        (b"DIAG:PUD:PROT OFF\n*PUD #264", 1),
+        (b"x", 64),
+        (b"\nSYST:ERR?\n*PUD #263", 1),
+        (b"x", 63),
+        (b";*PUD?\n", 1),
+    ];
+    let told: [(&[u8], usize); 3] = [(b"-223,\"Too much data\"\n#263", 1), (b"x", 63), (b"\n", 1)];
+    let input = joined(rt.alloc(), &parts).expect(&rt, "memory");
+    let want = joined(rt.alloc(), &told).expect(&rt, "memory");
     let got = written(rt.alloc(), input.as_slice()).expect(&rt, "the run ends well");
     assert_eq!(rt; got.as_slice(), want.as_slice());
 }
@@ -145,26 +144,18 @@ VOLT 3;*RCL 2;VOLT?;*RCL 1;VOLT?;*RCL 0;VOLT?\n";
 // Sixteen errors are kept; the newest of a full queue tells of the overflow.
 #[test]
 fn a_queue_that_overflows(rt: HostRuntime) {
-    let mut input = Vec::new(rt.alloc());
-    let mut want = Vec::new(rt.alloc());
-    for _ in 0..17 {
-        input.extend_from_slice(b"FOO\n").expect(&rt, "memory");
-    }
-    input
-        .extend_from_slice(b"SYST:ERR:COUN?\n*ESR?\n")
-        .expect(&rt, "memory");
-    want.extend_from_slice(b"16\n168\n").expect(&rt, "memory");
-    for _ in 0..15 {
-        want.extend_from_slice(b"-113,\"Undefined header\"\n")
-            .expect(&rt, "memory");
-    }
-    for _ in 0..17 {
-        input
-            .extend_from_slice(b"SYST:ERR?\n")
-            .expect(&rt, "memory");
-    }
-    want.extend_from_slice(b"-350,\"Queue overflow\"\n0,\"No error\"\n")
-        .expect(&rt, "memory");
+    let parts: [(&[u8], usize); 3] = [
+        (b"FOO\n", 17),
+        (b"SYST:ERR:COUN?\n*ESR?\n", 1),
+        (b"SYST:ERR?\n", 17),
+    ];
+    let told: [(&[u8], usize); 3] = [
+        (b"16\n168\n", 1),
+        (b"-113,\"Undefined header\"\n", 15),
+        (b"-350,\"Queue overflow\"\n0,\"No error\"\n", 1),
+    ];
+    let input = joined(rt.alloc(), &parts).expect(&rt, "memory");
+    let want = joined(rt.alloc(), &told).expect(&rt, "memory");
     let got = written(rt.alloc(), input.as_slice()).expect(&rt, "the run ends well");
     assert_eq!(rt; got.as_slice(), want.as_slice());
 }

@@ -32,6 +32,10 @@ mod reports;
 #[cfg(test)]
 mod rows;
 #[cfg(test)]
+mod runs;
+#[cfg(test)]
 mod scarce_lines;
 #[cfg(test)]
 mod supply_rows;
+#[cfg(test)]
+mod texts;

@@ -136,24 +136,28 @@ fn bodies_of_1024_bytes(rt: HostRuntime) {
     }
 }
 
+// The definitions of 32 macros, and what is behind them.
+fn thirty_two(alloc: Global, behind: &[u8]) -> Result<Vec<u8>, AllocError> {
+    let mut input = Vec::new(alloc);
+    for first in b"ABCD" {
+        for second in b"ABCDEFGH" {
+            input.extend_from_slice(b"*DMC \"")?;
+            input.extend_from_slice(&[*first, *second])?;
+            input.extend_from_slice(b"\",#10\n")?;
+        }
+    }
+    input.extend_from_slice(behind)?;
+    Ok(input)
+}
+
 // There are 32 macros at most: one more does not fit, whatever its label, unless it is wrong before that.
 #[test]
 fn thirty_two_macros(rt: HostRuntime) {
-    let mut input = Vec::new(rt.alloc());
-    for first in b"ABCD" {
-        for second in b"ABCDEFGH" {
-            input.extend_from_slice(b"*DMC \"").expect(&rt, "memory");
-            input
-                .extend_from_slice(&[*first, *second])
-                .expect(&rt, "memory");
-            input.extend_from_slice(b"\",#10\n").expect(&rt, "memory");
-        }
-    }
-    input
-        .extend_from_slice(
-            b"SYST:ERR?;*DMC \"E\",#10;*DMC \"aa\",#10;*DMC \"1\",#10\nSYST:ERR?;:SYST:ERR?;:SYST:ERR?\n*RMC \"dh\";*DMC \"E\",#10;*GMC? \"e\"\n",
-        )
-        .expect(&rt, "memory");
+    let input = thirty_two(
+        rt.alloc(),
+        b"SYST:ERR?;*DMC \"E\",#10;*DMC \"aa\",#10;*DMC \"1\",#10\nSYST:ERR?;:SYST:ERR?;:SYST:ERR?\n*RMC \"dh\";*DMC \"E\",#10;*GMC? \"e\"\n",
+    )
+    .expect(&rt, "memory");
     let want = "0,\"No error\"\n\
 -254,\"Media full\";-277,\"Macro redefinition not allowed\";-273,\"Illegal macro label\"\n#10\n";
     let got = written(rt.alloc(), &input).expect(&rt, "the run ends well");

@@ -1,13 +1,15 @@
 // Macros in runs: what a call writes, and where the message that it stands in goes on.
-use crate::images::{formatted, run_rows, written};
+use crate::images::{formatted, run_rows, written, written_on};
+use crate::texts::joined;
 use psu_disk::MemDisk;
 use psu_exec::{Ended, Exec};
 use psu_items::Store;
 use psu_lex::Unit;
-use psu_server::run;
 use psu_tree::{Path, request};
 use std::alloc::Global;
 use std::process::Abort;
+
+type Power = Exec<MemDisk<Global>, Global>;
 
 #[test]
 fn rows_of_macros(rt: HostRuntime) {
@@ -65,26 +67,19 @@ fn rows_of_macros(rt: HostRuntime) {
 // With 1,023 changes that are not flushed the second change of an expansion comes later: a flush, and then the same unit.
 #[test]
 fn an_expansion_that_fills_the_tail(rt: HostRuntime) {
-    let mut input = Vec::new(rt.alloc());
-    input
-        .extend_from_slice(b"*DMC \"S\",#219VOLT?;*SAV 1;*SAV 2;*EMC 1\n")
-        .expect(&rt, "memory");
-    for _ in 0..1_022 {
-        input.extend_from_slice(b"*SAV 0\n").expect(&rt, "memory");
-    }
-    input
-        .extend_from_slice(b"VOLT 7;S;VOLT?\n!POWER\n*RCL 1;VOLT?\n*RCL 2;VOLT?\n")
-        .expect(&rt, "memory");
+    let parts: [(&[u8], usize); 3] = [
+        (b"*DMC \"S\",#219VOLT?;*SAV 1;*SAV 2;*EMC 1\n", 1),
+        (b"*SAV 0\n", 1_022),
+        (b"VOLT 7;S;VOLT?\n!POWER\n*RCL 1;VOLT?\n*RCL 2;VOLT?\n", 1),
+    ];
+    let input = joined(rt.alloc(), &parts).expect(&rt, "memory");
     let got = written(rt.alloc(), input.as_slice()).expect(&rt, "the run ends well");
     assert_eq!(rt; got.as_slice(), b"7.000;7.000\n7.000\n0.000\n".as_slice());
 }
 
-// An image that holds a macro with a body of two lines.
-fn with_two_lines(rt: &impl Abort, alloc: Global) -> MemDisk<Global> {
-    let Some(disk) = formatted(alloc) else {
-        panic!(rt; "no format");
-    };
-    let Ok(store) = Store::open(alloc, disk) else {
+// A device that has executed a unit.
+fn executed(rt: &impl Abort, alloc: Global, text: &[u8]) -> Power {
+    let Ok(store) = Store::open(alloc, formatted(alloc).expect(rt, "an image")) else {
         panic!(rt; "not opened");
     };
     let Ok(mut exec) = Exec::power_on(alloc, store) else {
@@ -94,31 +89,46 @@ fn with_two_lines(rt: &impl Abort, alloc: Global) -> MemDisk<Global> {
         panic!(rt; "crowded");
     };
     let unit = Unit {
-        text: b"*DMC \"L\",#231SOUR2:VOLT 1;VOLT?\nVOLT 2;VOLT?",
+        text,
         first: true,
         fault: None,
     };
     exec.execute(session, &request(&mut Path::root(), &unit, false));
+    exec
+}
+
+// One job, from its take to its end.
+fn flush(rt: &impl Abort, exec: &mut Power) {
     match exec.take() {
         Ok(job) => assert!(rt; exec.give_back(job.run()).is_ok()),
         Err(_) => panic!(rt; "nothing to flush"),
     }
+}
+
+// The disk of a device with a whole store.
+fn whole(rt: &impl Abort, exec: Power) -> MemDisk<Global> {
     match exec.end() {
         Ended::Whole(store) => store.into_disk(),
         Ended::Failed(_) | Ended::Out(_) => panic!(rt; "no store"),
     }
 }
 
+// An image that holds a macro with a body of two lines.
+fn with_two_lines(rt: &impl Abort, alloc: Global) -> MemDisk<Global> {
+    let definition = b"*DMC \"L\",#231SOUR2:VOLT 1;VOLT?\nVOLT 2;VOLT?";
+    let mut exec = executed(rt, alloc, definition);
+    flush(rt, &mut exec);
+    whole(rt, exec)
+}
+
 // A line feed in an expansion leads back to the root, and ends no answer.
 #[test]
 fn an_expansion_of_two_lines(rt: HostRuntime) {
-    let alloc = rt.alloc();
-    let disk = with_two_lines(&rt, alloc);
-    let mut reader = b"*EMC 1;SOUR3:VOLT 3;L;VOLT?;:SOUR2:VOLT?;:VOLT?\n".as_slice();
-    let mut text = Vec::new(alloc);
-    assert!(rt; run(alloc, &mut reader, &mut text, disk).is_ok());
+    let disk = with_two_lines(&rt, rt.alloc());
+    let input = b"*EMC 1;SOUR3:VOLT 3;L;VOLT?;:SOUR2:VOLT?;:VOLT?\n";
+    let got = written_on(rt.alloc(), disk, input).expect(&rt, "the run ends well");
     assert_eq!(rt;
-        text.as_slice(),
+        got.as_slice(),
         b"1.000;2.000;3.000;1.000;2.000\n".as_slice()
     );
 }

@@ -1,8 +1,10 @@
 // Each allocation of five rows refused in turn: each unit gives its answer or -225, or the run ends for want of memory. What the disk
 // then holds is what a front of the accepted changes made, all of them where `*OPC?` was answered.
 use crate::images::{least, written_on};
+use crate::runs::{Ran, run_from};
 use bumpalo::Bump;
-use psu_server::{RunCause, run};
+use psu_disk::MemDisk;
+use psu_server::RunCause;
 use std::alloc::{AllocError, Global};
 use std::process::Abort;
 
@@ -131,32 +133,38 @@ impl Row<'_> {
         false
     }
 
-    // How the row ends with so many bytes of memory.
-    fn run_with(&self, rt: &impl Abort, alloc: Global, left: usize) -> End {
+    // A run of the row with so many bytes of memory.
+    fn ran_with(&self, rt: &impl Abort, alloc: Global, left: usize) -> Ran<MemDisk<Global>> {
         let arena = arena(alloc).expect(rt, "an arena");
         leave(&arena, left).expect(rt, "room");
         assert_eq!(rt; arena.chunk_capacity(), left);
         let image = least(alloc).expect(rt, "an image");
         let mut reader = self.input.as_bytes();
-        let mut text = Vec::new(alloc);
-        let (ended, disk) = match run(&arena, &mut reader, &mut text, image) {
-            Ok(disk) => (None, disk),
-            Err(fault) => (Some(fault.cause), fault.disk),
-        };
-        let told = text.as_slice();
-        assert!(rt;
-            matches!(ended, None | Some(RunCause::Memory)),
-            "{ended:?} at {left}"
-        );
-        let held = written_on(alloc, disk, self.question.as_bytes()).expect(rt, "the image opens");
-        assert!(rt;
-            self.allows(told, held.as_slice(), ended.is_none()),
-            "{told:?} at {left}"
-        );
-        match ended {
-            Some(_) => End::Refused,
-            None if told == self.output.as_bytes() => End::Whole,
+        run_from(alloc, &arena, &mut reader, image)
+    }
+
+    // How the row ends, where it may end so.
+    fn end_of(&self, text: &[u8], held: &[u8], cause: Option<RunCause>) -> Option<End> {
+        let end = match cause {
+            None if text == self.output.as_bytes() => End::Whole,
             None => End::Partly,
+            Some(RunCause::Memory) => End::Refused,
+            Some(_) => return None,
+        };
+        if self.allows(text, held, cause.is_none()) {
+            Some(end)
+        } else {
+            None
+        }
+    }
+
+    // How the row ends with so many bytes of memory.
+    fn run_with(&self, rt: &impl Abort, alloc: Global, left: usize) -> End {
+        let Ran { text, cause, disk } = self.ran_with(rt, alloc, left);
+        let held = written_on(alloc, disk, self.question.as_bytes()).expect(rt, "the image opens");
+        match self.end_of(text.as_slice(), held.as_slice(), cause) {
+            Some(end) => end,
+            None => panic!(rt; "{text:?} at {left}"),
         }
     }
 

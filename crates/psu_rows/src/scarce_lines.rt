@@ -2,8 +2,10 @@
 // done nothing else. The line behind it asks for that, with memory again.
 use crate::images::least;
 use crate::memory::{arena, leave};
+use crate::runs::{Ran, run_from};
 use bumpalo::Bump;
-use psu_server::{RunCause, run};
+use psu_disk::MemDisk;
+use psu_server::RunCause;
 use std::alloc::Global;
 use std::io::{self, ErrorKind, Read};
 use std::process::Abort;
@@ -56,8 +58,8 @@ impl Case<'_> {
         false
     }
 
-    // Which of the outputs is written with so many bytes; none where the run ends for want of memory.
-    fn run_with(&self, rt: &impl Abort, alloc: Global, left: usize) -> Option<usize> {
+    // A run of the lines with so many bytes for one of them.
+    fn ran_with(&self, rt: &impl Abort, alloc: Global, left: usize) -> Ran<MemDisk<Global>> {
         let arena = arena(alloc).expect(rt, "an arena");
         let lines = [
             self.before.as_bytes(),
@@ -70,19 +72,39 @@ impl Case<'_> {
             next: 0,
             left,
         };
-        let mut text = Vec::new(alloc);
-        let image = least(alloc).expect(rt, "an image");
-        if let Err(fault) = run(&arena, &mut reader, &mut text, image) {
-            assert_eq!(rt; fault.cause, RunCause::Memory, "at {left}");
-            assert!(rt; self.begins(text.as_slice()), "{text:?} at {left}");
-            return None;
-        }
+        run_from(
+            alloc,
+            &arena,
+            &mut reader,
+            least(alloc).expect(rt, "an image"),
+        )
+    }
+
+    // Which of the outputs a text is.
+    fn output_of(&self, text: &[u8]) -> Option<usize> {
         for (number, output) in self.outputs.iter().enumerate() {
-            if output.as_bytes() == text.as_slice() {
+            if output.as_bytes() == text {
                 return Some(number);
             }
         }
-        panic!(rt; "{text:?} at {left}")
+        None
+    }
+
+    // Which of the outputs is written with so many bytes; none where the run ends for want of memory.
+    fn run_with(&self, rt: &impl Abort, alloc: Global, left: usize) -> Option<usize> {
+        let Ran {
+            text,
+            cause,
+            disk: _,
+        } = self.ran_with(rt, alloc, left);
+        let Some(cause) = cause else {
+            let number = self.output_of(text.as_slice());
+            assert!(rt; number.is_some(), "{text:?} at {left}");
+            return number;
+        };
+        assert_eq!(rt; cause, RunCause::Memory, "at {left}");
+        assert!(rt; self.begins(text.as_slice()), "{text:?} at {left}");
+        None
     }
 
     // Less and less of the line's memory refused, until all of it is there.

@@ -1,0 +1,42 @@
+// A run, and what it came to.
+use psu_disk::Disk;
+use psu_server::{RunCause, RunFault, run};
+use std::alloc::{Allocator, Global};
+use std::io::Read;
+
+/// What a run came to: its text, why it ended early, and the disk.
+#[derive(Drop)]
+pub struct Ran<D: Disk> {
+    pub text: Vec<u8>,
+    pub cause: Option<RunCause>,
+    pub disk: D,
+}
+
+/// A run of this input on a disk.
+pub fn run_on<D: Disk>(alloc: Global, input: &[u8], disk: D) -> Ran<D> {
+    let mut reader = input;
+    run_from(alloc, alloc, &mut reader, disk)
+}
+
+/// A run of what a reader gives, with memory of its own.
+pub fn run_from<R: Read, D: Disk, A: Allocator + Copy>(
+    alloc: Global,
+    memory: A,
+    reader: &mut R,
+    disk: D,
+) -> Ran<D> {
+    let mut text = Vec::new(alloc);
+    let (cause, disk) = match run(memory, reader, &mut text, disk) {
+        Ok(disk) => (None, disk),
+        Err(fault) => (Some(fault.cause), fault.disk),
+    };
+    Ran { text, cause, disk }
+}
+
+/// Why a run ended early, if it did.
+pub fn cause_of<D: Disk + Drop>(ended: Result<D, RunFault<D>>) -> Option<RunCause> {
+    match ended {
+        Ok(_) => None,
+        Err(fault) => Some(fault.cause),
+    }
+}
