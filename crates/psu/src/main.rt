@@ -7,6 +7,7 @@ mod words;
 
 use commands::{make_image, recover_image, run_image, run_in_memory};
 use fault::Fault;
+use psu_serve::{Open, serve};
 use std::io::Eprint;
 use std::process::ExitCode;
 use words::{Choice, WordsFault, choice_of};
@@ -32,8 +33,10 @@ fn main(rt: HostRuntime) -> ExitCode {
         Choice::Run(None) => ended(&rt, run_in_memory(&rt, alloc)),
         Choice::Run(Some(image)) => ended(&rt, run_image(&rt, alloc, image)),
         Choice::Recover(image) => ended(&rt, recover_image(&rt, alloc, image)),
-        // The server over sockets does not stand yet.
-        Choice::Serve(_, _) => ExitCode::from(REFUSED),
+        Choice::Serve(image, port) => {
+            let fault = serve(rt, alloc, image, port, Open);
+            ended(&rt, Err(Fault::Serve(fault)))
+        }
     }
 }
 

@@ -1,0 +1,169 @@
+// The server: it powers on, and gives each connection a thread.
+use crate::caller::{Caller, ServedDisk};
+use crate::connection::Connection;
+use crate::flushing::Flusher;
+use crate::link::Link;
+use crate::serve_fault::ServeFault;
+use crate::server::Server;
+use crate::shared_gate::SharedGate;
+use crate::silent::Silent;
+use psu_bench::{Gate, Gated};
+use psu_disk::FileDisk;
+use psu_exec::Exec;
+use psu_items::Store;
+use std::alloc::Global;
+use std::fs::File;
+use std::io::{Eprint, Print};
+use std::net::{Net, TcpListener, TcpStream};
+use std::rt::{Clock, Files};
+use std::sync::{Arc, Mutex, Wait};
+use std::thread::Threads;
+use std::time::{Duration, Instant};
+use std::{io, thread};
+
+/// How long the acceptor sleeps where no connection can be accepted, in milliseconds.
+const PAUSE: u64 = 20;
+
+// The device, powered on with what an image holds.
+fn power_on<R: Files<File = File>, G: Gate + Drop>(
+    rt: &R,
+    alloc: Global,
+    image: &str,
+    gate: G,
+) -> Result<Caller<G>, ServeFault> {
+    let file = FileDisk::of(rt, image).map_err(ServeFault::File)?;
+    let Ok(gate) = Arc::new(alloc, gate) else {
+        return Err(ServeFault::Memory);
+    };
+    let gate = SharedGate::new(gate);
+    let disk: ServedDisk<G> = Gated::new(file, gate.another()?);
+    let store = match Store::open(alloc, disk) {
+        Ok(store) => store,
+        Err(refused) => return Err(ServeFault::from(refused.cause)),
+    };
+    match Exec::power_on(alloc, store) {
+        Ok(exec) => Ok(Caller::new(alloc, exec, gate)?),
+        Err(refused) => Err(ServeFault::from(refused.cause)),
+    }
+}
+
+// What accepts connections.
+#[derive(Drop)]
+struct Acceptor<G: Gate> {
+    server: Arc<Server>,
+    silent: Arc<Mutex<Silent>>,
+    caller: Caller<G>,
+}
+
+impl<G: Gate + Drop + Send + Sync + 'static> Acceptor<G> {
+    // Gives a connection a thread of its own.
+    fn accept<R>(&mut self, rt: R, stream: TcpStream) -> io::Result<()>
+    where
+        R: Threads + Wait + Clock + Copy + Send + 'static,
+    {
+        stream.set_nodelay(true)?;
+        let alloc = self.server.alloc;
+        let link = Arc::new(alloc, Link::new(stream))?;
+        let server = Arc::try_clone(&self.server)?;
+        let silent = Arc::try_clone(&self.silent)?;
+        let caller = self.caller.split()?;
+        let number = self.silent.lock(&rt).add(Arc::try_clone(&link)?);
+        let mut connection = Connection {
+            server,
+            silent,
+            number,
+            link,
+            caller,
+        };
+        match thread::spawn(&rt, move || connection.run(rt)) {
+            Ok(_) => Ok(()),
+            Err(error) => {
+                self.silent.lock(&rt).remove(number);
+                Err(io::Error::from(error))
+            }
+        }
+    }
+
+    // The flusher, in a thread of its own.
+    fn start_flusher<R>(&mut self, rt: R) -> io::Result<()>
+    where
+        R: Threads + Wait + Clock + Eprint + Copy + Send + 'static,
+    {
+        let server = Arc::try_clone(&self.server)?;
+        let caller = self.caller.split()?;
+        let _flusher = thread::spawn(&rt, move || {
+            let mut flusher = Flusher {
+                server: &server,
+                caller,
+                is_broken: false,
+            };
+            flusher.flush(&rt)
+        })?;
+        Ok(())
+    }
+}
+
+/// Serves the image at a path over 127.0.0.1, at a port, for as long as the process lives. It answers only where no server stands: why.
+pub fn serve<R, G>(rt: R, alloc: Global, image: &str, port: u16, gate: G) -> ServeFault
+where
+    R: Net<Listener = TcpListener, Stream = TcpStream>
+        + Files<File = File>
+        + Threads
+        + Wait
+        + Clock
+        + Print
+        + Eprint
+        + Copy
+        + Send
+        + 'static,
+    G: Gate + Drop + Send + Sync + 'static,
+{
+    let caller = match power_on(&rt, alloc, image, gate) {
+        Ok(caller) => caller,
+        Err(fault) => return fault,
+    };
+    match accept_all(rt, alloc, port, caller) {
+        Ok(()) => ServeFault::Network,
+        Err(error) => match error.kind() {
+            io::ErrorKind::OutOfMemory => ServeFault::Memory,
+            _ => ServeFault::Network,
+        },
+    }
+}
+
+// Accepts connections for ever.
+fn accept_all<R, G>(rt: R, alloc: Global, port: u16, caller: Caller<G>) -> io::Result<()>
+where
+    R: Net<Listener = TcpListener, Stream = TcpStream>
+        + Threads
+        + Wait
+        + Clock
+        + Print
+        + Eprint
+        + Copy
+        + Send
+        + 'static,
+    G: Gate + Drop + Send + Sync + 'static,
+{
+    let listener = TcpListener::bind(&rt, ("127.0.0.1", port))?;
+    let server = Arc::new(alloc, Server::new(alloc, Instant::now(&rt)?))?;
+    let silent = Arc::new(alloc, Mutex::new(Silent::new(alloc)))?;
+    let mut acceptor = Acceptor {
+        server,
+        silent,
+        caller,
+    };
+    acceptor.start_flusher(rt)?;
+    // Who started the server without an output to read is served all the same.
+    let _ = println!(rt; "listening on 127.0.0.1:{port}");
+    for _ in rt.forever() {
+        let accepted = match listener.accept() {
+            Ok((stream, _)) => acceptor.accept(rt, stream),
+            Err(error) => Err(error),
+        };
+        if accepted.is_err() {
+            thread::sleep(&rt, Duration::from_millis(PAUSE));
+        }
+    }
+    unreachable!()
+}

@@ -1,0 +1,219 @@
+// A thread's way to the device.
+ghost use Rattle.std.specs.Prelude.{◌≡◌, is_some, true};
+ghost use Rattle.std.specs.Arc.{arc_value};
+
+use crate::news::News;
+use crate::shared_gate::SharedGate;
+use psu_bench::{Bench, Gate, Gated, Open, Point, Seat, session_worker};
+use psu_disk::FileDisk;
+use psu_exec::{
+    Crowded, Exec, Finished, Freed, Grant, Info, Job, Kind, LockRefusal, NoJob, Outcome, Request,
+    Session, Sessions,
+};
+use std::alloc::{AllocError, Global};
+use std::sync::{Arc, Mutex, Wait};
+
+/// The disk of the server: a file, with a gate before each write.
+pub type ServedDisk<G> = Gated<FileDisk, SharedGate<G>>;
+
+/// The device of the server.
+type Device<G> = Bench<ServedDisk<G>, Global>;
+
+/// A thread's way to the device: the bench, a seat of its own there, and the gate. Threads wait asleep at the door, so that the turn is free for
+/// who has come in: many that wait for a turn itself would take the processor from each other.
+#[derive(Drop)]
+pub struct Caller<G: Gate> {
+    bench: Arc<Device<G>>,
+    door: Arc<Mutex<()>>,
+    seat: Seat<Global>,
+    gate: SharedGate<G>,
+    ghost same: { seat.turn ≡ arc_value bench },
+    ghost here: { is_some seat.opening ≡ true },
+}
+
+impl<G: Gate + Drop> Caller<G> {
+    /// The first way to a device.
+    pub fn new(
+        alloc: Global,
+        exec: Exec<ServedDisk<G>, Global>,
+        gate: SharedGate<G>,
+    ) -> Result<Caller<G>, AllocError> {
+        let Ok((bench, seat)) = Bench::new(alloc, exec) else {
+            return Err(AllocError);
+        };
+        let bench = Arc::new(alloc, bench)?;
+        let door = Arc::new(alloc, Mutex::new(()))?;
+        Ok(Caller {
+            bench,
+            door,
+            seat,
+            gate,
+        })
+    }
+
+    /// A way for another thread.
+    #[tactic(auto, using(crate::proofs::Seats::is_of))]
+    pub fn split(&mut self) -> Result<Caller<G>, AllocError> {
+        let bench = Arc::try_clone(&self.bench)?;
+        let door = Arc::try_clone(&self.door)?;
+        let gate = self.gate.another()?;
+        let seat = self.bench.split(&mut self.seat);
+        Ok(Caller {
+            bench,
+            door,
+            seat,
+            gate,
+        })
+    }
+
+    /// One unit of a session, in one try, and what it caused; then the gate is asked.
+    #[tactic(auto, using(crate::proofs::Seats::is_of))]
+    pub fn execute<R: Wait>(
+        &mut self,
+        rt: &R,
+        session: Session,
+        request: &Request<'_>,
+    ) -> (Outcome<Global>, News) {
+        let place = self.door.lock(rt);
+        let outcome = session_worker(rt, &self.bench, &mut self.seat, session, request, 1, &Open);
+        // A query that is answered sets no bit and changes nothing that is kept, so it makes no news.
+        let news = match &outcome {
+            Outcome::Answer(_) => News::none(),
+            _ => News::of(self.bench.news(rt, &mut self.seat)),
+        };
+        drop(place);
+        self.gate.at(Point::AfterAnswer);
+        (outcome, news)
+    }
+
+    /// What the wait of a session came to, and what that caused.
+    #[tactic(auto, using(crate::proofs::Seats::is_of))]
+    pub fn settle<R: Wait>(&mut self, rt: &R, session: Session) -> (Outcome<Global>, News) {
+        let _place = self.door.lock(rt);
+        let outcome = self.bench.settle(rt, &mut self.seat, session);
+        let news = News::of(self.bench.news(rt, &mut self.seat));
+        (outcome, news)
+    }
+
+    /// A job.
+    #[tactic(auto, using(crate::proofs::Seats::is_of))]
+    pub fn take<R: Wait>(&mut self, rt: &R) -> Result<Job<ServedDisk<G>, Global>, NoJob> {
+        let _place = self.door.lock(rt);
+        self.bench.take(rt, &mut self.seat)
+    }
+
+    /// A job's end: the sessions whose waits are over, and what it caused. The end of another device's job is let go.
+    #[tactic(auto, using(crate::proofs::Seats::is_of))]
+    pub fn give_back<R: Wait>(
+        &mut self,
+        rt: &R,
+        finished: Finished<ServedDisk<G>, Global>,
+    ) -> (Sessions, News) {
+        let _place = self.door.lock(rt);
+        let over = self.bench.give_back(rt, &mut self.seat, finished);
+        let news = News::of(self.bench.news(rt, &mut self.seat));
+        (over.unwrap_or(Sessions::new()), news)
+    }
+
+    /// Opens the session of the least free number.
+    #[tactic(auto, using(crate::proofs::Seats::is_of))]
+    pub fn open_session<R: Wait>(&mut self, rt: &R) -> Result<Session, Crowded> {
+        let _place = self.door.lock(rt);
+        self.bench.open_session(rt, &mut self.seat)
+    }
+
+    /// Closes a session: those whose requests for a lock were then granted.
+    #[tactic(auto, using(crate::proofs::Seats::is_of))]
+    pub fn close_session<R: Wait>(&mut self, rt: &R, session: Session) -> Sessions {
+        let _place = self.door.lock(rt);
+        self.bench.close_session(rt, &mut self.seat, session)
+    }
+
+    /// Drops the wait of a session.
+    #[tactic(auto, using(crate::proofs::Seats::is_of))]
+    pub fn clear<R: Wait>(&mut self, rt: &R, session: Session) {
+        let _place = self.door.lock(rt);
+        self.bench.clear(rt, &mut self.seat, session);
+    }
+
+    /// An answer is sent to a session; what that caused.
+    #[tactic(auto, using(crate::proofs::Seats::is_of))]
+    pub fn sent<R: Wait>(&mut self, rt: &R, session: Session) -> News {
+        let _place = self.door.lock(rt);
+        self.bench.sent(rt, &mut self.seat, session);
+        News::of(self.bench.news(rt, &mut self.seat))
+    }
+
+    /// What was sent to a session is delivered.
+    #[tactic(auto, using(crate::proofs::Seats::is_of))]
+    pub fn delivered<R: Wait>(&mut self, rt: &R, session: Session) {
+        let _place = self.door.lock(rt);
+        self.bench.delivered(rt, &mut self.seat, session);
+    }
+
+    /// The answer to a status query of a session.
+    #[tactic(auto, using(crate::proofs::Seats::is_of))]
+    pub fn status<R: Wait>(&mut self, rt: &R, session: Session) -> u8 {
+        let _place = self.door.lock(rt);
+        self.bench.status(rt, &mut self.seat, session)
+    }
+
+    /// The service request of a session.
+    #[tactic(auto, using(crate::proofs::Seats::is_of))]
+    pub fn requests<R: Wait>(&mut self, rt: &R, session: Session) -> Option<u8> {
+        let _place = self.door.lock(rt);
+        self.bench.requests(rt, &mut self.seat, session)
+    }
+
+    /// A session asks for a lock; moments and the timeout are in milliseconds.
+    #[tactic(auto, using(crate::proofs::Seats::is_of))]
+    pub fn lock<R: Wait>(
+        &mut self,
+        rt: &R,
+        session: Session,
+        kind: Kind,
+        now: u64,
+        timeout: u32,
+    ) -> Result<Grant, LockRefusal> {
+        let _place = self.door.lock(rt);
+        self.bench
+            .lock(rt, &mut self.seat, session, kind, now, timeout)
+    }
+
+    /// A session gives up a lock.
+    #[tactic(auto, using(crate::proofs::Seats::is_of))]
+    pub fn release<R: Wait>(
+        &mut self,
+        rt: &R,
+        session: Session,
+    ) -> Result<(Freed, Sessions), LockRefusal> {
+        let _place = self.door.lock(rt);
+        self.bench.release(rt, &mut self.seat, session)
+    }
+
+    /// Fails the requests for locks whose time is over.
+    #[tactic(auto, using(crate::proofs::Seats::is_of))]
+    pub fn tick<R: Wait>(&mut self, rt: &R, now: u64) -> Sessions {
+        let _place = self.door.lock(rt);
+        self.bench.tick(rt, &mut self.seat, now)
+    }
+
+    /// What is told of the locks.
+    #[tactic(auto, using(crate::proofs::Seats::is_of))]
+    pub fn info<R: Wait>(&mut self, rt: &R) -> Info {
+        let _place = self.door.lock(rt);
+        self.bench.info(rt, &mut self.seat)
+    }
+
+    /// The moment at which a request for a lock fails next.
+    #[tactic(auto, using(crate::proofs::Seats::is_of))]
+    pub fn next_deadline<R: Wait>(&mut self, rt: &R) -> Option<u128> {
+        let _place = self.door.lock(rt);
+        self.bench.next_deadline(rt, &mut self.seat)
+    }
+
+    /// The gate is asked before a job is run.
+    pub fn before_run(&self) {
+        self.gate.at(Point::BeforeRun);
+    }
+}

@@ -1,0 +1,172 @@
+// A session as its threads and those of others reach it.
+use crate::alarm::Alarm;
+use crate::allowance::Allowance;
+use crate::link::Link;
+use crate::notices::Notices;
+use crate::work::Work;
+use crossbeam_channel::{Receiver, Sender};
+use psu_exec::Session;
+use psu_hislip::{Header, SessionCore};
+use psu_sessions::Begun;
+use std::alloc::Global;
+use std::mem;
+use std::sync::atomic::{AtomicUsize, Ordering};
+use std::sync::{Arc, Condvar, Mutex, MutexGuard, Wait};
+
+/// How far a session has come.
+#[derive(Drop)]
+enum Phase {
+    /// It waits for its second connection.
+    Waiting,
+    /// Both connections are there; this is the asynchronous one.
+    Joined(Arc<Link>),
+    /// It has no second connection any more, and gets none.
+    Over,
+}
+
+/// What the reader has begun and the worker is to go on with. The reader holds it while it executes.
+#[derive(Drop)]
+pub struct Desk {
+    pub begun: Option<Begun<Global>>,
+}
+
+/// A session. Locks are taken in this order: the desk, the turn to write, the core, and the device's turn; the rest are held for a moment.
+#[derive(Drop)]
+pub struct Member {
+    pub session: Session,
+    pub core: Mutex<SessionCore<Global>>,
+    pub sync: Arc<Link>,
+    pub alarm: Alarm,
+    pub notices: Notices,
+    /// What is received and not executed.
+    pub held: Allowance,
+    /// The answers that come late.
+    pub owed: Allowance,
+    desk: Mutex<Desk>,
+    // How much the worker has before it.
+    before: AtomicUsize,
+    sender: Mutex<Option<Sender<Work>>>,
+    receiver: Receiver<Work>,
+    phase: Mutex<Phase>,
+    over: Condvar,
+}
+
+impl Member {
+    pub fn new(
+        alloc: Global,
+        session: Session,
+        sync: Arc<Link>,
+        work: (Sender<Work>, Receiver<Work>),
+    ) -> Member {
+        Member {
+            session,
+            core: Mutex::new(SessionCore::new(alloc, u16::from(session.number()))),
+            sync,
+            alarm: Alarm::new(),
+            notices: Notices::new(alloc),
+            held: Allowance::new(),
+            owed: Allowance::new(),
+            desk: Mutex::new(Desk { begun: None }),
+            before: AtomicUsize::new(0),
+            sender: Mutex::new(Some(work.0)),
+            receiver: work.1,
+            phase: Mutex::new(Phase::Waiting),
+            over: Condvar::new(),
+        }
+    }
+
+    /// The desk, for whoever executes.
+    pub fn desk<R: Wait>(&self, rt: &R) -> MutexGuard<'_, Desk> {
+        self.desk.lock(rt)
+    }
+
+    /// Hands the worker something. Whether that was done: memory may be refused, or the session ends.
+    pub fn hand<R: Wait>(&self, rt: &R, work: Work) -> bool {
+        let sender = self.sender.lock(rt);
+        let Some(sender) = &*sender else {
+            return false;
+        };
+        self.before.fetch_add(1, Ordering::SeqCst);
+        sender.send(rt, work).is_ok()
+    }
+
+    /// Leaves what has begun at the desk, where the worker goes on with it before anything else. Whether that was done.
+    pub fn leave<R: Wait>(&self, rt: &R, desk: &mut Desk, begun: Begun<Global>) -> bool {
+        self.before.fetch_add(1, Ordering::SeqCst);
+        desk.begun = Some(begun);
+        self.hand(rt, Work::AtDesk)
+    }
+
+    /// What the worker does next; none where the session ends.
+    pub fn next<R: Wait>(&self, rt: &R) -> Option<Work> {
+        let work = self.receiver.recv(rt).ok()?;
+        if self.alarm.is_ended(rt) {
+            return None;
+        }
+        Some(work)
+    }
+
+    /// The worker has done one thing that it was handed.
+    pub fn is_done(&self) {
+        self.before.fetch_sub(1, Ordering::SeqCst);
+    }
+
+    /// Whether the worker has nothing before it.
+    pub fn is_idle(&self) -> bool {
+        self.before.load(Ordering::SeqCst) == 0
+    }
+
+    /// An answer comes late. Where there is no memory for it the session ends.
+    pub fn answer_late<R: Wait>(&self, rt: &R, header: Header) {
+        if self.notices.answer(rt, header).is_err() {
+            self.sync.end();
+        }
+    }
+
+    pub fn is_joined<R: Wait>(&self, rt: &R) -> bool {
+        matches!(&*self.phase.lock(rt), Phase::Joined(_))
+    }
+
+    /// The second connection comes. Whether the session waits for it.
+    pub fn join<R: Wait>(&self, rt: &R, link: Arc<Link>) -> bool {
+        let mut phase = self.phase.lock(rt);
+        if !matches!(&*phase, Phase::Waiting) {
+            return false;
+        }
+        *phase = Phase::Joined(link);
+        true
+    }
+
+    /// The session ends: both connections end, and whoever waits is told.
+    pub fn end<R: Wait>(&self, rt: &R) {
+        self.alarm.end(rt);
+        self.sync.end();
+        let mut phase = self.phase.lock(rt);
+        match &*phase {
+            Phase::Joined(link) => link.end(),
+            Phase::Waiting => *phase = Phase::Over,
+            Phase::Over => {}
+        }
+        drop(phase);
+        self.held.end(rt);
+        self.owed.end(rt);
+        self.notices.end(rt);
+        let mut sender = self.sender.lock(rt);
+        drop(mem::replace(&mut *sender, None));
+    }
+
+    /// All threads of the second connection have ended.
+    pub fn is_over<R: Wait>(&self, rt: &R) {
+        *self.phase.lock(rt) = Phase::Over;
+        self.over.notify_all();
+    }
+
+    /// Waits for the threads of the second connection, if it ever came.
+    pub fn wait_for_end<R: Wait>(&self, rt: &R) {
+        let phase = self.phase.lock(rt);
+        drop(
+            self.over
+                .wait_while(rt, phase, |phase| matches!(phase, Phase::Joined(_))),
+        );
+    }
+}

@@ -1,0 +1,89 @@
+// A connection up to its first message, and sessions that open and close.
+use crate::caller::Caller;
+use crate::link::Link;
+use crate::member::Member;
+use crate::server::Server;
+use crossbeam_channel::unbounded;
+use psu_bench::Gate;
+use psu_exec::{Grant, Session};
+use psu_hislip::{Channel, FatalCode, Header, Message, MessageType, lock_response};
+use std::alloc::Global;
+use std::io;
+use std::rt::Clock;
+use std::sync::{Arc, Wait};
+use std::time::{Duration, Instant};
+
+/// How long a connection may take to say what it is, and a session to be joined, in seconds.
+pub const SILENCE: u64 = 10;
+
+/// The sixteen bytes of a FatalError.
+pub fn fatal(code: FatalCode) -> [u8; 16] {
+    Header::new(MessageType::FatalError, code.code(), 0, 0).bytes()
+}
+
+/// The messages up to the first piece that ends one; none where the connection ends or takes too long.
+pub fn first_messages<R: Clock>(
+    rt: &R,
+    link: &Link,
+    channel: &mut Channel<Global>,
+    piece: &mut [u8],
+) -> io::Result<Option<Vec<Message<Global>>>> {
+    let start = Instant::now(rt)?;
+    for _ in 0..u64::MAX {
+        let left = Duration::from_secs(SILENCE).saturating_sub(start.elapsed(rt)?);
+        if left < Duration::from_millis(1) {
+            return Ok(None);
+        }
+        link.wait_at_most(Some(left))?;
+        let count = link.read(piece)?;
+        if count == 0 {
+            return Ok(None);
+        }
+        let messages = channel.feed(&piece[..count])?;
+        if !messages.is_empty() {
+            return Ok(Some(messages));
+        }
+    }
+    Ok(None)
+}
+
+/// Opens a session over its synchronous connection; none where there are too many. Its number is given back where memory for it is refused.
+pub fn open<R: Wait, G: Gate + Drop>(
+    rt: &R,
+    server: &Server,
+    caller: &mut Caller<G>,
+    link: &Arc<Link>,
+) -> io::Result<Option<Arc<Member>>> {
+    let work = unbounded(server.alloc)?;
+    let sync = Arc::try_clone(link)?;
+    let mut registry = server.registry.lock(rt);
+    let Ok(session) = caller.open_session(rt) else {
+        return Ok(None);
+    };
+    let member = Member::new(server.alloc, session, sync, work);
+    let shared = Arc::new(server.alloc, member)
+        .ok()
+        .and_then(|member| Some((Arc::try_clone(&member).ok()?, member)));
+    let Some((known, member)) = shared else {
+        drop(caller.close_session(rt, session));
+        return Err(io::Error::from(io::ErrorKind::OutOfMemory));
+    };
+    registry.put(session, Some(known));
+    Ok(Some(member))
+}
+
+/// Closes a session and gives its number back: nothing of it is left.
+pub fn close<R: Wait, G: Gate + Drop>(
+    rt: &R,
+    server: &Server,
+    caller: &mut Caller<G>,
+    session: Session,
+) {
+    let mut registry = server.registry.lock(rt);
+    registry.put(session, None);
+    let granted = caller.close_session(rt, session);
+    if let Some(header) = lock_response(Ok(Grant::Granted)) {
+        registry.answer(rt, &granted, header);
+    }
+    registry.wake_all(rt);
+}
