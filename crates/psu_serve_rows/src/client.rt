@@ -1,0 +1,165 @@
+// A client with a session: a synchronous and an asynchronous connection.
+use crate::missed::{Missed, holds};
+use crate::wire::{bare, comes, header, is_silent, length, next, send, skip, text_comes};
+use std::net::TcpStream;
+
+/// The MessageID of what a client sends.
+const MESSAGE: u32 = 0xffff_ff00;
+
+/// A client with a session.
+#[derive(Drop)]
+pub struct Client {
+    pub number: u8,
+    pub sync: TcpStream,
+    pub other: TcpStream,
+}
+
+impl Client {
+    /// Sends a transmission in one DataEnd.
+    pub fn say(&mut self, text: &[u8]) -> Result<(), Missed> {
+        send(&mut self.sync, &header(7, 0, MESSAGE, text.len() as u64))?;
+        send(&mut self.sync, text)
+    }
+
+    /// Sends a transmission, and tells that what came before is delivered.
+    pub fn say_on(&mut self, text: &[u8]) -> Result<(), Missed> {
+        send(&mut self.sync, &header(7, 1, MESSAGE, text.len() as u64))?;
+        send(&mut self.sync, text)
+    }
+
+    /// An answer comes in one DataEnd.
+    pub fn hear(&mut self, text: &[u8]) -> Result<(), Missed> {
+        comes(&mut self.sync, header(7, 0, MESSAGE, text.len() as u64))?;
+        text_comes(&mut self.sync, text)
+    }
+
+    /// Asks and is answered.
+    pub fn ask(&mut self, question: &[u8], answer: &[u8]) -> Result<(), Missed> {
+        self.say(question)?;
+        self.hear(answer)
+    }
+
+    /// The device tells its name.
+    pub fn is_served(&mut self) -> Result<(), Missed> {
+        self.ask(b"*IDN?\n", b"EXAMPLE,PSU4,0,1.0\n")
+    }
+
+    /// It does so again and again.
+    pub fn works(&mut self) -> Result<(), Missed> {
+        for _ in 0..100u32 {
+            self.is_served()?;
+        }
+        Ok(())
+    }
+
+    /// Saves as often as may be unflushed; the flusher is held meanwhile.
+    pub fn fill(&mut self) -> Result<(), Missed> {
+        for _ in 0..1_024u32 {
+            self.ask(b"*SAV 2;*SRE?", b"0\n")?;
+        }
+        Ok(())
+    }
+
+    /// A frame on the asynchronous connection is answered by another.
+    pub fn exchange(&mut self, question: [u8; 16], answer: [u8; 16]) -> Result<(), Missed> {
+        send(&mut self.other, &question)?;
+        comes(&mut self.other, answer)
+    }
+
+    /// The status byte is this; `control` tells whether what was sent is delivered.
+    pub fn status(&mut self, control: u8, byte: u8) -> Result<(), Missed> {
+        self.exchange(bare(21, control), bare(22, byte))
+    }
+
+    /// A service request comes.
+    pub fn is_requested(&mut self, byte: u8) -> Result<(), Missed> {
+        comes(&mut self.other, bare(20, byte))
+    }
+
+    /// Asks for the exclusive lock, to be had within so many milliseconds.
+    pub fn want_lock(&mut self, timeout: u32) -> Result<(), Missed> {
+        send(&mut self.other, &header(4, 1, timeout, 0))
+    }
+
+    /// A request for a lock is answered, or a release.
+    pub fn is_told_of_lock(&mut self, control: u8) -> Result<(), Missed> {
+        comes(&mut self.other, bare(5, control))
+    }
+
+    /// Waits for the exclusive lock, which another has.
+    pub fn wait_for_lock(&mut self) -> Result<(), Missed> {
+        self.want_lock(60_000)?;
+        is_silent(&mut self.other)
+    }
+
+    /// Shares a lock by the name `k`.
+    pub fn share(&mut self) -> Result<(), Missed> {
+        send(&mut self.other, &header(4, 1, 0, 1))?;
+        send(&mut self.other, b"k")?;
+        self.is_told_of_lock(1)
+    }
+
+    /// A question is held back.
+    pub fn is_denied(&mut self) -> Result<(), Missed> {
+        self.say(b"*IDN?\n")?;
+        is_silent(&mut self.sync)
+    }
+
+    /// Takes the exclusive lock, which nobody has.
+    pub fn lock(&mut self) -> Result<(), Missed> {
+        self.want_lock(0)?;
+        self.is_told_of_lock(1)
+    }
+
+    /// Gives up a lock: 1 exclusive, 2 shared, 3 none was held.
+    pub fn release(&mut self, control: u8) -> Result<(), Missed> {
+        self.exchange(bare(4, 0), bare(5, control))
+    }
+
+    /// What is told of the locks: whether exclusive is held, and how many hold one.
+    pub fn locks_are(&mut self, exclusive: u8, holders: u32) -> Result<(), Missed> {
+        self.exchange(bare(24, 0), header(25, exclusive, holders, 0))
+    }
+
+    /// Begins a device clear.
+    pub fn begin_clear(&mut self) -> Result<(), Missed> {
+        self.exchange(bare(19, 0), bare(23, 0))
+    }
+
+    /// Ends a device clear: nothing comes before it is acknowledged.
+    pub fn end_clear(&mut self) -> Result<(), Missed> {
+        send(&mut self.sync, &bare(8, 0))?;
+        comes(&mut self.sync, bare(9, 0))
+    }
+
+    /// Ends a device clear: an answer of before it may be on its way.
+    pub fn end_late(&mut self) -> Result<(), Missed> {
+        send(&mut self.sync, &bare(8, 0))?;
+        let got = next(&mut self.sync)?;
+        if got == bare(9, 0) {
+            return Ok(());
+        }
+        holds(got[2] == 7, "an answer")?;
+        skip(&mut self.sync, length(&got))?;
+        comes(&mut self.sync, bare(9, 0))
+    }
+
+    /// Clears the device, as far as this session goes.
+    pub fn clear(&mut self) -> Result<(), Missed> {
+        self.begin_clear()?;
+        self.end_clear()
+    }
+
+    /// Asks for the status byte until a message is available, a million times at most.
+    pub fn await_message(&mut self) -> Result<(), Missed> {
+        for _ in 0..1_000_000u32 {
+            send(&mut self.other, &bare(21, 0))?;
+            let got = next(&mut self.other)?;
+            holds(got[2] == 22 && length(&got) == 0, "a status is told")?;
+            if got[3] & 16 != 0 {
+                return Ok(());
+            }
+        }
+        Err(Missed::Claim("a message is available"))
+    }
+}

@@ -1,0 +1,122 @@
+// Clients that are silent, are many, or come and go.
+use crate::client::Client;
+use crate::joining::{begun, connected, joined_again, joined_as, joined_soon};
+use crate::missed::Missed;
+use crate::server::new_served;
+use crate::wire::{bare, comes, header, is_ended, send};
+use psu_serve::Open;
+use std::alloc::Global;
+use std::net::{Net, TcpStream};
+use std::test::Fail;
+use std::time::Clock;
+
+// Connections that say nothing.
+fn silent<R: Net<Stream = TcpStream> + Clock>(
+    rt: &R,
+    alloc: Global,
+    port: u16,
+    count: u32,
+) -> Result<Vec<TcpStream>, Missed> {
+    let mut streams = Vec::new(alloc);
+    for _ in 0..count {
+        let stream = connected(rt, port)?;
+        if streams.push(stream).is_err() {
+            return Err(Missed::Ground("memory"));
+        }
+    }
+    Ok(streams)
+}
+
+#[test]
+fn silent_connections_shut_nobody_out(rt: HostRuntime) -> Result<(), Fail> {
+    let port = new_served(rt, rt.alloc(), "silent.image", 48_875, Open)?;
+    let streams = silent(&rt, rt.alloc(), port, 30)?;
+    let mut one = joined_as(&rt, port, 1)?;
+    one.works()?;
+    let more = silent(&rt, rt.alloc(), port, 70)?;
+    let mut two = joined_as(&rt, port, 2)?;
+    two.works()?;
+    one.works()?;
+    drop(streams);
+    drop(more);
+    Ok(())
+}
+
+// Sessions of all numbers up to this.
+fn crowd<R: Net<Stream = TcpStream> + Clock>(
+    rt: &R,
+    alloc: Global,
+    port: u16,
+    count: u8,
+) -> Result<Vec<Client>, Missed> {
+    let mut clients = Vec::new(alloc);
+    for number in 1..=count {
+        let client = joined_as(rt, port, number)?;
+        if clients.push(client).is_err() {
+            return Err(Missed::Ground("memory"));
+        }
+    }
+    Ok(clients)
+}
+
+// One session too many.
+fn is_crowded<R: Net<Stream = TcpStream> + Clock>(rt: &R, port: u16) -> Result<(), Missed> {
+    let mut stream = connected(rt, port)?;
+    send(&mut stream, &header(0, 0, 0x0100_0000, 0))?;
+    comes(&mut stream, bare(2, 4))?;
+    is_ended(&mut stream)
+}
+
+// The last session begins a transmission, and ends.
+fn last_ends(clients: &mut Vec<Client>) -> Result<(), Missed> {
+    let Some(mut last) = clients.pop() else {
+        return Err(Missed::Ground("a client"));
+    };
+    send(&mut last.sync, &header(6, 0, 0, 5))?;
+    send(&mut last.sync, b"FOO;\"")?;
+    last.status(1, 0)
+}
+
+fn all_work(clients: &mut Vec<Client>) -> Result<(), Missed> {
+    for client in clients.iter_mut() {
+        client.is_served()?;
+    }
+    Ok(())
+}
+
+// There are sixteen sessions; a number is used again once its session has ended, and inherits nothing.
+#[test]
+fn there_are_sixteen_sessions(rt: HostRuntime) -> Result<(), Fail> {
+    let port = new_served(rt, rt.alloc(), "sixteen_sessions.image", 48_877, Open)?;
+    let mut clients = crowd(&rt, rt.alloc(), port, 16)?;
+    is_crowded(&rt, port)?;
+    all_work(&mut clients)?;
+    last_ends(&mut clients)?;
+    let mut last = joined_again(&rt, port, 16)?;
+    last.is_served()?;
+    all_work(&mut clients)?;
+    Ok(())
+}
+
+// A session that is answered and ends, a connection that says nothing, and one that ends before its session is joined.
+fn comes_and_goes<R: Net<Stream = TcpStream> + Clock>(rt: &R, port: u16) -> Result<(), Missed> {
+    for _ in 0..100u32 {
+        let mut client = joined_soon(rt, port)?;
+        client.is_served()?;
+        drop(client);
+        let stream = connected(rt, port)?;
+        drop(stream);
+        let half = begun(rt, port);
+        drop(half);
+    }
+    Ok(())
+}
+
+#[test]
+fn clients_come_and_go(rt: HostRuntime) -> Result<(), Fail> {
+    let port = new_served(rt, rt.alloc(), "come_and_go.image", 48_879, Open)?;
+    comes_and_goes(&rt, port)?;
+    let mut one = joined_again(&rt, port, 1)?;
+    one.is_served()?;
+    Ok(())
+}

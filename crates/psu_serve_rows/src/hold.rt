@@ -1,0 +1,82 @@
+// A gate that holds the flusher up until a client lets it go.
+use crate::missed::{Missed, holds};
+use psu_serve::{Gate, Point};
+use std::alloc::{AllocError, Global};
+use std::sync::Arc;
+use std::sync::atomic::{AtomicBool, Ordering};
+use std::thread;
+use std::time::{Clock, Duration};
+
+/// How often it is looked whether something has come true, a millisecond each.
+const LOOKS: u32 = 8_000;
+
+#[derive(Drop)]
+struct State {
+    is_held: AtomicBool,
+    is_let_go: AtomicBool,
+    is_over: AtomicBool,
+}
+
+/// At this point whoever comes waits until it is let go, for so many looks at most.
+#[derive(Drop)]
+pub struct Hold<R: Drop> {
+    rt: R,
+    point: Point,
+    state: Arc<State>,
+}
+
+// Whether a flag is set within the looks.
+fn came_true<R: Clock>(rt: &R, flag: &AtomicBool) -> bool {
+    for _ in 0..LOOKS {
+        if flag.load(Ordering::SeqCst) {
+            return true;
+        }
+        thread::sleep(rt, Duration::from_millis(1));
+    }
+    false
+}
+
+impl<R: Clock + Copy> Hold<R> {
+    pub fn new(rt: R, alloc: Global, point: Point) -> Result<Hold<R>, AllocError> {
+        let state = State {
+            is_held: AtomicBool::new(false),
+            is_let_go: AtomicBool::new(false),
+            is_over: AtomicBool::new(false),
+        };
+        let state = Arc::new(alloc, state)?;
+        Ok(Hold { rt, point, state })
+    }
+
+    /// The same gate, for the server.
+    pub fn another(&self) -> Result<Hold<R>, AllocError> {
+        Ok(Hold {
+            rt: self.rt,
+            point: self.point,
+            state: Arc::try_clone(&self.state)?,
+        })
+    }
+
+    /// The flusher is held.
+    pub fn is_held(&self) -> Result<(), Missed> {
+        let is_held = came_true(&self.rt, &self.state.is_held);
+        holds(is_held, "the flusher is held")
+    }
+
+    /// Lets the flusher go, which was held till now.
+    pub fn let_go(&self) -> Result<(), Missed> {
+        let is_over = self.state.is_over.load(Ordering::SeqCst);
+        self.state.is_let_go.store(true, Ordering::SeqCst);
+        holds(!is_over, "the flusher was held till now")
+    }
+}
+
+impl<R: Clock + Copy> Gate for Hold<R> {
+    fn at(&self, point: Point) {
+        if point == self.point {
+            self.state.is_held.store(true, Ordering::SeqCst);
+            if !came_true(&self.rt, &self.state.is_let_go) {
+                self.state.is_over.store(true, Ordering::SeqCst);
+            }
+        }
+    }
+}

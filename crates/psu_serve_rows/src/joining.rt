@@ -1,0 +1,101 @@
+// How clients come by their sessions.
+use crate::client::Client;
+use crate::missed::Missed;
+use crate::wire::{bare, comes, header, next, send, wait};
+use std::net::{Net, TcpStream};
+use std::thread;
+use std::time::{Clock, Duration};
+
+/// A connection to a server that may be about to begin.
+pub fn connected<R: Net<Stream = TcpStream> + Clock>(
+    rt: &R,
+    port: u16,
+) -> Result<TcpStream, Missed> {
+    for _ in 0..10_000u32 {
+        if let Ok(stream) = TcpStream::connect(rt, ("127.0.0.1", port)) {
+            let _ = stream.set_nodelay(true);
+            wait(&stream)?;
+            return Ok(stream);
+        }
+        thread::sleep(rt, Duration::from_millis(1));
+    }
+    Err(Missed::Ground("a connection"))
+}
+
+/// A session over its first connection, with its number.
+pub fn begun<R: Net<Stream = TcpStream> + Clock>(
+    rt: &R,
+    port: u16,
+) -> Result<(u8, TcpStream), Missed> {
+    let mut sync = connected(rt, port)?;
+    send(&mut sync, &header(0, 0, 0x0100_0000, 0))?;
+    let got = next(&mut sync)?;
+    let number = got[7];
+    let want = header(1, 0, 0x0100_0000 | u32::from(number), 0);
+    if got == want && number >= 1 && number <= 16 {
+        Ok((number, sync))
+    } else {
+        Err(Missed::Frame(want, got))
+    }
+}
+
+/// A session of any number, with both connections.
+pub fn joined<R: Net<Stream = TcpStream> + Clock>(rt: &R, port: u16) -> Result<Client, Missed> {
+    let (number, sync) = begun(rt, port)?;
+    let mut other = connected(rt, port)?;
+    send(&mut other, &header(17, 0, u32::from(number), 0))?;
+    comes(&mut other, bare(18, 0))?;
+    Ok(Client {
+        number,
+        sync,
+        other,
+    })
+}
+
+/// A session of this number, which is the least that is free.
+pub fn joined_as<R: Net<Stream = TcpStream> + Clock>(
+    rt: &R,
+    port: u16,
+    number: u8,
+) -> Result<Client, Missed> {
+    let client = joined(rt, port)?;
+    if client.number == number {
+        Ok(client)
+    } else {
+        Err(Missed::Ground("the least number"))
+    }
+}
+
+/// A session of this number, once that is free. A number is given back after all else of its session has ended.
+pub fn joined_again<R: Net<Stream = TcpStream> + Clock>(
+    rt: &R,
+    port: u16,
+    number: u8,
+) -> Result<Client, Missed> {
+    for _ in 0..1_000u32 {
+        if let Ok(client) = joined_as(rt, port, number) {
+            return Ok(client);
+        }
+        thread::sleep(rt, Duration::from_millis(5));
+    }
+    Err(Missed::Ground("a number that is given back"))
+}
+
+/// A session of any number, once there is a free one.
+pub fn joined_soon<R: Net<Stream = TcpStream> + Clock>(
+    rt: &R,
+    port: u16,
+) -> Result<Client, Missed> {
+    for _ in 0..1_000u32 {
+        if let Ok(client) = joined(rt, port) {
+            return Ok(client);
+        }
+        thread::sleep(rt, Duration::from_millis(5));
+    }
+    Err(Missed::Ground("a free number"))
+}
+
+/// Waits until what is under way has come to a stand.
+pub fn settle<R: Clock>(rt: &R) {
+    thread::sleep(rt, Duration::from_millis(300));
+}

@@ -1,0 +1,162 @@
+// A server in a thread that is not joined, and its image.
+use crate::joining::connected;
+use crate::missed::Missed;
+use psu_disk::{Disk, FileDisk, MemDisk};
+use psu_items::Store;
+use psu_serve::{Gate, serve};
+use psu_server::run;
+use std::alloc::Global;
+use std::fs::{self, File};
+use std::io::{Eprint, Print};
+use std::net::{Net, TcpListener, TcpStream};
+use std::rt::{Clock, Files};
+use std::sync::Wait;
+use std::thread::{self, Threads};
+
+/// The size of an image of 256 pages.
+const SIZE: u64 = 263_168;
+
+/// The first port from this on that nobody listens at, in steps that leave others theirs.
+fn free_port<R: Net>(rt: &R, first: u16) -> Result<u16, Missed> {
+    for step in 0..50u16 {
+        let port = first.saturating_add(100 * step);
+        if TcpListener::bind(rt, ("127.0.0.1", port)).is_ok() {
+            return Ok(port);
+        }
+    }
+    Err(Missed::Ground("a port"))
+}
+
+/// Serves the image of a name, at this port or where it is taken at another; at which.
+pub fn served<R, G>(
+    rt: R,
+    alloc: Global,
+    image: &'static str,
+    first: u16,
+    gate: G,
+) -> Result<u16, Missed>
+where
+    R: Net<Listener = TcpListener, Stream = TcpStream>
+        + Files<File = File>
+        + Threads
+        + Wait
+        + Clock
+        + Print
+        + Eprint
+        + Copy
+        + Send
+        + 'static,
+    R::Dir: Send,
+    G: Gate + Drop + Send + Sync + 'static,
+{
+    let port = free_port(&rt, first)?;
+    let begun = thread::spawn(&rt, move || {
+        let _fault = serve(rt, alloc, image, port, gate);
+    })
+    .is_ok();
+    if begun {
+        Ok(port)
+    } else {
+        Err(Missed::Ground("a thread"))
+    }
+}
+
+/// Serves a new image, at this port or where it is taken at another; at which. The file has no name any more once it is served.
+pub fn new_served<R, G>(
+    rt: R,
+    alloc: Global,
+    image: &'static str,
+    first: u16,
+    gate: G,
+) -> Result<u16, Missed>
+where
+    R: Net<Listener = TcpListener, Stream = TcpStream>
+        + Files<File = File>
+        + Threads
+        + Wait
+        + Clock
+        + Print
+        + Eprint
+        + Copy
+        + Send
+        + 'static,
+    R::Dir: Send,
+    G: Gate + Drop + Send + Sync + 'static,
+{
+    formatted(&rt, alloc, image)?;
+    let port = served(rt, alloc, image, first, gate)?;
+    let stream = connected(&rt, port)?;
+    drop(stream);
+    removed(&rt, image);
+    Ok(port)
+}
+
+/// An image has no file any more.
+pub fn removed<R: Files>(rt: &R, image: &str) {
+    let _ = fs::remove_file(rt, image);
+}
+
+/// A new image.
+pub fn formatted<R: Files<File = File>>(rt: &R, alloc: Global, image: &str) -> Result<(), Missed> {
+    removed(rt, image);
+    let Ok(disk) = FileDisk::make(rt, image, SIZE) else {
+        return Err(Missed::Ground("a file"));
+    };
+    match Store::format(alloc, disk, 256) {
+        Ok(_) => Ok(()),
+        Err(_) => Err(Missed::Ground("a formatted image")),
+    }
+}
+
+/// Lines are executed on an image, which then lies at rest.
+pub fn executed<R: Files<File = File>>(
+    rt: &R,
+    alloc: Global,
+    image: &str,
+    lines: &[u8],
+) -> Result<(), Missed> {
+    let Ok(disk) = FileDisk::of(rt, image) else {
+        return Err(Missed::Ground("an image"));
+    };
+    let mut reader = lines;
+    let mut told = Vec::new(alloc);
+    match run(alloc, &mut reader, &mut told, disk) {
+        Ok(_) => Ok(()),
+        Err(_) => Err(Missed::Ground("a run")),
+    }
+}
+
+// The bytes of a file on a disk in memory.
+fn copied<R: Files<File = File> + Alloc<A = Global>>(
+    rt: &R,
+    image: &str,
+) -> Result<MemDisk<Global>, Missed> {
+    let Ok(bytes) = fs::read(rt, image) else {
+        return Err(Missed::Ground("a copy"));
+    };
+    let Ok(mut disk) = MemDisk::new(rt.alloc(), SIZE) else {
+        return Err(Missed::Ground("memory"));
+    };
+    if bytes.len() as u64 <= disk.size() && disk.write(0, bytes.as_slice()).is_ok() {
+        Ok(disk)
+    } else {
+        Err(Missed::Ground("an image of the right size"))
+    }
+}
+
+/// A copy of an image opens, and has this item.
+pub fn is_kept<R: Files<File = File> + Alloc<A = Global>>(
+    rt: &R,
+    image: &str,
+    key: &[u8],
+    value: &[u8],
+) -> Result<(), Missed> {
+    let disk = copied(rt, image)?;
+    let Ok(store) = Store::open(rt.alloc(), disk) else {
+        return Err(Missed::Claim("the image opens"));
+    };
+    match store.items().get(key) {
+        Some(kept) if kept == value => Ok(()),
+        _ => Err(Missed::Claim("the item is kept")),
+    }
+}

@@ -1,0 +1,126 @@
+// Frames on a connection, as a client sends and reads them.
+use crate::missed::{Missed, holds};
+use std::io::{self, ErrorKind, Read, Write};
+use std::net::TcpStream;
+use std::time::Duration;
+
+/// How long a client waits for what is to come, in milliseconds.
+const PATIENCE: u64 = 10_000;
+
+/// The header of a frame: its type, control code, parameter, and the length of its payload.
+pub fn header(kind: u8, control: u8, parameter: u32, length: u64) -> [u8; 16] {
+    let [p, q, r, s] = parameter.to_be_bytes();
+    let [a, b, c, d, e, f, g, h] = length.to_be_bytes();
+    [
+        0x48, 0x53, kind, control, p, q, r, s, a, b, c, d, e, f, g, h,
+    ]
+}
+
+/// A frame that is a type and a control code.
+pub fn bare(kind: u8, control: u8) -> [u8; 16] {
+    header(kind, control, 0, 0)
+}
+
+/// The length of the payload behind a header.
+pub fn length(header: &[u8; 16]) -> u64 {
+    let [_, _, _, _, _, _, _, _, a, b, c, d, e, f, g, h] = *header;
+    u64::from_be_bytes([a, b, c, d, e, f, g, h])
+}
+
+/// Waits so many milliseconds at most for each read from now on.
+pub fn wait_at_most(stream: &TcpStream, milliseconds: u64) -> Result<(), Missed> {
+    stream
+        .set_read_timeout(Some(Duration::from_millis(milliseconds)))
+        .map_err(|_| Missed::Ground("a limit for reads"))
+}
+
+/// Waits for what is to come as long as a client does.
+pub fn wait(stream: &TcpStream) -> Result<(), Missed> {
+    wait_at_most(stream, PATIENCE)
+}
+
+/// Sends bytes.
+pub fn send(stream: &mut TcpStream, bytes: &[u8]) -> Result<(), Missed> {
+    stream.write_all(bytes).map_err(|_| Missed::Sending)
+}
+
+/// The sixteen bytes that come next.
+pub fn next(stream: &mut TcpStream) -> Result<[u8; 16], Missed> {
+    let mut got = [0u8; 16];
+    match stream.read_exact(&mut got) {
+        Ok(()) => Ok(got),
+        Err(_) => Err(Missed::Silence),
+    }
+}
+
+/// This header comes next.
+pub fn comes(stream: &mut TcpStream, want: [u8; 16]) -> Result<(), Missed> {
+    let got = next(stream)?;
+    if got == want {
+        Ok(())
+    } else {
+        Err(Missed::Frame(want, got))
+    }
+}
+
+/// These bytes come next.
+pub fn text_comes(stream: &mut TcpStream, want: &[u8]) -> Result<(), Missed> {
+    let mut got = [0u8; 1];
+    for (at, byte) in want.iter().enumerate() {
+        if stream.read_exact(&mut got).is_err() {
+            return Err(Missed::Silence);
+        }
+        if got[0] != *byte {
+            return Err(Missed::Text(at));
+        }
+    }
+    Ok(())
+}
+
+/// Reads so many bytes, whatever they are.
+pub fn skip(stream: &mut TcpStream, count: u64) -> Result<(), Missed> {
+    let skipped = io::copy(&mut stream.take(count), &mut io::sink());
+    match skipped {
+        Ok(skipped) if skipped == count => Ok(()),
+        _ => Err(Missed::Silence),
+    }
+}
+
+// Whether a call that failed only took long.
+fn is_late(error: &io::Error) -> bool {
+    matches!(error.kind(), ErrorKind::WouldBlock | ErrorKind::TimedOut)
+}
+
+/// Sends bytes again and again: at last they are not taken, while the connection goes on.
+pub fn is_held_back(stream: &mut TcpStream, bytes: &[u8]) -> Result<(), Missed> {
+    let limit = Some(Duration::from_millis(500));
+    if stream.set_write_timeout(limit).is_err() {
+        return Err(Missed::Ground("a limit for writes"));
+    }
+    for _ in 0..2_000u32 {
+        if let Err(error) = stream.write_all(bytes) {
+            return holds(is_late(&error), "a flood ends nothing");
+        }
+    }
+    Err(Missed::Claim("a flood is held back"))
+}
+
+/// Nothing comes for a fifth of a second.
+pub fn is_silent(stream: &mut TcpStream) -> Result<(), Missed> {
+    wait_at_most(stream, 200)?;
+    let mut got = [0u8; 1];
+    match stream.read(&mut got) {
+        Err(error) if is_late(&error) => wait(stream),
+        _ => Err(Missed::Claim("nothing comes")),
+    }
+}
+
+/// The connection ends, and nothing comes before.
+pub fn is_ended(stream: &mut TcpStream) -> Result<(), Missed> {
+    let mut got = [0u8; 1];
+    match stream.read(&mut got) {
+        Ok(0) => Ok(()),
+        Err(error) if !is_late(&error) => Ok(()),
+        _ => Err(Missed::Claim("the connection ends")),
+    }
+}
