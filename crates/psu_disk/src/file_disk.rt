@@ -4,12 +4,13 @@ ghost use Rattle.std.specs.Prelude.{◌≡◌, ◌≤◌, IfOk};
 ghost use Rattle.psu_disk.specs.Disk.{HasFailed};
 
 use crate::{Disk, DiskFault, OpenFault};
-use std::fs::{File, OpenOptions};
+use std::fs::{File, OpenOptions, TryLockError};
 use std::io::{Error, ErrorKind};
 use std::os::unix::fs::FileExt;
 use std::rt::Files;
 
-/// A disk in a file of the system. A sync is the system's own (fsync). The file is to be nobody else's while it is open.
+/// A disk in a file of the system. A sync is the system's own, of the file's data (fdatasync). The file is locked while it is open, so that no
+/// other disk is in it.
 #[derive(Drop)]
 pub struct FileDisk {
     file: File,
@@ -18,7 +19,7 @@ pub struct FileDisk {
 }
 
 impl FileDisk {
-    /// The disk in a file that is there: its size is the file's. The file stays as it is.
+    /// The disk in a file that is there: its size is the file's. The file stays as it is. One that another disk is in is refused.
     pub fn of<R: Files<File = File>>(rt: &R, path: &str) -> Result<FileDisk, OpenFault>
         ensures fresh { IfOk result (λ disk. disk.failed ≡ 0) }
     {
@@ -26,7 +27,7 @@ impl FileDisk {
         options.read(true).write(true);
         let file = options.open(rt, path).map_err(fault_of)?;
         let metadata = file.metadata().map_err(fault_of)?;
-        if !metadata.is_file() {
+        if !metadata.is_file() || is_in_use(&file) {
             return Err(OpenFault::NotOpened);
         }
         Ok(FileDisk {
@@ -45,6 +46,9 @@ impl FileDisk {
         let mut options = OpenOptions::new();
         options.read(true).write(true).create_new(true);
         let file = options.open(rt, path).map_err(fault_of)?;
+        if is_in_use(&file) {
+            return Err(OpenFault::NotOpened);
+        }
         file.set_len(size).map_err(fault_of)?;
         file.sync_all().map_err(fault_of)?;
         Ok(FileDisk {
@@ -63,6 +67,11 @@ impl FileDisk {
         self.failed = self.failed.saturating_add(1);
         DiskFault
     }
+}
+
+// Whether another open of a file has it locked; else it is locked from now on, where the file system has locks.
+fn is_in_use(file: &File) -> bool {
+    matches!(file.try_lock(), Err(TryLockError::WouldBlock))
 }
 
 fn fault_of(error: Error) -> OpenFault {

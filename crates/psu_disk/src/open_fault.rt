@@ -7,7 +7,7 @@ pub enum OpenFault {
     /// There is no file at the path, or no folder to make it in.
     #[error("no such file")]
     NoFile,
-    /// It is no file, or can't be read and written.
+    /// It is no file, can't be read and written, or another disk is in it.
     #[error("device fault")]
     NotOpened,
     #[error("out of memory")]

@@ -1,4 +1,4 @@
-// Disks in files: what is refused, and what a file keeps.
+// Disks in files: what is refused, one in use too, and what a file keeps.
 use psu_disk::{Disk, FileDisk, OpenFault};
 
 const NAME: &str = "a_disk_for_a_test.image";
@@ -16,6 +16,7 @@ fn a_file_is_made_once_and_keeps_its_bytes(rt: HostRuntime) {
     );
     let mut disk = FileDisk::make(&rt, NAME, 4_096).expect(&rt, "made");
     assert!(rt; matches!(FileDisk::make(&rt, NAME, 4_096), Err(OpenFault::Exists)));
+    assert!(rt; matches!(FileDisk::of(&rt, NAME), Err(OpenFault::NotOpened)));
     if disk.size() == 4_096 {
         assert!(rt; disk.write(4_094, &[7, 8]).is_ok());
         assert!(rt; disk.sync().is_ok());
