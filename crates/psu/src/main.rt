@@ -3,6 +3,7 @@
 
 mod commands;
 mod fault;
+mod streams;
 mod words;
 
 use commands::{make_image, recover_image, run_image, run_in_memory};
@@ -10,6 +11,7 @@ use fault::Fault;
 use psu_serve::{Open, serve};
 use std::io::Eprint;
 use std::process::ExitCode;
+use streams::stand_ins;
 use words::{Choice, WordsFault, choice_of};
 
 /// The exit status of a command line that asks for no command.
@@ -17,6 +19,7 @@ const REFUSED: u8 = 2;
 
 fn main(rt: HostRuntime) -> ExitCode {
     let alloc = rt.alloc();
+    let _streams = stand_ins(&rt);
     let Ok(arguments) = std::env::args(&rt) else {
         return ExitCode::from(REFUSED);
     };

@@ -6,6 +6,7 @@ ghost use Rattle.psu_disk.specs.Disk.{HasFailed};
 use crate::{Disk, DiskFault, OpenFault};
 use std::fs::{File, OpenOptions, TryLockError};
 use std::io::{Error, ErrorKind};
+use std::os::fd::AsRawFd;
 use std::os::unix::fs::FileExt;
 use std::rt::Files;
 
@@ -27,7 +28,7 @@ impl FileDisk {
         options.read(true).write(true);
         let file = options.open(rt, path).map_err(fault_of)?;
         let metadata = file.metadata().map_err(fault_of)?;
-        if !metadata.is_file() || is_in_use(&file) {
+        if !metadata.is_file() || !is_ours(&file) {
             return Err(OpenFault::NotOpened);
         }
         Ok(FileDisk {
@@ -46,7 +47,7 @@ impl FileDisk {
         let mut options = OpenOptions::new();
         options.read(true).write(true).create_new(true);
         let file = options.open(rt, path).map_err(fault_of)?;
-        if is_in_use(&file) {
+        if !is_ours(&file) {
             return Err(OpenFault::NotOpened);
         }
         file.set_len(size).map_err(fault_of)?;
@@ -69,9 +70,10 @@ impl FileDisk {
     }
 }
 
-// Whether another open of a file has it locked; else it is locked from now on, where the file system has locks.
-fn is_in_use(file: &File) -> bool {
-    matches!(file.try_lock(), Err(TryLockError::WouldBlock))
+// Whether a file is this program's alone: no other open of it has it locked, and it stands under no number of a standard stream that was closed,
+// as what is printed would be written into it. It is locked from now on, where the file system has locks.
+fn is_ours(file: &File) -> bool {
+    file.as_raw_fd() > 2 && !matches!(file.try_lock(), Err(TryLockError::WouldBlock))
 }
 
 fn fault_of(error: Error) -> OpenFault {
