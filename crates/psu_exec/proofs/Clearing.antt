@@ -20,7 +20,7 @@ within n most le = grind (arith, nat_tests)
 pub sound_cleared : (c : Contents) → IsContents c → IsContents (apply c (PowerOnClear None))
 unfolding apply
 sound_cleared c is = record {
-  ten = is.ten;
+  count = is.count;
   settings = is.settings;
   user = is.user;
   macros = is.macros;
@@ -41,7 +41,7 @@ first_part one two x e = sym (ap (λ (o : Option (ℕ × ℕ)). (unwrap_or o two
 pub sound_kept : (c : Contents) (sre ese : ℕ) → IsContents c → IsContents (apply c (PowerOnClear (Some (sre, ese))))
 unfolding apply
 sound_kept c sre ese is = record {
-  ten = is.ten;
+  count = is.count;
   settings = is.settings;
   user = is.user;
   macros = is.macros;

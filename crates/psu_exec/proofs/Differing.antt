@@ -19,20 +19,20 @@ more_edits : (f : Item → List Edit) (r edits : List Edit) (seen more : List It
 more_edits f r edits seen more is =
     ap (λ (e : List Edit). e ++ flat_map f more) is ∙ append_assoc r (flat_map f seen) (flat_map f more) ∙ ap (λ (e : List Edit). r ++ e) (sym (flat_map-append f seen more))
 
-pub next_number : (f : Item → List Edit) (c : Contents) (r edits new : List Edit) (n : ℕ) → IsContents c → n < 10 → edits ≡ r ++ flat_map f (enables_items c.enables ++ registers_items 0 (take n c.registers))
+pub next_number : (f : Item → List Edit) (c : Contents) (r edits new : List Edit) (n : ℕ) → IsContents c → n < 100 → edits ≡ r ++ flat_map f (enables_items c.enables ++ registers_items 0 (take n c.registers))
     → new ≡ edits ++ flat_map f (register_items n (settings_at c.registers n)) → new ≡ r ++ flat_map f (enables_items c.enables ++ registers_items 0 (take (n + 1) c.registers))
 next_number f c r edits new n is low seen added =
     added ∙ more_edits f r edits (enables_items c.enables ++ registers_items 0 (take n c.registers)) (register_items n (settings_at c.registers n)) seen
     ∙ ap (λ (l : List Item). r ++ flat_map f l)
-    (next_register c n n (n + 1) (enables_items c.enables ++ registers_items 0 (take n c.registers)) _ refl refl refl (omega (arith, low, is.ten)) refl)
+    (next_register c n n (n + 1) (enables_items c.enables ++ registers_items 0 (take n c.registers)) _ refl refl refl (omega (arith, low, is.count)) refl)
 
-pub front_edits : (f : Item → List Edit) (c : Contents) (r edits with_user new : List Edit) (n : ℕ) → IsContents c → 10 ≤ n → edits ≡ r ++ flat_map f (enables_items c.enables ++ registers_items 0 (take n c.registers))
+pub front_edits : (f : Item → List Edit) (c : Contents) (r edits with_user new : List Edit) (n : ℕ) → IsContents c → 100 ≤ n → edits ≡ r ++ flat_map f (enables_items c.enables ++ registers_items 0 (take n c.registers))
     → with_user ≡ edits ++ flat_map f (user_items c.user) → new ≡ with_user ++ flat_map f (macros_items c.macros) → new ≡ r ++ flat_map f (front c ++ [])
 front_edits f c r edits with_user new n is all seen user macros =
-    let ten : edits ≡ r ++ flat_map f (enables_items c.enables ++ registers_items 0 c.registers)
-    = seen ∙ ap (λ (l : List (List OutputSettings)). r ++ flat_map f (enables_items c.enables ++ registers_items 0 l)) (take_all n c.registers (omega (arith, all, is.ten))) in
+    let each : edits ≡ r ++ flat_map f (enables_items c.enables ++ registers_items 0 c.registers)
+    = seen ∙ ap (λ (l : List (List OutputSettings)). r ++ flat_map f (enables_items c.enables ++ registers_items 0 l)) (take_all n c.registers (omega (arith, all, is.count))) in
     let five : with_user ≡ r ++ flat_map f ((enables_items c.enables ++ registers_items 0 c.registers) ++ user_items c.user)
-    = user ∙ more_edits f r edits (enables_items c.enables ++ registers_items 0 c.registers) (user_items c.user) ten in
+    = user ∙ more_edits f r edits (enables_items c.enables ++ registers_items 0 c.registers) (user_items c.user) each in
     macros ∙ more_edits f r with_user ((enables_items c.enables ++ registers_items 0 c.registers) ++ user_items c.user) (macros_items c.macros) five
     ∙ ap (λ (l : List Item). r ++ flat_map f l) (sym (append-nil (front c)))
 

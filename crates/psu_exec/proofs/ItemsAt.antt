@@ -106,10 +106,10 @@ no_register c bytes is none = subst (λ (k : List ℕ). false ≡ is_some (get (
 pub long_register : (c : Contents) (bytes rest : List ℕ) (number : ℕ) → IsContents c → bytes ≡ number ∷ rest → (length rest == 0) ≡ false → false ≡ is_some (get (items_of c) (2 ∷ bytes))
 long_register c bytes rest number is same long =
     subst (λ (k : List ℕ). false ≡ is_some (get (items_of c) (2 ∷ k))) (sym same)
-    (none_at c (2 ∷ number ∷ rest) is (ap (λ (b : Bool). nat_le number 9 && b) (something rest long) ∙ and_false (nat_le number 9)))
+    (none_at c (2 ∷ number ∷ rest) is (ap (λ (b : Bool). nat_le number 99 && b) (something rest long) ∙ and_false (nat_le number 99)))
 
-pub high_register : (c : Contents) (bytes rest : List ℕ) (number : ℕ) → IsContents c → bytes ≡ number ∷ rest → 10 ≤ number → false ≡ is_some (get (items_of c) (2 ∷ bytes))
+pub high_register : (c : Contents) (bytes rest : List ℕ) (number : ℕ) → IsContents c → bytes ≡ number ∷ rest → 100 ≤ number → false ≡ is_some (get (items_of c) (2 ∷ bytes))
 high_register c bytes rest number is same high =
     subst (λ (k : List ℕ). false ≡ is_some (get (items_of c) (2 ∷ k))) (sym same) (none_at c (2 ∷ number ∷ rest) is (ap (λ (b : Bool). b && is_nothing rest) (over number high))) where
-      over : (n : ℕ) → 10 ≤ n → nat_le n 9 ≡ false
+      over : (n : ℕ) → 100 ≤ n → nat_le n 99 ≡ false
       over n le = grind (arith, nat_tests, le)

@@ -69,14 +69,14 @@ flag_asked s flag.Protection = says s (digit s.instrument.protected)
 abbrev pub reset_all : Situation → Meaning
 reset_all s = leaves (record (with_supplies s.instrument (restored s.instrument.supplies reset)) { expands = false; pending = None })
 
--- `*SAV` of the present settings, in a register from 0 to 9
+-- `*SAV` of the present settings, in a register from 0 to 99
 abbrev pub saved : Situation → ℕ → Meaning
-saved s register = if nat_le 10 register then Refuses DataOutOfRange else Keeps (Save register (all_settings s.instrument.supplies))
+saved s register = if nat_le 100 register then Refuses DataOutOfRange else Keeps (Save register (all_settings s.instrument.supplies))
 
 -- `*RCL`: the register's settings, with no trip but those that follow from them
 abbrev pub recalled : Situation → ℕ → Meaning
 recalled s register =
-    if nat_le 10 register then Refuses DataOutOfRange
+    if nat_le 100 register then Refuses DataOutOfRange
     else leaves (with_supplies s.instrument (restored s.instrument.supplies (settings_at s.contents.registers register)))
 
 -- ---- user data

@@ -43,14 +43,14 @@ on_two s on_names.Move from to = Keeps (Move (text_of from) (text_of to))
 
 -- ---- states and macros
 
--- between a register from 0 to 9 and a file
+-- between a register from 0 to 99 and a file
 abbrev pub state_change : Transfer → ℕ → List ℕ → nv.Command
 state_change transfer.Store register name = StoreState register name
 state_change transfer.Load register name = LoadState register name
 
 -- `MMEMory:STORe:STATe`, `MMEMory:LOAD:STATe`
 abbrev pub state_moved : Situation → Transfer → ℕ → Option (List ℕ) → Meaning
-state_moved s way register name = if nat_le 10 register then Refuses DataOutOfRange else Keeps (state_change way register (text_of name))
+state_moved s way register name = if nat_le 100 register then Refuses DataOutOfRange else Keeps (state_change way register (text_of name))
 
 -- `MMEMory:STORe:MACRo`, `MMEMory:LOAD:MACRo`
 abbrev pub macro_moved : Situation → Transfer → Option (List ℕ) → Option (List ℕ) → Meaning

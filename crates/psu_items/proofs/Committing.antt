@@ -1,7 +1,7 @@
 -- A commit, in the words of its callers.
-use Rattle.std.proofs.Common.{◌≡◌, inl, true, false, ℕ, List, sym, ◌∙◌, ap, subst}
+use Rattle.std.proofs.Common.{◌≡◌, inl, inr, true, false, ℕ, List, sym, ◌∙◌, ap, subst}
 use Rattle.psu_disk.specs.Disk.{Left, Follows, LeavesOnly, HasFailed}
-use Rattle.psu_disk.specs.Moments.{started}
+use Rattle.psu_disk.specs.Moments.{started, weaken}
 use Rattle.psu_disk.specs.declared.disk.Disk.{Ghosts}
 use Rattle.psu_items.specs.Map.{Item}
 use Rattle.psu_items.specs.Capacity.{CanHold, IsMapOf}
@@ -11,17 +11,26 @@ use Rattle.psu_pages.specs.declared.root.Root.{Root}
 use Rattle.psu_pages.specs.Outcome.{HasSameRoots}
 use Rattle.psu_pages.specs.Writing.{Reaches}
 use Rattle.psu_items.specs.Writing.{SameBehind}
-use Rattle.psu_items.specs.Image.{shown_in, IsEither}
+use Rattle.psu_items.specs.Image.{shown_in, IsEither, IsEitherRoot}
 use Rattle.psu_items.specs.Standing.{MapOn, ShowsMap, on_pages}
-use Rattle.psu_items.proofs.Standing.{pages_stand}
+use Rattle.psu_items.proofs.Standing.{pages_as}
 
 pub not_true : false ≡ true → ⊥
 not_true e = cc
 
 -- nothing is done
 pub none_run : {D A : Type 0} {G : Ghosts D} (pages : Pages D A G) (m target : List Item) → ShowsMap pages m → Ghosts.honest G → ((x : List ℕ) → Ghosts.left_since G pages.disk (Ghosts.moment G pages.disk) x → Left (Ghosts.state G pages.disk) x)
-    → LeavesOnly (Ghosts.moment G) (Ghosts.left_since G) pages.disk pages.disk (IsEither pages.limit m target)
-none_run {D} {A} {G} pages m target shows h only_now = started (Ghosts.moment G) (Ghosts.left_since G) pages.disk (IsEither pages.limit m target) (λ x s. inl (pages_stand pages m shows h x (only_now x s)))
+    → LeavesOnly (Ghosts.moment G) (Ghosts.left_since G) pages.disk pages.disk (IsEitherRoot pages.version pages.number pages.limit m target)
+none_run {D} {A} {G} pages m target shows h only_now = started (Ghosts.moment G) (Ghosts.left_since G) pages.disk (IsEitherRoot pages.version pages.number pages.limit m target) (λ x s. inl (pages_as pages m shows h x (only_now x s)))
+
+-- whatever its version and its number
+pub to_either : (version number limit : ℕ) (before target : List Item) (x : List ℕ) → IsEitherRoot version number limit before target x → IsEither limit before target x
+to_either version number limit before target x (inl was) = inl was.stands
+to_either version number limit before target x (inr is) = inr is.stands
+
+pub either_run : {D : Type 0} (G : Ghosts D) (version number limit : ℕ) (before target : List Item) (old last : D) → LeavesOnly (Ghosts.moment G) (Ghosts.left_since G) old last (IsEitherRoot version number limit before target)
+    → LeavesOnly (Ghosts.moment G) (Ghosts.left_since G) old last (IsEither limit before target)
+either_run G version number limit before target old last run = weaken (Ghosts.moment G) (Ghosts.left_since G) old last (IsEitherRoot version number limit before target) (IsEither limit before target) run (to_either version number limit before target)
 
 pub can_back : {D A : Type 0} {G : Ghosts D} (pages : Pages D A G) (m : List Item) (seen : MapOn D) (batch : List Edit) → on_pages pages m ≡ seen → CanHold seen.limit (changed seen.items batch) → CanHold pages.limit (changed m batch)
 can_back {D} pages m seen batch is can = subst (λ (s : MapOn D). CanHold s.limit (changed s.items batch)) (sym is) can
@@ -53,10 +62,10 @@ module _ {D A : Type 0} {G : Ghosts D} (old new : Pages D A G) (roots : HasSameR
   }
 
   pub same_view : (m : List Item) → on_pages new m ≡ on_pages old m
-  same_view m = ap (λ (d : D). seen d new.limit new.number) roots.disk ∙ ap (λ (n : ℕ). seen old.disk n new.number) roots.limit ∙ ap (λ (n : ℕ). seen old.disk old.limit n) roots.number
+  same_view m = ap (λ (d : D). seen d new.version new.limit new.number) roots.disk ∙ ap (λ (n : ℕ). seen old.disk n new.limit new.number) roots.version ∙ ap (λ (n : ℕ). seen old.disk old.version n new.number) roots.limit ∙ ap (λ (n : ℕ). seen old.disk old.version old.limit n) roots.number
     where
-      seen : D → ℕ → ℕ → MapOn D
-      seen d limit number = record { disk = d; limit = limit; number = number; items = m }
+      seen : D → ℕ → ℕ → ℕ → MapOn D
+      seen d version limit number = record { disk = d; limit = limit; version = version; number = number; items = m }
 
   -- what is behind stays, seen from before
   pub behind_back : (last : D) → Follows (SameBehind new.limit) (Left (Ghosts.state G new.disk)) (Left (Ghosts.state G last)) → Follows (SameBehind old.limit) (Left (Ghosts.state G old.disk)) (Left (Ghosts.state G last))
@@ -66,8 +75,19 @@ module _ {D A : Type 0} {G : Ghosts D} (old new : Pages D A G) (roots : HasSameR
   behind_time_back last run = subst (λ (d : D). LeavesOnly (Ghosts.moment G) (Ghosts.left_since G) d last (Reaches (SameBehind old.limit) (Left (Ghosts.state G d)))) roots.disk (subst (λ (n : ℕ). LeavesOnly (Ghosts.moment G) (Ghosts.left_since G) new.disk last (Reaches (SameBehind n) (Left (Ghosts.state G new.disk)))) roots.limit run)
 
   module _ (m made target : List Item) (is : made ≡ target) where
-    pub either_back : (x : List ℕ) → IsEither new.limit m made x → IsEither old.limit m target x
-    either_back x e = subst (λ (l : List Item). IsEither old.limit m l x) is (subst (λ (n : ℕ). IsEither n m made x) roots.limit e)
+    abbrev Renews : Pages D A G → List Item → List ℕ → Type 0
+    Renews pages map = IsEitherRoot pages.version pages.number pages.limit m map
 
-    pub time_back : (last : D) → LeavesOnly (Ghosts.moment G) (Ghosts.left_since G) new.disk last (IsEither new.limit m made) → LeavesOnly (Ghosts.moment G) (Ghosts.left_since G) old.disk last (IsEither old.limit m target)
-    time_back last run = subst (λ (d : D). LeavesOnly (Ghosts.moment G) (Ghosts.left_since G) d last (IsEither old.limit m target)) roots.disk (subst (λ (l : List Item). LeavesOnly (Ghosts.moment G) (Ghosts.left_since G) new.disk last (IsEither old.limit m l)) is (subst (λ (n : ℕ). LeavesOnly (Ghosts.moment G) (Ghosts.left_since G) new.disk last (IsEither n m made)) roots.limit run))
+    rooted : (x : List ℕ) → Renews new made x → Renews old made x
+    rooted x e =
+        subst (λ (n : ℕ). IsEitherRoot n old.number old.limit m made x) roots.version
+        (subst (λ (n : ℕ). IsEitherRoot new.version n old.limit m made x) roots.number
+        (subst (λ (n : ℕ). IsEitherRoot new.version new.number n m made x) roots.limit e))
+
+    pub either_back : (x : List ℕ) → Renews new made x → Renews old target x
+    either_back x e = subst (λ (l : List Item). Renews old l x) is (rooted x e)
+
+    pub time_back : (last : D) → LeavesOnly (Ghosts.moment G) (Ghosts.left_since G) new.disk last (Renews new made) → LeavesOnly (Ghosts.moment G) (Ghosts.left_since G) old.disk last (Renews old target)
+    time_back last run =
+        subst (λ (d : D). LeavesOnly (Ghosts.moment G) (Ghosts.left_since G) d last (Renews old target)) roots.disk
+        (weaken (Ghosts.moment G) (Ghosts.left_since G) new.disk last (Renews new made) (Renews old target) run either_back)

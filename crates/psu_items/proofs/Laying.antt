@@ -174,7 +174,7 @@ module _ {D A : Type 0} {G : Ghosts D} (old new : Pages D A G) (roots : HasSameR
 
 -- the roots are as they were, step by step
 pub roots_on : {D A : Type 0} {G : Ghosts D} (old mid new : Pages D A G) → HasSameRoots old mid → HasSameRoots mid new → HasSameRoots old new
-roots_on old mid new first second = record { disk = second.disk ∙ first.disk; root = second.root ∙ first.root; limit = second.limit ∙ first.limit; number = second.number ∙ first.number; standing = second.standing ∙ first.standing; heads = second.heads ∙ first.heads; older = second.older ∙ first.older }
+roots_on old mid new first second = record { disk = second.disk ∙ first.disk; root = second.root ∙ first.root; version = second.version ∙ first.version; limit = second.limit ∙ first.limit; number = second.number ∙ first.number; standing = second.standing ∙ first.standing; heads = second.heads ∙ first.heads; older = second.older ∙ first.older }
 
 -- the last of some slots is given up
 module _ {D A : Type 0} {G : Ghosts D} (pages : Pages D A G) (slots rest : List (Slot A)) (s : Slot A) (are : slots ≡ rest ++ s ∷ []) (planned : AllByRecursion (λ (o : Slot A). o.is_new ≡ true → IsPlanned pages o.head) slots) (apart : AreApart (taken (heads_of slots))) where

@@ -10,7 +10,7 @@ use Rattle.psu_pages.specs.declared.open_cause.OpenCause.{OpenCause as PagesCaus
 use Rattle.psu_pages.specs.declared.open_cause.OpenCause.TheVariants.{Device, NoRoot, BadRoot, BadVersion, Memory}
 use Rattle.psu_pages.specs.declared.pages.Pages.{Pages}
 use Rattle.psu_pages.specs.declared.root.Root.{Root}
-use Rattle.psu_pages.specs.Image.{Head, other, gate_at, number_in, Counts}
+use Rattle.psu_pages.specs.Image.{Head, other, gate_at, number_in, version_in, Counts}
 use Rattle.psu_pages.specs.Shown.{items_in, Shows, Bears}
 use Rattle.psu_pages.specs.Shown as shown
 use Rattle.psu_pages.specs.Finding as finding
@@ -65,12 +65,15 @@ pages_refused image BadVersion why = why
 pages_refused image Memory why = tt
 
 -- a root counts in s
-module _ (root : Root) (limit number : ℕ) (heads : List Head) (s : List ℕ) (bears : Bears root limit number heads (items_in root s) s) where
+module _ (root : Root) (version limit number : ℕ) (heads : List Head) (s : List ℕ) (bears : Bears root version limit number heads (items_in root s) s) where
   pub stood : (m : List Item) → IsSorted m → IsMapOf m (listed s heads) → Stands s limit m
   stood m sorted of = stands_at root limit m s bears.counts (record { shows = bears.says.shows; items = subst (λ (hs : List Head). IsMapOf m (listed s hs)) (sym bears.says.heads_are) of; sorted = sorted })
 
   pub numbered : number_in (counting s) s ≡ number
   numbered = ap (λ (r : Root). number_in r s) (counting_is root s bears.counts) ∙ bears.says.number_is
+
+  pub versioned : version_in (counting s) s ≡ version
+  versioned = ap (λ (r : Root). version_in r s) (counting_is root s bears.counts) ∙ bears.says.version_is
 
   pub readable : HasReadableRoot s
   readable =
@@ -89,7 +92,7 @@ module _ (root : Root) (limit number : ℕ) (heads : List Head) (s : List ℕ) (
       }
 
   -- and says the same in x
-  pub same_roots : (x : List ℕ) → Bears root limit number heads (items_in root s) x → SameBut (gate_at (other root)) 1 s x → SameRoots s x
+  pub same_roots : (x : List ℕ) → Bears root version limit number heads (items_in root s) x → SameBut (gate_at (other root)) 1 s x → SameRoots s x
   same_roots x now but = record {
     counts = λ r c. subst (λ (q : Root). Counts q x) (is_root r c) now.counts;
     numbers = λ r c. subst (λ (q : Root). number_in q x ≡ number_in q s) (is_root r c) (now.says.number_is ∙ sym bears.says.number_is);
@@ -108,12 +111,12 @@ module _ (root : Root) (limit number : ℕ) (heads : List Head) (s : List ℕ) (
       }
 
 -- pages were opened on a disk that read as s, and an older gate may be closed
-module _ {D A : Type 0} {G : Ghosts D} (pages : Pages D A G) (s : List ℕ) (bears : Bears pages.root pages.limit pages.number pages.heads.items (items_in pages.root s) s) (seen : (Ghosts.state G pages.disk).bytes ≡ s) (only : Only (Ghosts.state G pages.disk)) where
+module _ {D A : Type 0} {G : Ghosts D} (pages : Pages D A G) (s : List ℕ) (bears : Bears pages.root pages.version pages.limit pages.number pages.heads.items (items_in pages.root s) s) (seen : (Ghosts.state G pages.disk).bytes ≡ s) (only : Only (Ghosts.state G pages.disk)) where
   pub closed : (x : List ℕ) → BearsOf pages x → Closes pages x → SameRoots s x
   closed x now reaches =
       let at : reaches.0 ≡ s = only reaches.0 reaches.1 ∙ seen in
-      same_roots pages.root pages.limit pages.number pages.heads.items s bears x
-      (subst (λ (y : List ℕ). Bears pages.root pages.limit pages.number pages.heads.items (items_in pages.root y) x) seen now)
+      same_roots pages.root pages.version pages.limit pages.number pages.heads.items s bears x
+      (subst (λ (y : List ℕ). Bears pages.root pages.version pages.limit pages.number pages.heads.items (items_in pages.root y) x) seen now)
       (subst (λ (y : List ℕ). SameBut (gate_at (other pages.root)) 1 y x) at reaches.2)
 
   pub closed_run : (old : DiskState) (before new : D) → old.bytes ≡ s → LeavesOnly (Ghosts.moment G) (Ghosts.left_since G) before pages.disk (Left old)

@@ -1,11 +1,12 @@
 -- What a map written anew leaves, said of the map and the batch that a commit was called with.
 use Rattle.std.proofs.Common.{◌≡◌, ℕ, List, sym, ◌∙◌, ap, subst}
 use Rattle.psu_disk.specs.Disk.{LeavesOnly}
+use Rattle.psu_disk.specs.Moments.{weaken}
 use Rattle.psu_disk.specs.declared.disk.Disk.{Ghosts}
 use Rattle.psu_items.specs.Map.{Item}
 use Rattle.psu_items.specs.Batch.{Edit, changed}
 use Rattle.psu_items.specs.Capacity.{CanHold}
-use Rattle.psu_items.specs.Image.{IsEither}
+use Rattle.psu_items.specs.Image.{IsEither, IsEitherRoot}
 use Rattle.psu_items.specs.Plan.{Planned}
 use Rattle.psu_items.specs.Standing.{KeepsMap, MapOn, on_pages}
 use Rattle.psu_pages.specs.Outcome.{HasSameRoots}
@@ -21,14 +22,15 @@ module _ (m found : List Item) (batch edits : List Edit) (plan : Planned) (plann
   edits_called = edits_is ∙ ap (λ (p : Planned). p.edits) planned
 
 module _ (m found : List Item) (batch edits : List Edit) (map_is : found ≡ m) (edits_are : edits ≡ batch) where
-  pub either_called : (limit : ℕ) (x : List ℕ) → IsEither limit found (changed found edits) x → IsEither limit m (changed m batch) x
-  either_called limit x e = subst (λ (es : List Edit). IsEither limit m (changed m es) x) edits_are (subst (λ (f : List Item). IsEither limit f (changed f edits) x) map_is e)
+  pub either_called : (version number limit : ℕ) (x : List ℕ) → IsEitherRoot version number limit found (changed found edits) x → IsEitherRoot version number limit m (changed m batch) x
+  either_called version number limit x e = subst (λ (es : List Edit). IsEitherRoot version number limit m (changed m es) x) edits_are (subst (λ (f : List Item). IsEitherRoot version number limit f (changed f edits) x) map_is e)
 
-  pub time_called : {D : Type 0} (G : Ghosts D) (limit : ℕ) (old last : D) → LeavesOnly (Ghosts.moment G) (Ghosts.left_since G) old last (IsEither limit found (changed found edits))
-      → LeavesOnly (Ghosts.moment G) (Ghosts.left_since G) old last (IsEither limit m (changed m batch))
-  time_called {D} G limit old last run =
-      subst (λ (es : List Edit). LeavesOnly (Ghosts.moment G) (Ghosts.left_since G) old last (IsEither limit m (changed m es))) edits_are
-      (subst (λ (f : List Item). LeavesOnly (Ghosts.moment G) (Ghosts.left_since G) old last (IsEither limit f (changed f edits))) map_is run)
+  pub time_called : {D : Type 0} (G : Ghosts D) (version number limit : ℕ) (old last : D) → LeavesOnly (Ghosts.moment G) (Ghosts.left_since G) old last (IsEitherRoot version number limit found (changed found edits))
+      → LeavesOnly (Ghosts.moment G) (Ghosts.left_since G) old last (IsEitherRoot version number limit m (changed m batch))
+  time_called G version number limit old last run = weaken (Ghosts.moment G) (Ghosts.left_since G) old last (IsEitherRoot version number limit found (changed found edits)) (IsEitherRoot version number limit m (changed m batch)) run (either_called version number limit)
+
+  pub weakly_called : (limit : ℕ) (x : List ℕ) → IsEither limit found (changed found edits) x → IsEither limit m (changed m batch) x
+  weakly_called limit x e = subst (λ (es : List Edit). IsEither limit m (changed m es) x) edits_are (subst (λ (f : List Item). IsEither limit f (changed f edits) x) map_is e)
 
   pub can_called : (limit : ℕ) → CanHold limit (changed m batch) → CanHold limit (changed found edits)
   can_called limit can = subst (λ (es : List Edit). CanHold limit (changed found es)) (sym edits_are) (subst (λ (f : List Item). CanHold limit (changed f batch)) (sym map_is) can)

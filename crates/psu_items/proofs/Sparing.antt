@@ -97,4 +97,4 @@ module _ {A : Type 0} (heads : List Head) (slots rest : List (Slot A)) (s : Slot
   last_kept = let last = all_right (λ (o : Slot A). o.is_new ≡ false → IsOneOf heads o.head) rest (s ∷ []) (subst (AllByRecursion (λ (o : Slot A). o.is_new ≡ false → IsOneOf heads o.head)) are kept) in last.0
 
 pub roots_none : {D A : Type 0} {G : Ghosts D} (pages : Pages D A G) → HasSameRoots pages pages
-roots_none pages = record { disk = refl; root = refl; limit = refl; number = refl; standing = refl; heads = refl; older = refl }
+roots_none pages = record { disk = refl; root = refl; version = refl; limit = refl; number = refl; standing = refl; heads = refl; older = refl }

@@ -22,7 +22,7 @@ use Rattle.psu_items.specs.Finding.{IsUnread}
 
 -- the root that counts says what it says on these pages
 abbrev pub BearsOf : {D A : Type 0} {G : Ghosts D} → Pages D A G → List ℕ → Type 0
-BearsOf {D} {A} {G} pages = Bears pages.root pages.limit pages.number pages.heads.items (items_in pages.root (Ghosts.state G pages.disk).bytes)
+BearsOf {D} {A} {G} pages = Bears pages.root pages.version pages.limit pages.number pages.heads.items (items_in pages.root (Ghosts.state G pages.disk).bytes)
 
 -- nothing but the older gate is written
 abbrev pub Closes : {D A : Type 0} {G : Ghosts D} → Pages D A G → List ℕ → Type 0
@@ -33,11 +33,12 @@ module _ {D A : Type 0} {G : Ghosts D} (old mid : Pages D A G) (same : HasSameHe
   pub bears_on : items_in mid.root (Ghosts.state G mid.disk).bytes ≡ items_in old.root (Ghosts.state G old.disk).bytes → (image : List ℕ) → BearsOf mid image → BearsOf old image
   bears_on items image bears =
       let heads : mid.heads.items ≡ old.heads.items = ap (λ v. v.items) same.heads in
-      subst (λ (is : List Item). Bears old.root old.limit old.number old.heads.items is image) items
-      (subst (λ (hs : List Head). Bears old.root old.limit old.number hs (items_in mid.root (Ghosts.state G mid.disk).bytes) image) heads
-      (subst (λ (n : ℕ). Bears old.root old.limit n mid.heads.items (items_in mid.root (Ghosts.state G mid.disk).bytes) image) same.number
-      (subst (λ (n : ℕ). Bears old.root n mid.number mid.heads.items (items_in mid.root (Ghosts.state G mid.disk).bytes) image) same.limit
-      (subst (λ (r : Root). Bears r mid.limit mid.number mid.heads.items (items_in mid.root (Ghosts.state G mid.disk).bytes) image) same.root bears))))
+      subst (λ (is : List Item). Bears old.root old.version old.limit old.number old.heads.items is image) items
+      (subst (λ (hs : List Head). Bears old.root old.version old.limit old.number hs (items_in mid.root (Ghosts.state G mid.disk).bytes) image) heads
+      (subst (λ (n : ℕ). Bears old.root old.version old.limit n mid.heads.items (items_in mid.root (Ghosts.state G mid.disk).bytes) image) same.number
+      (subst (λ (n : ℕ). Bears old.root old.version n mid.number mid.heads.items (items_in mid.root (Ghosts.state G mid.disk).bytes) image) same.limit
+      (subst (λ (n : ℕ). Bears old.root n mid.limit mid.number mid.heads.items (items_in mid.root (Ghosts.state G mid.disk).bytes) image) same.version
+      (subst (λ (r : Root). Bears r mid.version mid.limit mid.number mid.heads.items (items_in mid.root (Ghosts.state G mid.disk).bytes) image) same.root bears)))))
 
   pub bears_on_run : (new : D) → items_in mid.root (Ghosts.state G mid.disk).bytes ≡ items_in old.root (Ghosts.state G old.disk).bytes
       → LeavesOnly (Ghosts.moment G) (Ghosts.left_since G) old.disk mid.disk (BearsOf old) → LeavesOnly (Ghosts.moment G) (Ghosts.left_since G) mid.disk new (BearsOf mid)
@@ -83,4 +84,4 @@ not_device unread.Memory cause is not = λ same. cc
 
 -- step by step
 pub same_on : {D A : Type 0} {G : Ghosts D} (old mid new : Pages D A G) → HasSameHeads old mid → HasSameHeads mid new → HasSameHeads old new
-same_on old mid new first second = record { root = second.root ∙ first.root; limit = second.limit ∙ first.limit; number = second.number ∙ first.number; heads = second.heads ∙ first.heads; older = second.older ∙ first.older; free = second.free ∙ first.free }
+same_on old mid new first second = record { root = second.root ∙ first.root; version = second.version ∙ first.version; limit = second.limit ∙ first.limit; number = second.number ∙ first.number; heads = second.heads ∙ first.heads; older = second.older ∙ first.older; free = second.free ∙ first.free }

@@ -1,4 +1,4 @@
--- What an image can hold, and what makes a list of items those of a map. (The format is this project's own: image version 1.)
+-- What an image can hold, and what makes a list of items those of a map. (The format is this project's own: image version 2.)
 use Rattle.std.specs.Prelude.{◌≡◌, ℕ, ◌≤◌, List, length}
 use Rattle.std.specs.List.{AllByRecursion}
 use Rattle.psu_items.specs.Map.{Item, get, cost}
@@ -6,7 +6,7 @@ use Rattle.psu_items.specs.Map.{Item, get, cost}
 -- what an item of an image may be
 pub record Fits (i : Item) : Type 0 where
   pub key : 1 ≤ length i.key
-  pub key_most : length i.key ≤ 33
+  pub key_most : length i.key ≤ 65
   pub value : 1 ≤ length i.value
   pub value_most : length i.value ≤ 33280
 

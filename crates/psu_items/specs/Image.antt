@@ -1,5 +1,5 @@
--- What the bytes of an image of version 1 stand for: the map of the items that the root shows that counts.
-use Rattle.std.specs.Prelude.{ℕ, ◌⊎◌, List, map, ⊤}
+-- What the bytes of an image stand for, of version 1 or 2: the map of the items that the root shows that counts.
+use Rattle.std.specs.Prelude.{◌≡◌, ℕ, ◌+◌, ◌⊎◌, List, map, ⊤}
 use Rattle.psu_disk.specs.Disk.{DiskState, Left}
 use Rattle.psu_items.specs.Map.{Item, item_of, IsSorted}
 use Rattle.psu_items.specs.Capacity.{IsMapOf}
@@ -46,7 +46,7 @@ HasReadableRoot = finding.HasReadableRoot
 abbrev pub HasNoRoot : List ℕ → Type 0
 HasNoRoot = finding.HasNoRoot
 
--- a root counts that is one of ours, but of another version
+-- a root counts that is one of ours, but of a version that isn't read
 abbrev pub HasOtherVersion : List ℕ → Type 0
 HasOtherVersion = finding.HasOtherVersion
 
@@ -66,6 +66,20 @@ IsEither limit before target image = Stands image limit before ⊎ Stands image 
 -- whatever a power loss leaves stands for one of two maps
 abbrev pub EachIsEither : DiskState → ℕ → List Item → List Item → Type 0
 EachIsEither disk limit before target = (image : List ℕ) → Left disk image → IsEither limit before target image
+
+-- The root that counts holds the map, is of this version and has this number.
+pub record StandsAs (version number : ℕ) (image : List ℕ) (limit : ℕ) (map : List Item) : Type 0 where
+  pub stands : Stands image limit map
+  pub version_is : version_in (counting image) image ≡ version
+  pub number_is : number_in (counting image) image ≡ number
+
+-- what a commit may leave: the map before, under the version and the number that it had, or the target, as version 2 and under the
+-- next number
+abbrev pub IsEitherRoot : ℕ → ℕ → ℕ → List Item → List Item → List ℕ → Type 0
+IsEitherRoot version number limit before target image = StandsAs version number image limit before ⊎ StandsAs 2 (number + 1) image limit target
+
+abbrev pub EachIsEitherRoot : DiskState → ℕ → ℕ → ℕ → List Item → List Item → Type 0
+EachIsEitherRoot disk version number limit before target = (image : List ℕ) → Left disk image → IsEitherRoot version number limit before target image
 
 -- there are two roots, and what they say is wrong in another way than their gates or the version
 pub record HasBadRoot (image : List ℕ) : Type 0 where

@@ -59,10 +59,11 @@ IsWorn (commit.Stored store) = ⊥
 IsWorn (commit.Unstarted store batch cause) = cause ≡ Worn
 IsWorn (commit.Broken broken) = ⊥
 
--- the store holds the map after the batch, under the next number
+-- the store holds the map after the batch, as version 2 and under the next number
 pub record HasStored {D : Type 0} (old : MapOn D) (batch : List Edit) (new : MapOn D) : Type 0 where
   pub items : new.items ≡ changed old.items batch
   pub limit : new.limit ≡ old.limit
+  pub version : new.version ≡ 2
   pub number : new.number ≡ old.number + 1
 
 -- the store and the batch are as they were; it is worn only where its number is the last

@@ -8,23 +8,25 @@ use Rattle.psu_pages.specs.Free.{is_free}
 use Rattle.psu_pages.specs.Image.{Head, IsInPool, IsNone, taken}
 use Rattle.psu_pages.specs.declared.pages.Pages.{Pages}
 use Rattle.psu_pages.specs.declared.standing.Standing.TheVariants.{One}
-use Rattle.psu_items.specs.Image.{EachStands, counting, number_in, shown_in}
+use Rattle.psu_items.specs.Image.{EachStands, counting, number_in, version_in, shown_in}
 
--- a map on a disk: how many pages it may take, and the number of the root that counts
+-- a map on a disk: how many pages it may take, and the version and the number of the root that counts
 pub record MapOn (D : Type 0) : Type 0 where
   pub disk : D
   pub limit : ℕ
+  pub version : ℕ
   pub number : ℕ
   pub items : List Item
 
--- whatever a power loss leaves of its disk stands for its map, under its number
+-- whatever a power loss leaves of its disk stands for its map, under its version and its number
 pub record IsOnDisk {D : Type 0} (state : D → DiskState) (store : MapOn D) : Type 0 where
   pub stands : EachStands (state store.disk) store.limit store.items
   pub numbered : (image : List ℕ) → Left (state store.disk) image → number_in (counting image) image ≡ store.number
+  pub versioned : (image : List ℕ) → Left (state store.disk) image → version_in (counting image) image ≡ store.version
 
 -- what callers see of a map on pages
 abbrev pub on_pages : {D A : Type 0} {G : Ghosts D} → Pages D A G → List Item → MapOn D
-on_pages pages map = record { disk = pages.disk; limit = pages.limit; number = pages.number; items = map }
+on_pages pages map = record { disk = pages.disk; limit = pages.limit; version = pages.version; number = pages.number; items = map }
 
 -- of the pool's pages only those of these heads are claimed
 abbrev pub IsSpare : {D A : Type 0} {G : Ghosts D} → Pages D A G → List Head → Type 0

@@ -4,7 +4,7 @@ ghost use Rattle.psu_disk.specs.Disk.{Left, Follows, LeavesOnly};
 ghost use Rattle.psu_pages.specs.Writing.{Reaches};
 ghost use Rattle.psu_items.specs.Capacity.{CanHold};
 ghost use Rattle.psu_items.specs.Batch.{changed};
-ghost use Rattle.psu_items.specs.Image.{EachStands, EachIsEither, IsEither};
+ghost use Rattle.psu_items.specs.Image.{EachStands, EachIsEither, IsEither, EachIsEitherRoot, IsEitherRoot};
 ghost use Rattle.psu_items.specs.Standing.{IsOnDisk};
 ghost use Rattle.psu_items.specs.Writing.{SameBehind};
 
@@ -36,8 +36,9 @@ pub enum Commit<D: Disk, A: Allocator + Copy> {
 impl<D: Disk, A: Allocator + Copy> Store<D, A> {
     ghost use Rattle.psu_items.specs.Outcome.{disk_of, IfStored, IfUnstarted, IfBroken, IsWorn, HasStored, IsUnchanged, HasBroken};
 
-    /// Puts the map after the batch in the place of the one that stands, and writes only the items that differ. All memory and all
-    /// pages are taken before the first call of the disk.
+    /// Puts the map after the batch in the place of the one that stands, and writes only the items that differ. The root is written as
+    /// version 2, under the next number: an image of version 1 becomes one of version 2, by an empty batch too, and the pages of unchanged
+    /// items stay. All memory and all pages are taken before the first call of the disk.
     pub fn commit(self, alloc: A, batch: Batch<A>) -> Commit<D, A>
         requires { CanHold self.limit (changed self.items batch) }
         ensures stored { IfStored result (HasStored self batch) }
@@ -52,6 +53,12 @@ impl<D: Disk, A: Allocator + Copy> Store<D, A> {
         ensures left_broken { D.honest → IfBroken result (λ broken. EachIsEither (D.state broken.disk) self.limit self.items (changed self.items batch)) }
         ensures time { D.honest → D.tells
             → LeavesOnly D.moment D.left_since self.disk (disk_of result) (IsEither self.limit self.items (changed self.items batch)) }
+
+        // At each moment the map before stands, under its version and its number, or the map after the batch, as version 2 and under
+        // the next number.
+        ensures roots { D.honest → EachIsEitherRoot (D.state (disk_of result)) self.version self.number self.limit self.items (changed self.items batch) }
+        ensures roots_time { D.honest → D.tells
+            → LeavesOnly D.moment D.left_since self.disk (disk_of result) (IsEitherRoot self.version self.number self.limit self.items (changed self.items batch)) }
 
         // Behind the roots and the pool each byte stays as it might have been left before.
         ensures behind { D.honest → Follows (SameBehind self.limit) (Left (D.state self.disk)) (Left (D.state (disk_of result))) }

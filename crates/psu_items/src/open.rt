@@ -7,7 +7,7 @@ ghost use Rattle.psu_pages.specs.Image.{other, gate_at};
 ghost use Rattle.psu_pages.specs.Shown.{items_in, Bears};
 ghost use Rattle.psu_pages.specs.Writing.{Reaches};
 ghost use Rattle.psu_pages.specs.Outcome.{HasClosed};
-ghost use Rattle.psu_items.specs.Image.{listed, counting, number_in, EachStands, Stands, IsRefusal, HasReadableRoot};
+ghost use Rattle.psu_items.specs.Image.{listed, counting, number_in, version_in, EachStands, Stands, IsRefusal, HasReadableRoot};
 ghost use Rattle.psu_items.specs.Finding.{IsOldOrSame, cause_of_pages, IsUnread};
 ghost use Rattle.psu_items.specs.Outcome.{opened_disk};
 ghost use Rattle.psu_items.specs.Standing.{IsOnDisk, IsSpare};
@@ -28,6 +28,7 @@ impl<D: Disk, A: Allocator + Copy> Store<D, A> {
         ensures stood { D.honest → IfOk result (λ store. Stands (D.state disk).bytes store.limit store.items) }
         ensures stands { D.honest → IfOk result (λ store. IsOnDisk D.state store) }
         ensures number { D.honest → IfOk result (λ store. store.number ≡ number_in (counting (D.state disk).bytes) (D.state disk).bytes) }
+        ensures version { D.honest → IfOk result (λ store. store.version ≡ version_in (counting (D.state disk).bytes) (D.state disk).bytes) }
         ensures refused { D.honest → IfErr result (λ e. IsRefusal (D.state disk).bytes e.cause) }
         ensures untouched { D.honest → IfErr result (λ e. e.cause ≢ Device → (D.state e.disk).bytes ≡ (D.state disk).bytes) }
         ensures extent { D.extent (opened_disk result) ≡ D.extent disk }
@@ -68,7 +69,7 @@ fn take_up<D: Disk, A: Allocator + Copy>(
     requires sure { pages.standing ≢ Unsure }
     requires none_older { pages.older.items ≡ [] }
     requires spare { IsSpare pages pages.heads.items }
-    ensures words { IfOk result (λ store. (store.limit ≡ pages.limit) × (store.number ≡ pages.number)) }
+    ensures words { IfOk result (λ store. (store.limit ≡ pages.limit) × (store.version ≡ pages.version) × (store.number ≡ pages.number)) }
     ensures sorted { IfOk result (λ store. IsSorted store.items) }
     ensures stands { D.honest → IfOk result (λ store. IsOnDisk D.state store) }
     ensures found { D.honest → IfOk result (λ store. IsMapOf store.items (listed (D.state pages.disk).bytes pages.heads.items)) }
@@ -80,9 +81,9 @@ fn take_up<D: Disk, A: Allocator + Copy>(
     ensures device { IfErr result (λ e. e.cause ≡ Device → HasFailed (D.failures pages.disk) (D.failures e.disk)) }
     ensures quiet { IfErr result (λ e. e.cause ≢ Device → D.failures e.disk ≡ D.failures pages.disk) }
     ensures left { D.honest → (image : List ℕ) → Left (D.state (opened_disk result)) image
-        → Bears pages.root pages.limit pages.number pages.heads.items (items_in pages.root (D.state pages.disk).bytes) image }
+        → Bears pages.root pages.version pages.limit pages.number pages.heads.items (items_in pages.root (D.state pages.disk).bytes) image }
     ensures time { D.honest → D.tells → LeavesOnly D.moment D.left_since pages.disk (opened_disk result)
-        (Bears pages.root pages.limit pages.number pages.heads.items (items_in pages.root (D.state pages.disk).bytes)) }
+        (Bears pages.root pages.version pages.limit pages.number pages.heads.items (items_in pages.root (D.state pages.disk).bytes)) }
     ensures touched { D.honest → Follows (SameBut (gate_at (other pages.root)) 1) (Left (D.state pages.disk)) (Left (D.state (opened_disk result))) }
     ensures touched_time { D.honest → D.tells → LeavesOnly D.moment D.left_since pages.disk (opened_disk result) (Reaches (SameBut (gate_at (other pages.root)) 1) (Left (D.state pages.disk))) }
 {
@@ -106,7 +107,7 @@ fn read_back<D: Disk, A: Allocator + Copy>(
     ensures spare { OnOk result (IsSpare pages.new pages.new.heads.items) }
     ensures one { OnOk result (pages.new.standing ≡ One) }
     ensures root { OnOk result (pages.new.root ≡ pages.old.root) }
-    ensures words { OnOk result ((pages.new.limit ≡ pages.old.limit) × (pages.new.number ≡ pages.old.number)) }
+    ensures words { OnOk result ((pages.new.limit ≡ pages.old.limit) × (pages.new.version ≡ pages.old.version) × (pages.new.number ≡ pages.old.number)) }
     ensures sorted { IfOk result IsSorted }
     ensures found { D.honest → IfOk result (λ items. IsMapOf items (listed (D.state pages.old.disk).bytes pages.old.heads.items)) }
     ensures shown { D.honest → OnOk result (items_in pages.new.root (D.state pages.new.disk).bytes ≡ items_in pages.old.root (D.state pages.old.disk).bytes) }
@@ -118,9 +119,9 @@ fn read_back<D: Disk, A: Allocator + Copy>(
     ensures quiet { IfErr result (λ cause. cause ≢ PageFault.Device → D.failures pages.new.disk ≡ D.failures pages.old.disk) }
     ensures pages { IfErr result (λ cause. cause ≢ PageFault.NoPage) }
     ensures left { D.honest → (image : List ℕ) → Left (D.state pages.new.disk) image
-        → Bears pages.old.root pages.old.limit pages.old.number pages.old.heads.items (items_in pages.old.root (D.state pages.old.disk).bytes) image }
+        → Bears pages.old.root pages.old.version pages.old.limit pages.old.number pages.old.heads.items (items_in pages.old.root (D.state pages.old.disk).bytes) image }
     ensures time { D.honest → D.tells → LeavesOnly D.moment D.left_since pages.old.disk pages.new.disk
-        (Bears pages.old.root pages.old.limit pages.old.number pages.old.heads.items (items_in pages.old.root (D.state pages.old.disk).bytes)) }
+        (Bears pages.old.root pages.old.version pages.old.limit pages.old.number pages.old.heads.items (items_in pages.old.root (D.state pages.old.disk).bytes)) }
     ensures touched { D.honest → Follows (SameBut (gate_at (other pages.old.root)) 1) (Left (D.state pages.old.disk)) (Left (D.state pages.new.disk)) }
     ensures touched_time { D.honest → D.tells → LeavesOnly D.moment D.left_since pages.old.disk pages.new.disk (Reaches (SameBut (gate_at (other pages.old.root)) 1) (Left (D.state pages.old.disk))) }
 {

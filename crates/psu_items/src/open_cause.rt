@@ -9,7 +9,7 @@ pub enum OpenCause {
     NoRoot,
     /// The root that counts isn't one of ours, or what it says is wrong; or both are open and have one number.
     BadRoot,
-    /// The root that counts is of another version.
+    /// The root that counts is of a version that isn't read.
     BadVersion,
     /// Memory is refused.
     Memory,

@@ -8,7 +8,7 @@ ghost use Rattle.psu_pages.specs.Image.{AreApart, AreClear, IsInPool, keys, page
 ghost use Rattle.psu_pages.specs.Outcome.{IsPlanned, HasSameHeads};
 ghost use Rattle.psu_pages.specs.Shown.{items_in, Bears};
 ghost use Rattle.psu_pages.specs.Writing.{IsWritten, Reaches};
-ghost use Rattle.psu_items.specs.Image.{IsEither, EachIsEither};
+ghost use Rattle.psu_items.specs.Image.{IsEitherRoot, EachIsEitherRoot};
 ghost use Rattle.psu_items.specs.Layout.{heads_of, keys_in, value_at, IsSized, StandsWritten};
 ghost use Rattle.psu_items.specs.Standing.{AreSpare, IsSpare, ShowsMap};
 ghost use Rattle.psu_items.specs.Target.{aimed};
@@ -47,9 +47,10 @@ pub fn put<D: Disk, A: Allocator + Copy>(
     ensures shows { OnOk result (ShowsMap pages.new (aimed target.now)) }
     ensures spare { OnOk result (IsSpare pages.new pages.new.heads.items) }
     ensures limit { pages.new.limit ≡ pages.old.limit }
+    ensures version { OnOk result (pages.new.version ≡ 2) }
     ensures number { OnOk result (pages.new.number ≡ pages.old.number + 1) }
-    ensures left { D.honest → (before : List Item) → ShowsMap pages.old before → EachIsEither (D.state pages.new.disk) pages.old.limit before (aimed target.now) }
-    ensures time { D.honest → D.tells → (before : List Item) → ShowsMap pages.old before → LeavesOnly D.moment D.left_since pages.old.disk pages.new.disk (IsEither pages.old.limit before (aimed target.now)) }
+    ensures left { D.honest → (before : List Item) → ShowsMap pages.old before → EachIsEitherRoot (D.state pages.new.disk) pages.old.version pages.old.number pages.old.limit before (aimed target.now) }
+    ensures time { D.honest → D.tells → (before : List Item) → ShowsMap pages.old before → LeavesOnly D.moment D.left_since pages.old.disk pages.new.disk (IsEitherRoot pages.old.version pages.old.number pages.old.limit before (aimed target.now)) }
     ensures behind { D.honest → Follows (SameBehind pages.old.limit) (Left (D.state pages.old.disk)) (Left (D.state pages.new.disk)) }
     ensures behind_time { D.honest → D.tells → LeavesOnly D.moment D.left_since pages.old.disk pages.new.disk (Reaches (SameBehind pages.old.limit) (Left (D.state pages.old.disk))) }
 {
@@ -81,9 +82,9 @@ fn write_slots<D: Disk, A: Allocator + Copy>(
         → OnOk result (AllByRecursion (λ (slot : SlotOf A). IsWritten (D.state pages.new.disk).bytes slot.head (value_at (aimed target.now) slot.head.key)) slots.now) }
     ensures shown { D.honest → items_in pages.new.root (D.state pages.new.disk).bytes ≡ items_in pages.old.root (D.state pages.old.disk).bytes }
     ensures left { D.honest → (image : List ℕ) → Left (D.state pages.new.disk) image
-        → Bears pages.old.root pages.old.limit pages.old.number pages.old.heads.items (items_in pages.old.root (D.state pages.old.disk).bytes) image }
+        → Bears pages.old.root pages.old.version pages.old.limit pages.old.number pages.old.heads.items (items_in pages.old.root (D.state pages.old.disk).bytes) image }
     ensures time { D.honest → D.tells → LeavesOnly D.moment D.left_since pages.old.disk pages.new.disk
-        (Bears pages.old.root pages.old.limit pages.old.number pages.old.heads.items (items_in pages.old.root (D.state pages.old.disk).bytes)) }
+        (Bears pages.old.root pages.old.version pages.old.limit pages.old.number pages.old.heads.items (items_in pages.old.root (D.state pages.old.disk).bytes)) }
     ensures behind { D.honest → Follows (SameBehind pages.old.limit) (Left (D.state pages.old.disk)) (Left (D.state pages.new.disk)) }
     ensures behind_time { D.honest → D.tells → LeavesOnly D.moment D.left_since pages.old.disk pages.new.disk (Reaches (SameBehind pages.old.limit) (Left (D.state pages.old.disk))) }
 {
@@ -115,9 +116,9 @@ fn write_slot<D: Disk, A: Allocator + Copy>(
         → AreClear (pages_of slot.now.head) (pages_of other) → IsWritten (D.state pages.new.disk).bytes other its }
     ensures shown { D.honest → items_in pages.new.root (D.state pages.new.disk).bytes ≡ items_in pages.old.root (D.state pages.old.disk).bytes }
     ensures left { D.honest → (image : List ℕ) → Left (D.state pages.new.disk) image
-        → Bears pages.old.root pages.old.limit pages.old.number pages.old.heads.items (items_in pages.old.root (D.state pages.old.disk).bytes) image }
+        → Bears pages.old.root pages.old.version pages.old.limit pages.old.number pages.old.heads.items (items_in pages.old.root (D.state pages.old.disk).bytes) image }
     ensures time { D.honest → D.tells → LeavesOnly D.moment D.left_since pages.old.disk pages.new.disk
-        (Bears pages.old.root pages.old.limit pages.old.number pages.old.heads.items (items_in pages.old.root (D.state pages.old.disk).bytes)) }
+        (Bears pages.old.root pages.old.version pages.old.limit pages.old.number pages.old.heads.items (items_in pages.old.root (D.state pages.old.disk).bytes)) }
     ensures behind { D.honest → Follows (SameBehind pages.old.limit) (Left (D.state pages.old.disk)) (Left (D.state pages.new.disk)) }
     ensures behind_time { D.honest → D.tells → LeavesOnly D.moment D.left_since pages.old.disk pages.new.disk (Reaches (SameBehind pages.old.limit) (Left (D.state pages.old.disk))) }
 {

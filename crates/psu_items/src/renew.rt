@@ -5,7 +5,7 @@ ghost use Rattle.psu_pages.specs.Outcome.{HasSameRoots};
 ghost use Rattle.psu_pages.specs.Writing.{Reaches};
 ghost use Rattle.psu_items.specs.Capacity.{CanHold};
 ghost use Rattle.psu_items.specs.Batch.{changed};
-ghost use Rattle.psu_items.specs.Image.{EachIsEither, IsEither};
+ghost use Rattle.psu_items.specs.Image.{EachIsEitherRoot, IsEitherRoot};
 ghost use Rattle.psu_items.specs.Standing.{KeepsMap};
 ghost use Rattle.psu_items.specs.Writing.{SameBehind};
 ghost use Rattle.psu_items.specs.declared.renew.Unwritten.TheVariants.{Memory, Device};
@@ -38,14 +38,15 @@ pub fn renew<D: Disk, A: Allocator + Copy>(
     requires can { CanHold pages.old.limit (changed before.now batch.now) }
     requires number { pages.old.number + 1 < 2 ^ 64 }
     ensures keeps { OnOk result (KeepsMap pages.new (changed before.now batch.now)) }
+    ensures version { OnOk result (pages.new.version ≡ 2) }
     ensures number { OnOk result (pages.new.number ≡ pages.old.number + 1) }
     ensures works { OnOk result (D.failures pages.new.disk ≡ D.failures pages.old.disk) }
     ensures limit { pages.new.limit ≡ pages.old.limit }
     ensures extent { D.extent pages.new.disk ≡ D.extent pages.old.disk }
     ensures same { IsErrOf result Memory → HasSameRoots pages.old pages.new × KeepsMap pages.new before.now }
     ensures device { IsErrOf result Device → HasFailed (D.failures pages.old.disk) (D.failures pages.new.disk) }
-    ensures left { D.honest → EachIsEither (D.state pages.new.disk) pages.old.limit before.now (changed before.now batch.now) }
-    ensures time { D.honest → D.tells → LeavesOnly D.moment D.left_since pages.old.disk pages.new.disk (IsEither pages.old.limit before.now (changed before.now batch.now)) }
+    ensures left { D.honest → EachIsEitherRoot (D.state pages.new.disk) pages.old.version pages.old.number pages.old.limit before.now (changed before.now batch.now) }
+    ensures time { D.honest → D.tells → LeavesOnly D.moment D.left_since pages.old.disk pages.new.disk (IsEitherRoot pages.old.version pages.old.number pages.old.limit before.now (changed before.now batch.now)) }
     ensures behind { D.honest → Follows (SameBehind pages.old.limit) (Left (D.state pages.old.disk)) (Left (D.state pages.new.disk)) }
     ensures behind_time { D.honest → D.tells → LeavesOnly D.moment D.left_since pages.old.disk pages.new.disk (Reaches (SameBehind pages.old.limit) (Left (D.state pages.old.disk))) }
 {

@@ -52,9 +52,9 @@ impl<D: Disk, A: Allocator + Copy> Store<D, A> {
         self.pages.number()
     }
 
-    /// The version of the image's format.
+    /// The version of the root that counts: 1, or 2, which each commit writes.
     pub fn version(&self) -> u16
-        ensures value { result ≡ 1 }
+        ensures value { result ≡ self.now.version }
         ensures stands { D.honest → (image : List ℕ) → Left (D.state self.now.disk) image → version_in (counting image) image ≡ result }
     {
         self.pages.version()

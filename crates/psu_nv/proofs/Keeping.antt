@@ -13,7 +13,7 @@ use Rattle.psu_nv.specs.Contents.{Macro, Contents, contents_of, body_at, has_lab
 use Rattle.psu_nv.specs.Commands.{without_label, macro_of}
 
 with_files : (c : Contents) (files : List Item) → IsContents c → AllByRecursion IsFile files → IsSorted files → IsContents (contents_of c.registers c.user c.macros c.enables files)
-with_files c files is all sorted = record { ten = is.ten; settings = is.settings; user = is.user; macros = is.macros; distinct = is.distinct; most_macros = is.most_macros; mss = is.mss; files = all; sorted = sorted }
+with_files c files is all sorted = record { count = is.count; settings = is.settings; user = is.user; macros = is.macros; distinct = is.distinct; most_macros = is.most_macros; mss = is.mss; files = all; sorted = sorted }
 
 pub kept_put : (c : Contents) (files : List Item) (key name value : List ℕ) → IsContents c → key ≡ name → files ≡ put c.files key value → IsFile (item_of name value) → IsContents (contents_of c.registers c.user c.macros c.enables files)
 kept_put c files key name value is same is_put file =
@@ -28,7 +28,7 @@ kept_without c files name is is_without =
 -- # Macros
 
 with_macros : (c : Contents) (macros : List Macro) → IsContents c → AllByRecursion IsMacro macros → HasDistinct macros → length macros ≤ 32 → IsContents (contents_of c.registers c.user macros c.enables c.files)
-with_macros c macros is all distinct most = record { ten = is.ten; settings = is.settings; user = is.user; macros = all; distinct = distinct; most_macros = most; mss = is.mss; files = is.files; sorted = is.sorted }
+with_macros c macros is all distinct most = record { count = is.count; settings = is.settings; user = is.user; macros = all; distinct = distinct; most_macros = most; mss = is.mss; files = is.files; sorted = is.sorted }
 
 same_sym : (m n : ℕ) → (m == n) ≡ (n == m)
 same_sym m n = elim (cases_eq m n) [
@@ -124,7 +124,7 @@ place_found macros at d label lt front same =
 
 -- another ESE
 pub kept_event : (c : Contents) (sre ese bits : ℕ) → IsContents c → c.enables ≡ Some (sre, ese) → IsContents (contents_of c.registers c.user c.macros (Some (sre, bits)) c.files)
-kept_event c sre ese bits is here = record { ten = is.ten; settings = is.settings; user = is.user; macros = is.macros; distinct = is.distinct; most_macros = is.most_macros; mss = mss (subst (λ (o : Option (ℕ × ℕ)). ForSome o (λ e. bit_and e.0 64 ≡ 0)) here is.mss); files = is.files; sorted = is.sorted }
+kept_event c sre ese bits is here = record { count = is.count; settings = is.settings; user = is.user; macros = is.macros; distinct = is.distinct; most_macros = is.most_macros; mss = mss (subst (λ (o : Option (ℕ × ℕ)). ForSome o (λ e. bit_and e.0 64 ≡ 0)) here is.mss); files = is.files; sorted = is.sorted }
   where
     mss : ForSome (Some (sre, ese)) (λ (e : ℕ × ℕ). bit_and e.0 64 ≡ 0) → ForSome (Some (sre, bits)) (λ (e : ℕ × ℕ). bit_and e.0 64 ≡ 0)
     mss has = λ e there. let first : e.0 ≡ sre = cc in ap (λ (n : ℕ). bit_and n 64) first ∙ has (sre, ese) refl

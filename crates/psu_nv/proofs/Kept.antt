@@ -32,10 +32,10 @@ HasKey i = is_key i.key ≡ true
 within : (n most : ℕ) → n ≤ most → nat_le n most ≡ true
 within n most le = grind (arith, nat_tests)
 
-number_key : (q : ℕ) → q ≤ 9 → is_key (2 ∷ q ∷ []) ≡ true
-number_key q le = ap (λ (b : Bool). b && true) (within q 9 le)
+number_key : (q : ℕ) → q ≤ 99 → is_key (2 ∷ q ∷ []) ≡ true
+number_key q le = ap (λ (b : Bool). b && true) (within q 99 le)
 
-registers_keys : (q : ℕ) (registers : List (List OutputSettings)) → q + length registers ≤ 10 → AllByRecursion HasKey (registers_items q registers)
+registers_keys : (q : ℕ) (registers : List (List OutputSettings)) → q + length registers ≤ 100 → AllByRecursion HasKey (registers_items q registers)
 registers_keys q [] le = tt
 registers_keys q (s ∷ registers) le = all-append HasKey (register_items q s) (registers_items (q + 1) registers) (by_test (is_reset s)) (registers_keys (q + 1) registers (omega (arith, le)))
   where
@@ -56,7 +56,7 @@ unfolding items_of
 contents_keys c is =
     has_all _
     (all-append HasKey (enables_items c.enables) _ (by_enables c.enables)
-    (all-append HasKey (registers_items 0 c.registers) _ (registers_keys 0 c.registers (omega (arith, is.ten)))
+    (all-append HasKey (registers_items 0 c.registers) _ (registers_keys 0 c.registers (omega (arith, is.count)))
     (all-append HasKey (user_items c.user) _ (by_user c.user)
     (all-append HasKey (macros_items c.macros) _ (by_macros c.macros) (files_keys c.files is.files)))))
   where
@@ -118,7 +118,7 @@ contents_files c is =
 
 abbrev pub IsPart : Part → Type 0
 IsPart Enables = Unit {0}
-IsPart (Register number) = number < 10
+IsPart (Register number) = number < 100
 IsPart User = Unit {0}
 IsPart Macros = Unit {0}
 IsPart (File name) = Unit {0}
@@ -135,10 +135,10 @@ nothing_is (b ∷ bytes) is = absurd cc
 number_is : (bytes : List ℕ) → is_number bytes ≡ true → PartAt (2 ∷ bytes)
 number_is [] is = absurd cc
 number_is (number ∷ bytes) is =
-    let p = both (nat_le number 9) (is_nothing bytes) is in
+    let p = both (nat_le number 99) (is_nothing bytes) is in
     record { part = Register number; key_is = ap (λ (l : List ℕ). 2 ∷ number ∷ l) (nothing_is bytes p.1); is = low number p.0 }
   where
-    low : (n : ℕ) → nat_le n 9 ≡ true → n < 10
+    low : (n : ℕ) → nat_le n 99 ≡ true → n < 100
     low n test = grind (arith, nat_tests)
 
 pub part_at : (key : List ℕ) → is_key key ≡ true → PartAt key
@@ -207,7 +207,7 @@ same_parts a b sorted_a sorted_b keys_a keys_b same = same_map a b sorted_a sort
 
 module _ (items : List Item) (e : Option (ℕ × ℕ)) (registers : List (List OutputSettings)) (user : List ℕ) (macros : List Macro) (sorted : IsSorted items) (keys : has_keys items ≡ true)
     (mss : ForSome e (λ s. bit_and s.0 64 ≡ 0)) (e_is : value_in (enables_items e) ≡ get items (1 ∷ []))
-    (ten : length registers ≡ 10) (are : AllByRecursion AreSettings registers) (r_is : (r : ℕ) → r < 10 → value_in (register_items r (settings_at registers r)) ≡ get items (2 ∷ r ∷ []))
+    (count : length registers ≡ 100) (are : AllByRecursion AreSettings registers) (r_is : (r : ℕ) → r < 100 → value_in (register_items r (settings_at registers r)) ≡ get items (2 ∷ r ∷ []))
     (u_most : length user ≤ 63) (u_is : value_in (user_items user) ≡ get items (3 ∷ []))
     (m_all : AllByRecursion IsMacro macros) (m_distinct : HasDistinct macros) (m_most : length macros ≤ 32) (m_is : value_in (macros_items macros) ≡ get items (4 ∷ []))
     (fit : fit_files items ≡ true) where
@@ -215,7 +215,7 @@ module _ (items : List Item) (e : Option (ℕ × ℕ)) (registers : List (List O
   made = contents_of registers user macros e (files_in items)
 
   pub are_contents : IsContents made
-  are_contents = record { ten = ten; settings = are; user = u_most; macros = m_all; distinct = m_distinct; most_macros = m_most; mss = mss; files = are_files items keys fit; sorted = sorted_files items sorted }
+  are_contents = record { count = count; settings = are; user = u_most; macros = m_all; distinct = m_distinct; most_macros = m_most; mss = mss; files = are_files items keys fit; sorted = sorted_files items sorted }
 
   pub items_again : items_of made ≡ items
   items_again = same_parts (items_of made) items (items_sorted made (sorted_files items sorted)) sorted (contents_keys made are_contents) keys (λ part is. part_found made part ∙ each part is)
@@ -239,8 +239,8 @@ pub kept_part : (items : List Item) (kept : IsKept items) (part : Part) → valu
 kept_part items kept part = sym (part_found kept.contents part) ∙ ap (λ (l : List Item). get l (key_of part)) kept.items_are
 
 -- a register of the contents
-pub kept_register : (items : List Item) (kept : IsKept items) (r : ℕ) → r < 10 → AreSettings (settings_at kept.contents.registers r)
-kept_register items kept r lt = all_at AreSettings kept.contents.registers r reset kept.are.settings (omega (arith, lt, kept.are.ten))
+pub kept_register : (items : List Item) (kept : IsKept items) (r : ℕ) → r < 100 → AreSettings (settings_at kept.contents.registers r)
+kept_register items kept r lt = all_at AreSettings kept.contents.registers r reset kept.are.settings (omega (arith, lt, kept.are.count))
 
 pub kept_files : (items : List Item) → IsKept items → fit_files items ≡ true
 kept_files items kept = ap fit_files (sym kept.items_are) ∙ contents_files kept.contents kept.are

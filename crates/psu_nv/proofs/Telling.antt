@@ -63,7 +63,7 @@ same_defined (m ∷ a) (n ∷ b) all_a all_b same = same_macros (m ∷ a) (n ∷
 pub same_by_parts : (a b : Contents) → IsContents a → IsContents b → ((part : Part) → value_in (part_items a part) ≡ value_in (part_items b part)) → a ≡ b
 same_by_parts a b is_a is_b same =
     let enables : a.enables ≡ b.enables = same_enables a.enables b.enables (same Enables) in
-    let registers : a.registers ≡ b.registers = same_lists a.registers b.registers (is_a.ten ∙ sym is_b.ten) register in
+    let registers : a.registers ≡ b.registers = same_lists a.registers b.registers (is_a.count ∙ sym is_b.count) register in
     let user : a.user ≡ b.user = same_user a.user b.user (same User) in
     let macros : a.macros ≡ b.macros = same_defined a.macros b.macros is_a.macros is_b.macros (same Macros) in
     let files : a.files ≡ b.files = same_map a.files b.files is_a.sorted is_b.sorted (λ name. sym (value_file name (get a.files name)) ∙ same (File name) ∙ value_file name (get b.files name)) in
@@ -75,7 +75,7 @@ same_by_parts a b is_a is_b same =
   where
     register : (i : ℕ) → i < length a.registers → get_or a.registers i reset ≡ get_or b.registers i reset
     register i lt =
-        same_kept (get_or a.registers i reset) (get_or b.registers i reset) (all_at AreSettings a.registers i reset is_a.settings lt) (all_at AreSettings b.registers i reset is_b.settings (omega (arith, lt, is_a.ten, is_b.ten)))
+        same_kept (get_or a.registers i reset) (get_or b.registers i reset) (all_at AreSettings a.registers i reset is_a.settings lt) (all_at AreSettings b.registers i reset is_b.settings (omega (arith, lt, is_a.count, is_b.count)))
         (sym (value_register i (settings_at a.registers i)) ∙ same (Register i) ∙ value_register i (settings_at b.registers i))
 
 pub same_contents : (a b : Contents) → IsContents a → IsContents b → items_of a ≡ items_of b → a ≡ b

@@ -15,7 +15,7 @@ pub record Macro : Type 0 where
   pub label : List ℕ
   pub body : List ℕ
 
--- Contents: ten registers of settings; user data; macros in order of definition; SRE and ESE where the power-on status clear flag
+-- Contents: a hundred registers of settings; user data; macros in order of definition; SRE and ESE where the power-on status clear flag
 -- is false; files by name, each the byte of its type and then its own bytes.
 pub record Contents : Type 0 where
   pub registers : List (List OutputSettings)
@@ -59,7 +59,7 @@ pub record IsFile (file : Item) : Type 0 where
   pub most : length file.value ≤ 32769
 
 pub record IsContents (c : Contents) : Type 0 where
-  pub ten : length c.registers ≡ 10
+  pub count : length c.registers ≡ 100
   pub settings : AllByRecursion AreSettings c.registers
   pub user : length c.user ≤ 63
   pub macros : AllByRecursion IsMacro c.macros
@@ -71,7 +71,7 @@ pub record IsContents (c : Contents) : Type 0 where
 
 -- freshly formatted: reset settings, and nothing else
 abbrev pub fresh : Contents
-fresh = record { registers = replicate 10 reset; user = []; macros = []; enables = None; files = [] }
+fresh = record { registers = replicate 100 reset; user = []; macros = []; enables = None; files = [] }
 
 -- # Items, in the order of their keys
 

@@ -16,7 +16,7 @@ is_nothing (byte ∷ bytes) = false
 -- the number of a register, and nothing behind it
 abbrev pub is_number : List ℕ → Bool
 is_number [] = false
-is_number (number ∷ bytes) = nat_le number 9 && is_nothing bytes
+is_number (number ∷ bytes) = nat_le number 99 && is_nothing bytes
 
 -- a key that contents may have: 1, 3 or 4 alone, 2 and the number of a register, 5 and a file's name
 abbrev pub is_key : List ℕ → Bool

@@ -29,9 +29,9 @@ begins_with_letter (byte ∷ bytes) = is_letter byte
 abbrev pub is_label : List ℕ → Bool
 is_label bytes = begins_with_letter bytes && (list_all is_label_byte bytes && nat_le (length bytes) 12)
 
--- a file's name: 1 to 32 of letters, digits, `_`, `-` and `.`
+-- a file's name: 1 to 64 of letters, digits, `_`, `-` and `.`
 abbrev pub is_name : List ℕ → Bool
-is_name bytes = list_all is_name_byte bytes && is_between 1 32 (length bytes)
+is_name bytes = list_all is_name_byte bytes && is_between 1 64 (length bytes)
 
 -- a letter as the small one, any other byte as it is
 abbrev pub small : ℕ → ℕ

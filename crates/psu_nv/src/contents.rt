@@ -12,12 +12,12 @@ use psu_outputs::Settings;
 use std::alloc::{AllocError, Allocator};
 use std::marker::Model;
 
-/// What is kept without power: ten registers of settings, user data, macros, the enables where the power-on status clear flag is
+/// What is kept without power: a hundred registers of settings, user data, macros, the enables where the power-on status clear flag is
 /// false, and files. Contracts see the `Contents` of `specs/`.
 #[derive(Drop)]
 pub struct Contents<A: Allocator + Copy> {
     pub(crate) alloc: A,
-    pub(crate) registers: [Settings; 10],
+    pub(crate) registers: [Settings; 100],
     pub(crate) user: UserData,
     pub(crate) macros: Vec<Definition<A>, A>,
     pub(crate) enables: Option<(u8, u8)>,
@@ -41,7 +41,7 @@ impl<A: Allocator + Copy> Contents<A> {
     {
         Contents {
             alloc,
-            registers: [Settings::reset(); 10],
+            registers: [Settings::reset(); 100],
             user: UserData::none(),
             macros: Vec::new(alloc),
             enables: None,

@@ -23,7 +23,7 @@ use std::alloc::{AllocError, Allocator};
 #[derive(Drop)]
 struct Read<'a> {
     enables: Option<(u8, u8)>,
-    registers: [Settings; 10],
+    registers: [Settings; 100],
     user: UserData,
     macros: WrittenMacros<'a>,
 }
@@ -110,15 +110,15 @@ fn enables_in(value: Option<&[u8]>) -> Result<Option<(u8, u8)>, DecodeFault>
 }
 
 // The registers by the values of their keys.
-fn registers_in<A: Allocator + Copy>(items: &Items<A>) -> Result<[Settings; 10], DecodeFault>
-    ensures ten { IfOk result (λ registers. length registers ≡ 10) }
+fn registers_in<A: Allocator + Copy>(items: &Items<A>) -> Result<[Settings; 100], DecodeFault>
+    ensures count { IfOk result (λ registers. length registers ≡ 100) }
     ensures are { IfOk result (λ registers. AllByRecursion AreSettings registers) }
-    ensures found { IfOk result (λ registers. (r : ℕ) → r < 10 → value_in (register_items r (slice_index_or registers r reset)) ≡ get items.now (2 ∷ r ∷ [])) }
+    ensures found { IfOk result (λ registers. (r : ℕ) → r < 100 → value_in (register_items r (slice_index_or registers r reset)) ≡ get items.now (2 ∷ r ∷ [])) }
     ensures bad { IfErr result (λ e. e ≡ BadValue) }
     ensures none { IfErr result (λ e. IsKept items.now → ⊥) }
 {
-    let mut registers = [Settings::reset(); 10];
-    for number in 0..10 {
+    let mut registers = [Settings::reset(); 100];
+    for number in 0..100 {
         registers[number as usize] = register_in(items.get(&[2, number]))?;
     }
     Ok(registers)

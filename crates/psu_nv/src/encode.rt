@@ -21,7 +21,7 @@ impl<A: Allocator + Copy> Contents<A> {
         let _ = &self.alloc;
         let mut items = Items::new(alloc);
         self.append(alloc, &mut items, Part::Enables)?;
-        for number in 0..10 {
+        for number in 0..100 {
             if let Some(register) = Register::of(number) {
                 self.append(alloc, &mut items, Part::Register(register))?;
             }

@@ -33,7 +33,7 @@ fn is_number(bytes: &[u8]) -> bool
     ensures { result ≡ is_number bytes.now }
 {
     match bytes {
-        [number] => *number <= 9,
+        [number] => *number <= 99,
         _ => false,
     }
 }

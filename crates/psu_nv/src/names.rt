@@ -10,11 +10,11 @@ pub(crate) fn is_label(bytes: &[u8]) -> bool
     begins_with_letter(bytes) && are_label_bytes(bytes) && bytes.len() <= 12
 }
 
-/// Whether bytes are a file's name: 1 to 32 of letters, digits, `_`, `-` and `.`.
+/// Whether bytes are a file's name: 1 to 64 of letters, digits, `_`, `-` and `.`.
 pub fn is_name(bytes: &[u8]) -> bool
     ensures { result ≡ is_name bytes.now }
 {
-    are_name_bytes(bytes) && bytes.len() >= 1 && bytes.len() <= 32
+    are_name_bytes(bytes) && bytes.len() >= 1 && bytes.len() <= 64
 }
 
 fn begins_with_letter(bytes: &[u8]) -> bool

@@ -61,7 +61,7 @@ pub(crate) fn register_pages(settings: Settings) -> u8
 }
 
 pub(crate) fn registers_pages(registers: &[Settings]) -> u8
-    requires { length registers.now ≤ 10 }
+    requires { length registers.now ≤ 100 }
     ensures { result ≡ registers_cost registers.now }
 {
     let mut pages = 0;

@@ -1,30 +1,30 @@
 // The registers by number.
 ghost use Rattle.std.specs.Prelude.{◌≡◌, ◌<◌, ◌≤◌, IfSome, IfNone};
 
-/// One of the ten registers of settings, 0 to 9.
+/// One of the hundred registers of settings, 0 to 99.
 #[derive(Clone, Copy, Debug, PartialEq, Eq)]
 pub struct Register {
     number: u8,
-    ghost low: { number < 10 },
+    ghost low: { number < 100 },
 }
 
 impl Register {
-    /// The register of a number; none above 9.
+    /// The register of a number; none above 99.
     pub fn of(number: u8) -> Option<Register>
         ensures found { IfSome result (λ register. register.number ≡ number) }
-        ensures none { IfNone result (10 ≤ number) }
+        ensures none { IfNone result (100 ≤ number) }
     {
-        if number < 10 {
+        if number < 100 {
             Some(Register { number })
         } else {
             None
         }
     }
 
-    /// Its number, 0 to 9.
+    /// Its number, 0 to 99.
     pub fn number(self) -> u8
         ensures value { result ≡ self.number }
-        ensures low { result < 10 }
+        ensures low { result < 100 }
     {
         self.number
     }

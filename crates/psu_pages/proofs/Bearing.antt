@@ -31,8 +31,8 @@ counting_is Second image counts = elim (cases_eq (gate First image) 165) [
 ]
 
 -- what it shows stands
-pub bears_stands : (root : Root) (limit number : ℕ) (heads : List Head) (items : List Item) (image : List ℕ) → Bears root limit number heads items image → Stands image limit items
-bears_stands root limit number heads items image bears =
+pub bears_stands : (root : Root) (version limit number : ℕ) (heads : List Head) (items : List Item) (image : List ℕ) → Bears root version limit number heads items image → Stands image limit items
+bears_stands root version limit number heads items image bears =
     let is = sym (counting_is root image bears.counts) in
     record {
       counts = subst (λ (r : Root). Counts r image) is bears.counts;
@@ -41,15 +41,15 @@ bears_stands root limit number heads items image bears =
     }
 
 -- what the root that counts says of its number and its version
-pub bears_number : (root : Root) (limit number : ℕ) (heads : List Head) (items : List Item) (image : List ℕ) → Bears root limit number heads items image → number_in (counting image) image ≡ number
-bears_number root limit number heads items image bears = ap (λ (r : Root). number_in r image) (counting_is root image bears.counts) ∙ bears.says.number_is
+pub bears_number : (root : Root) (version limit number : ℕ) (heads : List Head) (items : List Item) (image : List ℕ) → Bears root version limit number heads items image → number_in (counting image) image ≡ number
+bears_number root version limit number heads items image bears = ap (λ (r : Root). number_in r image) (counting_is root image bears.counts) ∙ bears.says.number_is
 
-pub bears_version : (root : Root) (limit number : ℕ) (heads : List Head) (items : List Item) (image : List ℕ) → Bears root limit number heads items image → version_in (counting image) image ≡ 1
-bears_version root limit number heads items image bears = ap (λ (r : Root). version_in r image) (counting_is root image bears.counts) ∙ bears.says.shows.version
+pub bears_version : (root : Root) (version limit number : ℕ) (heads : List Head) (items : List Item) (image : List ℕ) → Bears root version limit number heads items image → version_in (counting image) image ≡ version
+bears_version root version limit number heads items image bears = ap (λ (r : Root). version_in r image) (counting_is root image bears.counts) ∙ bears.says.version_is
 
-pub either_stands : (next : Root) (limit number : ℕ) (before : List Head) (items : List Item) (heads : List Head) (target : List Item) (image : List ℕ) → BearsEither next limit number before items heads target image → IsEither limit items target image
-either_stands next limit number before items heads target image (inl bears) = inl (bears_stands (other next) limit number before items image bears)
-either_stands next limit number before items heads target image (inr bears) = inr (bears_stands next limit (number + 1) heads target image bears)
+pub either_stands : (next : Root) (version limit number : ℕ) (before : List Head) (items : List Item) (heads : List Head) (target : List Item) (image : List ℕ) → BearsEither next version limit number before items heads target image → IsEither limit items target image
+either_stands next version limit number before items heads target image (inl bears) = inl (bears_stands (other next) version limit number before items image bears)
+either_stands next version limit number before items heads target image (inr bears) = inr (bears_stands next 2 limit (number + 1) heads target image bears)
 
 -- a root counts beside the one that moves
 pub counts_beside : (moved : Root) (x : List ℕ) → gate (other moved) x ≡ 165 → (gate moved x ≡ 165 → number_in moved x < number_in (other moved) x) → Counts (other moved) x
@@ -61,7 +61,7 @@ lower_beside First x counts = counts.highest
 lower_beside Second x counts = counts.highest
 
 -- the disk has room for two roots, and for the pages of what is said
-module _ (root : Root) (limit number : ℕ) (heads : List Head) (items : List Item) (x : List ℕ) (says : Says root limit number heads items x) where
+module _ (root : Root) (version limit number : ℕ) (heads : List Head) (items : List Item) (x : List ℕ) (says : Says root version limit number heads items x) where
   pub room : 1024 ≤ length x
   room = omega (arith, says.shows.room)
 
@@ -69,38 +69,38 @@ module _ (root : Root) (limit number : ℕ) (heads : List Head) (items : List It
   its_pages = on_disk limit (length x) (taken (heads_in root x)) says.shows.room says.shows.pool
 
 -- pages are written that aren't those of the root that counts
-module _ (root : Root) (limit number : ℕ) (heads : List Head) (items : List Item) (written x y : List ℕ) (pool : AllByRecursion (λ (page : ℕ). 2 ≤ page) written) (clear : AreClear written (taken heads)) (misses : Misses written x y) where
+module _ (root : Root) (version limit number : ℕ) (heads : List Head) (items : List Item) (written x y : List ℕ) (pool : AllByRecursion (λ (page : ℕ). 2 ≤ page) written) (clear : AreClear written (taken heads)) (misses : Misses written x y) where
   pub number_missed : 1024 ≤ length x → (r : Root) → number_in r y ≡ number_in r x
   number_missed size r = number_same r x y size [] (agrees_missed written x y pool misses r [] tt tt)
 
-  pub bears_missed : Bears root limit number heads items x → Bears root limit number heads items y
+  pub bears_missed : Bears root version limit number heads items x → Bears root version limit number heads items y
   bears_missed bears =
-      let size : 1024 ≤ length x = room root limit number heads items x bears.says in
+      let size : 1024 ≤ length x = room root version limit number heads items x bears.says in
       let mine : AreClear written (taken (heads_in root x)) = subst (λ (hs : List Head). AreClear written (taken hs)) (sym bears.says.heads_are) clear in
       record {
         counts = record {
           open_gate = gate_missed written x y pool misses root ∙ bears.counts.open_gate;
           highest = λ is. omega (arith, bears.counts.highest (sym (gate_missed written x y pool misses (other root)) ∙ is), number_missed size root, number_missed size (other root));
         };
-        says = says_same root x y size (agrees_missed written x y pool misses root (taken (heads_in root x)) (its_pages root limit number heads items x bears.says) mine) limit number heads items bears.says;
+        says = says_same root x y size (agrees_missed written x y pool misses root (taken (heads_in root x)) (its_pages root version limit number heads items x bears.says) mine) version limit number heads items bears.says;
       }
 
 -- a range of the other root's page is written
-module _ (moved : Root) (limit number : ℕ) (heads : List Head) (items : List Item) (at n : ℕ) (low : gate_at moved ≤ at) (high : at + n ≤ gate_at moved + 512) (x y : List ℕ) (but : SameBut at n x y) where
-  pub says_moved : Says (other moved) limit number heads items x → Says (other moved) limit number heads items y
+module _ (moved : Root) (version limit number : ℕ) (heads : List Head) (items : List Item) (at n : ℕ) (low : gate_at moved ≤ at) (high : at + n ≤ gate_at moved + 512) (x y : List ℕ) (but : SameBut at n x y) where
+  pub says_moved : Says (other moved) version limit number heads items x → Says (other moved) version limit number heads items y
   says_moved says =
-      says_same (other moved) x y (room (other moved) limit number heads items x says)
-      (agrees_moved moved at n low high x y but (taken (heads_in (other moved) x)) (its_pages (other moved) limit number heads items x says)) limit number heads items says
+      says_same (other moved) x y (room (other moved) version limit number heads items x says)
+      (agrees_moved moved at n low high x y but (taken (heads_in (other moved) x)) (its_pages (other moved) version limit number heads items x says)) version limit number heads items says
 
   -- whatever it says then, while its gate is closed
-  pub bears_shut : gate moved y ≢ 165 → Bears (other moved) limit number heads items x → Bears (other moved) limit number heads items y
+  pub bears_shut : gate moved y ≢ 165 → Bears (other moved) version limit number heads items x → Bears (other moved) version limit number heads items y
   bears_shut shut bears = record {
     counts = counts_beside moved y (gate_moved moved at n low high x y but ∙ bears.counts.open_gate) (λ is. absurd (shut is));
     says = says_moved bears.says;
   }
 
   -- whatever its gate is then, while its number is lower
-  pub bears_lower : number_in moved y < number → Bears (other moved) limit number heads items x → Bears (other moved) limit number heads items y
+  pub bears_lower : number_in moved y < number → Bears (other moved) version limit number heads items x → Bears (other moved) version limit number heads items y
   bears_lower lower bears =
       let says = says_moved bears.says in
       record { counts = counts_beside moved y (gate_moved moved at n low high x y but ∙ bears.counts.open_gate) (λ is. omega (arith, lower, says.number_is)); says = says }
@@ -111,26 +111,26 @@ module _ (moved : Root) (x y : List ℕ) (but : SameBut (gate_at moved) 1 x y) (
   number_gate = number_same moved x y size [] (agrees_gate moved (gate_at moved) 1 (omega arith) (omega arith) x y but (omega arith) [] tt)
 
 -- a gate opens over what is said beside the root that counted
-module _ (next : Root) (limit number : ℕ) (before heads : List Head) (items target : List Item) (x y : List ℕ) (bears : Bears (other next) limit number before items x) (says : Says next limit (number + 1) heads target x) (but : SameBut (gate_at next) 1 x y) where
-  says_opened : Says next limit (number + 1) heads target y
+module _ (next : Root) (version limit number : ℕ) (before heads : List Head) (items target : List Item) (x y : List ℕ) (bears : Bears (other next) version limit number before items x) (says : Says next 2 limit (number + 1) heads target x) (but : SameBut (gate_at next) 1 x y) where
+  says_opened : Says next 2 limit (number + 1) heads target y
   says_opened =
-      says_same next x y (room next limit (number + 1) heads target x says)
-      (agrees_gate next (gate_at next) 1 (omega arith) (omega arith) x y but (omega arith) (taken (heads_in next x)) (its_pages next limit (number + 1) heads target x says)) limit (number + 1) heads target says
+      says_same next x y (room next 2 limit (number + 1) heads target x says)
+      (agrees_gate next (gate_at next) 1 (omega arith) (omega arith) x y but (omega arith) (taken (heads_in next x)) (its_pages next 2 limit (number + 1) heads target x says)) 2 limit (number + 1) heads target says
 
-  said_before : Says (other next) limit number before items y
-  said_before = says_moved next limit number before items (gate_at next) 1 (omega arith) (omega arith) x y but bears.says
+  said_before : Says (other next) version limit number before items y
+  said_before = says_moved next version limit number before items (gate_at next) 1 (omega arith) (omega arith) x y but bears.says
 
   counts_opened : gate next y ≡ 165 → Counts next y
   counts_opened is_open = record { open_gate = is_open; highest = λ is. omega (arith, said_before.number_is, says_opened.number_is) }
 
-  pub bears_opened : gate next y ≡ 165 → Bears next limit (number + 1) heads target y
+  pub bears_opened : gate next y ≡ 165 → Bears next 2 limit (number + 1) heads target y
   bears_opened is_open = record { counts = counts_opened is_open; says = says_opened }
 
   pub lower_opened : number_in (other next) y < number + 1
   lower_opened = omega (arith, said_before.number_is)
 
-  pub opens : Bears (other next) limit number before items y ⊎ Bears next limit (number + 1) heads target y
+  pub opens : Bears (other next) version limit number before items y ⊎ Bears next 2 limit (number + 1) heads target y
   opens = elim (cases_eq (gate next y) 165) [
     | inl is_open ↦ inr (bears_opened is_open)
-    | inr shut ↦ inl (bears_shut next limit number before items (gate_at next) 1 (omega arith) (omega arith) x y but shut bears)
+    | inr shut ↦ inl (bears_shut next version limit number before items (gate_at next) 1 (omega arith) (omega arith) x y but shut bears)
   ]

@@ -11,7 +11,7 @@ use Rattle.psu_pages.specs.declared.root.Root.TheVariants.{First, Second}
 use Rattle.psu_pages.specs.declared.words.Words.{Words}
 use Rattle.psu_pages.specs.declared.open_cause.OpenCause.{OpenCause}
 use Rattle.psu_pages.specs.declared.open_cause.OpenCause.TheVariants.{Device, NoRoot, BadRoot, BadVersion, Memory}
-use Rattle.psu_pages.specs.Image.{other, gate_at, gate, mark, mark_in, version_in, limit_in, number_in, count_in, Counts, counting}
+use Rattle.psu_pages.specs.Image.{other, gate_at, gate, mark, mark_in, version_in, IsKnown, limit_in, number_in, count_in, Counts, counting}
 use Rattle.psu_pages.specs.Shown.{Shows}
 use Rattle.psu_pages.specs.Finding.{open_number, of_root, IsPickedIn, IsNonePicked, HasGoodWords, IsSound, IsUnsound, page_of, HasNoRoot, IsChoiceRefusal, IsChoiceCause}
 use Rattle.psu_pages.proofs.Places.{gate_low, range_inside}
@@ -111,7 +111,7 @@ module _ (root : Root) (x page : List ℕ) (size : 1024 ≤ length x) (is : page
     mark_is : words.mark ≡ mark_in root x
     mark_is = marked ∙ on_page 1 3 (omega arith)
 
-    version_is : words.version ≡ version_in root x
+    pub version_is : words.version ≡ version_in root x
     version_is = version ∙ ap (from_be_bytes w16) (on_page 4 2 (omega arith))
 
     pub limit_is : words.limit ≡ limit_in root x
@@ -123,7 +123,7 @@ module _ (root : Root) (x page : List ℕ) (size : 1024 ≤ length x) (is : page
     pub good_words : IsSound words (length x) → HasGoodWords root x
     good_words sound = record {
       marked = sym mark_is ∙ sound.marked;
-      version = sym version_is ∙ sound.version;
+      version = subst IsKnown version_is sound.version;
       limit_least = omega (arith, sound.limit_least, limit_is);
       limit_most = omega (arith, sound.limit_most, limit_is);
       room = omega (arith, sound.room, limit_is);
@@ -138,13 +138,13 @@ module _ (root : Root) (x page : List ℕ) (size : 1024 ≤ length x) (is : page
       some_root = some_root x root size counts.open_gate;
       same_version = λ has.
           let is = counting_is root x counts in
-          has.version (subst (λ (r : Root). version_in r x ≡ 1) (sym is) (sym version_is ∙ none.0 (mark_is ∙ subst (λ (r : Root). mark_in r x ≡ mark) is has.marked)));
+          has.version (subst (λ (r : Root). IsKnown (version_in r x)) (sym is) (subst IsKnown version_is (none.0 (mark_is ∙ subst (λ (r : Root). mark_in r x ≡ mark) is has.marked))));
       none_stands = λ l items st.
           let same = counting_is root x counts in
           let shows = subst (λ (r : Root). Shows r x l) same st.shows in
           none.1 (record {
             marked = mark_is ∙ shows.marked;
-            version = version_is ∙ shows.version;
+            version = subst IsKnown (sym version_is) shows.version;
             limit_least = omega (arith, shows.limit_least, shows.limit_is, limit_is);
             limit_most = omega (arith, shows.limit_most, shows.limit_is, limit_is);
             room = omega (arith, shows.room, shows.limit_is, limit_is);
@@ -157,7 +157,7 @@ module _ (root : Root) (x page : List ℕ) (size : 1024 ≤ length x) (is : page
           size = size;
           counts = subst (λ (r : Root). Counts r x) is counts;
           marked = subst (λ (r : Root). mark_in r x ≡ mark) is (sym mark_is ∙ none.0);
-          version = subst (λ (r : Root). version_in r x ≡ 1 → ⊥) is (λ one. none.1 (version_is ∙ one));
+          version = subst (λ (r : Root). IsKnown (version_in r x) → ⊥) is (λ known. none.1 (subst IsKnown (sym version_is) known));
         }
     unsound Memory counts none = absurd none
 

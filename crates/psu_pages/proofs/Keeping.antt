@@ -5,7 +5,7 @@ use Rattle.std.specs.Int.{w16, w64, from_be_bytes}
 use Rattle.psu_disk.specs.Disk.{Range, SameBut}
 use Rattle.psu_disk.specs.Ranges.{range_same}
 use Rattle.psu_pages.specs.declared.root.Root.{Root}
-use Rattle.psu_pages.specs.Image.{other, gate_at, gate, number_in, count_in, names_in, words, page_in, Head, head_on, head_at, heads_in, bytes_in, value_in, IsHead, taken, keys, IsInPool, AreApart, AreClear}
+use Rattle.psu_pages.specs.Image.{other, gate_at, gate, version_in, number_in, count_in, names_in, words, page_in, Head, head_on, head_at, heads_in, bytes_in, value_in, IsHead, IsKnown, AreShort, taken, keys, IsInPool, AreApart, AreClear}
 use Rattle.psu_pages.specs.Shown.{Item, item_in, items_in, Shows, Says}
 use Rattle.psu_pages.specs.Writing.{IsOutside, Misses}
 use Rattle.psu_pages.proofs.Lists.{all_left, all_right}
@@ -68,24 +68,29 @@ module _ (root : Root) (x y : List ℕ) (room : 1024 ≤ length x) (agrees : Agr
   pub its_items : items_in root y ≡ items_in root x
   its_items = ap (map (item_in y)) its_heads ∙ shown_same x y (heads_in root x) agrees.pages
 
+  version_same : version_in root y ≡ version_in root x
+  version_same = ap (from_be_bytes w16) (its_says 4 2 (omega arith) (omega arith))
+
   pub shows_same : (limit : ℕ) → Shows root x limit → Shows root y limit
   shows_same limit shows = record {
     marked = its_says 1 3 (omega arith) (omega arith) ∙ shows.marked;
-    version = ap (from_be_bytes w16) (its_says 4 2 (omega arith) (omega arith)) ∙ shows.version;
+    version = subst IsKnown (sym version_same) shows.version;
     limit_is = ap (from_be_bytes w16) (its_says 6 2 (omega arith) (omega arith)) ∙ shows.limit_is;
     limit_least = shows.limit_least;
     limit_most = shows.limit_most;
     room = omega (arith, shows.room, agrees.size);
     count = omega (arith, shows.count, count_same root x y room (taken (heads_in root x)) agrees);
     heads = subst (AllByRecursion IsHead) (sym its_heads) shows.heads;
+    short = subst (λ (v : ℕ). AreShort v (heads_in root y)) (sym version_same) (subst (AreShort (version_in root x)) (sym its_heads) shows.short);
     pool = subst (λ (hs : List Head). AllByRecursion (IsInPool limit) (taken hs)) (sym its_heads) shows.pool;
     apart = subst (λ (hs : List Head). AreApart (taken hs)) (sym its_heads) shows.apart;
     cost = subst (λ (hs : List Head). length (taken hs) ≤ limit) (sym its_heads) shows.cost;
     distinct = subst (λ (hs : List Head). AreApart (keys hs)) (sym its_heads) shows.distinct;
   }
 
-  pub says_same : (limit number : ℕ) (heads : List Head) (items : List Item) → Says root limit number heads items x → Says root limit number heads items y
-  says_same limit number heads items says = record {
+  pub says_same : (version limit number : ℕ) (heads : List Head) (items : List Item) → Says root version limit number heads items x → Says root version limit number heads items y
+  says_same version limit number heads items says = record {
+    version_is = version_same ∙ says.version_is;
     number_is = number_same root x y room (taken (heads_in root x)) agrees ∙ says.number_is;
     shows = shows_same limit says.shows;
     heads_are = its_heads ∙ says.heads_are;

@@ -8,7 +8,7 @@ use Rattle.std.proofs.lemmas.Bool.{cases_lt}
 use Rattle.std.proofs.lemmas.Nat.{from_be_bytes-to_be_bytes_2, from_be_bytes-to_be_bytes_8}
 use Rattle.psu_disk.specs.Disk.{Range}
 use Rattle.psu_pages.specs.declared.root.Root.{Root}
-use Rattle.psu_pages.specs.Image.{gate_at, count_in, names_in, words, page_in, Head, head_on, head_at, heads_in, bytes_in, IsHead, taken, keys, IsInPool, AreApart}
+use Rattle.psu_pages.specs.Image.{gate_at, count_in, names_in, words, page_in, Head, head_on, head_at, heads_in, version_in, bytes_in, IsHead, AreShort, taken, keys, IsInPool, AreApart}
 use Rattle.psu_pages.specs.Shown.{Item, item_of, item_in, Says}
 use Rattle.psu_pages.specs.Writing.{Draft, IsWritten}
 use Rattle.psu_pages.specs.Spelling.{spelled_words, filled, names, said, spelled, value_drafts, head_drafts}
@@ -64,6 +64,11 @@ pub item_written : (x : List ℕ) (head : Head) (value : List ℕ) → IsHead he
     → AllByRecursion (λ (draft : Draft). page_in draft.page x ≡ draft.bytes) (head_drafts head value) → IsWritten x head value
 item_written x head value is fits size written = record { head_is = drafted_head x head value is fits size written; item_is = drafted_item x head value is fits size written }
 
+-- heads have keys that version 2 lets them have
+all_short : (heads : List Head) → AllByRecursion IsHead heads → AreShort 2 heads
+all_short [] are = tt
+all_short (head ∷ heads) are = (let is = are.0 in is.key_most, all_short heads are.1)
+
 -- a root that says it names heads, which are there
 module _ (root : Root) (limit number : ℕ) (heads : List Head) (items : List Item) (x : List ℕ) (least : 4 ≤ limit) (most : limit ≤ 480) (fits : number < 2 ^ 64) (room : 512 * (2 + 2 * limit) ≤ length x)
     (count : length (names heads) ≤ 240) (low : AllByRecursion (λ (n : ℕ). n < 2 ^ 16) (names heads)) (are : AllByRecursion IsHead heads) (pool : AllByRecursion (IsInPool limit) (taken heads)) (apart : AreApart (taken heads)) (cost : length (taken heads) ≤ limit) (distinct : AreApart (keys heads))
@@ -96,20 +101,25 @@ module _ (root : Root) (limit number : ℕ) (heads : List Head) (items : List It
   heads_are : heads_in root x ≡ heads
   heads_are = ap (map (head_at x)) names_are ∙ there
 
-  pub ready : Says root limit number heads items x
+  version_is : version_in root x ≡ 2
+  version_is = ap (from_be_bytes w16) (part (gate_at root + 4) 3 2 (omega arith) (omega arith)) ∙ from_be_bytes-to_be_bytes_2 2 (omega arith)
+
+  pub ready : Says root 2 limit number heads items x
   ready = record {
+    version_is = version_is;
     number_is = ap (from_be_bytes w64) (part (gate_at root + 8) 7 8 (omega arith) (omega arith)) ∙ from_be_bytes-to_be_bytes_8 number fits;
     heads_are = heads_are;
     items_are = ap (map (item_in x)) heads_are ∙ shown;
     shows = record {
       marked = part (gate_at root + 1) 0 3 (omega arith) (omega arith);
-      version = ap (from_be_bytes w16) (part (gate_at root + 4) 3 2 (omega arith) (omega arith)) ∙ from_be_bytes-to_be_bytes_2 1 (omega arith);
+      version = (omega (arith, version_is), omega (arith, version_is));
       limit_is = ap (from_be_bytes w16) (part (gate_at root + 6) 5 2 (omega arith) (omega arith)) ∙ from_be_bytes-to_be_bytes_2 limit (omega (arith, most));
       limit_least = least;
       limit_most = most;
       room = room;
       count = omega (arith, count_is, count);
       heads = subst (AllByRecursion IsHead) (sym heads_are) are;
+      short = subst (λ (v : ℕ). AreShort v (heads_in root x)) (sym version_is) (subst (AreShort 2) (sym heads_are) (all_short heads are));
       pool = subst (λ (hs : List Head). AllByRecursion (IsInPool limit) (taken hs)) (sym heads_are) pool;
       apart = subst (λ (hs : List Head). AreApart (taken hs)) (sym heads_are) apart;
       cost = subst (λ (hs : List Head). length (taken hs) ≤ limit) (sym heads_are) cost;

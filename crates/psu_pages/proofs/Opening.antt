@@ -6,7 +6,7 @@ use Rattle.psu_pages.specs.declared.root.Root.{Root}
 use Rattle.psu_pages.specs.declared.choose.Chosen.{Chosen}
 use Rattle.psu_pages.specs.declared.open_cause.OpenCause.{OpenCause}
 use Rattle.psu_pages.specs.declared.open_cause.OpenCause.TheVariants.{Device, NoRoot, BadRoot, BadVersion, Memory}
-use Rattle.psu_pages.specs.Image.{gate_at, Counts, version_in, names_in, Head, head_at, heads_in, IsHead, IsInPool, AreApart, taken, keys, words}
+use Rattle.psu_pages.specs.Image.{gate_at, Counts, version_in, names_in, Head, head_at, heads_in, IsHead, IsKnown, AreShort, IsInPool, AreApart, taken, keys, words}
 use Rattle.psu_pages.specs.Shown.{items_in, Shows, Bears}
 use Rattle.psu_pages.specs.Free.{IsRoster}
 use Rattle.psu_pages.specs.Finding.{IsChosen, HasGates, HasGoodWords, HasReadableRoot, HasBadRoot, CanStand, page_of, IsRefusal, IsChoiceRefusal, IsScanCause}
@@ -53,7 +53,7 @@ module _ (image : List ℕ) (size : 1024 ≤ length image) (chosen : Chosen) (is
   pub bad_root : (Shows chosen.root image chosen.limit → ⊥) → HasBadRoot image
   bad_root none = record {
     some_root = some_root image root size counts.open_gate;
-    same_version = λ has. has.version (subst (λ (r : Root). version_in r image ≡ 1) (sym (counting_is root image counts)) is.words.version);
+    same_version = λ has. has.version (subst (λ (r : Root). IsKnown (version_in r image)) (sym (counting_is root image counts)) is.words.version);
     none_stands = λ limit items st.
         let shows : Shows root image limit = subst (λ (r : Root). Shows r image limit) (counting_is root image counts) st.shows in
         none (subst (Shows root image) (sym shows.limit_is ∙ is.limit) shows);
@@ -79,14 +79,19 @@ module _ (image : List ℕ) (size : 1024 ≤ length image) (chosen : Chosen) (is
       pub distinct : Shows chosen.root image chosen.limit → AreApart (keys heads)
       distinct shows = subst (λ (hs : List Head). AreApart (keys hs)) heads_found shows.distinct
 
-      pub bears : IsRoster chosen.limit heads → Bears chosen.root chosen.limit chosen.number heads (items_in chosen.root image) image
-      bears roster = record {
+      pub short : Shows chosen.root image chosen.limit → AreShort chosen.version heads
+      short shows = subst (AreShort chosen.version) heads_found (subst (λ (v : ℕ). AreShort v (heads_in root image)) is.version shows.short)
+
+      pub bears : IsRoster chosen.limit heads → AreShort chosen.version heads → Bears chosen.root chosen.version chosen.limit chosen.number heads (items_in chosen.root image) image
+      bears roster are_short = record {
         counts = counts;
         says = record {
+          version_is = is.version;
           number_is = picked_number chosen.root chosen.number chosen.both image is.picked;
           shows = record {
             marked = is.words.marked;
             version = is.words.version;
+            short = subst (λ (v : ℕ). AreShort v (heads_in chosen.root image)) (sym is.version) (subst (AreShort chosen.version) (sym heads_found) are_short);
             limit_is = is.limit;
             limit_least = omega (arith, is.words.limit_least, is.limit);
             limit_most = omega (arith, is.words.limit_most, is.limit);

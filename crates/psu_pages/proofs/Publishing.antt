@@ -38,29 +38,29 @@ written_still limit pages x y head value fits pool its clear misses written =
     }
 
 -- pages are written that the root that counts doesn't name
-module _ {D : Type 0} (state : D → DiskState) (root : Root) (limit number : ℕ) (heads : List Head) (pages : List ℕ) (pool : AllByRecursion (IsInPool limit) pages) (clear : AreClear pages (taken heads)) (old : D)
-    (bears : EachBears (state old) root limit number heads (items_in root (state old).bytes)) where
+module _ {D : Type 0} (state : D → DiskState) (root : Root) (version limit number : ℕ) (heads : List Head) (pages : List ℕ) (pool : AllByRecursion (IsInPool limit) pages) (clear : AreClear pages (taken heads)) (old : D)
+    (bears : EachBears (state old) root version limit number heads (items_in root (state old).bytes)) where
   abbrev low : AllByRecursion (λ (page : ℕ). 2 ≤ page) pages
   low = pool_low limit pages pool
 
   abbrev pub shown : List Item
   shown = items_in root (state old).bytes
 
-  still : (x : List ℕ) → Reaches (Misses pages) (Left (state old)) x → Bears root limit number heads shown x
-  still x reach = bears_missed root limit number heads shown pages reach.0 x low clear reach.2 (bears reach.0 reach.1)
+  still : (x : List ℕ) → Reaches (Misses pages) (Left (state old)) x → Bears root version limit number heads shown x
+  still x reach = bears_missed root version limit number heads shown pages reach.0 x low clear reach.2 (bears reach.0 reach.1)
 
-  pub run_still : (moment : D → ℕ) (left_since : D → ℕ → List ℕ → Type 0) (new : D) → LeavesOnly moment left_since old new (Reaches (Misses pages) (Left (state old))) → LeavesOnly moment left_since old new (Bears root limit number heads shown)
-  run_still moment left_since new run = weaken moment left_since old new (Reaches (Misses pages) (Left (state old))) (Bears root limit number heads shown) run still
+  pub run_still : (moment : D → ℕ) (left_since : D → ℕ → List ℕ → Type 0) (new : D) → LeavesOnly moment left_since old new (Reaches (Misses pages) (Left (state old))) → LeavesOnly moment left_since old new (Bears root version limit number heads shown)
+  run_still moment left_since new run = weaken moment left_since old new (Reaches (Misses pages) (Left (state old))) (Bears root version limit number heads shown) run still
 
   module _ (new : D) (step : Follows (Misses pages) (Left (state old)) (Left (state new))) (seen : Misses pages (state old).bytes (state new).bytes) where
-    pub left_still : (x : List ℕ) → Left (state new) x → Bears root limit number heads shown x
+    pub left_still : (x : List ℕ) → Left (state new) x → Bears root version limit number heads shown x
     left_still x l = still x (step x l)
 
     pub shown_still : items_in root (state new).bytes ≡ shown
     shown_still = (still (state new).bytes ((state old).bytes, reads_left (state old), seen)).says.items_are
 
-    pub bears_still : EachBears (state new) root limit number heads (items_in root (state new).bytes)
-    bears_still x l = subst (λ (items : List Item). Bears root limit number heads items x) (sym shown_still) (left_still x l)
+    pub bears_still : EachBears (state new) root version limit number heads (items_in root (state new).bytes)
+    bears_still x l = subst (λ (items : List Item). Bears root version limit number heads items x) (sym shown_still) (left_still x l)
 
     pub shut_still : (r : Root) → EachShut (state old) r → EachShut (state new) r
     shut_still r shut x l is = let from = step x l in shut from.0 from.1 (sym (gate_missed pages from.0 x low from.2 r) ∙ is)
@@ -68,8 +68,8 @@ module _ {D : Type 0} (state : D → DiskState) (root : Root) (limit number : �
     pub lower_still : (r : Root) (n : ℕ) → EachLower (state old) r n → EachLower (state new) r n
     lower_still r n lower x l =
         let from = step x l in
-        let size : 1024 ≤ length from.0 = room root limit number heads shown from.0 (bears from.0 from.1).says in
-        omega (arith, lower from.0 from.1, number_missed root limit number heads shown pages from.0 x low clear from.2 size r)
+        let size : 1024 ≤ length from.0 = room root version limit number heads shown from.0 (bears from.0 from.1).says in
+        omega (arith, lower from.0 from.1, number_missed root version limit number heads shown pages from.0 x low clear from.2 size r)
 
 -- what is told begins after the gate
 pub told_filled : (bytes : List ℕ) → drop 1 (filled 512 (0 ∷ bytes)) ≡ filled 511 bytes
@@ -80,32 +80,32 @@ told_filled bytes = none (bytes ++ replicate (512 - suc (length bytes)) 0) ∙ a
     none (b ∷ l) = refl
 
 -- the older gate closes
-module _ {D : Type 0} (state : D → DiskState) (root : Root) (limit number : ℕ) (heads : List Head) (old : D)
-    (bears : EachBears (state old) root limit number heads (items_in root (state old).bytes)) (lower : EachLower (state old) (other root) number) where
+module _ {D : Type 0} (state : D → DiskState) (root : Root) (version limit number : ℕ) (heads : List Head) (old : D)
+    (bears : EachBears (state old) root version limit number heads (items_in root (state old).bytes)) (lower : EachLower (state old) (other root) number) where
   abbrev pub shown_before : List Item
   shown_before = items_in root (state old).bytes
 
-  closing : (x : List ℕ) → Reaches (SameBut (gate_at (other root)) 1) (Left (state old)) x → Bears root limit number heads shown_before x
+  closing : (x : List ℕ) → Reaches (SameBut (gate_at (other root)) 1) (Left (state old)) x → Bears root version limit number heads shown_before x
   closing x reach =
       let was = bears reach.0 reach.1 in
-      let size : 1024 ≤ length reach.0 = room root limit number heads shown_before reach.0 was.says in
+      let size : 1024 ≤ length reach.0 = room root version limit number heads shown_before reach.0 was.says in
       let less : number_in (other root) x < number = omega (arith, lower reach.0 reach.1, number_gate (other root) reach.0 x reach.2 size) in
-      subst (λ (r : Root). Bears r limit number heads shown_before x) (other_other root)
-      (bears_lower (other root) limit number heads shown_before (gate_at (other root)) 1 (omega arith) (omega arith) reach.0 x reach.2 less
-      (subst (λ (r : Root). Bears r limit number heads shown_before reach.0) (sym (other_other root)) was))
+      subst (λ (r : Root). Bears r version limit number heads shown_before x) (other_other root)
+      (bears_lower (other root) version limit number heads shown_before (gate_at (other root)) 1 (omega arith) (omega arith) reach.0 x reach.2 less
+      (subst (λ (r : Root). Bears r version limit number heads shown_before reach.0) (sym (other_other root)) was))
 
-  pub run_closing : (moment : D → ℕ) (left_since : D → ℕ → List ℕ → Type 0) (new : D) → LeavesOnly moment left_since old new (Reaches (SameBut (gate_at (other root)) 1) (Left (state old))) → LeavesOnly moment left_since old new (Bears root limit number heads shown_before)
-  run_closing moment left_since new run = weaken moment left_since old new (Reaches (SameBut (gate_at (other root)) 1) (Left (state old))) (Bears root limit number heads shown_before) run closing
+  pub run_closing : (moment : D → ℕ) (left_since : D → ℕ → List ℕ → Type 0) (new : D) → LeavesOnly moment left_since old new (Reaches (SameBut (gate_at (other root)) 1) (Left (state old))) → LeavesOnly moment left_since old new (Bears root version limit number heads shown_before)
+  run_closing moment left_since new run = weaken moment left_since old new (Reaches (SameBut (gate_at (other root)) 1) (Left (state old))) (Bears root version limit number heads shown_before) run closing
 
   module _ (new : D) (step : Follows (SameBut (gate_at (other root)) 1) (Left (state old)) (Left (state new))) (seen : SameBut (gate_at (other root)) 1 (state old).bytes (state new).bytes) where
-    pub left_closing : (x : List ℕ) → Left (state new) x → Bears root limit number heads shown_before x
+    pub left_closing : (x : List ℕ) → Left (state new) x → Bears root version limit number heads shown_before x
     left_closing x l = closing x (step x l)
 
     pub shown_closing : items_in root (state new).bytes ≡ shown_before
     shown_closing = (closing (state new).bytes ((state old).bytes, reads_left (state old), seen)).says.items_are
 
-    pub bears_closing : EachBears (state new) root limit number heads (items_in root (state new).bytes)
-    bears_closing x l = subst (λ (items : List Item). Bears root limit number heads items x) (sym shown_closing) (left_closing x l)
+    pub bears_closing : EachBears (state new) root version limit number heads (items_in root (state new).bytes)
+    bears_closing x l = subst (λ (items : List Item). Bears root version limit number heads items x) (sym shown_closing) (left_closing x l)
 
     pub shut_closing : Only (state new) → gate (other root) (state new).bytes ≡ 0 → EachShut (state new) (other root)
     shut_closing only zero x l is = absurd (omega (arith, subst (λ (y : List ℕ). gate (other root) y ≡ 0) (sym (only x l)) zero, is))

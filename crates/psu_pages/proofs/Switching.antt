@@ -58,26 +58,26 @@ module _ {D : Type 0} (state : D → DiskState) (moment : D → ℕ) (left_since
       let begin = touched_said step reach.0 reach.1 in
       (begin.0, begin.1, page_trans (gate_at next) 512 begin.0 reach.0 x begin.2 (wider (gate_at next) (gate_at next) 1 512 reach.0 x (omega arith) (omega arith) reach.2)))
 
-  module _ (limit n : ℕ) (before heads : List Head) (items : List Item) (told : List ℕ) (bears : EachBears (state start) (other next) limit n before items) (shut : EachShut (state start) next) (is_told : IsTold limit (n + 1) heads told (state start).bytes) where
+  module _ (version limit n : ℕ) (before heads : List Head) (items : List Item) (told : List ℕ) (bears : EachBears (state start) (other next) version limit n before items) (shut : EachShut (state start) next) (is_told : IsTold limit (n + 1) heads told (state start).bytes) where
     abbrev pub target : List Item
     target = map (item_in (state start).bytes) heads
 
     -- while what the next root says is written
-    still : (y x : List ℕ) → Left (state start) y → SameBut (gate_at next + 1) 511 y x → Bears (other next) limit n before items x
-    still y x l but = bears_shut next limit n before items (gate_at next + 1) 511 (omega arith) (omega arith) y x but (λ is. shut y l (sym (but.below (gate_at next) (omega arith)) ∙ is)) (bears y l)
+    still : (y x : List ℕ) → Left (state start) y → SameBut (gate_at next + 1) 511 y x → Bears (other next) version limit n before items x
+    still y x l but = bears_shut next version limit n before items (gate_at next + 1) 511 (omega arith) (omega arith) y x but (λ is. shut y l (sym (but.below (gate_at next) (omega arith)) ∙ is)) (bears y l)
 
-    still_either : (x : List ℕ) → Reaches (SameBut (gate_at next + 1) 511) (Left (state start)) x → BearsEither next limit n before items heads target x
+    still_either : (x : List ℕ) → Reaches (SameBut (gate_at next + 1) 511) (Left (state start)) x → BearsEither next version limit n before items heads target x
     still_either x reach = inl (still reach.0 x reach.1 reach.2)
 
-    pub left_said : Follows (SameBut (gate_at next + 1) 511) (Left (state start)) (Left (state one)) → (x : List ℕ) → Left (state one) x → BearsEither next limit n before items heads target x
+    pub left_said : Follows (SameBut (gate_at next + 1) 511) (Left (state start)) (Left (state one)) → (x : List ℕ) → Left (state one) x → BearsEither next version limit n before items heads target x
     left_said step x l = still_either x (step x l)
 
-    pub run_said : LeavesOnly moment left_since start one (Reaches (SameBut (gate_at next + 1) 511) (Left (state start))) → LeavesOnly moment left_since start one (BearsEither next limit n before items heads target)
-    run_said run = weaken moment left_since start one (Reaches (SameBut (gate_at next + 1) 511) (Left (state start))) (BearsEither next limit n before items heads target) run still_either
+    pub run_said : LeavesOnly moment left_since start one (Reaches (SameBut (gate_at next + 1) 511) (Left (state start))) → LeavesOnly moment left_since start one (BearsEither next version limit n before items heads target)
+    run_said run = weaken moment left_since start one (Reaches (SameBut (gate_at next + 1) 511) (Left (state start))) (BearsEither next version limit n before items heads target) run still_either
 
     -- once it is made sure of
     module _ (but : SameBut (gate_at next + 1) 511 (state start).bytes (state one).bytes) (says : Range (gate_at next + 1) 511 (state one).bytes ≡ told) (only : Only (state one)) where
-      at_start : Bears (other next) limit n before items (state start).bytes
+      at_start : Bears (other next) version limit n before items (state start).bytes
       at_start = bears (state start).bytes (reads_left (state start))
 
       room : 512 * (2 + 2 * limit) ≤ length (state start).bytes
@@ -86,7 +86,7 @@ module _ {D : Type 0} (state : D → DiskState) (moment : D → ℕ) (left_since
       same : AllByRecursion (λ (page : ℕ). page_in page (state one).bytes ≡ page_in page (state start).bytes) (taken heads)
       same = pages_moved next (gate_at next + 1) 511 (omega arith) (omega arith) (state start).bytes (state one).bytes but (taken heads) (on_disk limit (length (state start).bytes) (taken heads) room is_told.roster.pool)
 
-      pub says_one : Says next limit (n + 1) heads target (state one).bytes
+      pub says_one : Says next 2 limit (n + 1) heads target (state one).bytes
       says_one =
           let shows = at_start.says.shows in
           let roster = is_told.roster in
@@ -94,23 +94,23 @@ module _ {D : Type 0} (state : D → DiskState) (moment : D → ℕ) (left_since
           (omega (arith, length-names heads, roster.count)) (names_low limit heads shows.limit_most roster.pool) roster.each roster.pool roster.apart roster.cost roster.distinct
           (says ∙ is_told.told_is) (there_by_name (state start).bytes (state one).bytes heads same is_told.there) (shown_same (state start).bytes (state one).bytes heads same)
 
-      bears_one : Bears (other next) limit n before items (state one).bytes
+      bears_one : Bears (other next) version limit n before items (state one).bytes
       bears_one = still (state start).bytes (state one).bytes (reads_left (state start)) but
 
-      opening : (y x : List ℕ) → Left (state one) y → SameBut (gate_at next) 1 y x → BearsEither next limit n before items heads target x
-      opening y x l gate = opens next limit n before heads items target (state one).bytes x bears_one says_one (subst (λ (z : List ℕ). SameBut (gate_at next) 1 z x) (only y l) gate)
+      opening : (y x : List ℕ) → Left (state one) y → SameBut (gate_at next) 1 y x → BearsEither next version limit n before items heads target x
+      opening y x l gate = opens next version limit n before heads items target (state one).bytes x bears_one says_one (subst (λ (z : List ℕ). SameBut (gate_at next) 1 z x) (only y l) gate)
 
-      pub left_opened : (two : D) → Follows (SameBut (gate_at next) 1) (Left (state one)) (Left (state two)) → (x : List ℕ) → Left (state two) x → BearsEither next limit n before items heads target x
+      pub left_opened : (two : D) → Follows (SameBut (gate_at next) 1) (Left (state one)) (Left (state two)) → (x : List ℕ) → Left (state two) x → BearsEither next version limit n before items heads target x
       left_opened two step x l = let from = step x l in opening from.0 x from.1 from.2
 
-      pub run_opened : (two : D) → LeavesOnly moment left_since start one (BearsEither next limit n before items heads target) → LeavesOnly moment left_since one two (Reaches (SameBut (gate_at next) 1) (Left (state one)))
-          → LeavesOnly moment left_since start two (BearsEither next limit n before items heads target)
-      run_opened two run second = and_then moment left_since start one two (BearsEither next limit n before items heads target) (Reaches (SameBut (gate_at next) 1) (Left (state one))) run second
+      pub run_opened : (two : D) → LeavesOnly moment left_since start one (BearsEither next version limit n before items heads target) → LeavesOnly moment left_since one two (Reaches (SameBut (gate_at next) 1) (Left (state one)))
+          → LeavesOnly moment left_since start two (BearsEither next version limit n before items heads target)
+      run_opened two run second = and_then moment left_since start one two (BearsEither next version limit n before items heads target) (Reaches (SameBut (gate_at next) 1) (Left (state one))) run second
           (λ x reach. opening reach.0 x reach.1 reach.2)
 
       module _ (two : D) (gate_but : SameBut (gate_at next) 1 (state one).bytes (state two).bytes) (is_open : gate next (state two).bytes ≡ 165) (only_two : Only (state two)) where
-        pub borne : EachBears (state two) next limit (n + 1) heads target
-        borne x l = subst (Bears next limit (n + 1) heads target) (sym (only_two x l)) (bears_opened next limit n before heads items target (state one).bytes (state two).bytes bears_one says_one gate_but is_open)
+        pub borne : EachBears (state two) next 2 limit (n + 1) heads target
+        borne x l = subst (Bears next 2 limit (n + 1) heads target) (sym (only_two x l)) (bears_opened next version limit n before heads items target (state one).bytes (state two).bytes bears_one says_one gate_but is_open)
 
         pub lower : EachLower (state two) (other next) (n + 1)
-        lower x l = subst (λ (z : List ℕ). number_in (other next) z < n + 1) (sym (only_two x l)) (lower_opened next limit n before heads items target (state one).bytes (state two).bytes bears_one says_one gate_but)
+        lower x l = subst (λ (z : List ℕ). number_in (other next) z < n + 1) (sym (only_two x l)) (lower_opened next version limit n before heads items target (state one).bytes (state two).bytes bears_one says_one gate_but)

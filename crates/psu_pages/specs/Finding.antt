@@ -2,7 +2,7 @@
 use Rattle.std.specs.Prelude.{◌≡◌, ◌≢◌, ℕ, ◌+◌, ◌*◌, ◌<◌, ◌≤◌, ◌==◌, ◌⊎◌, List, length, Bool, true, false, if◌then◌else◌, Option, Some, None, IfSome, is_some, ⊤}
 use Rattle.std.specs.List.{AllByRecursion}
 use Rattle.psu_disk.specs.Disk.{Range}
-use Rattle.psu_pages.specs.Image.{other, gate_at, gate, counting, mark, mark_in, version_in, limit_in, number_in, count_in, Counts, Head, IsHead, IsInPool, IsNone, AreApart, pages_of, taken}
+use Rattle.psu_pages.specs.Image.{other, gate_at, gate, counting, mark, mark_in, version_in, limit_in, number_in, count_in, Counts, Head, IsHead, IsKnown, IsInPool, IsNone, AreApart, pages_of, taken}
 use Rattle.psu_pages.specs.Free.{is_free, AreClaimed}
 use Rattle.psu_pages.specs.Shown.{Item, Stands}
 use Rattle.psu_pages.specs.declared.root.Root.{Root}
@@ -39,19 +39,19 @@ IsNonePicked first second BadRoot = (number : ℕ) × (first ≡ Some number) ×
 IsNonePicked first second BadVersion = ⊥
 IsNonePicked first second Memory = ⊥
 
--- A root says what one of ours says, of this version, on a disk that has the room. What its heads are is another matter.
+-- A root says what one of ours says, of a version that is read, on a disk that has the room. What its heads are is another matter.
 pub record HasGoodWords (root : Root) (image : List ℕ) : Type 0 where
   pub marked : mark_in root image ≡ mark
-  pub version : version_in root image ≡ 1
+  pub version : IsKnown (version_in root image)
   pub limit_least : 4 ≤ limit_in root image
   pub limit_most : limit_in root image ≤ 480
   pub room : 512 * (2 + 2 * limit_in root image) ≤ length image
   pub count : count_in root image ≤ 240
 
--- the words of a root of ours, of this version, on a disk of this size
+-- the words of a root of ours, of a version that is read, on a disk of this size
 pub record IsSound (words : Words) (size : ℕ) : Type 0 where
   pub marked : words.mark ≡ mark
-  pub version : words.version ≡ 1
+  pub version : IsKnown words.version
   pub limit_least : 4 ≤ words.limit
   pub limit_most : words.limit ≤ 480
   pub room : 512 * (2 + 2 * words.limit) ≤ size
@@ -61,8 +61,8 @@ pub record IsSound (words : Words) (size : ℕ) : Type 0 where
 abbrev pub IsUnsound : Words → ℕ → OpenCause → Type 0
 IsUnsound words size Device = ⊥
 IsUnsound words size NoRoot = ⊥
-IsUnsound words size BadRoot = (words.mark ≡ mark → words.version ≡ 1) × (IsSound words size → ⊥)
-IsUnsound words size BadVersion = (words.mark ≡ mark) × (words.version ≢ 1)
+IsUnsound words size BadRoot = (words.mark ≡ mark → IsKnown words.version) × (IsSound words size → ⊥)
+IsUnsound words size BadVersion = (words.mark ≡ mark) × (IsKnown words.version → ⊥)
 IsUnsound words size Memory = ⊥
 
 -- a root's page
@@ -79,6 +79,7 @@ pub record AreRoots (roots : Roots) (image : List ℕ) : Type 0 where
 pub record IsChosen (image : List ℕ) (chosen : Chosen) : Type 0 where
   pub picked : IsPickedIn image chosen.root chosen.number chosen.both
   pub words : HasGoodWords chosen.root image
+  pub version : version_in chosen.root image ≡ chosen.version
   pub limit : limit_in chosen.root image ≡ chosen.limit
   pub count : count_in chosen.root image ≡ chosen.count
 
@@ -125,12 +126,12 @@ pub record HasGates (root : Root) (number : ℕ) (both : Bool) (image : List ℕ
 abbrev pub HasNoRoot : List ℕ → Type 0
 HasNoRoot image = (length image < 1024) ⊎ ((gate First image ≢ 165) × (gate Second image ≢ 165))
 
--- a root counts that is one of ours, but of another version
+-- a root counts that is one of ours, but of a version that isn't read
 pub record HasOtherVersion (image : List ℕ) : Type 0 where
   pub size : 1024 ≤ length image
   pub counts : Counts (counting image) image
   pub marked : mark_in (counting image) image ≡ mark
-  pub version : version_in (counting image) image ≢ 1
+  pub version : IsKnown (version_in (counting image) image) → ⊥
 
 -- there are two roots, and what they say is wrong in another way
 pub record HasBadRoot (image : List ℕ) : Type 0 where

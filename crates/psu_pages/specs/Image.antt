@@ -1,5 +1,6 @@
--- What the bytes of an image of version 1 say. Pages have 512 bytes: pages 0 and 1 are the roots, and the pool of twice the
--- limit comes after them. A root names pages with the heads of items, and a head names the pages of its value.
+-- What the bytes of an image say, of version 1 or of version 2, which differ in how long a key may be. Pages have 512 bytes: pages 0
+-- and 1 are the roots, and the pool of twice the limit comes after them. A root names pages with the heads of items, and a head names
+-- the pages of its value.
 use Rattle.std.specs.Prelude.{◌≡◌, ◌≢◌, ℕ, zero, suc, ◌+◌, ◌*◌, ◌/◌, ◌<◌, ◌≤◌, ◌==◌, ◌&&◌, ◌||◌, not, nat_lt, List, [], ◌∷◌, ◌++◌, length, take, drop, map, slice_index, if◌then◌else◌, ⊤}
 use Rattle.std.specs.List.{AllByRecursion}
 use Rattle.std.specs.Int.{w16, w32, w64, from_be_bytes}
@@ -98,13 +99,25 @@ bytes_in image (page ∷ pages) = page_in page image ++ bytes_in image pages
 abbrev pub value_in : List ℕ → Head → List ℕ
 value_in image head = take head.size (bytes_in image head.pages)
 
--- what a head may say of itself
+-- what a head may say of itself, whatever the version
 pub record IsHead (head : Head) : Type 0 where
   pub key_least : 1 ≤ length head.key
-  pub key_most : length head.key ≤ 33
+  pub key_most : length head.key ≤ 65
   pub size_least : 1 ≤ head.size
   pub size_most : head.size ≤ 33280
   pub count : length head.pages ≡ (head.size + 511) / 512
+
+-- the versions that are read
+abbrev pub IsKnown : ℕ → Type 0
+IsKnown version = (1 ≤ version) × (version ≤ 2)
+
+-- how many bytes a key may have in an image of this version
+abbrev pub key_most : ℕ → ℕ
+key_most version = if version == 1 then 33 else 65
+
+-- no head has a longer key than that
+abbrev pub AreShort : ℕ → List Head → Type 0
+AreShort version heads = AllByRecursion (λ (head : Head). length head.key ≤ key_most version) heads
 
 -- the pages of a head and its value
 abbrev pub pages_of : Head → List ℕ

@@ -36,6 +36,7 @@ pub record HasSameRoots {D A : Type 0} {G : Ghosts D} (old new : Pages D A G) : 
   pub disk : new.disk ≡ old.disk
   pub root : new.root ≡ old.root
   pub limit : new.limit ≡ old.limit
+  pub version : new.version ≡ old.version
   pub number : new.number ≡ old.number
   pub standing : new.standing ≡ old.standing
   pub heads : new.heads ≡ old.heads
@@ -45,14 +46,16 @@ pub record HasSameRoots {D A : Type 0} {G : Ghosts D} (old new : Pages D A G) : 
 pub record HasSameHeads {D A : Type 0} {G : Ghosts D} (old new : Pages D A G) : Type 0 where
   pub root : new.root ≡ old.root
   pub limit : new.limit ≡ old.limit
+  pub version : new.version ≡ old.version
   pub number : new.number ≡ old.number
   pub heads : new.heads ≡ old.heads
   pub older : new.older ≡ old.older
   pub free : new.free ≡ old.free
 
--- the next root counts, and names these heads; the gate of the one before stands open
+-- the next root counts, is of version 2 and names these heads; the gate of the one before stands open
 pub record HasPublished {D A : Type 0} {G : Ghosts D} (old new : Pages D A G) (heads : List Head) : Type 0 where
   pub root : new.root ≡ other old.root
+  pub version : new.version ≡ 2
   pub number : new.number ≡ old.number + 1
   pub standing : new.standing ≡ Both
   pub heads_are : new.heads.items ≡ heads
@@ -62,6 +65,7 @@ pub record HasPublished {D A : Type 0} {G : Ghosts D} (old new : Pages D A G) (h
 -- the root that counts is the only open one, and the pages are free that the older one alone named
 pub record HasClosed {D A : Type 0} {G : Ghosts D} (old new : Pages D A G) : Type 0 where
   pub root : new.root ≡ old.root
+  pub version : new.version ≡ old.version
   pub number : new.number ≡ old.number
   pub standing : new.standing ≡ One
   pub heads : new.heads ≡ old.heads
@@ -72,6 +76,7 @@ pub record HasClosed {D A : Type 0} {G : Ghosts D} (old new : Pages D A G) : Typ
 pub record IsFresh {D A : Type 0} {G : Ghosts D} (limit : ℕ) (pages : Pages D A G) : Type 0 where
   pub root : pages.root ≡ First
   pub limit_is : pages.limit ≡ limit
+  pub version : pages.version ≡ 2
   pub number : pages.number ≡ 1
   pub standing : pages.standing ≡ One
   pub heads : pages.heads.items ≡ []

@@ -3,7 +3,7 @@ use Rattle.std.specs.Prelude.{◌≡◌, ◌≢◌, ℕ, ◌+◌, ◌*◌, ◌<�
 use Rattle.std.specs.List.{AllByRecursion}
 use Rattle.psu_disk.specs.Disk.{DiskState, Left}
 use Rattle.psu_pages.specs.declared.root.Root.{Root}
-use Rattle.psu_pages.specs.Image.{other, gate, mark, mark_in, version_in, limit_in, number_in, count_in, counting, Counts, Head, heads_in, value_in, IsHead, taken, keys, IsInPool, AreApart}
+use Rattle.psu_pages.specs.Image.{other, gate, mark, mark_in, version_in, limit_in, number_in, count_in, counting, Counts, Head, heads_in, value_in, IsHead, IsKnown, AreShort, taken, keys, IsInPool, AreApart}
 
 -- a key and its value
 pub record Item : Type 0 where
@@ -21,33 +21,36 @@ item_in image head = item_of head.key (value_in image head)
 abbrev pub items_in : Root → List ℕ → List Item
 items_in root image = map (item_in image) (heads_in root image)
 
--- A root shows its items, whatever the gate: it is one of ours, of this version and limit, on a disk that has the room; no page of
--- its items lies outside of the pool or is named twice, and no key comes twice. Other bytes may be any.
+-- A root shows its items, whatever the gate: it is one of ours, of a version that is read and of this limit, on a disk that has the
+-- room; no page of its items lies outside of the pool or is named twice, and no key comes twice or is too long for the version. Other
+-- bytes may be any.
 pub record Shows (root : Root) (image : List ℕ) (limit : ℕ) : Type 0 where
   pub marked : mark_in root image ≡ mark
-  pub version : version_in root image ≡ 1
+  pub version : IsKnown (version_in root image)
   pub limit_is : limit_in root image ≡ limit
   pub limit_least : 4 ≤ limit
   pub limit_most : limit ≤ 480
   pub room : 512 * (2 + 2 * limit) ≤ length image
   pub count : count_in root image ≤ 240
   pub heads : AllByRecursion IsHead (heads_in root image)
+  pub short : AreShort (version_in root image) (heads_in root image)
   pub pool : AllByRecursion (IsInPool limit) (taken (heads_in root image))
   pub apart : AreApart (taken (heads_in root image))
   pub cost : length (taken (heads_in root image)) ≤ limit
   pub distinct : AreApart (keys (heads_in root image))
 
--- A root says this number, names these heads and shows these items, whatever its gate.
-pub record Says (root : Root) (limit number : ℕ) (heads : List Head) (items : List Item) (image : List ℕ) : Type 0 where
+-- A root says this version and this number, names these heads and shows these items, whatever its gate.
+pub record Says (root : Root) (version limit number : ℕ) (heads : List Head) (items : List Item) (image : List ℕ) : Type 0 where
+  pub version_is : version_in root image ≡ version
   pub number_is : number_in root image ≡ number
   pub shows : Shows root image limit
   pub heads_are : heads_in root image ≡ heads
   pub items_are : items_in root image ≡ items
 
 -- This root counts, and says this.
-pub record Bears (root : Root) (limit number : ℕ) (heads : List Head) (items : List Item) (image : List ℕ) : Type 0 where
+pub record Bears (root : Root) (version limit number : ℕ) (heads : List Head) (items : List Item) (image : List ℕ) : Type 0 where
   pub counts : Counts root image
-  pub says : Says root limit number heads items image
+  pub says : Says root version limit number heads items image
 
 -- The root that counts shows these items.
 pub record Stands (image : List ℕ) (limit : ℕ) (items : List Item) : Type 0 where
@@ -60,8 +63,8 @@ abbrev pub IsEither : ℕ → List Item → List Item → List ℕ → Type 0
 IsEither limit before target image = Stands image limit before ⊎ Stands image limit target
 
 -- whatever power does, a root counts and says this
-abbrev pub EachBears : DiskState → Root → ℕ → ℕ → List Head → List Item → Type 0
-EachBears disk root limit number heads items = (image : List ℕ) → Left disk image → Bears root limit number heads items image
+abbrev pub EachBears : DiskState → Root → ℕ → ℕ → ℕ → List Head → List Item → Type 0
+EachBears disk root version limit number heads items = (image : List ℕ) → Left disk image → Bears root version limit number heads items image
 
 -- whatever power does, this root's gate is closed
 abbrev pub EachShut : DiskState → Root → Type 0
@@ -71,6 +74,6 @@ EachShut disk root = (image : List ℕ) → Left disk image → gate root image 
 abbrev pub EachLower : DiskState → Root → ℕ → Type 0
 EachLower disk root number = (image : List ℕ) → Left disk image → number_in root image < number
 
--- the root before counts and says what it did, or the next one with the next number
-abbrev pub BearsEither : Root → ℕ → ℕ → List Head → List Item → List Head → List Item → List ℕ → Type 0
-BearsEither next limit number before items heads target image = Bears (other next) limit number before items image ⊎ Bears next limit (number + 1) heads target image
+-- the root before counts and says what it did, whatever its version, or the next one, of version 2 and with the next number
+abbrev pub BearsEither : Root → ℕ → ℕ → ℕ → List Head → List Item → List Head → List Item → List ℕ → Type 0
+BearsEither next version limit number before items heads target image = Bears (other next) version limit number before items image ⊎ Bears next 2 limit (number + 1) heads target image

@@ -1,9 +1,9 @@
 -- What is known of pages is said in one way: a ghost field may hold it.
-use Rattle.std.specs.Prelude.{◌≡◌, ◌≢◌, ℕ, Bool, false, List, [], ◌∷◌}
+use Rattle.std.specs.Prelude.{◌≡◌, ◌≢◌, ◌≤◌, ℕ, Bool, false, List, [], ◌∷◌, length}
 use Rattle.std.specs.List.{AllByRecursion}
 use Rattle.std.proofs.Props.{props}
 use Rattle.psu_pages.specs.declared.root.Root.{Root}
-use Rattle.psu_pages.specs.Image.{Head, heads_in, taken, keys, IsHead, IsInPool, AreApart}
+use Rattle.psu_pages.specs.Image.{Head, heads_in, version_in, taken, keys, key_most, IsHead, IsInPool, AreApart}
 use Rattle.psu_pages.specs.Shown.{Item, Shows, Says, Bears, Stands}
 use Rattle.psu_pages.specs.Free.{is_free, AreClaimed, IsRoster}
 
@@ -32,13 +32,14 @@ Shows-IsProp root image limit =
     let pool = all-IsProp (IsInPool limit) (λ page. hlevel props) (taken (heads_in root image)) in
     let apart = pages-IsProp (taken (heads_in root image)) in
     let distinct = keys-IsProp (keys (heads_in root image)) in
-    hlevel (props, heads, pool, apart, distinct)
+    let short = all-IsProp (λ (head : Head). length head.key ≤ key_most (version_in root image)) (λ head. hlevel props) (heads_in root image) in
+    hlevel (props, heads, short, pool, apart, distinct)
 
-Says-IsProp : (root : Root) (limit number : ℕ) (heads : List Head) (items : List Item) (image : List ℕ) → IsProp (Says root limit number heads items image)
-Says-IsProp root limit number heads items image = hlevel (props, Shows-IsProp)
+Says-IsProp : (root : Root) (version limit number : ℕ) (heads : List Head) (items : List Item) (image : List ℕ) → IsProp (Says root version limit number heads items image)
+Says-IsProp root version limit number heads items image = hlevel (props, Shows-IsProp)
 
-pub Bears-IsProp : (root : Root) (limit number : ℕ) (heads : List Head) (items : List Item) (image : List ℕ) → IsProp (Bears root limit number heads items image)
-Bears-IsProp root limit number heads items image = hlevel (props, Says-IsProp)
+pub Bears-IsProp : (root : Root) (version limit number : ℕ) (heads : List Head) (items : List Item) (image : List ℕ) → IsProp (Bears root version limit number heads items image)
+Bears-IsProp root version limit number heads items image = hlevel (props, Says-IsProp)
 
 pub Stands-IsProp : (image : List ℕ) (limit : ℕ) (items : List Item) → IsProp (Stands image limit items)
 Stands-IsProp image limit items = hlevel (props, Shows-IsProp)

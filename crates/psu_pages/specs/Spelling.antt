@@ -19,9 +19,9 @@ filled n bytes = bytes ++ replicate (n - length bytes) 0
 abbrev pub names : List Head → List ℕ
 names heads = map (λ (head : Head). head.at) heads
 
--- what a root says after its gate
+-- what a root says after its gate; version 2 is written
 abbrev pub said : ℕ → ℕ → List ℕ → List ℕ
-said limit number pages = mark ++ (to_be_bytes w16 1 ++ (to_be_bytes w16 limit ++ (to_be_bytes w64 number ++ (to_be_bytes w16 (length pages) ++ spelled_words pages))))
+said limit number pages = mark ++ (to_be_bytes w16 2 ++ (to_be_bytes w16 limit ++ (to_be_bytes w64 number ++ (to_be_bytes w16 (length pages) ++ spelled_words pages))))
 
 -- what a head says
 abbrev pub spelled : Head → List ℕ

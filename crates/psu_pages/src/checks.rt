@@ -1,17 +1,33 @@
 //! What heads have to keep together.
 ghost use Rattle.std.specs.Prelude.{◌≡◌, ◌≤◌, true, false, length};
-ghost use Rattle.psu_pages.specs.Image.{keys, taken, AreApart, IsNone};
+ghost use Rattle.psu_pages.specs.Image.{keys, taken, AreApart, AreShort, IsNone};
 
 use crate::Head;
+use crate::version::key_most;
 use std::alloc::Allocator;
 
-/// Whether heads take no more pages than the limit, and no key comes twice.
-pub fn stand_together<A: Allocator + Copy>(heads: &[Head<A>], limit: u16) -> bool
+/// Whether heads take no more pages than the limit, and no key comes twice or is too long for the version.
+pub fn stand_together<A: Allocator + Copy>(heads: &[Head<A>], limit: u16, version: u16) -> bool
+    ensures short { result ≡ true → AreShort version heads.now }
     ensures within { result ≡ true → length (taken heads.now) ≤ limit }
     ensures distinct { result ≡ true → AreApart (keys heads.now) }
-    ensures no { result ≡ false → length (taken heads.now) ≤ limit → AreApart (keys heads.now) → ⊥ }
+    ensures no { result ≡ false → AreShort version heads.now → length (taken heads.now) ≤ limit → AreApart (keys heads.now) → ⊥ }
 {
-    are_within(heads, limit) && are_distinct(heads)
+    are_short(heads, version) && are_within(heads, limit) && are_distinct(heads)
+}
+
+// Whether no key is longer than the version lets it be.
+fn are_short<A: Allocator + Copy>(heads: &[Head<A>], version: u16) -> bool
+    ensures yes { result ≡ true → AreShort version heads.now }
+    ensures no { result ≡ false → AreShort version heads.now → ⊥ }
+{
+    let most = key_most(version);
+    for head in heads {
+        if head.key().len() > most {
+            return false;
+        }
+    }
+    true
 }
 
 // Whether heads and their values take no more pages than the limit.

@@ -31,10 +31,11 @@ impl Roots {
     }
 }
 
-/// The root that counts, its number, whether the other gate is open too, the limit and how many items there are.
+/// The root that counts, its version and number, whether the other gate is open too, the limit and how many items there are.
 #[derive(Clone, Copy, Debug, Drop)]
 pub struct Chosen {
     pub root: Root,
+    pub version: u16,
     pub number: u64,
     pub both: bool,
     pub limit: u16,
@@ -94,6 +95,7 @@ pub fn choose(roots: &Roots, size: u64) -> Result<Chosen, OpenCause>
     }
     Ok(Chosen {
         root: picked.root,
+        version: words.version,
         number: picked.number,
         both: picked.both,
         limit: words.limit,

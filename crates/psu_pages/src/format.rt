@@ -10,6 +10,7 @@ ghost use Rattle.psu_pages.specs.declared.standing.Standing.TheVariants.{One};
 use crate::gates::{CLOSED, OPEN, say, set_gate};
 use crate::pool::pool;
 use crate::root_page::spell_root;
+use crate::version::VERSION;
 use crate::{FormatCause, FormatFault, Pages, Root, Standing};
 use psu_disk::{Disk, DiskFault};
 use std::alloc::{AllocError, Allocator};
@@ -43,6 +44,7 @@ impl<D: Disk, A: Allocator + Copy> Pages<D, A> {
             Ok(()) => Ok(Pages {
                 disk,
                 root: Root::First,
+                version: VERSION,
                 limit,
                 number: 1,
                 standing: Standing::One,
@@ -65,7 +67,7 @@ fn lay_out<D: Disk>(disk: &mut D, told: &[u8]) -> Result<(), DiskFault>
     ensures extent { D.extent disk.new ≡ D.extent disk.old }
     ensures cause { HasCause (D.failures disk.old) (D.failures disk.new) result }
     ensures borne { D.honest → (limit number : ℕ) → IsTold limit number [] told.now (D.state disk.old).bytes → 4 ≤ limit → limit ≤ 480 → 512 * (2 + 2 * limit) ≤ D.extent disk.old
-        → OnOk result (EachBears (D.state disk.new) First limit number [] []) }
+        → OnOk result (EachBears (D.state disk.new) First 2 limit number [] []) }
     ensures shut { D.honest → OnOk result (EachShut (D.state disk.new) Second) }
 {
     set_gate(disk, Root::First, CLOSED)?;

@@ -76,7 +76,7 @@ impl<A: Allocator + Copy> Head<A> {
             [] => Ok(None),
             [n, rest @ ..] => {
                 let n = *n as usize;
-                if n == 0 || n > 33 {
+                if n == 0 || n > 65 {
                     return Ok(None);
                 }
                 let (key, rest) = rest.split_at(n);
@@ -89,7 +89,7 @@ impl<A: Allocator + Copy> Head<A> {
     #[tactic(auto, using(crate::proofs::Numbers::length_words))]
     fn after(alloc: A, at: u16, key: &[u8], bytes: &[u8]) -> Result<Option<Head<A>>, AllocError>
         requires key { 1 ≤ length key.now }
-        requires key_most { length key.now ≤ 33 }
+        requires key_most { length key.now ≤ 65 }
         requires long { 170 ≤ length bytes.now }
         ensures found { IfOk result (λ found. IfSome found (λ head. (head ≡ head_after at key.now bytes.now) × IsHead head)) }
         ensures none { IfOk result (λ found. IsNone found → IsHead (head_after at key.now bytes.now) → ⊥) }

@@ -6,7 +6,7 @@ ghost use Rattle.psu_pages.specs.Shown.{Item, Bears, BearsEither, IsEither, Stan
 
 /// What the root that counts bears is what its image stands for, and an image stands for one list of items at most.
 pub fn bears_what_stands()
-    ensures stands { (root : RootType) (limit number : ℕ) (heads : List Head) (items : List Item) (image : List ℕ) → Bears root limit number heads items image → Stands image limit items }
-    ensures either { (next : RootType) (limit number : ℕ) (before heads : List Head) (items target : List Item) (image : List ℕ) → BearsEither next limit number before items heads target image → IsEither limit items target image }
+    ensures stands { (root : RootType) (version limit number : ℕ) (heads : List Head) (items : List Item) (image : List ℕ) → Bears root version limit number heads items image → Stands image limit items }
+    ensures either { (next : RootType) (version limit number : ℕ) (before heads : List Head) (items target : List Item) (image : List ℕ) → BearsEither next version limit number before items heads target image → IsEither limit items target image }
     ensures one { (limit limit' : ℕ) (items items' : List Item) (image : List ℕ) → Stands image limit items → Stands image limit' items' → (limit ≡ limit') × (items ≡ items') }
 {}

@@ -27,6 +27,7 @@ mod root_page;
 mod scan;
 mod standing;
 mod switch;
+mod version;
 mod words;
 mod writing;
 

@@ -29,7 +29,7 @@ impl<D: Disk, A: Allocator + Copy> Pages<D, A> {
     /// The items that a disk stands for. It begins with a sync, and reads the two roots and the pages of the heads, each once. An
     /// older gate that stands open is left open. Nothing is written.
     pub fn open(alloc: A, mut disk: D) -> Result<Pages<D, A>, Refused<D>>
-        ensures found { D.honest → IfOk result (λ pages. Bears pages.root pages.limit pages.number pages.heads.items (items_in pages.root (D.state disk).bytes) (D.state disk).bytes) }
+        ensures found { D.honest → IfOk result (λ pages. Bears pages.root pages.version pages.limit pages.number pages.heads.items (items_in pages.root (D.state disk).bytes) (D.state disk).bytes) }
         ensures sure { IfOk result (λ pages. pages.standing ≢ Unsure) }
         ensures fit { IfOk result (λ pages. AreFit pages.limit pages.heads.items pages.free) }
         ensures none_older { IfOk result (λ pages. pages.older.items ≡ []) }
@@ -61,6 +61,7 @@ impl<D: Disk, A: Allocator + Copy> Pages<D, A> {
             ) => Ok(Pages {
                 disk,
                 root: chosen.root,
+                version: chosen.version,
                 limit: chosen.limit,
                 number: chosen.number,
                 standing: chosen.standing(),
@@ -85,7 +86,7 @@ fn look<D: Disk, A: Allocator + Copy>(alloc: A, disk: &mut D) -> Result<Opened<A
     ensures limit { IfOk result (λ o. (4 ≤ o.chosen.limit) × (o.chosen.limit ≤ 480) × (512 * (2 + 2 * o.chosen.limit) ≤ D.extent disk.old)) }
     ensures roster { IfOk result (λ o. IsRoster o.chosen.limit o.heads.items) }
     ensures fit { IfOk result (λ o. AreFit o.chosen.limit o.heads.items o.free) }
-    ensures found { D.honest → IfOk result (λ o. Bears o.chosen.root o.chosen.limit o.chosen.number o.heads.items (items_in o.chosen.root (D.state disk.old).bytes) (D.state disk.old).bytes) }
+    ensures found { D.honest → IfOk result (λ o. Bears o.chosen.root o.chosen.version o.chosen.limit o.chosen.number o.heads.items (items_in o.chosen.root (D.state disk.old).bytes) (D.state disk.old).bytes) }
     ensures gates { D.honest → IfOk result (λ o. HasGates o.chosen.root o.chosen.number o.chosen.both (D.state disk.old).bytes) }
     ensures refused { D.honest → IfErr result (IsRefusal (D.state disk.old).bytes) }
     ensures synced { D.honest → OnOk result (Only (D.state disk.new)) }
@@ -105,7 +106,7 @@ fn look<D: Disk, A: Allocator + Copy>(alloc: A, disk: &mut D) -> Result<Opened<A
         Ok(found) => found,
         Err(cause) => return Err(cause),
     };
-    if !stand_together(&found.heads, chosen.limit) {
+    if !stand_together(&found.heads, chosen.limit, chosen.version) {
         return Err(OpenCause::BadRoot);
     }
     Ok(Opened {

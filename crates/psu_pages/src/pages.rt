@@ -10,7 +10,6 @@ ghost use Rattle.std.proofs.Props.{props};
 ghost use Rattle.psu_pages.specs.declared.root.Root.TheVariants.{First};
 ghost use Rattle.psu_pages.specs.declared.standing.Standing.TheVariants.{One, Both, Unsure};
 
-use crate::root_page::VERSION;
 use crate::{FreeMap, Head, Root, Standing};
 use psu_disk::Disk;
 use std::alloc::Allocator;
@@ -21,6 +20,7 @@ use std::alloc::Allocator;
 pub struct Pages<D: Disk, A: Allocator + Copy> {
     pub(crate) disk: D,
     pub(crate) root: Root,
+    pub(crate) version: u16,
     pub(crate) limit: u16,
     pub(crate) number: u64,
     pub(crate) standing: Standing,
@@ -38,7 +38,7 @@ pub struct Pages<D: Disk, A: Allocator + Copy> {
     ghost older_roster: { IsRoster limit older.items } by { IsRoster-IsProp limit older.items },
     ghost older_claimed: { AreClaimed free (taken older.items) } by { AreClaimed-IsProp free (taken older.items) },
     ghost none_older: { standing ≡ One → older.items ≡ [] },
-    ghost bears: { D.honest → standing ≢ Unsure → EachBears (D.state disk) root limit number heads.items (items_in root (D.state disk).bytes) } by { Prim.hlevel (props, Bears-IsProp) },
+    ghost bears: { D.honest → standing ≢ Unsure → EachBears (D.state disk) root version limit number heads.items (items_in root (D.state disk).bytes) } by { Prim.hlevel (props, Bears-IsProp) },
     ghost shut: { D.honest → standing ≡ One → EachShut (D.state disk) (other root) },
     ghost lower: { D.honest → standing ≡ Both → EachLower (D.state disk) (other root) number },
 }
@@ -50,7 +50,7 @@ impl<D: Disk, A: Allocator + Copy> Pages<D, A> {
         ensures roster { IsRoster self.now.limit result.now }
         ensures claimed { AreClaimed self.now.free (taken result.now) }
         ensures there { D.honest → self.now.standing ≢ Unsure → AllByRecursion (λ head. head_at (D.state self.now.disk).bytes head.at ≡ head) result.now }
-        ensures bears { D.honest → self.now.standing ≢ Unsure → EachBears (D.state self.now.disk) self.now.root self.now.limit self.now.number result.now (items_in self.now.root (D.state self.now.disk).bytes) }
+        ensures bears { D.honest → self.now.standing ≢ Unsure → EachBears (D.state self.now.disk) self.now.root self.now.version self.now.limit self.now.number result.now (items_in self.now.root (D.state self.now.disk).bytes) }
     {
         &self.heads
     }
@@ -73,12 +73,12 @@ impl<D: Disk, A: Allocator + Copy> Pages<D, A> {
         self.number
     }
 
-    /// The version of the image's format.
+    /// The version of the root that counts: 1 or 2.
     pub fn version(&self) -> u16
-        ensures value { result ≡ 1 }
+        ensures value { result ≡ self.now.version }
         ensures stands { D.honest → self.now.standing ≢ Unsure → (image : List ℕ) → Left (D.state self.now.disk) image → version_in (counting image) image ≡ result }
     {
-        VERSION
+        self.version
     }
 
     /// How the gates stand.
@@ -91,7 +91,7 @@ impl<D: Disk, A: Allocator + Copy> Pages<D, A> {
     /// The disk, with the items on it.
     pub fn into_disk(self) -> D
         ensures value { result ≡ self.disk }
-        ensures bears { D.honest → self.standing ≢ Unsure → EachBears (D.state result) self.root self.limit self.number self.heads.items (items_in self.root (D.state result).bytes) }
+        ensures bears { D.honest → self.standing ≢ Unsure → EachBears (D.state result) self.root self.version self.limit self.number self.heads.items (items_in self.root (D.state result).bytes) }
     {
         self.disk
     }

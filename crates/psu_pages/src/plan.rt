@@ -14,7 +14,7 @@ impl<D: Disk, A: Allocator + Copy> Pages<D, A> {
     /// Claims pages for an item with this key and a value of so many bytes. No call of the disk is made.
     pub fn plan(&mut self, alloc: A, key: &[u8], size: u32) -> Result<Head<A>, PageFault>
         requires key_least { 1 ≤ length key.now }
-        requires key_most { length key.now ≤ 33 }
+        requires key_most { length key.now ≤ 65 }
         requires size_least { 1 ≤ size }
         requires size_most { size ≤ 33280 }
         ensures planned { IfOk result (HasPlanned self.old self.new key.now size) }

@@ -13,6 +13,7 @@ use crate::gates::{CLOSED, set_gate};
 use crate::hand_over::hand_over;
 use crate::root_page::spell_root;
 use crate::switch::switch;
+use crate::version::VERSION;
 use crate::writing::write_item;
 use crate::{Head, PageFault, Pages, Standing};
 use psu_disk::{Disk, DiskFault};
@@ -42,9 +43,9 @@ impl<D: Disk, A: Allocator + Copy> Pages<D, A> {
         // At every moment the same items stand, and no page but those of the head is written.
         ensures shown { D.honest → items_in self.new.root (D.state self.new.disk).bytes ≡ items_in self.old.root (D.state self.old.disk).bytes }
         ensures left { D.honest → (image : List ℕ) → Left (D.state self.new.disk) image
-            → Bears self.old.root self.old.limit self.old.number self.old.heads.items (items_in self.old.root (D.state self.old.disk).bytes) image }
+            → Bears self.old.root self.old.version self.old.limit self.old.number self.old.heads.items (items_in self.old.root (D.state self.old.disk).bytes) image }
         ensures time { D.honest → D.tells → LeavesOnly D.moment D.left_since self.old.disk self.new.disk
-            (Bears self.old.root self.old.limit self.old.number self.old.heads.items (items_in self.old.root (D.state self.old.disk).bytes)) }
+            (Bears self.old.root self.old.version self.old.limit self.old.number self.old.heads.items (items_in self.old.root (D.state self.old.disk).bytes)) }
         ensures touched { D.honest → Follows (Misses (pages_of head.now)) (Left (D.state self.old.disk)) (Left (D.state self.new.disk)) }
         ensures touched_time { D.honest → D.tells → LeavesOnly D.moment D.left_since self.old.disk self.new.disk (Reaches (Misses (pages_of head.now)) (Left (D.state self.old.disk))) }
     {
@@ -57,7 +58,8 @@ impl<D: Disk, A: Allocator + Copy> Pages<D, A> {
         }
     }
 
-    /// Makes a root count that names these heads, in the place of the one that counts. The older one's gate stays open.
+    /// Makes a root of version 2 count that names these heads, in the place of the one that counts, whatever the version of that one.
+    /// The older one's gate stays open.
     pub fn publish_root(&mut self, heads: Vec<Head<A>, A>) -> Result<(), PageFault>
         requires shut { self.old.standing ≡ One }
         requires number { self.old.number + 1 < 2 ^ 64 }
@@ -76,9 +78,9 @@ impl<D: Disk, A: Allocator + Copy> Pages<D, A> {
 
         // At every moment the items before stand, or those of the heads, and no page but the next root's is written.
         ensures left { D.honest → (image : List ℕ) → Left (D.state self.new.disk) image
-            → BearsEither (other self.old.root) self.old.limit self.old.number self.old.heads.items (items_in self.old.root (D.state self.old.disk).bytes) heads.items (map (item_in (D.state self.old.disk).bytes) heads.items) image }
+            → BearsEither (other self.old.root) self.old.version self.old.limit self.old.number self.old.heads.items (items_in self.old.root (D.state self.old.disk).bytes) heads.items (map (item_in (D.state self.old.disk).bytes) heads.items) image }
         ensures time { D.honest → D.tells → LeavesOnly D.moment D.left_since self.old.disk self.new.disk
-            (BearsEither (other self.old.root) self.old.limit self.old.number self.old.heads.items (items_in self.old.root (D.state self.old.disk).bytes) heads.items (map (item_in (D.state self.old.disk).bytes) heads.items)) }
+            (BearsEither (other self.old.root) self.old.version self.old.limit self.old.number self.old.heads.items (items_in self.old.root (D.state self.old.disk).bytes) heads.items (map (item_in (D.state self.old.disk).bytes) heads.items)) }
         ensures touched { D.honest → Follows (SameBut (gate_at (other self.old.root)) 512) (Left (D.state self.old.disk)) (Left (D.state self.new.disk)) }
         ensures touched_time { D.honest → D.tells → LeavesOnly D.moment D.left_since self.old.disk self.new.disk (Reaches (SameBut (gate_at (other self.old.root)) 512) (Left (D.state self.old.disk))) }
     {
@@ -87,6 +89,7 @@ impl<D: Disk, A: Allocator + Copy> Pages<D, A> {
         match switch(&mut self.disk, next, page.after_gate()) {
             Ok(()) => {
                 self.root = next;
+                self.version = VERSION;
                 self.number += 1;
                 self.standing = Standing::Both;
                 self.older = mem::replace(&mut self.heads, heads);
@@ -115,9 +118,9 @@ impl<D: Disk, A: Allocator + Copy> Pages<D, A> {
         // At every moment the same items stand, and nothing but the older gate is written.
         ensures shown { D.honest → OnOk result (items_in self.new.root (D.state self.new.disk).bytes ≡ items_in self.old.root (D.state self.old.disk).bytes) }
         ensures left { D.honest → (image : List ℕ) → Left (D.state self.new.disk) image
-            → Bears self.old.root self.old.limit self.old.number self.old.heads.items (items_in self.old.root (D.state self.old.disk).bytes) image }
+            → Bears self.old.root self.old.version self.old.limit self.old.number self.old.heads.items (items_in self.old.root (D.state self.old.disk).bytes) image }
         ensures time { D.honest → D.tells → LeavesOnly D.moment D.left_since self.old.disk self.new.disk
-            (Bears self.old.root self.old.limit self.old.number self.old.heads.items (items_in self.old.root (D.state self.old.disk).bytes)) }
+            (Bears self.old.root self.old.version self.old.limit self.old.number self.old.heads.items (items_in self.old.root (D.state self.old.disk).bytes)) }
         ensures touched { D.honest → Follows (SameBut (gate_at (other self.old.root)) 1) (Left (D.state self.old.disk)) (Left (D.state self.new.disk)) }
         ensures touched_time { D.honest → D.tells → LeavesOnly D.moment D.left_since self.old.disk self.new.disk (Reaches (SameBut (gate_at (other self.old.root)) 1) (Left (D.state self.old.disk))) }
     {

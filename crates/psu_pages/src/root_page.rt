@@ -5,10 +5,8 @@ ghost use Rattle.psu_pages.specs.Spelling.{said, names, spelled_words};
 use crate::Head;
 use crate::gates::CLOSED;
 use crate::page::Page;
+use crate::version::VERSION;
 use std::alloc::Allocator;
-
-/// The version of the image's format.
-pub const VERSION: u16 = 1;
 
 /// The page of a root that names these heads, its gate closed.
 pub fn spell_root<A: Allocator + Copy>(limit: u16, number: u64, heads: &[Head<A>]) -> Page

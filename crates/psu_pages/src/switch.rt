@@ -17,18 +17,18 @@ pub fn switch<D: Disk>(disk: &mut D, next: Root, told: &[u8]) -> Result<(), Disk
     ensures extent { D.extent disk.new ≡ D.extent disk.old }
     ensures cause { HasCause (D.failures disk.old) (D.failures disk.new) result }
 
-    ensures borne { D.honest → (limit number : ℕ) (before heads : List Head) (items : List Item)
-        → EachBears (D.state disk.old) (other next) limit number before items → EachShut (D.state disk.old) next → IsTold limit (number + 1) heads told.now (D.state disk.old).bytes
-        → OnOk result (EachBears (D.state disk.new) next limit (number + 1) heads (map (item_in (D.state disk.old).bytes) heads)) }
-    ensures lower { D.honest → (limit number : ℕ) (before heads : List Head) (items : List Item)
-        → EachBears (D.state disk.old) (other next) limit number before items → EachShut (D.state disk.old) next → IsTold limit (number + 1) heads told.now (D.state disk.old).bytes
+    ensures borne { D.honest → (version limit number : ℕ) (before heads : List Head) (items : List Item)
+        → EachBears (D.state disk.old) (other next) version limit number before items → EachShut (D.state disk.old) next → IsTold limit (number + 1) heads told.now (D.state disk.old).bytes
+        → OnOk result (EachBears (D.state disk.new) next 2 limit (number + 1) heads (map (item_in (D.state disk.old).bytes) heads)) }
+    ensures lower { D.honest → (version limit number : ℕ) (before heads : List Head) (items : List Item)
+        → EachBears (D.state disk.old) (other next) version limit number before items → EachShut (D.state disk.old) next → IsTold limit (number + 1) heads told.now (D.state disk.old).bytes
         → OnOk result (EachLower (D.state disk.new) (other next) (number + 1)) }
-    ensures left { D.honest → (limit number : ℕ) (before heads : List Head) (items : List Item)
-        → EachBears (D.state disk.old) (other next) limit number before items → EachShut (D.state disk.old) next → IsTold limit (number + 1) heads told.now (D.state disk.old).bytes
-        → (image : List ℕ) → Left (D.state disk.new) image → BearsEither next limit number before items heads (map (item_in (D.state disk.old).bytes) heads) image }
-    ensures time { D.honest → D.tells → (limit number : ℕ) (before heads : List Head) (items : List Item)
-        → EachBears (D.state disk.old) (other next) limit number before items → EachShut (D.state disk.old) next → IsTold limit (number + 1) heads told.now (D.state disk.old).bytes
-        → LeavesOnly D.moment D.left_since disk.old disk.new (BearsEither next limit number before items heads (map (item_in (D.state disk.old).bytes) heads)) }
+    ensures left { D.honest → (version limit number : ℕ) (before heads : List Head) (items : List Item)
+        → EachBears (D.state disk.old) (other next) version limit number before items → EachShut (D.state disk.old) next → IsTold limit (number + 1) heads told.now (D.state disk.old).bytes
+        → (image : List ℕ) → Left (D.state disk.new) image → BearsEither next version limit number before items heads (map (item_in (D.state disk.old).bytes) heads) image }
+    ensures time { D.honest → D.tells → (version limit number : ℕ) (before heads : List Head) (items : List Item)
+        → EachBears (D.state disk.old) (other next) version limit number before items → EachShut (D.state disk.old) next → IsTold limit (number + 1) heads told.now (D.state disk.old).bytes
+        → LeavesOnly D.moment D.left_since disk.old disk.new (BearsEither next version limit number before items heads (map (item_in (D.state disk.old).bytes) heads)) }
 
     // No other page is written.
     ensures touched { D.honest → Follows (SameBut (gate_at next) 512) (Left (D.state disk.old)) (Left (D.state disk.new)) }

@@ -6,7 +6,7 @@ ghost use Rattle.psu_pages.specs.Finding.{IsSound, IsUnsound};
 
 use crate::OpenCause;
 use crate::gates::OPEN;
-use crate::root_page::VERSION;
+use crate::version::is_known;
 
 /// The words of a root after its gate, without its number and the names of its heads.
 #[derive(Clone, Copy, Debug, Drop)]
@@ -69,7 +69,7 @@ pub fn check(words: &Words, size: u64) -> Result<(), OpenCause>
     if words.mark != *b"PSU" {
         return Err(OpenCause::BadRoot);
     }
-    if words.version != VERSION {
+    if !is_known(words.version) {
         return Err(OpenCause::BadVersion);
     }
     let limit = u64::from(words.limit);

@@ -116,7 +116,7 @@ one_command law f.ClearTrip output list r q g h = g ∙ sym h
 one_command law (f.Enable which) output list r q g h = makes_of _ _ (one_of TakesWhole (counted 0 255) (wholes law) list) r q g h
 one_command law (f.Flag which) output list r q g h = makes_of _ _ (one_of TakesWhole flagged (wholes law) list) r q g h
 one_command law (f.Filter group which) output list r q g h = makes_of _ _ (one_of TakesWhole (counted 0 65535) (wholes law) list) r q g h
-one_command law (f.Register what) output list r q g h = makes_of _ _ (one_of TakesWhole (counted 0 9) (wholes law) list) r q g h
+one_command law (f.Register what) output list r q g h = makes_of _ _ (one_of TakesWhole (counted 0 99) (wholes law) list) r q g h
 one_command law f.Load output list r q g h = makes_of _ _ (one_of TakesWhole (counted 1 10000000) (wholes law) list) r q g h
 one_command law (f.Level which) output list r q g h = makes_of _ _ (one_of (TakesAmount (unit_of which)) (leveled (greatest_of which)) (amounts law (unit_of which)) list) r q g h
 one_command law (f.LevelQuery which) output list r q g h = makes_of _ _ (perhaps_of TakesWord extreme_of words list) r q g h
@@ -128,7 +128,7 @@ one_command law (f.Macro what) output list r q g h = makes_of _ _ (one_of TakesS
 one_command law f.Contents output list r q g h = makes_of _ _ (two_of TakesString named TakesBlock (at_most 32768) (strings law) (blocks law) list) r q g h
 one_command law (f.File what) output list r q g h = makes_of _ _ (one_of TakesString named (strings law) list) r q g h
 one_command law (f.Names what) output list r q g h = makes_of _ _ (two_of TakesString named TakesString named (strings law) (strings law) list) r q g h
-one_command law (f.StateFile what) output list r q g h = makes_of _ _ (two_of TakesWhole (counted 0 9) TakesString named (wholes law) (strings law) list) r q g h
+one_command law (f.StateFile what) output list r q g h = makes_of _ _ (two_of TakesWhole (counted 0 99) TakesString named (wholes law) (strings law) list) r q g h
 one_command law (f.MacroFile what) output list r q g h = makes_of _ _ (two_of TakesString labeled TakesString named (strings law) (strings law) list) r q g h
 
 one_form : Lawful → (placed : Result (Form × Output) ScpiError) (list : List Datum) (r q : Result Command ScpiError) → FormReads placed list r → FormReads placed list q → r ≡ q

@@ -85,7 +85,7 @@ and_false false b f = refl
 
 no_name : (text : List ℕ) → all_file text ≡ false → name_of text ≡ None
 no_name text f =
-    let e : is_file_name text ≡ false = and_false (nat_lt 0 (length text) && nat_lt (length text) 33) (all_file text) f in
+    let e : is_file_name text ≡ false = and_false (nat_lt 0 (length text) && nat_lt (length text) 65) (all_file text) f in
     ap (λ (b : Bool). if b then Some text else None) e
 
 pub name_doubled : (q : ℕ) (text : List ℕ) → is_quote q ≡ true → name_of (doubled q text) ≡ name_of text

@@ -58,7 +58,7 @@ some_command f.ClearTrip output list g = (alone (c.ClearTrip output) list, refl)
 some_command (f.Enable which) output list g = makes_some _ (c.Enable which) (one_some TakesWhole (counted 0 255) some_whole list g)
 some_command (f.Flag which) output list g = makes_some _ (c.Flag which) (one_some TakesWhole flagged some_whole list g)
 some_command (f.Filter group which) output list g = makes_some _ _ (one_some TakesWhole (counted 0 65535) some_whole list g)
-some_command (f.Register what) output list g = makes_some _ (c.Register what) (one_some TakesWhole (counted 0 9) some_whole list g)
+some_command (f.Register what) output list g = makes_some _ (c.Register what) (one_some TakesWhole (counted 0 99) some_whole list g)
 some_command f.Load output list g = makes_some _ (c.Load output) (one_some TakesWhole (counted 1 10000000) some_whole list g)
 some_command (f.Level which) output list g = makes_some _ (c.Level which output) (one_some (TakesAmount (unit_of which)) (leveled (greatest_of which)) (some_amount (unit_of which)) list g)
 some_command (f.LevelQuery which) output list g = makes_some _ (c.LevelQuery which output) (perhaps_some TakesWord extreme_of some_word list g)
@@ -70,7 +70,7 @@ some_command (f.Macro what) output list g = makes_some _ (c.Macro what) (one_som
 some_command f.Contents output list g = makes_some _ _ (two_some TakesString named TakesBlock (at_most 32768) some_string some_block list g)
 some_command (f.File what) output list g = makes_some _ (c.File what) (one_some TakesString named some_string list g)
 some_command (f.Names what) output list g = makes_some _ _ (two_some TakesString named TakesString named some_string some_string list g)
-some_command (f.StateFile what) output list g = makes_some _ _ (two_some TakesWhole (counted 0 9) TakesString named some_whole some_string list g)
+some_command (f.StateFile what) output list g = makes_some _ _ (two_some TakesWhole (counted 0 99) TakesString named some_whole some_string list g)
 some_command (f.MacroFile what) output list g = makes_some _ _ (two_some TakesString labeled TakesString named some_string some_string list g)
 
 some_form : (placed : Result (Form × Output) ScpiError) (list : List Datum) → Good list → (r : Result Command ScpiError) × FormReads placed list r

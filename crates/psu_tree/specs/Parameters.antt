@@ -137,9 +137,9 @@ abbrev pub all_file : List ℕ → Bool
 all_file [] = true
 all_file (x ∷ xs) = is_file_byte x && all_file xs
 
--- the name of a file: 1 to 32 of these
+-- the name of a file: 1 to 64 of these
 abbrev pub is_file_name : List ℕ → Bool
-is_file_name text = nat_lt 0 (length text) && nat_lt (length text) 33 && all_file text
+is_file_name text = nat_lt 0 (length text) && nat_lt (length text) 65 && all_file text
 
 abbrev pub some_if : (List ℕ → Bool) → List ℕ → Option (List ℕ)
 some_if test text = if test text then Some text else None

@@ -16,7 +16,7 @@ pub enum Command<'a> {
     Flag(Flag, bool),
     /// 0 to 32767: bit 15 is dropped.
     Filter(Group, Filter, u16),
-    /// 0 to 9.
+    /// 0 to 99.
     Register(OnRegister, u8),
     /// In milliohms, 1 to 10,000,000.
     Load(Output, u32),

@@ -45,7 +45,7 @@ fn filter<'a>(group: Group, which: Filter, parameters: &Data<'a>) -> Result<Comm
 fn register<'a>(what: OnRegister, parameters: &Data<'a>) -> Result<Command<'a>, ScpiError>
     ensures { (output : SomeOutput) (list : List DatumData) → HoldsData parameters.now list → CommandReads (f.Register what) output list result }
 {
-    let value = one_count(parameters, 0, 9)?;
+    let value = one_count(parameters, 0, 99)?;
     Ok(Command::Register(what, value as u8))
 }
 

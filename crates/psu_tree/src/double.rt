@@ -44,12 +44,12 @@ pub fn two_names<'a>(
 
 /// A register, and a name or none.
 pub fn register_and_name<'a>(parameters: &Data<'a>) -> Result<(u8, Option<Text<'a>>), ScpiError>
-    ensures { (list : List DatumData) → HoldsData parameters.now list → Two TakesWhole (counted 0 9) TakesString named list result }
+    ensures { (list : List DatumData) → HoldsData parameters.now list → Two TakesWhole (counted 0 99) TakesString named list result }
 {
     let (first, second) = two(parameters)?;
     let register = whole(&first)?;
     let name = name(&second)?;
-    Ok((counted(register, 0, 9)? as u8, name))
+    Ok((counted(register, 0, 99)? as u8, name))
 }
 
 /// A label or none, and a name or none.

@@ -21,7 +21,7 @@ pub enum Form {
     Flag(Flag),
     /// 0 to 65535.
     Filter(Group, Filter),
-    /// 0 to 9.
+    /// 0 to 99.
     Register(OnRegister),
     /// 1 to 10000000.
     Load,
@@ -45,7 +45,7 @@ pub enum Form {
     File(OnFile),
     /// Two strings.
     Names(OnNames),
-    /// 0 to 9, and a string.
+    /// 0 to 99, and a string.
     StateFile(Transfer),
     /// A label as a string, and a name as a string.
     MacroFile(Transfer),

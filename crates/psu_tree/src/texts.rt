@@ -66,7 +66,7 @@ fn is_file_name(text: &[u8]) -> bool
     if text.is_empty() {
         return false;
     }
-    if text.len() > 32 {
+    if text.len() > 64 {
         return false;
     }
     all_file(text)

@@ -70,7 +70,7 @@ returns-in_err-close_old-clause-left g c = λ h before shows x l.
     let target = (aimed c.args.target.now) in
     let heads = c.name_heads.result.items in
     let are : listed (d.state mid.disk).bytes heads ≡ target = heads_list (d.state old.disk).bytes (d.state mid.disk).bytes target c.args.layout.slots.items c.deref.result.now heads c.deref.ensures.value c.name_heads.ensures (c.requires.kept h) (c.in_ok-write_slots.ensures.written h) c.requires.sorted c.requires.keys in
-    from_two old mid before target h shows c.write_slots.ensures.same (c.write_slots.ensures.shown h) c.requires.sorted heads are c.publish_root.new.self c.publish_root.ensures.limit (c.in_ok-publish_root.ensures.shown h) x (c.close_old.ensures.left h x l)
+    from_two old mid before target h shows c.write_slots.ensures.same (c.write_slots.ensures.shown h) c.requires.sorted heads are c.publish_root.new.self c.in_ok-publish_root.ensures.published c.publish_root.ensures.limit (c.in_ok-publish_root.ensures.shown h) x (c.close_old.ensures.left h x l)
 
 pub returns-in_err-close_old-clause-time : goal.returns-in_err-close_old-clause-time
 returns-in_err-close_old-clause-time g c = λ h t before shows.
@@ -80,7 +80,7 @@ returns-in_err-close_old-clause-time g c = λ h t before shows.
     let target = (aimed c.args.target.now) in
     let heads = c.name_heads.result.items in
     let are : listed (d.state mid.disk).bytes heads ≡ target = heads_list (d.state old.disk).bytes (d.state mid.disk).bytes target c.args.layout.slots.items c.deref.result.now heads c.deref.ensures.value c.name_heads.ensures (c.requires.kept h) (c.in_ok-write_slots.ensures.written h) c.requires.sorted c.requires.keys in
-    run_three old mid before target h shows c.write_slots.ensures.same (c.write_slots.ensures.shown h) c.requires.sorted heads are c.publish_root.new.self c.publish_root.ensures.limit (c.in_ok-publish_root.ensures.shown h) (let p = c.close_old.new.self in p.disk) (c.write_slots.ensures.time h t) (c.publish_root.ensures.time h t) (c.close_old.ensures.time h t)
+    run_three old mid before target h shows c.write_slots.ensures.same (c.write_slots.ensures.shown h) c.requires.sorted heads are c.publish_root.new.self c.in_ok-publish_root.ensures.published c.publish_root.ensures.limit (c.in_ok-publish_root.ensures.shown h) (let p = c.close_old.new.self in p.disk) (c.write_slots.ensures.time h t) (c.publish_root.ensures.time h t) (c.close_old.ensures.time h t)
 
 pub returns-clause-left : goal.returns-clause-left
 returns-clause-left g c = λ h before shows x l.
@@ -90,7 +90,7 @@ returns-clause-left g c = λ h before shows x l.
     let target = (aimed c.args.target.now) in
     let heads = c.name_heads.result.items in
     let are : listed (d.state mid.disk).bytes heads ≡ target = heads_list (d.state old.disk).bytes (d.state mid.disk).bytes target c.args.layout.slots.items c.deref.result.now heads c.deref.ensures.value c.name_heads.ensures (c.requires.kept h) (c.in_ok-write_slots.ensures.written h) c.requires.sorted c.requires.keys in
-    from_two old mid before target h shows c.write_slots.ensures.same (c.write_slots.ensures.shown h) c.requires.sorted heads are c.publish_root.new.self c.publish_root.ensures.limit (c.in_ok-publish_root.ensures.shown h) x (c.close_old.ensures.left h x l)
+    from_two old mid before target h shows c.write_slots.ensures.same (c.write_slots.ensures.shown h) c.requires.sorted heads are c.publish_root.new.self c.in_ok-publish_root.ensures.published c.publish_root.ensures.limit (c.in_ok-publish_root.ensures.shown h) x (c.close_old.ensures.left h x l)
 
 pub returns-clause-time : goal.returns-clause-time
 returns-clause-time g c = λ h t before shows.
@@ -100,7 +100,7 @@ returns-clause-time g c = λ h t before shows.
     let target = (aimed c.args.target.now) in
     let heads = c.name_heads.result.items in
     let are : listed (d.state mid.disk).bytes heads ≡ target = heads_list (d.state old.disk).bytes (d.state mid.disk).bytes target c.args.layout.slots.items c.deref.result.now heads c.deref.ensures.value c.name_heads.ensures (c.requires.kept h) (c.in_ok-write_slots.ensures.written h) c.requires.sorted c.requires.keys in
-    run_three old mid before target h shows c.write_slots.ensures.same (c.write_slots.ensures.shown h) c.requires.sorted heads are c.publish_root.new.self c.publish_root.ensures.limit (c.in_ok-publish_root.ensures.shown h) (let p = c.close_old.new.self in p.disk) (c.write_slots.ensures.time h t) (c.publish_root.ensures.time h t) (c.close_old.ensures.time h t)
+    run_three old mid before target h shows c.write_slots.ensures.same (c.write_slots.ensures.shown h) c.requires.sorted heads are c.publish_root.new.self c.in_ok-publish_root.ensures.published c.publish_root.ensures.limit (c.in_ok-publish_root.ensures.shown h) (let p = c.close_old.new.self in p.disk) (c.write_slots.ensures.time h t) (c.publish_root.ensures.time h t) (c.close_old.ensures.time h t)
 
 pub returns-clause-shows : goal.returns-clause-shows
 returns-clause-shows g c = record {

@@ -22,7 +22,7 @@ loop-slot-init g c =
     record {
       extent = refl;
       works = refl;
-      same = record { root = refl; limit = refl; number = refl; heads = refl; older = refl; free = refl };
+      same = record { root = refl; version = refl; limit = refl; number = refl; heads = refl; older = refl; free = refl };
       standing = refl;
       planned = λ other is. is;
       written = λ h kept. tt;

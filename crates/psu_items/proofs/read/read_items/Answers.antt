@@ -20,7 +20,7 @@ loop-at-init g c =
       extent = refl;
       works = refl;
       found = λ h. subst (λ (m : List Item). IsMapOf m (listed (d.state p.disk).bytes (drop (length c.heads-at.result.now) p.heads.items))) (sym c.new-items.ensures) (empty (d.state p.disk).bytes);
-      same = record { root = refl; limit = refl; number = refl; heads = refl; older = refl; free = refl };
+      same = record { root = refl; version = refl; limit = refl; number = refl; heads = refl; older = refl; free = refl };
       standing = refl;
       seen = λ h. refl;
       left = λ h x l. l;
@@ -40,7 +40,7 @@ loop-at-preserved g c =
       extent = e.extent ∙ l.invariant.extent;
       works = c.in_ok-read_item.ensures.works ∙ l.invariant.works;
       found = λ h. read_step (d.state old.disk).bytes (d.state mid.disk).bytes old.heads.items mid.heads.items l.at l.items c.read_item.new.items c.loop-at-test.true (l.invariant.seen h) (heads_still old mid l.invariant.same) (c.in_ok-read_item.ensures.found h) (l.invariant.found h);
-      same = record { root = e.same.root ∙ l.invariant.same.root; limit = e.same.limit ∙ l.invariant.same.limit; number = e.same.number ∙ l.invariant.same.number; heads = e.same.heads ∙ l.invariant.same.heads; older = e.same.older ∙ l.invariant.same.older; free = e.same.free ∙ l.invariant.same.free };
+      same = record { root = e.same.root ∙ l.invariant.same.root; version = e.same.version ∙ l.invariant.same.version; limit = e.same.limit ∙ l.invariant.same.limit; number = e.same.number ∙ l.invariant.same.number; heads = e.same.heads ∙ l.invariant.same.heads; older = e.same.older ∙ l.invariant.same.older; free = e.same.free ∙ l.invariant.same.free };
       standing = e.standing ∙ l.invariant.standing;
       seen = λ h. e.seen h ∙ l.invariant.seen h;
       left = λ h x i. l.invariant.left h x (e.left h x i);

@@ -6,7 +6,7 @@ use Rattle.psu_items.specs.Batch.{changed}
 use Rattle.psu_items.specs.Standing.{ShowsMap}
 use Rattle.psu_items.specs.Target.{aimed}
 use Rattle.psu_items.proofs.Maps.{sorted-changed}
-use Rattle.psu_items.proofs.Standing.{pages_stand}
+use Rattle.psu_items.proofs.Standing.{pages_as}
 use Rattle.psu_items.proofs.Laying.{slots_planned}
 use Rattle.psu_items.proofs.Roster.{slots_sized, slots_claimed, slots_roster, slots_stand}
 use Rattle.psu_items.proofs.Committing.{none_run, still_shows, either_back, time_back, behind_back, behind_time_back}
@@ -14,7 +14,7 @@ use Rattle.psu_items.proofs.Sparing.{laid_spare}
 use Rattle.psu_items.proofs.renew.renew.Goals as goal
 
 pub returns-in_default-clause-left : goal.returns-in_default-clause-left
-returns-in_default-clause-left g c = λ h x l. inl (pages_stand c.args.pages.now c.args.before.now c.requires.keeps.shows h x l)
+returns-in_default-clause-left g c = λ h x l. inl (pages_as c.args.pages.now c.args.before.now c.requires.keeps.shows h x l)
 
 pub returns-in_default-clause-time : goal.returns-in_default-clause-time
 returns-in_default-clause-time g c = λ h t.
@@ -26,7 +26,7 @@ returns-in_default-lay_out-clause-same g c = λ memory.
     (c.lay_out.ensures.roots, record { shows = still_shows c.args.pages.now c.lay_out.new.pages c.lay_out.ensures.roots c.args.before.now c.requires.keeps.shows; spare = c.in_default-lay_out.ensures.spare c.requires.keeps.spare })
 
 pub returns-in_default-lay_out-clause-left : goal.returns-in_default-lay_out-clause-left
-returns-in_default-lay_out-clause-left g c = rw c.lay_out.ensures.roots.disk (λ h x l. inl (pages_stand c.args.pages.now c.args.before.now c.requires.keeps.shows h x l))
+returns-in_default-lay_out-clause-left g c = rw c.lay_out.ensures.roots.disk (λ h x l. inl (pages_as c.args.pages.now c.args.before.now c.requires.keeps.shows h x l))
 
 pub returns-in_default-lay_out-clause-time : goal.returns-in_default-lay_out-clause-time
 returns-in_default-lay_out-clause-time g c = λ h t.

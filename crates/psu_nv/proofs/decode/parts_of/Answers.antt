@@ -28,7 +28,7 @@ returns-clause-are g c =
     let fit : fit_files items ≡ true = ap fit_files (sym c.pairs.ensures.all) ∙ sym c.fit_files.ensures ∙ c.if-not-fit_files.false in
     are_contents items c.in_ok-enables.enables c.in_ok-registers.registers c.in_ok-user.user c.in_ok-macros.macros.items c.pairs.ensures.sorted c.requires
     c.in_ok-enables.ensures.mss (c.in_ok-enables.ensures.found ∙ c.get.ensures)
-    c.in_ok-registers.ensures.ten c.in_ok-registers.ensures.are c.in_ok-registers.ensures.found
+    c.in_ok-registers.ensures.count c.in_ok-registers.ensures.are c.in_ok-registers.ensures.found
     c.in_ok-user.ensures.most (c.in_ok-user.ensures.found ∙ c.get-2.ensures)
     c.in_ok-macros.ensures.are c.in_ok-macros.ensures.distinct c.in_ok-macros.ensures.most (c.in_ok-macros.ensures.found ∙ c.get-3.ensures) fit
 
@@ -38,6 +38,6 @@ returns-clause-items g c =
     let fit : fit_files items ≡ true = ap fit_files (sym c.pairs.ensures.all) ∙ sym c.fit_files.ensures ∙ c.if-not-fit_files.false in
     items_again items c.in_ok-enables.enables c.in_ok-registers.registers c.in_ok-user.user c.in_ok-macros.macros.items c.pairs.ensures.sorted c.requires
     c.in_ok-enables.ensures.mss (c.in_ok-enables.ensures.found ∙ c.get.ensures)
-    c.in_ok-registers.ensures.ten c.in_ok-registers.ensures.are c.in_ok-registers.ensures.found
+    c.in_ok-registers.ensures.count c.in_ok-registers.ensures.are c.in_ok-registers.ensures.found
     c.in_ok-user.ensures.most (c.in_ok-user.ensures.found ∙ c.get-2.ensures)
     c.in_ok-macros.ensures.are c.in_ok-macros.ensures.distinct c.in_ok-macros.ensures.most (c.in_ok-macros.ensures.found ∙ c.get-3.ensures) fit

@@ -8,7 +8,7 @@ use Rattle.psu_nv.proofs.decode.registers_in.Given as goal
 
 abbrev pub invariant-loop-number : goal.invariant-loop-number
 invariant-loop-number g l = record {
-  ten : length l.registers ≡ 10;
+  count : length l.registers ≡ 100;
   are : AllByRecursion AreSettings l.registers;
   found : (r : ℕ) → r < l.number → value_in (register_items r (slice_index_or l.registers r reset)) ≡ get l.items (2 ∷ r ∷ []);
 }

@@ -1,7 +1,7 @@
 use Rattle.std.proofs.Common.{◌≡◌, ℕ, Option, sym, ◌∙◌, subst}
 use Rattle.psu_pages.specs.declared.root.Root.TheVariants.{First, Second}
 use Rattle.psu_pages.specs.Finding.{open_number, IsPicked, IsNonePicked, IsPickedIn, IsSound, IsUnsound}
-use Rattle.psu_pages.proofs.Choosing.{unpicked, number_on, picked_counts, limit_is, count_is, good_words, unsound, none_cause, unsound_cause}
+use Rattle.psu_pages.proofs.Choosing.{unpicked, number_on, picked_counts, version_is, limit_is, count_is, good_words, unsound, none_cause, unsound_cause}
 use Rattle.psu_pages.proofs.choose.choose.Goals as goal
 
 pub returns-in-Err-clause-refused : goal.returns-in-Err-clause-refused
@@ -30,6 +30,7 @@ returns-clause-chosen c = λ x are sized.
     record {
       picked = subst (λ (o : Option ℕ). IsPicked (open_number First x) o p.root p.number p.both) second (subst (λ (o : Option ℕ). IsPicked o c.open_number-2.result p.root p.number p.both) first c.in-Ok.ensures.picked);
       words = good_words p.root x c.page.result.now are.size page w.result w.ensures.mark w.ensures.version w.ensures.limit w.ensures.count (subst (IsSound w.result) (sym sized) c.in_default.ensures.sound);
+      version = sym (version_is p.root x c.page.result.now are.size page w.result w.ensures.mark w.ensures.version w.ensures.limit w.ensures.count);
       limit = sym (limit_is p.root x c.page.result.now are.size page w.result w.ensures.mark w.ensures.version w.ensures.limit w.ensures.count);
       count = sym (count_is p.root x c.page.result.now are.size page w.result w.ensures.mark w.ensures.version w.ensures.limit w.ensures.count);
     }

@@ -13,5 +13,5 @@ returns-clause-borne g c = λ h limit number is_told least most room image left.
     let z = (d.state c.set_gate-3.new.disk).bytes in
     let told : IsTold limit number [] c.args.told.now x = record { told_is = is_told.told_is; number_fits = is_told.number_fits; roster = is_told.roster; there = tt } in
     let sized : length x ≡ d.extent c.args.disk.now = g.met.D.Disk.sized h c.set_gate-2.new.disk ∙ c.set_gate-2.ensures.extent ∙ c.set_gate.ensures.extent in
-    subst (Bears First limit number [] []) (sym (c.in_ok-set_gate-3.ensures.synced h image left))
+    subst (Bears First 2 limit number [] []) (sym (c.in_ok-set_gate-3.ensures.synced h image left))
     (bears_z limit number c.args.told.now x y z told least most (omega (arith, room, sized)) (c.in_ok-set_gate-2.ensures.done h) (c.say.ensures.seen h) (c.in_ok-say.ensures.says h) (c.set_gate-3.ensures.seen h) (c.in_ok-set_gate-3.ensures.done h))

@@ -5,4 +5,4 @@ pub returns-clause-stands : goal.returns-clause-stands
 returns-clause-stands c = bears_stands
 
 pub returns-clause-either : goal.returns-clause-either
-returns-clause-either c = λ next limit number before heads items target. either_stands next limit number before items heads target
+returns-clause-either c = λ next version limit number before heads items target. either_stands next version limit number before items heads target

@@ -1,10 +1,10 @@
 use Rattle.std.proofs.Common.{◌≡◌, ◌≤◌, ℕ, List, length, map, sym, ◌∙◌, ap, arith, subst, Err}
 use Rattle.psu_disk.specs.Disk.{Range}
-use Rattle.psu_pages.specs.Image.{head_at, words, Head, AreApart, keys, taken}
+use Rattle.psu_pages.specs.Image.{head_at, words, Head, AreApart, AreShort, keys, taken}
 use Rattle.psu_pages.specs.Finding.{AreRoots, IsChosen, CanStand}
 use Rattle.psu_pages.proofs.Numbers.{length_words}
 use Rattle.psu_pages.proofs.Quiet.{quiet_runs}
-use Rattle.psu_pages.proofs.Opening.{scan_refused, roster_of, gates, readable, bad_root, can_stand, within, distinct, bears}
+use Rattle.psu_pages.proofs.Opening.{scan_refused, roster_of, gates, readable, bad_root, can_stand, short, within, distinct, bears}
 use Rattle.psu_pages.proofs.open.look.Goals as goal
 
 pub returns-in_default-clause-memory : goal.returns-in_default-clause-memory
@@ -53,6 +53,7 @@ returns-then-not-stand_together-clause-refused g c = λ h.
     let value = c.deref-2.ensures.value in
     bad_root image are.size c.in-Ok.chosen is (λ shows.
     c.stand_together.ensures.no c.if-not-stand_together.true
+    (subst (AreShort c.in-Ok.chosen.version) (sym value) (short image are.size c.in-Ok.chosen is c.page.result.now c.deref.result.now page names hs heads shows))
     (subst (λ (l : List Head). length (taken l) ≤ c.in-Ok.chosen.limit) (sym value) (within image are.size c.in-Ok.chosen is c.page.result.now c.deref.result.now page names hs heads shows))
     (subst (λ (l : List Head). AreApart (keys l)) (sym value) (distinct image are.size c.in-Ok.chosen is c.page.result.now c.deref.result.now page names hs heads shows)))
 
@@ -82,6 +83,7 @@ returns-clause-found g c = λ h.
     let seen = c.read_roots.ensures.seen h in
     let heads : c.in-Ok-scan.found.heads.items ≡ map (head_at image) c.deref.result.now = c.in-Ok-scan.ensures.found h ∙ ap (λ (x : List ℕ). map (head_at x) c.deref.result.now) seen in
     bears image are.size c.in-Ok.chosen is c.page.result.now c.deref.result.now page names c.in-Ok-scan.found.heads.items heads (returns-clause-roster g c)
+    (subst (AreShort c.in-Ok.chosen.version) c.deref-2.ensures.value (c.stand_together.ensures.short c.if-not-stand_together.false))
 
 pub returns-clause-gates : goal.returns-clause-gates
 returns-clause-gates g c = λ h.

@@ -2,14 +2,14 @@ use Rattle.psu_pages.proofs.Switching.{touched_said, touched_opened, run_touched
 use Rattle.psu_pages.proofs.switch.switch.Goals as goal
 
 pub returns-in_err-say-clause-left : goal.returns-in_err-say-clause-left
-returns-in_err-say-clause-left g c = λ h limit n before heads items bears shut told.
+returns-in_err-say-clause-left g c = λ h version limit n before heads items bears shut told.
     let d = g.D.Disk in
-    left_said d.state d.moment d.left_since c.args.next c.args.disk.now c.say.new.disk limit n before heads items c.args.told.now bears shut told (c.say.ensures.left h)
+    left_said d.state d.moment d.left_since c.args.next c.args.disk.now c.say.new.disk version limit n before heads items c.args.told.now bears shut told (c.say.ensures.left h)
 
 pub returns-in_err-say-clause-time : goal.returns-in_err-say-clause-time
-returns-in_err-say-clause-time g c = λ h t limit n before heads items bears shut told.
+returns-in_err-say-clause-time g c = λ h t version limit n before heads items bears shut told.
     let d = g.D.Disk in
-    run_said d.state d.moment d.left_since c.args.next c.args.disk.now c.say.new.disk limit n before heads items c.args.told.now bears shut told (c.say.ensures.time h t)
+    run_said d.state d.moment d.left_since c.args.next c.args.disk.now c.say.new.disk version limit n before heads items c.args.told.now bears shut told (c.say.ensures.time h t)
 
 pub returns-in_err-say-clause-touched : goal.returns-in_err-say-clause-touched
 returns-in_err-say-clause-touched g c = λ h.
@@ -22,17 +22,17 @@ returns-in_err-say-clause-touched_time g c = λ h t.
     run_touched d.state d.moment d.left_since c.args.next c.args.disk.now c.say.new.disk (c.say.ensures.time h t)
 
 pub returns-in_err-set_gate-clause-left : goal.returns-in_err-set_gate-clause-left
-returns-in_err-set_gate-clause-left g c = λ h limit n before heads items bears shut told.
+returns-in_err-set_gate-clause-left g c = λ h version limit n before heads items bears shut told.
     let d = g.D.Disk in
-    left_opened d.state d.moment d.left_since c.args.next c.args.disk.now c.say.new.disk limit n before heads items c.args.told.now bears shut told
+    left_opened d.state d.moment d.left_since c.args.next c.args.disk.now c.say.new.disk version limit n before heads items c.args.told.now bears shut told
     (c.say.ensures.seen h) (c.in_ok-say.ensures.says h) (c.in_ok-say.ensures.synced h) c.set_gate.new.disk (c.set_gate.ensures.left h)
 
 pub returns-in_err-set_gate-clause-time : goal.returns-in_err-set_gate-clause-time
-returns-in_err-set_gate-clause-time g c = λ h t limit n before heads items bears shut told.
+returns-in_err-set_gate-clause-time g c = λ h t version limit n before heads items bears shut told.
     let d = g.D.Disk in
-    run_opened d.state d.moment d.left_since c.args.next c.args.disk.now c.say.new.disk limit n before heads items c.args.told.now bears shut told
+    run_opened d.state d.moment d.left_since c.args.next c.args.disk.now c.say.new.disk version limit n before heads items c.args.told.now bears shut told
     (c.say.ensures.seen h) (c.in_ok-say.ensures.says h) (c.in_ok-say.ensures.synced h) c.set_gate.new.disk
-    (run_said d.state d.moment d.left_since c.args.next c.args.disk.now c.say.new.disk limit n before heads items c.args.told.now bears shut told (c.say.ensures.time h t)) (c.set_gate.ensures.time h t)
+    (run_said d.state d.moment d.left_since c.args.next c.args.disk.now c.say.new.disk version limit n before heads items c.args.told.now bears shut told (c.say.ensures.time h t)) (c.set_gate.ensures.time h t)
 
 pub returns-in_err-set_gate-clause-touched : goal.returns-in_err-set_gate-clause-touched
 returns-in_err-set_gate-clause-touched g c = λ h.
@@ -45,29 +45,29 @@ returns-in_err-set_gate-clause-touched_time g c = λ h t.
     run_touched_opened d.state d.moment d.left_since c.args.next c.args.disk.now c.say.new.disk c.set_gate.new.disk (c.say.ensures.left h) (c.say.ensures.time h t) (c.set_gate.ensures.time h t)
 
 pub returns-clause-borne : goal.returns-clause-borne
-returns-clause-borne g c = λ h limit n before heads items bears shut told.
+returns-clause-borne g c = λ h version limit n before heads items bears shut told.
     let d = g.D.Disk in
-    borne d.state d.moment d.left_since c.args.next c.args.disk.now c.say.new.disk limit n before heads items c.args.told.now bears shut told
+    borne d.state d.moment d.left_since c.args.next c.args.disk.now c.say.new.disk version limit n before heads items c.args.told.now bears shut told
     (c.say.ensures.seen h) (c.in_ok-say.ensures.says h) (c.in_ok-say.ensures.synced h) c.set_gate.new.disk (c.set_gate.ensures.seen h) (c.in_ok-set_gate.ensures.done h) (c.in_ok-set_gate.ensures.synced h)
 
 pub returns-clause-lower : goal.returns-clause-lower
-returns-clause-lower g c = λ h limit n before heads items bears shut told.
+returns-clause-lower g c = λ h version limit n before heads items bears shut told.
     let d = g.D.Disk in
-    lower d.state d.moment d.left_since c.args.next c.args.disk.now c.say.new.disk limit n before heads items c.args.told.now bears shut told
+    lower d.state d.moment d.left_since c.args.next c.args.disk.now c.say.new.disk version limit n before heads items c.args.told.now bears shut told
     (c.say.ensures.seen h) (c.in_ok-say.ensures.says h) (c.in_ok-say.ensures.synced h) c.set_gate.new.disk (c.set_gate.ensures.seen h) (c.in_ok-set_gate.ensures.done h) (c.in_ok-set_gate.ensures.synced h)
 
 pub returns-clause-left : goal.returns-clause-left
-returns-clause-left g c = λ h limit n before heads items bears shut told.
+returns-clause-left g c = λ h version limit n before heads items bears shut told.
     let d = g.D.Disk in
-    left_opened d.state d.moment d.left_since c.args.next c.args.disk.now c.say.new.disk limit n before heads items c.args.told.now bears shut told
+    left_opened d.state d.moment d.left_since c.args.next c.args.disk.now c.say.new.disk version limit n before heads items c.args.told.now bears shut told
     (c.say.ensures.seen h) (c.in_ok-say.ensures.says h) (c.in_ok-say.ensures.synced h) c.set_gate.new.disk (c.set_gate.ensures.left h)
 
 pub returns-clause-time : goal.returns-clause-time
-returns-clause-time g c = λ h t limit n before heads items bears shut told.
+returns-clause-time g c = λ h t version limit n before heads items bears shut told.
     let d = g.D.Disk in
-    run_opened d.state d.moment d.left_since c.args.next c.args.disk.now c.say.new.disk limit n before heads items c.args.told.now bears shut told
+    run_opened d.state d.moment d.left_since c.args.next c.args.disk.now c.say.new.disk version limit n before heads items c.args.told.now bears shut told
     (c.say.ensures.seen h) (c.in_ok-say.ensures.says h) (c.in_ok-say.ensures.synced h) c.set_gate.new.disk
-    (run_said d.state d.moment d.left_since c.args.next c.args.disk.now c.say.new.disk limit n before heads items c.args.told.now bears shut told (c.say.ensures.time h t)) (c.set_gate.ensures.time h t)
+    (run_said d.state d.moment d.left_since c.args.next c.args.disk.now c.say.new.disk version limit n before heads items c.args.told.now bears shut told (c.say.ensures.time h t)) (c.set_gate.ensures.time h t)
 
 pub returns-clause-touched : goal.returns-clause-touched
 returns-clause-touched g c = λ h.

@@ -1,12 +1,12 @@
-use Rattle.std.proofs.Common.{◌≡◌, ◌∙◌, ◌+◌, ◌≤◌, ℕ, List, Err, refl, sym, ap, subst, arith}
+use Rattle.std.proofs.Common.{◌≡◌, inl, ◌∙◌, ◌+◌, ◌≤◌, ℕ, List, Err, refl, sym, ap, subst, arith}
 use Rattle.psu_items.specs.Map.{Item}
 use Rattle.psu_items.specs.Batch.{changed}
 use Rattle.psu_items.specs.Image.{IsEither, Stands}
 use Rattle.psu_items.specs.Plan.{Planned}
 use Rattle.psu_items.specs.Standing.{on_pages}
-use Rattle.psu_items.proofs.Standing.{pages_on_disk, pages_stand}
-use Rattle.psu_items.proofs.Committing.{not_true, none_run, number_back, items_back, limit_back, failed_back, left_out}
-use Rattle.psu_items.proofs.Renewing.{map_called, edits_called, either_called, time_called, target_called, view_again, keeps_called}
+use Rattle.psu_items.proofs.Standing.{pages_on_disk, pages_stand, pages_as}
+use Rattle.psu_items.proofs.Committing.{not_true, none_run, to_either, either_run, number_back, items_back, limit_back, failed_back, left_out}
+use Rattle.psu_items.proofs.Renewing.{map_called, edits_called, either_called, weakly_called, time_called, target_called, view_again, keeps_called}
 use Rattle.psu_items.proofs.Behind.{behind_none, behind_still}
 use Rattle.psu_items.proofs.store.Store.commit.Goals as goal
 
@@ -18,8 +18,14 @@ returns-then-is_worn-clause-unstarted g c = record { store = refl; batch_is = re
 pub returns-then-is_worn-clause-stands_unstarted : goal.returns-then-is_worn-clause-stands_unstarted
 returns-then-is_worn-clause-stands_unstarted g c = λ h. let s = c.self.inside in rw (← c.self.view_is) (pages_on_disk s.pages s.items c.self.invariant.shows h)
 
+pub returns-then-is_worn-clause-roots : goal.returns-then-is_worn-clause-roots
+returns-then-is_worn-clause-roots g c = λ h. let s = c.self.inside in rw (← c.self.view_is) (λ x l. inl (pages_as s.pages s.items c.self.invariant.shows h x l))
+
+pub returns-then-is_worn-clause-roots_time : goal.returns-then-is_worn-clause-roots_time
+returns-then-is_worn-clause-roots_time g c = λ h t. let s = c.self.inside in rw (← c.self.view_is) (none_run s.pages s.items (changed s.items c.args.batch) c.self.invariant.shows h (g.met.D.Disk.only_now t s.pages.disk))
+
 pub returns-then-is_worn-clause-time : goal.returns-then-is_worn-clause-time
-returns-then-is_worn-clause-time g c = λ h t. let s = c.self.inside in rw (← c.self.view_is) (none_run s.pages s.items (changed s.items c.args.batch) c.self.invariant.shows h (g.met.D.Disk.only_now t s.pages.disk))
+returns-then-is_worn-clause-time g c = λ h t. let s = c.self.inside in rw (← c.self.view_is) (either_run g.D.Disk s.pages.version s.pages.number s.pages.limit s.items (changed s.items c.args.batch) s.pages.disk s.pages.disk (none_run s.pages s.items (changed s.items c.args.batch) c.self.invariant.shows h (g.met.D.Disk.only_now t s.pages.disk)))
 
 pub returns-then-is_worn-clause-behind : goal.returns-then-is_worn-clause-behind
 returns-then-is_worn-clause-behind g c = λ h. let s = c.self.inside in rw (← c.self.view_is) (behind_none g.D.Disk s.pages.limit s.pages.disk)
@@ -38,8 +44,14 @@ returns-in-Err-clause-stands_unstarted g c =
     let kept = keeps_called s.pages c.in-Err.items s.items c.self.invariant c.in-Err.ensures.err.0 in
     pages_on_disk s.pages c.in-Err.items kept.shows
 
+pub returns-in-Err-clause-roots : goal.returns-in-Err-clause-roots
+returns-in-Err-clause-roots g c = λ h. let s = c.self.inside in rw (← c.self.view_is) (λ x l. inl (pages_as s.pages s.items c.self.invariant.shows h x l))
+
+pub returns-in-Err-clause-roots_time : goal.returns-in-Err-clause-roots_time
+returns-in-Err-clause-roots_time g c = λ h t. let s = c.self.inside in rw (← c.self.view_is) (none_run s.pages s.items (changed s.items c.args.batch) c.self.invariant.shows h (g.met.D.Disk.only_now t s.pages.disk))
+
 pub returns-in-Err-clause-time : goal.returns-in-Err-clause-time
-returns-in-Err-clause-time g c = λ h t. let s = c.self.inside in rw (← c.self.view_is) (none_run s.pages s.items (changed s.items c.args.batch) c.self.invariant.shows h (g.met.D.Disk.only_now t s.pages.disk))
+returns-in-Err-clause-time g c = λ h t. let s = c.self.inside in rw (← c.self.view_is) (either_run g.D.Disk s.pages.version s.pages.number s.pages.limit s.items (changed s.items c.args.batch) s.pages.disk s.pages.disk (none_run s.pages s.items (changed s.items c.args.batch) c.self.invariant.shows h (g.met.D.Disk.only_now t s.pages.disk)))
 
 pub returns-in-Err-clause-behind : goal.returns-in-Err-clause-behind
 returns-in-Err-clause-behind g c = λ h. let s = c.self.inside in rw (← c.self.view_is) (behind_none g.D.Disk s.pages.limit s.pages.disk)
@@ -58,12 +70,28 @@ renew-requires-clause-number g c =
 pub returns-in-Ok-renew-clause-worn : goal.returns-in-Ok-renew-clause-worn
 returns-in-Ok-renew-clause-worn g c = λ w. absurd (not_true (c.if-is_worn.ensures.1 w))
 
+pub returns-in-Ok-renew-clause-roots : goal.returns-in-Ok-renew-clause-roots
+returns-in-Ok-renew-clause-roots g c = λ h x l.
+    let s = c.self.inside in
+    let map_is = map_called s.items c.pairs.result.now c.args.batch c.edits.result.now c.in-Ok.plan c.in-Ok.ensures.ok c.pairs.ensures.all c.edits.ensures in
+    let edits_are = edits_called s.items c.pairs.result.now c.args.batch c.edits.result.now c.in-Ok.plan c.in-Ok.ensures.ok c.pairs.ensures.all c.edits.ensures in
+    rw (← c.self.view_is) (either_called s.items c.pairs.result.now c.args.batch c.edits.result.now map_is edits_are s.pages.version s.pages.number s.pages.limit x
+    (c.renew.ensures.left h x l))
+
+pub returns-in-Ok-renew-clause-roots_time : goal.returns-in-Ok-renew-clause-roots_time
+returns-in-Ok-renew-clause-roots_time g c = λ h t.
+    let s = c.self.inside in
+    let map_is = map_called s.items c.pairs.result.now c.args.batch c.edits.result.now c.in-Ok.plan c.in-Ok.ensures.ok c.pairs.ensures.all c.edits.ensures in
+    let edits_are = edits_called s.items c.pairs.result.now c.args.batch c.edits.result.now c.in-Ok.plan c.in-Ok.ensures.ok c.pairs.ensures.all c.edits.ensures in
+    rw (← c.self.view_is) (time_called s.items c.pairs.result.now c.args.batch c.edits.result.now map_is edits_are g.D.Disk s.pages.version s.pages.number s.pages.limit s.pages.disk (let p = c.renew.new.pages in p.disk) (c.renew.ensures.time h t))
+
 pub returns-in-Ok-renew-clause-time : goal.returns-in-Ok-renew-clause-time
 returns-in-Ok-renew-clause-time g c = λ h t.
     let s = c.self.inside in
     let map_is = map_called s.items c.pairs.result.now c.args.batch c.edits.result.now c.in-Ok.plan c.in-Ok.ensures.ok c.pairs.ensures.all c.edits.ensures in
     let edits_are = edits_called s.items c.pairs.result.now c.args.batch c.edits.result.now c.in-Ok.plan c.in-Ok.ensures.ok c.pairs.ensures.all c.edits.ensures in
-    rw (← c.self.view_is) (time_called s.items c.pairs.result.now c.args.batch c.edits.result.now map_is edits_are g.D.Disk s.pages.limit s.pages.disk (let p = c.renew.new.pages in p.disk) (c.renew.ensures.time h t))
+    rw (← c.self.view_is) (either_run g.D.Disk s.pages.version s.pages.number s.pages.limit s.items (changed s.items c.args.batch) s.pages.disk (let p = c.renew.new.pages in p.disk)
+    (time_called s.items c.pairs.result.now c.args.batch c.edits.result.now map_is edits_are g.D.Disk s.pages.version s.pages.number s.pages.limit s.pages.disk (let p = c.renew.new.pages in p.disk) (c.renew.ensures.time h t)))
 
 pub returns-in-Ok-renew-clause-behind : goal.returns-in-Ok-renew-clause-behind
 returns-in-Ok-renew-clause-behind g c = λ h. rw (← c.self.view_is) (c.renew.ensures.behind h)
@@ -110,12 +138,28 @@ returns-in-Err-Memory-clause-unstarted g c =
 pub returns-in-Err-Memory-clause-stands_unstarted : goal.returns-in-Err-Memory-clause-stands_unstarted
 returns-in-Err-Memory-clause-stands_unstarted g c = let kept = kept_there g c in pages_on_disk c.renew.new.pages c.into_parts-items.result.0 kept.shows
 
+pub returns-in-Err-Memory-clause-roots : goal.returns-in-Err-Memory-clause-roots
+returns-in-Err-Memory-clause-roots g c = λ h x l.
+    let s = c.self.inside in
+    let map_is = map_called s.items c.pairs.result.now c.args.batch c.edits.result.now c.in-Ok.plan c.in-Ok.ensures.ok c.pairs.ensures.all c.edits.ensures in
+    let edits_are = edits_called s.items c.pairs.result.now c.args.batch c.edits.result.now c.in-Ok.plan c.in-Ok.ensures.ok c.pairs.ensures.all c.edits.ensures in
+    rw (← c.self.view_is) (either_called s.items c.pairs.result.now c.args.batch c.edits.result.now map_is edits_are s.pages.version s.pages.number s.pages.limit x
+    (c.renew.ensures.left h x l))
+
+pub returns-in-Err-Memory-clause-roots_time : goal.returns-in-Err-Memory-clause-roots_time
+returns-in-Err-Memory-clause-roots_time g c = λ h t.
+    let s = c.self.inside in
+    let map_is = map_called s.items c.pairs.result.now c.args.batch c.edits.result.now c.in-Ok.plan c.in-Ok.ensures.ok c.pairs.ensures.all c.edits.ensures in
+    let edits_are = edits_called s.items c.pairs.result.now c.args.batch c.edits.result.now c.in-Ok.plan c.in-Ok.ensures.ok c.pairs.ensures.all c.edits.ensures in
+    rw (← c.self.view_is) (time_called s.items c.pairs.result.now c.args.batch c.edits.result.now map_is edits_are g.D.Disk s.pages.version s.pages.number s.pages.limit s.pages.disk (let p = c.renew.new.pages in p.disk) (c.renew.ensures.time h t))
+
 pub returns-in-Err-Memory-clause-time : goal.returns-in-Err-Memory-clause-time
 returns-in-Err-Memory-clause-time g c = λ h t.
     let s = c.self.inside in
     let map_is = map_called s.items c.pairs.result.now c.args.batch c.edits.result.now c.in-Ok.plan c.in-Ok.ensures.ok c.pairs.ensures.all c.edits.ensures in
     let edits_are = edits_called s.items c.pairs.result.now c.args.batch c.edits.result.now c.in-Ok.plan c.in-Ok.ensures.ok c.pairs.ensures.all c.edits.ensures in
-    rw (← c.self.view_is) (time_called s.items c.pairs.result.now c.args.batch c.edits.result.now map_is edits_are g.D.Disk s.pages.limit s.pages.disk (let p = c.renew.new.pages in p.disk) (c.renew.ensures.time h t))
+    rw (← c.self.view_is) (either_run g.D.Disk s.pages.version s.pages.number s.pages.limit s.items (changed s.items c.args.batch) s.pages.disk (let p = c.renew.new.pages in p.disk)
+    (time_called s.items c.pairs.result.now c.args.batch c.edits.result.now map_is edits_are g.D.Disk s.pages.version s.pages.number s.pages.limit s.pages.disk (let p = c.renew.new.pages in p.disk) (c.renew.ensures.time h t)))
 
 pub returns-in-Err-Memory-clause-behind : goal.returns-in-Err-Memory-clause-behind
 returns-in-Err-Memory-clause-behind g c = λ h. rw (← c.self.view_is) (c.renew.ensures.behind h)
@@ -133,8 +177,8 @@ invariant_of-result-in-Err-Device g c =
     let edits_are : c.edits.result.now ≡ c.into_parts-before.result.1 = c.edits.ensures ∙ sym c.into_parts-before.ensures.edits in
     record {
       either = λ h x l.
-          let e = c.renew.ensures.left h x (left_out g.D.Disk p.disk c.into_disk.result x c.into_disk.ensures.value l) in
-          ∣ either_called c.into_parts-before.result.0 c.pairs.result.now c.into_parts-before.result.1 c.edits.result.now map_is edits_are c.limit.result x
+          let e = to_either s.pages.version s.pages.number s.pages.limit c.pairs.result.now (changed c.pairs.result.now c.edits.result.now) x (c.renew.ensures.left h x (left_out g.D.Disk p.disk c.into_disk.result x c.into_disk.ensures.value l)) in
+          ∣ weakly_called c.into_parts-before.result.0 c.pairs.result.now c.into_parts-before.result.1 c.edits.result.now map_is edits_are c.limit.result x
           (subst (λ (n : ℕ). IsEither n c.pairs.result.now (changed c.pairs.result.now c.edits.result.now) x) (sym (c.limit.ensures.value ∙ c.renew.ensures.limit)) e) ∣₁;
     }
 
@@ -157,15 +201,31 @@ returns-in-Err-Device-clause-left_broken g c = λ h x l.
     let s = c.self.inside in
     let map_is = map_called s.items c.pairs.result.now c.args.batch c.edits.result.now c.in-Ok.plan c.in-Ok.ensures.ok c.pairs.ensures.all c.edits.ensures in
     let edits_are = edits_called s.items c.pairs.result.now c.args.batch c.edits.result.now c.in-Ok.plan c.in-Ok.ensures.ok c.pairs.ensures.all c.edits.ensures in
-    rw (← c.self.view_is) (either_called s.items c.pairs.result.now c.args.batch c.edits.result.now map_is edits_are s.pages.limit x
+    rw (← c.self.view_is) (to_either s.pages.version s.pages.number s.pages.limit s.items (changed s.items c.args.batch) x (either_called s.items c.pairs.result.now c.args.batch c.edits.result.now map_is edits_are s.pages.version s.pages.number s.pages.limit x
+    (c.renew.ensures.left h x (left_out g.D.Disk (let p = c.renew.new.pages in p.disk) c.into_disk.result x c.into_disk.ensures.value l))))
+
+pub returns-in-Err-Device-clause-roots : goal.returns-in-Err-Device-clause-roots
+returns-in-Err-Device-clause-roots g c = λ h x l.
+    let s = c.self.inside in
+    let map_is = map_called s.items c.pairs.result.now c.args.batch c.edits.result.now c.in-Ok.plan c.in-Ok.ensures.ok c.pairs.ensures.all c.edits.ensures in
+    let edits_are = edits_called s.items c.pairs.result.now c.args.batch c.edits.result.now c.in-Ok.plan c.in-Ok.ensures.ok c.pairs.ensures.all c.edits.ensures in
+    rw (← c.self.view_is) (either_called s.items c.pairs.result.now c.args.batch c.edits.result.now map_is edits_are s.pages.version s.pages.number s.pages.limit x
     (c.renew.ensures.left h x (left_out g.D.Disk (let p = c.renew.new.pages in p.disk) c.into_disk.result x c.into_disk.ensures.value l)))
+
+pub returns-in-Err-Device-clause-roots_time : goal.returns-in-Err-Device-clause-roots_time
+returns-in-Err-Device-clause-roots_time g c = λ h t.
+    let s = c.self.inside in
+    let map_is = map_called s.items c.pairs.result.now c.args.batch c.edits.result.now c.in-Ok.plan c.in-Ok.ensures.ok c.pairs.ensures.all c.edits.ensures in
+    let edits_are = edits_called s.items c.pairs.result.now c.args.batch c.edits.result.now c.in-Ok.plan c.in-Ok.ensures.ok c.pairs.ensures.all c.edits.ensures in
+    rw (← c.self.view_is, c.into_disk.ensures.value) (time_called s.items c.pairs.result.now c.args.batch c.edits.result.now map_is edits_are g.D.Disk s.pages.version s.pages.number s.pages.limit s.pages.disk (let p = c.renew.new.pages in p.disk) (c.renew.ensures.time h t))
 
 pub returns-in-Err-Device-clause-time : goal.returns-in-Err-Device-clause-time
 returns-in-Err-Device-clause-time g c = λ h t.
     let s = c.self.inside in
     let map_is = map_called s.items c.pairs.result.now c.args.batch c.edits.result.now c.in-Ok.plan c.in-Ok.ensures.ok c.pairs.ensures.all c.edits.ensures in
     let edits_are = edits_called s.items c.pairs.result.now c.args.batch c.edits.result.now c.in-Ok.plan c.in-Ok.ensures.ok c.pairs.ensures.all c.edits.ensures in
-    rw (← c.self.view_is, c.into_disk.ensures.value) (time_called s.items c.pairs.result.now c.args.batch c.edits.result.now map_is edits_are g.D.Disk s.pages.limit s.pages.disk (let p = c.renew.new.pages in p.disk) (c.renew.ensures.time h t))
+    rw (← c.self.view_is, c.into_disk.ensures.value) (either_run g.D.Disk s.pages.version s.pages.number s.pages.limit s.items (changed s.items c.args.batch) s.pages.disk (let p = c.renew.new.pages in p.disk)
+    (time_called s.items c.pairs.result.now c.args.batch c.edits.result.now map_is edits_are g.D.Disk s.pages.version s.pages.number s.pages.limit s.pages.disk (let p = c.renew.new.pages in p.disk) (c.renew.ensures.time h t)))
 
 pub returns-in-Err-Device-clause-behind : goal.returns-in-Err-Device-clause-behind
 returns-in-Err-Device-clause-behind g c = λ h. rw (← c.self.view_is, c.into_disk.ensures.value) (c.renew.ensures.behind h)

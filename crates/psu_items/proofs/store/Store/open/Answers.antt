@@ -4,7 +4,7 @@ use Rattle.psu_items.specs.Image.{Stands}
 use Rattle.psu_items.specs.Finding.{IsOldOrSame}
 use Rattle.psu_items.specs.Outcome.{opened_disk}
 use Rattle.psu_items.proofs.Opening.{err_any, readable, closed, closed_run, still_stands, pages_refused}
-use Rattle.psu_items.proofs.Opened.{found_stood, found_number, found_one}
+use Rattle.psu_items.proofs.Opened.{found_stood, found_number, found_version, found_one}
 use Rattle.psu_items.proofs.store.Store.open.Goals as goal
 
 pub returns-in-Ok-clause-stood : goal.returns-in-Ok-clause-stood
@@ -13,10 +13,13 @@ returns-in-Ok-clause-stood g c = λ h. found_stood c.in-Ok.pages (g.D.Disk.state
 pub returns-in-Ok-clause-number : goal.returns-in-Ok-clause-number
 returns-in-Ok-clause-number g c = λ h. found_number c.in-Ok.pages (g.D.Disk.state c.args.disk).bytes (c.in-Ok.ensures.found h) c.take_up.result c.take_up.ensures.words
 
+pub returns-in-Ok-clause-version : goal.returns-in-Ok-clause-version
+returns-in-Ok-clause-version g c = λ h. found_version c.in-Ok.pages (g.D.Disk.state c.args.disk).bytes (c.in-Ok.ensures.found h) c.take_up.result c.take_up.ensures.words
+
 pub returns-in-Ok-clause-memory : goal.returns-in-Ok-clause-memory
 returns-in-Ok-clause-memory g c = λ h.
     let p = c.in-Ok.pages in
-    err_any c.take_up.result _ (λ e is. readable p.root p.limit p.number p.heads.items (g.D.Disk.state c.args.disk).bytes (c.in-Ok.ensures.found h))
+    err_any c.take_up.result _ (λ e is. readable p.root p.version p.limit p.number p.heads.items (g.D.Disk.state c.args.disk).bytes (c.in-Ok.ensures.found h))
 
 pub returns-in-Ok-clause-images : goal.returns-in-Ok-clause-images
 returns-in-Ok-clause-images g c = λ h x l. inr (closed c.in-Ok.pages (g.D.Disk.state c.args.disk).bytes (c.in-Ok.ensures.found h) (c.in-Ok.ensures.seen h) (c.in-Ok.ensures.synced h) x (c.take_up.ensures.left h x l) (c.take_up.ensures.touched h x l))

@@ -8,15 +8,15 @@ use Rattle.psu_nv.proofs.contents.Contents.encode_items.Goals.{in-Some+in_ok-app
 pub append-requires-in-Some : goal.append-requires-in-Some
 append-requires-in-Some g c =
     let kept = c.args.self.now in
-    let ten : c.loop-number.number < length kept.registers = omega (arith, c.self.invariant.ten, ap (λ (k : Contents). length k.registers) c.self.view_is, c.loop-number-test.true) in
-    before_register kept c.loop-number.number c.in-Some.register.number c.loop-number.items c.loop-number.invariant c.in-Some.ensures.found ten
+    let there : c.loop-number.number < length kept.registers = omega (arith, c.self.invariant.count, ap (λ (k : Contents). length k.registers) c.self.view_is, c.loop-number-test.true) in
+    before_register kept c.loop-number.number c.in-Some.register.number c.loop-number.items c.loop-number.invariant c.in-Some.ensures.found there
 
 pub loop-number-preserved : goal.loop-number-preserved
 loop-number-preserved g c =
     let kept = c.args.self.now in
-    let ten : c.loop-number.number < length kept.registers = omega (arith, c.self.invariant.ten, ap (λ (k : Contents). length k.registers) c.self.view_is, c.loop-number-test.true) in
+    let there : c.loop-number.number < length kept.registers = omega (arith, c.self.invariant.count, ap (λ (k : Contents). length k.registers) c.self.view_is, c.loop-number-test.true) in
     elim c.match-of.branch [
-      | in-Some+in_ok-append-2 w ↦ w.items-is ∙ next_register kept c.loop-number.number w.in-Some.register.number _ c.loop-number.items _ c.loop-number.invariant w.in-Some.ensures.found (omega arith) ten w.in_ok-append-2.ensures
+      | in-Some+in_ok-append-2 w ↦ w.items-is ∙ next_register kept c.loop-number.number w.in-Some.register.number _ c.loop-number.items _ c.loop-number.invariant w.in-Some.ensures.found (omega arith) there w.in_ok-append-2.ensures
       | in_default w ↦ absurd (omega (arith, w.in_default.ensures.none, c.loop-number-test.true))
     ]
 

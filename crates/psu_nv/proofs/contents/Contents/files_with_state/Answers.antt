@@ -10,7 +10,7 @@ pub returns-clause-value : goal.returns-clause-value
 returns-clause-value g c =
     let registers = c.args.self.now.registers in
     let same : c.self.inside.registers ≡ registers = ap (λ (k : Contents). k.registers) c.self.view_is in
-    let low : c.args.register.number < length registers = omega (arith, c.args.register.low, c.self.invariant.ten, ap length same) in
+    let low : c.args.register.number < length registers = omega (arith, c.args.register.low, c.self.invariant.count, ap length same) in
     let are = all_at AreSettings registers c.args.register.number reset (subst (AllByRecursion AreSettings) same c.self.invariant.settings) low in
     let long : length (1 ∷ bytes_of (get_or registers c.args.register.number reset)) ≡ 29 = omega (arith, twenty_eight (get_or registers c.args.register.number reset) are.0) in
     c.files_with.ensures.value (1 ∷ bytes_of (get_or registers c.args.register.number reset)) long

@@ -27,7 +27,7 @@ pub returns-then-eq-clause-time : goal.returns-then-eq-clause-time
 returns-then-eq-clause-time g c = λ h t.
     let d = g.D.Disk in
     let p = c.args.self.now in
-    started d.moment d.left_since p.disk (Bears p.root p.limit p.number p.heads.items (items_in p.root (d.state p.disk).bytes)) (λ x l. p.bears h c.requires.sure x (g.met.D.Disk.only_now t p.disk x l))
+    started d.moment d.left_since p.disk (Bears p.root p.version p.limit p.number p.heads.items (items_in p.root (d.state p.disk).bytes)) (λ x l. p.bears h c.requires.sure x (g.met.D.Disk.only_now t p.disk x l))
 
 pub hand_over-requires-clause-there : goal.hand_over-requires-clause-there
 hand_over-requires-clause-there g c = let p = c.args.self.now in subst (λ (hs : List Head). AllByRecursion (λ (page : ℕ). page < length p.free) (taken hs)) (sym c.deref.ensures.value) (pool_within p.limit (length p.free) (taken p.older.items) p.sized p.older_roster.pool)
@@ -45,7 +45,7 @@ returns-in-Ok-clause-shown g c = λ h.
     let lower = p.lower h two in
     let step : Follows (SameBut (gate_at (other p.root)) 1) (Left (d.state p.disk)) (Left (d.state c.set_gate.new.disk)) = subst (λ (r : Root). Follows (SameBut (gate_at r) 1) (Left (d.state p.disk)) (Left (d.state c.set_gate.new.disk))) is (c.set_gate.ensures.left h) in
     let seen : SameBut (gate_at (other p.root)) 1 (d.state p.disk).bytes (d.state c.set_gate.new.disk).bytes = subst (λ (r : Root). SameBut (gate_at r) 1 (d.state p.disk).bytes (d.state c.set_gate.new.disk).bytes) is (c.set_gate.ensures.seen h) in
-    shown_closing d.state p.root p.limit p.number p.heads.items p.disk bears lower c.set_gate.new.disk step seen
+    shown_closing d.state p.root p.version p.limit p.number p.heads.items p.disk bears lower c.set_gate.new.disk step seen
 
 pub returns-in-Ok-clause-left : goal.returns-in-Ok-clause-left
 returns-in-Ok-clause-left g c = λ h.
@@ -57,7 +57,7 @@ returns-in-Ok-clause-left g c = λ h.
     let lower = p.lower h two in
     let step : Follows (SameBut (gate_at (other p.root)) 1) (Left (d.state p.disk)) (Left (d.state c.set_gate.new.disk)) = subst (λ (r : Root). Follows (SameBut (gate_at r) 1) (Left (d.state p.disk)) (Left (d.state c.set_gate.new.disk))) is (c.set_gate.ensures.left h) in
     let seen : SameBut (gate_at (other p.root)) 1 (d.state p.disk).bytes (d.state c.set_gate.new.disk).bytes = subst (λ (r : Root). SameBut (gate_at r) 1 (d.state p.disk).bytes (d.state c.set_gate.new.disk).bytes) is (c.set_gate.ensures.seen h) in
-    left_closing d.state p.root p.limit p.number p.heads.items p.disk bears lower c.set_gate.new.disk step seen
+    left_closing d.state p.root p.version p.limit p.number p.heads.items p.disk bears lower c.set_gate.new.disk step seen
 
 pub returns-in-Ok-clause-time : goal.returns-in-Ok-clause-time
 returns-in-Ok-clause-time g c = λ h t.
@@ -69,7 +69,7 @@ returns-in-Ok-clause-time g c = λ h t.
     let lower = p.lower h two in
     let step : Follows (SameBut (gate_at (other p.root)) 1) (Left (d.state p.disk)) (Left (d.state c.set_gate.new.disk)) = subst (λ (r : Root). Follows (SameBut (gate_at r) 1) (Left (d.state p.disk)) (Left (d.state c.set_gate.new.disk))) is (c.set_gate.ensures.left h) in
     let seen : SameBut (gate_at (other p.root)) 1 (d.state p.disk).bytes (d.state c.set_gate.new.disk).bytes = subst (λ (r : Root). SameBut (gate_at r) 1 (d.state p.disk).bytes (d.state c.set_gate.new.disk).bytes) is (c.set_gate.ensures.seen h) in
-    run_closing d.state p.root p.limit p.number p.heads.items p.disk bears lower d.moment d.left_since c.set_gate.new.disk (subst (λ (r : Root). LeavesOnly d.moment d.left_since p.disk c.set_gate.new.disk (Reaches (SameBut (gate_at r) 1) (Left (d.state p.disk)))) is (c.set_gate.ensures.time h t))
+    run_closing d.state p.root p.version p.limit p.number p.heads.items p.disk bears lower d.moment d.left_since c.set_gate.new.disk (subst (λ (r : Root). LeavesOnly d.moment d.left_since p.disk c.set_gate.new.disk (Reaches (SameBut (gate_at r) 1) (Left (d.state p.disk)))) is (c.set_gate.ensures.time h t))
 
 pub returns-in-Ok-clause-touched : goal.returns-in-Ok-clause-touched
 returns-in-Ok-clause-touched g c = λ h.
@@ -93,7 +93,7 @@ returns-in-Err-clause-left g c = λ h.
     let lower = p.lower h two in
     let step : Follows (SameBut (gate_at (other p.root)) 1) (Left (d.state p.disk)) (Left (d.state c.set_gate.new.disk)) = subst (λ (r : Root). Follows (SameBut (gate_at r) 1) (Left (d.state p.disk)) (Left (d.state c.set_gate.new.disk))) is (c.set_gate.ensures.left h) in
     let seen : SameBut (gate_at (other p.root)) 1 (d.state p.disk).bytes (d.state c.set_gate.new.disk).bytes = subst (λ (r : Root). SameBut (gate_at r) 1 (d.state p.disk).bytes (d.state c.set_gate.new.disk).bytes) is (c.set_gate.ensures.seen h) in
-    left_closing d.state p.root p.limit p.number p.heads.items p.disk bears lower c.set_gate.new.disk step seen
+    left_closing d.state p.root p.version p.limit p.number p.heads.items p.disk bears lower c.set_gate.new.disk step seen
 
 pub returns-in-Err-clause-time : goal.returns-in-Err-clause-time
 returns-in-Err-clause-time g c = λ h t.
@@ -105,7 +105,7 @@ returns-in-Err-clause-time g c = λ h t.
     let lower = p.lower h two in
     let step : Follows (SameBut (gate_at (other p.root)) 1) (Left (d.state p.disk)) (Left (d.state c.set_gate.new.disk)) = subst (λ (r : Root). Follows (SameBut (gate_at r) 1) (Left (d.state p.disk)) (Left (d.state c.set_gate.new.disk))) is (c.set_gate.ensures.left h) in
     let seen : SameBut (gate_at (other p.root)) 1 (d.state p.disk).bytes (d.state c.set_gate.new.disk).bytes = subst (λ (r : Root). SameBut (gate_at r) 1 (d.state p.disk).bytes (d.state c.set_gate.new.disk).bytes) is (c.set_gate.ensures.seen h) in
-    run_closing d.state p.root p.limit p.number p.heads.items p.disk bears lower d.moment d.left_since c.set_gate.new.disk (subst (λ (r : Root). LeavesOnly d.moment d.left_since p.disk c.set_gate.new.disk (Reaches (SameBut (gate_at r) 1) (Left (d.state p.disk)))) is (c.set_gate.ensures.time h t))
+    run_closing d.state p.root p.version p.limit p.number p.heads.items p.disk bears lower d.moment d.left_since c.set_gate.new.disk (subst (λ (r : Root). LeavesOnly d.moment d.left_since p.disk c.set_gate.new.disk (Reaches (SameBut (gate_at r) 1) (Left (d.state p.disk)))) is (c.set_gate.ensures.time h t))
 
 pub returns-in-Err-clause-touched : goal.returns-in-Err-clause-touched
 returns-in-Err-clause-touched g c = λ h.
@@ -156,7 +156,7 @@ invariant_of-self-in-Ok-clause-bears g c = λ h sure.
     let lower = p.lower h two in
     let step : Follows (SameBut (gate_at (other p.root)) 1) (Left (d.state p.disk)) (Left (d.state c.set_gate.new.disk)) = subst (λ (r : Root). Follows (SameBut (gate_at r) 1) (Left (d.state p.disk)) (Left (d.state c.set_gate.new.disk))) is (c.set_gate.ensures.left h) in
     let seen : SameBut (gate_at (other p.root)) 1 (d.state p.disk).bytes (d.state c.set_gate.new.disk).bytes = subst (λ (r : Root). SameBut (gate_at r) 1 (d.state p.disk).bytes (d.state c.set_gate.new.disk).bytes) is (c.set_gate.ensures.seen h) in
-    bears_closing d.state p.root p.limit p.number p.heads.items p.disk bears lower c.set_gate.new.disk step seen
+    bears_closing d.state p.root p.version p.limit p.number p.heads.items p.disk bears lower c.set_gate.new.disk step seen
 
 pub invariant_of-self-in-Ok-clause-shut : goal.invariant_of-self-in-Ok-clause-shut
 invariant_of-self-in-Ok-clause-shut g c = λ h one.
@@ -168,7 +168,7 @@ invariant_of-self-in-Ok-clause-shut g c = λ h one.
     let lower = p.lower h two in
     let step : Follows (SameBut (gate_at (other p.root)) 1) (Left (d.state p.disk)) (Left (d.state c.set_gate.new.disk)) = subst (λ (r : Root). Follows (SameBut (gate_at r) 1) (Left (d.state p.disk)) (Left (d.state c.set_gate.new.disk))) is (c.set_gate.ensures.left h) in
     let seen : SameBut (gate_at (other p.root)) 1 (d.state p.disk).bytes (d.state c.set_gate.new.disk).bytes = subst (λ (r : Root). SameBut (gate_at r) 1 (d.state p.disk).bytes (d.state c.set_gate.new.disk).bytes) is (c.set_gate.ensures.seen h) in
-    shut_closing d.state p.root p.limit p.number p.heads.items p.disk bears lower c.set_gate.new.disk step seen (c.in-Ok.ensures.synced h) (subst (λ (r : Root). gate r (d.state c.set_gate.new.disk).bytes ≡ 0) is (c.in-Ok.ensures.done h))
+    shut_closing d.state p.root p.version p.limit p.number p.heads.items p.disk bears lower c.set_gate.new.disk step seen (c.in-Ok.ensures.synced h) (subst (λ (r : Root). gate r (d.state c.set_gate.new.disk).bytes ≡ 0) is (c.in-Ok.ensures.done h))
 
 pub invariant_of-self-in-Ok-clause-lower : goal.invariant_of-self-in-Ok-clause-lower
 invariant_of-self-in-Ok-clause-lower g c = λ h same. let no : One ≡ Both = same in absurd (cc)

@@ -46,9 +46,9 @@ invariant_of-result-clause-bears g c = λ h sure.
       roster = empty_roster c.args.limit;
       there = tt;
     } in
-    let borne : EachBears new First c.args.limit 1 [] [] = c.in-Ok-lay_out.ensures.borne h c.args.limit 1 told c.requires.limit_least c.requires.limit_most c.requires.room in
+    let borne : EachBears new First 2 c.args.limit 1 [] [] = c.in-Ok-lay_out.ensures.borne h c.args.limit 1 told c.requires.limit_least c.requires.limit_most c.requires.room in
     let empty : items_in First new.bytes ≡ [] = (borne new.bytes (reads_left new)).says.items_are in
-    subst (λ (hs : List Head). EachBears new First c.args.limit 1 hs (items_in First new.bytes)) (sym c.new-heads.ensures.items) (subst (EachBears new First c.args.limit 1 []) (sym empty) borne)
+    subst (λ (hs : List Head). EachBears new First 2 c.args.limit 1 hs (items_in First new.bytes)) (sym c.new-heads.ensures.items) (subst (EachBears new First 2 c.args.limit 1 []) (sym empty) borne)
 
 pub invariant_of-result-clause-shut : goal.invariant_of-result-clause-shut
 invariant_of-result-clause-shut g c = λ h one. c.in-Ok-lay_out.ensures.shut h

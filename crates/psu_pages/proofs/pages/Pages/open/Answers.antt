@@ -37,9 +37,9 @@ invariant_of-result-clause-bears g c = λ h sure x left.
     let chosen = o.chosen in
     let new = (d.state c.look.new.disk).bytes in
     let seen = c.look.ensures.seen h in
-    let at_new : Bears chosen.root chosen.limit chosen.number o.heads.items (items_in chosen.root new) new =
-    subst (λ (y : List ℕ). Bears chosen.root chosen.limit chosen.number o.heads.items (items_in chosen.root y) y) (sym seen) (c.in-Ok.ensures.found h) in
-    subst (Bears chosen.root chosen.limit chosen.number o.heads.items (items_in chosen.root new)) (sym (c.in-Ok.ensures.synced h x left)) at_new
+    let at_new : Bears chosen.root chosen.version chosen.limit chosen.number o.heads.items (items_in chosen.root new) new =
+    subst (λ (y : List ℕ). Bears chosen.root chosen.version chosen.limit chosen.number o.heads.items (items_in chosen.root y) y) (sym seen) (c.in-Ok.ensures.found h) in
+    subst (Bears chosen.root chosen.version chosen.limit chosen.number o.heads.items (items_in chosen.root new)) (sym (c.in-Ok.ensures.synced h x left)) at_new
 
 pub invariant_of-result-clause-shut : goal.invariant_of-result-clause-shut
 invariant_of-result-clause-shut g c = λ h one x left is.

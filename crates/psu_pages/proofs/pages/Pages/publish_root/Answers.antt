@@ -39,7 +39,7 @@ invariant_of-self-clause-lower g c = λ h both.
     let sure : p.standing ≢ Unsure = λ same. let no : One ≡ Unsure = sym c.requires.shut ∙ same in absurd (cc) in
     let items = items_in p.root (d.state p.disk).bytes in
     let back : other next ≡ p.root = ap other is ∙ other_other p.root in
-    let bears : EachBears (d.state p.disk) (other next) p.limit p.number p.heads.items items = subst (λ (r : Root). EachBears (d.state p.disk) r p.limit p.number p.heads.items items) (sym back) (p.bears h sure) in
+    let bears : EachBears (d.state p.disk) (other next) p.version p.limit p.number p.heads.items items = subst (λ (r : Root). EachBears (d.state p.disk) r p.version p.limit p.number p.heads.items items) (sym back) (p.bears h sure) in
     let shut : EachShut (d.state p.disk) next = subst (EachShut (d.state p.disk)) (sym is) (p.shut h c.requires.shut) in
     let told : IsTold p.limit (p.number + 1) c.args.heads.items c.after_gate.result.now (d.state p.disk).bytes = record {
       told_is = c.after_gate.ensures.value ∙ ap (λ (b : List ℕ). drop 1 (filled 512 b)) (c.spell_root-page.ensures ∙ ap (λ (hs : List Head). 0 ∷ said p.limit (p.number + 1) (names hs)) c.deref.ensures.value) ∙ told_filled (said p.limit (p.number + 1) (names c.args.heads.items));
@@ -47,7 +47,7 @@ invariant_of-self-clause-lower g c = λ h both.
       roster = c.requires.roster;
       there = c.requires.there h;
     } in
-    c.in-Ok.ensures.lower h p.limit p.number p.heads.items c.args.heads.items items bears shut told
+    c.in-Ok.ensures.lower h p.version p.limit p.number p.heads.items c.args.heads.items items bears shut told
 
 pub invariant_of-self-clause-bears : goal.invariant_of-self-clause-bears
 invariant_of-self-clause-bears g c = λ h sure_now.
@@ -58,7 +58,7 @@ invariant_of-self-clause-bears g c = λ h sure_now.
     let sure : p.standing ≢ Unsure = λ same. let no : One ≡ Unsure = sym c.requires.shut ∙ same in absurd (cc) in
     let items = items_in p.root (d.state p.disk).bytes in
     let back : other next ≡ p.root = ap other is ∙ other_other p.root in
-    let bears : EachBears (d.state p.disk) (other next) p.limit p.number p.heads.items items = subst (λ (r : Root). EachBears (d.state p.disk) r p.limit p.number p.heads.items items) (sym back) (p.bears h sure) in
+    let bears : EachBears (d.state p.disk) (other next) p.version p.limit p.number p.heads.items items = subst (λ (r : Root). EachBears (d.state p.disk) r p.version p.limit p.number p.heads.items items) (sym back) (p.bears h sure) in
     let shut : EachShut (d.state p.disk) next = subst (EachShut (d.state p.disk)) (sym is) (p.shut h c.requires.shut) in
     let told : IsTold p.limit (p.number + 1) c.args.heads.items c.after_gate.result.now (d.state p.disk).bytes = record {
       told_is = c.after_gate.ensures.value ∙ ap (λ (b : List ℕ). drop 1 (filled 512 b)) (c.spell_root-page.ensures ∙ ap (λ (hs : List Head). 0 ∷ said p.limit (p.number + 1) (names hs)) c.deref.ensures.value) ∙ told_filled (said p.limit (p.number + 1) (names c.args.heads.items));
@@ -68,10 +68,10 @@ invariant_of-self-clause-bears g c = λ h sure_now.
     } in
     let target = map (item_in (d.state p.disk).bytes) c.args.heads.items in
     let new = d.state c.switch.new.disk in
-    let borne : EachBears new next p.limit (p.number + 1) c.args.heads.items target = c.in-Ok.ensures.borne h p.limit p.number p.heads.items c.args.heads.items items bears shut told in
+    let borne : EachBears new next 2 p.limit (p.number + 1) c.args.heads.items target = c.in-Ok.ensures.borne h p.version p.limit p.number p.heads.items c.args.heads.items items bears shut told in
     let shown : items_in next new.bytes ≡ target = (borne new.bytes (reads_left new)).says.items_are in
-    subst (λ v. EachBears new next p.limit (p.number + 1) v.items (items_in next new.bytes)) (sym c.replace.ensures.after)
-    (subst (EachBears new next p.limit (p.number + 1) c.args.heads.items) (sym shown) borne)
+    subst (λ v. EachBears new next 2 p.limit (p.number + 1) v.items (items_in next new.bytes)) (sym c.replace.ensures.after)
+    (subst (EachBears new next 2 p.limit (p.number + 1) c.args.heads.items) (sym shown) borne)
 
 pub invariant_of-self-in-Err-clause-bears : goal.invariant_of-self-in-Err-clause-bears
 invariant_of-self-in-Err-clause-bears g c = λ h sure. absurd (sure refl)
@@ -94,7 +94,7 @@ returns-in-Ok-clause-shown g c = λ h.
     let sure : p.standing ≢ Unsure = λ same. let no : One ≡ Unsure = sym c.requires.shut ∙ same in absurd (cc) in
     let items = items_in p.root (d.state p.disk).bytes in
     let back : other next ≡ p.root = ap other is ∙ other_other p.root in
-    let bears : EachBears (d.state p.disk) (other next) p.limit p.number p.heads.items items = subst (λ (r : Root). EachBears (d.state p.disk) r p.limit p.number p.heads.items items) (sym back) (p.bears h sure) in
+    let bears : EachBears (d.state p.disk) (other next) p.version p.limit p.number p.heads.items items = subst (λ (r : Root). EachBears (d.state p.disk) r p.version p.limit p.number p.heads.items items) (sym back) (p.bears h sure) in
     let shut : EachShut (d.state p.disk) next = subst (EachShut (d.state p.disk)) (sym is) (p.shut h c.requires.shut) in
     let told : IsTold p.limit (p.number + 1) c.args.heads.items c.after_gate.result.now (d.state p.disk).bytes = record {
       told_is = c.after_gate.ensures.value ∙ ap (λ (b : List ℕ). drop 1 (filled 512 b)) (c.spell_root-page.ensures ∙ ap (λ (hs : List Head). 0 ∷ said p.limit (p.number + 1) (names hs)) c.deref.ensures.value) ∙ told_filled (said p.limit (p.number + 1) (names c.args.heads.items));
@@ -103,7 +103,7 @@ returns-in-Ok-clause-shown g c = λ h.
       there = c.requires.there h;
     } in
     let new = d.state c.switch.new.disk in
-    (c.in-Ok.ensures.borne h p.limit p.number p.heads.items c.args.heads.items items bears shut told new.bytes (reads_left new)).says.items_are
+    (c.in-Ok.ensures.borne h p.version p.limit p.number p.heads.items c.args.heads.items items bears shut told new.bytes (reads_left new)).says.items_are
 
 pub returns-in-Ok-clause-left : goal.returns-in-Ok-clause-left
 returns-in-Ok-clause-left g c = λ h image left.
@@ -114,7 +114,7 @@ returns-in-Ok-clause-left g c = λ h image left.
     let sure : p.standing ≢ Unsure = λ same. let no : One ≡ Unsure = sym c.requires.shut ∙ same in absurd (cc) in
     let items = items_in p.root (d.state p.disk).bytes in
     let back : other next ≡ p.root = ap other is ∙ other_other p.root in
-    let bears : EachBears (d.state p.disk) (other next) p.limit p.number p.heads.items items = subst (λ (r : Root). EachBears (d.state p.disk) r p.limit p.number p.heads.items items) (sym back) (p.bears h sure) in
+    let bears : EachBears (d.state p.disk) (other next) p.version p.limit p.number p.heads.items items = subst (λ (r : Root). EachBears (d.state p.disk) r p.version p.limit p.number p.heads.items items) (sym back) (p.bears h sure) in
     let shut : EachShut (d.state p.disk) next = subst (EachShut (d.state p.disk)) (sym is) (p.shut h c.requires.shut) in
     let told : IsTold p.limit (p.number + 1) c.args.heads.items c.after_gate.result.now (d.state p.disk).bytes = record {
       told_is = c.after_gate.ensures.value ∙ ap (λ (b : List ℕ). drop 1 (filled 512 b)) (c.spell_root-page.ensures ∙ ap (λ (hs : List Head). 0 ∷ said p.limit (p.number + 1) (names hs)) c.deref.ensures.value) ∙ told_filled (said p.limit (p.number + 1) (names c.args.heads.items));
@@ -123,7 +123,7 @@ returns-in-Ok-clause-left g c = λ h image left.
       there = c.requires.there h;
     } in
     let target = map (item_in (d.state p.disk).bytes) c.args.heads.items in
-    subst (λ (r : Root). BearsEither r p.limit p.number p.heads.items items c.args.heads.items target image) is (c.switch.ensures.left h p.limit p.number p.heads.items c.args.heads.items items bears shut told image left)
+    subst (λ (r : Root). BearsEither r p.version p.limit p.number p.heads.items items c.args.heads.items target image) is (c.switch.ensures.left h p.version p.limit p.number p.heads.items c.args.heads.items items bears shut told image left)
 
 pub returns-in-Ok-clause-time : goal.returns-in-Ok-clause-time
 returns-in-Ok-clause-time g c = λ h t.
@@ -134,7 +134,7 @@ returns-in-Ok-clause-time g c = λ h t.
     let sure : p.standing ≢ Unsure = λ same. let no : One ≡ Unsure = sym c.requires.shut ∙ same in absurd (cc) in
     let items = items_in p.root (d.state p.disk).bytes in
     let back : other next ≡ p.root = ap other is ∙ other_other p.root in
-    let bears : EachBears (d.state p.disk) (other next) p.limit p.number p.heads.items items = subst (λ (r : Root). EachBears (d.state p.disk) r p.limit p.number p.heads.items items) (sym back) (p.bears h sure) in
+    let bears : EachBears (d.state p.disk) (other next) p.version p.limit p.number p.heads.items items = subst (λ (r : Root). EachBears (d.state p.disk) r p.version p.limit p.number p.heads.items items) (sym back) (p.bears h sure) in
     let shut : EachShut (d.state p.disk) next = subst (EachShut (d.state p.disk)) (sym is) (p.shut h c.requires.shut) in
     let told : IsTold p.limit (p.number + 1) c.args.heads.items c.after_gate.result.now (d.state p.disk).bytes = record {
       told_is = c.after_gate.ensures.value ∙ ap (λ (b : List ℕ). drop 1 (filled 512 b)) (c.spell_root-page.ensures ∙ ap (λ (hs : List Head). 0 ∷ said p.limit (p.number + 1) (names hs)) c.deref.ensures.value) ∙ told_filled (said p.limit (p.number + 1) (names c.args.heads.items));
@@ -143,7 +143,7 @@ returns-in-Ok-clause-time g c = λ h t.
       there = c.requires.there h;
     } in
     let target = map (item_in (d.state p.disk).bytes) c.args.heads.items in
-    subst (λ (r : Root). LeavesOnly d.moment d.left_since p.disk c.switch.new.disk (BearsEither r p.limit p.number p.heads.items items c.args.heads.items target)) is (c.switch.ensures.time h t p.limit p.number p.heads.items c.args.heads.items items bears shut told)
+    subst (λ (r : Root). LeavesOnly d.moment d.left_since p.disk c.switch.new.disk (BearsEither r p.version p.limit p.number p.heads.items items c.args.heads.items target)) is (c.switch.ensures.time h t p.version p.limit p.number p.heads.items c.args.heads.items items bears shut told)
 
 pub returns-in-Ok-clause-touched : goal.returns-in-Ok-clause-touched
 returns-in-Ok-clause-touched g c = λ h.
@@ -166,7 +166,7 @@ returns-in-Err-clause-left g c = λ h image left.
     let sure : p.standing ≢ Unsure = λ same. let no : One ≡ Unsure = sym c.requires.shut ∙ same in absurd (cc) in
     let items = items_in p.root (d.state p.disk).bytes in
     let back : other next ≡ p.root = ap other is ∙ other_other p.root in
-    let bears : EachBears (d.state p.disk) (other next) p.limit p.number p.heads.items items = subst (λ (r : Root). EachBears (d.state p.disk) r p.limit p.number p.heads.items items) (sym back) (p.bears h sure) in
+    let bears : EachBears (d.state p.disk) (other next) p.version p.limit p.number p.heads.items items = subst (λ (r : Root). EachBears (d.state p.disk) r p.version p.limit p.number p.heads.items items) (sym back) (p.bears h sure) in
     let shut : EachShut (d.state p.disk) next = subst (EachShut (d.state p.disk)) (sym is) (p.shut h c.requires.shut) in
     let told : IsTold p.limit (p.number + 1) c.args.heads.items c.after_gate.result.now (d.state p.disk).bytes = record {
       told_is = c.after_gate.ensures.value ∙ ap (λ (b : List ℕ). drop 1 (filled 512 b)) (c.spell_root-page.ensures ∙ ap (λ (hs : List Head). 0 ∷ said p.limit (p.number + 1) (names hs)) c.deref.ensures.value) ∙ told_filled (said p.limit (p.number + 1) (names c.args.heads.items));
@@ -175,7 +175,7 @@ returns-in-Err-clause-left g c = λ h image left.
       there = c.requires.there h;
     } in
     let target = map (item_in (d.state p.disk).bytes) c.args.heads.items in
-    subst (λ (r : Root). BearsEither r p.limit p.number p.heads.items items c.args.heads.items target image) is (c.switch.ensures.left h p.limit p.number p.heads.items c.args.heads.items items bears shut told image left)
+    subst (λ (r : Root). BearsEither r p.version p.limit p.number p.heads.items items c.args.heads.items target image) is (c.switch.ensures.left h p.version p.limit p.number p.heads.items c.args.heads.items items bears shut told image left)
 
 pub returns-in-Err-clause-time : goal.returns-in-Err-clause-time
 returns-in-Err-clause-time g c = λ h t.
@@ -186,7 +186,7 @@ returns-in-Err-clause-time g c = λ h t.
     let sure : p.standing ≢ Unsure = λ same. let no : One ≡ Unsure = sym c.requires.shut ∙ same in absurd (cc) in
     let items = items_in p.root (d.state p.disk).bytes in
     let back : other next ≡ p.root = ap other is ∙ other_other p.root in
-    let bears : EachBears (d.state p.disk) (other next) p.limit p.number p.heads.items items = subst (λ (r : Root). EachBears (d.state p.disk) r p.limit p.number p.heads.items items) (sym back) (p.bears h sure) in
+    let bears : EachBears (d.state p.disk) (other next) p.version p.limit p.number p.heads.items items = subst (λ (r : Root). EachBears (d.state p.disk) r p.version p.limit p.number p.heads.items items) (sym back) (p.bears h sure) in
     let shut : EachShut (d.state p.disk) next = subst (EachShut (d.state p.disk)) (sym is) (p.shut h c.requires.shut) in
     let told : IsTold p.limit (p.number + 1) c.args.heads.items c.after_gate.result.now (d.state p.disk).bytes = record {
       told_is = c.after_gate.ensures.value ∙ ap (λ (b : List ℕ). drop 1 (filled 512 b)) (c.spell_root-page.ensures ∙ ap (λ (hs : List Head). 0 ∷ said p.limit (p.number + 1) (names hs)) c.deref.ensures.value) ∙ told_filled (said p.limit (p.number + 1) (names c.args.heads.items));
@@ -195,7 +195,7 @@ returns-in-Err-clause-time g c = λ h t.
       there = c.requires.there h;
     } in
     let target = map (item_in (d.state p.disk).bytes) c.args.heads.items in
-    subst (λ (r : Root). LeavesOnly d.moment d.left_since p.disk c.switch.new.disk (BearsEither r p.limit p.number p.heads.items items c.args.heads.items target)) is (c.switch.ensures.time h t p.limit p.number p.heads.items c.args.heads.items items bears shut told)
+    subst (λ (r : Root). LeavesOnly d.moment d.left_since p.disk c.switch.new.disk (BearsEither r p.version p.limit p.number p.heads.items items c.args.heads.items target)) is (c.switch.ensures.time h t p.version p.limit p.number p.heads.items c.args.heads.items items bears shut told)
 
 pub returns-in-Err-clause-touched : goal.returns-in-Err-clause-touched
 returns-in-Err-clause-touched g c = λ h.

@@ -8,21 +8,21 @@ invariant_of-self-clause-bears g c = λ h sure.
     let d = g.D.Disk in
     let p = c.args.self.now in
     let r = c.requires.planned in
-    bears_still d.state p.root p.limit p.number p.heads.items (pages_of c.args.head.now) r.pool r.unnamed p.disk (p.bears h sure) c.write_item.new.disk (c.write_item.ensures.left h) (c.write_item.ensures.seen h)
+    bears_still d.state p.root p.version p.limit p.number p.heads.items (pages_of c.args.head.now) r.pool r.unnamed p.disk (p.bears h sure) c.write_item.new.disk (c.write_item.ensures.left h) (c.write_item.ensures.seen h)
 
 pub invariant_of-self-clause-shut : goal.invariant_of-self-clause-shut
 invariant_of-self-clause-shut g c = λ h one.
     let d = g.D.Disk in
     let p = c.args.self.now in
     let r = c.requires.planned in
-    shut_still d.state p.root p.limit p.number p.heads.items (pages_of c.args.head.now) r.pool r.unnamed p.disk (p.bears h c.requires.sure) c.write_item.new.disk (c.write_item.ensures.left h) (c.write_item.ensures.seen h) (other p.root) (p.shut h one)
+    shut_still d.state p.root p.version p.limit p.number p.heads.items (pages_of c.args.head.now) r.pool r.unnamed p.disk (p.bears h c.requires.sure) c.write_item.new.disk (c.write_item.ensures.left h) (c.write_item.ensures.seen h) (other p.root) (p.shut h one)
 
 pub invariant_of-self-clause-lower : goal.invariant_of-self-clause-lower
 invariant_of-self-clause-lower g c = λ h both.
     let d = g.D.Disk in
     let p = c.args.self.now in
     let r = c.requires.planned in
-    lower_still d.state p.root p.limit p.number p.heads.items (pages_of c.args.head.now) r.pool r.unnamed p.disk (p.bears h c.requires.sure) c.write_item.new.disk (c.write_item.ensures.left h) (c.write_item.ensures.seen h) (other p.root) p.number (p.lower h both)
+    lower_still d.state p.root p.version p.limit p.number p.heads.items (pages_of c.args.head.now) r.pool r.unnamed p.disk (p.bears h c.requires.sure) c.write_item.new.disk (c.write_item.ensures.left h) (c.write_item.ensures.seen h) (other p.root) p.number (p.lower h both)
 
 pub returns-in-Ok-clause-others : goal.returns-in-Ok-clause-others
 returns-in-Ok-clause-others g c = λ h head its written pool clear.
@@ -35,21 +35,21 @@ returns-in-Ok-clause-shown g c = λ h.
     let d = g.D.Disk in
     let p = c.args.self.now in
     let r = c.requires.planned in
-    shown_still d.state p.root p.limit p.number p.heads.items (pages_of c.args.head.now) r.pool r.unnamed p.disk (p.bears h c.requires.sure) c.write_item.new.disk (c.write_item.ensures.left h) (c.write_item.ensures.seen h)
+    shown_still d.state p.root p.version p.limit p.number p.heads.items (pages_of c.args.head.now) r.pool r.unnamed p.disk (p.bears h c.requires.sure) c.write_item.new.disk (c.write_item.ensures.left h) (c.write_item.ensures.seen h)
 
 pub returns-in-Ok-clause-left : goal.returns-in-Ok-clause-left
 returns-in-Ok-clause-left g c = λ h.
     let d = g.D.Disk in
     let p = c.args.self.now in
     let r = c.requires.planned in
-    left_still d.state p.root p.limit p.number p.heads.items (pages_of c.args.head.now) r.pool r.unnamed p.disk (p.bears h c.requires.sure) c.write_item.new.disk (c.write_item.ensures.left h) (c.write_item.ensures.seen h)
+    left_still d.state p.root p.version p.limit p.number p.heads.items (pages_of c.args.head.now) r.pool r.unnamed p.disk (p.bears h c.requires.sure) c.write_item.new.disk (c.write_item.ensures.left h) (c.write_item.ensures.seen h)
 
 pub returns-in-Ok-clause-time : goal.returns-in-Ok-clause-time
 returns-in-Ok-clause-time g c = λ h t.
     let d = g.D.Disk in
     let p = c.args.self.now in
     let r = c.requires.planned in
-    run_still d.state p.root p.limit p.number p.heads.items (pages_of c.args.head.now) r.pool r.unnamed p.disk (p.bears h c.requires.sure) d.moment d.left_since c.write_item.new.disk (c.write_item.ensures.time h t)
+    run_still d.state p.root p.version p.limit p.number p.heads.items (pages_of c.args.head.now) r.pool r.unnamed p.disk (p.bears h c.requires.sure) d.moment d.left_since c.write_item.new.disk (c.write_item.ensures.time h t)
 
 pub returns-in-Err-clause-others : goal.returns-in-Err-clause-others
 returns-in-Err-clause-others g c = λ h head its written pool clear.
@@ -62,21 +62,21 @@ returns-in-Err-clause-shown g c = λ h.
     let d = g.D.Disk in
     let p = c.args.self.now in
     let r = c.requires.planned in
-    shown_still d.state p.root p.limit p.number p.heads.items (pages_of c.args.head.now) r.pool r.unnamed p.disk (p.bears h c.requires.sure) c.write_item.new.disk (c.write_item.ensures.left h) (c.write_item.ensures.seen h)
+    shown_still d.state p.root p.version p.limit p.number p.heads.items (pages_of c.args.head.now) r.pool r.unnamed p.disk (p.bears h c.requires.sure) c.write_item.new.disk (c.write_item.ensures.left h) (c.write_item.ensures.seen h)
 
 pub returns-in-Err-clause-left : goal.returns-in-Err-clause-left
 returns-in-Err-clause-left g c = λ h.
     let d = g.D.Disk in
     let p = c.args.self.now in
     let r = c.requires.planned in
-    left_still d.state p.root p.limit p.number p.heads.items (pages_of c.args.head.now) r.pool r.unnamed p.disk (p.bears h c.requires.sure) c.write_item.new.disk (c.write_item.ensures.left h) (c.write_item.ensures.seen h)
+    left_still d.state p.root p.version p.limit p.number p.heads.items (pages_of c.args.head.now) r.pool r.unnamed p.disk (p.bears h c.requires.sure) c.write_item.new.disk (c.write_item.ensures.left h) (c.write_item.ensures.seen h)
 
 pub returns-in-Err-clause-time : goal.returns-in-Err-clause-time
 returns-in-Err-clause-time g c = λ h t.
     let d = g.D.Disk in
     let p = c.args.self.now in
     let r = c.requires.planned in
-    run_still d.state p.root p.limit p.number p.heads.items (pages_of c.args.head.now) r.pool r.unnamed p.disk (p.bears h c.requires.sure) d.moment d.left_since c.write_item.new.disk (c.write_item.ensures.time h t)
+    run_still d.state p.root p.version p.limit p.number p.heads.items (pages_of c.args.head.now) r.pool r.unnamed p.disk (p.bears h c.requires.sure) d.moment d.left_since c.write_item.new.disk (c.write_item.ensures.time h t)
 
 pub returns-in-Ok-clause-planned : goal.returns-in-Ok-clause-planned
 returns-in-Ok-clause-planned g c = λ other was. record { is_head = was.is_head; pool = was.pool; apart = was.apart; claimed = was.claimed; unnamed = was.unnamed; unnamed_before = was.unnamed_before }
