@@ -21,7 +21,7 @@ fn fits(pair: &Pair<Global>) -> bool
 {
     let key = pair.key().len();
     let value = pair.value().len();
-    1 <= key && key <= 33 && 1 <= value && value <= 33_280
+    1 <= key && key <= 65 && 1 <= value && value <= 33_280
 }
 
 // Whether an image of this limit can hold a map.

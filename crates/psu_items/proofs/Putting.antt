@@ -85,10 +85,10 @@ module _ {D A : Type 0} {G : Ghosts D} (old mid : Pages D A G) (before target : 
 
       pub from_two : (x : List ℕ) → BearsOf two x → Renews x
       from_two x bears = inr (
-        subst (λ (n : ℕ). StandsAs 2 n x old.limit target) (published.number ∙ ap (λ (n : ℕ). n + 1) same.number)
-        (subst (λ (n : ℕ). StandsAs n two.number x old.limit target) published.version
-        (subst (λ (n : ℕ). StandsAs two.version two.number x n target) (limit_is ∙ same.limit)
-        (bears_as two.root two.version two.limit two.number two.heads.items (items_in two.root (Ghosts.state G two.disk).bytes) target x sorted of_two bears))))
+          subst (λ (n : ℕ). StandsAs 2 n x old.limit target) (published.number ∙ ap (λ (n : ℕ). n + 1) same.number)
+          (subst (λ (n : ℕ). StandsAs n two.number x old.limit target) published.version
+          (subst (λ (n : ℕ). StandsAs two.version two.number x n target) (limit_is ∙ same.limit)
+          (bears_as two.root two.version two.limit two.number two.heads.items (items_in two.root (Ghosts.state G two.disk).bytes) target x sorted of_two bears))))
 
       pub run_three : (new : D) → LeavesOnly (Ghosts.moment G) (Ghosts.left_since G) old.disk mid.disk (BearsOf old) → LeavesOnly (Ghosts.moment G) (Ghosts.left_since G) mid.disk two.disk Switches
           → LeavesOnly (Ghosts.moment G) (Ghosts.left_since G) two.disk new (BearsOf two) → LeavesOnly (Ghosts.moment G) (Ghosts.left_since G) old.disk new Renews

@@ -64,7 +64,7 @@ fn keys_that_no_contents_have(rt: HostRuntime) -> Result<(), Fail> {
             (&[6], &[1], BAD_KEY),
             (&[1, 0], &[32, 128], BAD_KEY),
             (&[2], &settings([1; 7]), BAD_KEY),
-            (&[2, 10], &good, BAD_KEY),
+            (&[2, 100], &good, BAD_KEY),
             (&[2, 1, 0], &good, BAD_KEY),
             (&[3, 3], b"text", BAD_KEY),
             (&[4, 1], &[1, b'A', 0, 0], BAD_KEY),
@@ -75,13 +75,13 @@ fn keys_that_no_contents_have(rt: HostRuntime) -> Result<(), Fail> {
 }
 
 #[test]
-fn a_name_of_32_bytes(rt: HostRuntime) -> Result<(), Fail> {
-    let mut longer = [b'A'; 34];
+fn a_name_of_64_bytes(rt: HostRuntime) -> Result<(), Fail> {
+    let mut longer = [b'A'; 66];
     longer[0] = 5;
     rows(
         &rt,
         rt.alloc(),
-        &[(&longer[..33], &[0], None), (&longer, &[0], BAD_KEY)],
+        &[(&longer[..65], &[0], None), (&longer, &[0], BAD_KEY)],
     )
 }
 

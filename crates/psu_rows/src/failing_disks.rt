@@ -318,7 +318,7 @@ fn a_pending_completion_outlasts_a_broken_store(rt: HostRuntime) {
 const WHILE_BROKEN: &[u8] =
     b"VOLT 1;*SAV 1;*OPC?\nSYST:ERR?\n*SAV 2;*OPC;*WAI;*OPC?;*SRE 4;*SRE?;:SYST:ERR:COUN?;*CLS\n\
 *PUD #10;:MMEM:DEL \"X\";DATA \"A\",#10;:SYST:ERR?;:SYST:ERR?;:SYST:ERR?\n\
-VOLT 2;*RCL 1;VOLT?;*SAV 10;SYST:ERR?;:MMEM:CAT?\n";
+VOLT 2;*RCL 1;VOLT?;*SAV 100;SYST:ERR?;:MMEM:CAT?\n";
 
 const TOLD_WHILE_BROKEN: &[u8] = b"-320,\"Storage fault\"\n4;4\n\
 -203,\"Command protected\";-256,\"File name not found\";-320,\"Storage fault\"\n\

@@ -10,11 +10,11 @@ fn names_and_folders(rt: HostRuntime) {
             "MMEM:DATA \"b\",#10;DATA \"a\",#11x;DATA \"B\",#10;DATA \"_\",#10;DATA \"0\",#10;DATA \"-.\",#10;CAT?\n",
             "6144,124928,\"-.,BIN,0\",\"0,BIN,0\",\"B,BIN,0\",\"_,BIN,0\",\"a,BIN,1\",\"b,BIN,0\"\n",
         ),
-        // 32 bytes at most, one at least, and letters, digits, `_`, `-`, `.` alone.
+        // 64 bytes at most, one at least, and letters, digits, `_`, `-`, `.` alone.
         (
-            "MMEM:DATA \"abcdefghijklmnopqrstuvwxyz012345\",#10;DATA \"abcdefghijklmnopqrstuvwxyz0123456\",#10;DATA \"\",#10\n\
+            "MMEM:DATA \"abcdefghijklmnopqrstuvwxyz012345ABCDEFGHIJKLMNOPQRSTUVWXYZ678_-.\",#10;DATA \"abcdefghijklmnopqrstuvwxyz012345ABCDEFGHIJKLMNOPQRSTUVWXYZ678_-.9\",#10;DATA \"\",#10\n\
 MMEM:DATA? \"a b\";DEL \"\";CAT?\nSYST:ERR?;:SYST:ERR?;:SYST:ERR?;:SYST:ERR?;:SYST:ERR?\n",
-            "1024,130048,\"abcdefghijklmnopqrstuvwxyz012345,BIN,0\"\n\
+            "1024,130048,\"abcdefghijklmnopqrstuvwxyz012345ABCDEFGHIJKLMNOPQRSTUVWXYZ678_-.,BIN,0\"\n\
 -257,\"File name error\";-257,\"File name error\";-257,\"File name error\";-257,\"File name error\";0,\"No error\"\n",
         ),
         (
@@ -78,7 +78,7 @@ fn states_as_files(rt: HostRuntime) {
         // Bytes count, not the type.
         (
             "VOLT 7;*SAV 1;:MMEM:STOR:STAT 1,\"S\"\nMMEM:DATA \"X\",#13xyz;LOAD:STAT 4,\"X\";:SYST:ERR?\n\
-MMEM:LOAD:STAT 4,\"Y\";STAT 4,\"/\";STAT 10,\"S\";:SYST:ERR?;:SYST:ERR?;:SYST:ERR?\n",
+MMEM:LOAD:STAT 4,\"Y\";STAT 4,\"/\";STAT 100,\"S\";:SYST:ERR?;:SYST:ERR?;:SYST:ERR?\n",
             "-250,\"Mass storage error\"\n-256,\"File name not found\";-257,\"File name error\";-222,\"Data out of range\"\n",
         ),
     ];

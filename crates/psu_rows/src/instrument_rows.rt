@@ -13,7 +13,7 @@ fn rows_of_the_instrument(rt: HostRuntime) {
         ),
         // A register's number is rounded; `COUN?` is read after `SYST:`, where it is undefined.
         (
-            "*SAV 10\n*SAV 9.4\n*SAV 9.5\nSYST:ERR?;COUN?\nSYST:ERR:COUN?\n",
+            "*SAV 100\n*SAV 99.4\n*SAV 99.5\nSYST:ERR?;COUN?\nSYST:ERR:COUN?\n",
             "-222,\"Data out of range\"\n2\n",
         ),
         ("\nSYST:ERR?\n", "0,\"No error\"\n"),

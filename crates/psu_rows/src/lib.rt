@@ -28,6 +28,8 @@ mod memory;
 #[cfg(test)]
 mod messages;
 #[cfg(test)]
+mod old_images;
+#[cfg(test)]
 mod reports;
 #[cfg(test)]
 mod rows;

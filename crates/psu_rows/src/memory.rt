@@ -108,7 +108,7 @@ fn take(arena: &Bump<Global>, count: usize) -> Result<(), AllocError> {
 
 /// An arena that takes nothing back: it has a second chunk, with room for a run.
 pub fn arena(alloc: Global) -> Result<Bump<Global>, AllocError> {
-    let arena = Bump::try_with_capacity(alloc, 45_000)?;
+    let arena = Bump::try_with_capacity(alloc, 55_000)?;
     take(&arena, arena.chunk_capacity())?;
     let second = arena.try_alloc(0u8)?;
     *second = 1;
@@ -169,18 +169,18 @@ impl Row<'_> {
     }
 
     // Less and less of its memory refused, until all of it is there. The buffer of a piece has 65,536 bytes, and the device, which is
-    // there before it, more than 4,800.
+    // there before it, more than 7,200.
     fn run_with_all(&self, rt: &impl Abort, alloc: Global) {
         let mut refused = 0u32;
         let mut partly = 0u32;
-        for left in (0..8_000usize).step_by(16) {
+        for left in (0..8_000usize).step_by(64) {
             let end = self.run_with(rt, alloc, left);
             assert!(rt; end == End::Refused, "at {left}");
         }
-        for left in (70_336..85_536usize).step_by(8) {
+        for left in (72_736..98_336usize).step_by(16) {
             match self.run_with(rt, alloc, left) {
                 End::Whole => {
-                    assert!(rt; refused > 200, "{refused} refused, {partly} in part");
+                    assert!(rt; refused > 30, "{refused} refused, {partly} in part");
                     return;
                 }
                 End::Partly => partly = partly.saturating_add(1),

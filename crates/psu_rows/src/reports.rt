@@ -23,21 +23,21 @@ fn images_that_rows_leave(rt: HostRuntime) {
     let rows = [
         (
             "*PSC 0;*SRE 32;*ESE 128;*OPC?\n!POWER\n*STB?;*ESR?;*STB?\n",
-            "image version 1 root 2\npages 2 of 256\nenables 32 128\nrequest 96\nuser 0\nmacros 0\n",
+            "image version 2 root 2\npages 2 of 256\nenables 32 128\nrequest 96\nuser 0\nmacros 0\n",
         ),
         (
             "MMEM:DATA \"A\",#13xyz;*OPC?\n!POWER\nMMEM:DATA? \"A\";:MMEM:DEL \"B\"\nSYST:ERR?\nMMEM:CAT?\n",
-            "image version 1 root 2\npages 2 of 256\nenables none\nrequest none\nuser 0\nmacros 0\nfile A,BIN,3\n",
+            "image version 2 root 2\npages 2 of 256\nenables none\nrequest none\nuser 0\nmacros 0\nfile A,BIN,3\n",
         ),
         // A register of settings.
         (
             "VOLT 5.25;*SAV 3;*OPC?\n!POWER\nVOLT?;*RCL 3;VOLT?\n",
-            "image version 1 root 2\npages 2 of 256\nenables none\nrequest none\nuser 0\nmacros 0\n",
+            "image version 2 root 2\npages 2 of 256\nenables none\nrequest none\nuser 0\nmacros 0\n",
         ),
         // Two pages each: the user data, the macros, and the files, which stand in byte order of their names.
         (
             "DIAG:PUD:PROT OFF;*PUD #13abc;*DMC \"AB\",#15*CLS;;*DMC \"C\",#10;:MMEM:STOR:STAT 1,\"st.a\";MACR \"AB\",\"Z\"\n",
-            "image version 1 root 2\npages 8 of 256\nenables none\nrequest none\nuser 3\nmacros 2\nfile Z,MACR,5\nfile st.a,STAT,28\n",
+            "image version 2 root 2\npages 8 of 256\nenables none\nrequest none\nuser 3\nmacros 2\nfile Z,MACR,5\nfile st.a,STAT,28\n",
         ),
     ];
     for (input, want) in rows {
@@ -77,7 +77,7 @@ fn images_that_files_fill(rt: HostRuntime) {
         let input = four_files(alloc, length).expect(&rt, "memory");
         let text = reported(alloc, input.as_slice()).expect(&rt, "a report");
         let want = format!(in alloc;
-            "image version 1 root 2\npages {pages} of 256\nenables none\nrequest none\nuser 0\nmacros 0\n\
+            "image version 2 root 2\npages {pages} of 256\nenables none\nrequest none\nuser 0\nmacros 0\n\
 file A,BIN,32768\nfile B,BIN,32768\nfile C,BIN,32768\nfile D,BIN,{length}\n"
         )
         .expect(&rt, "memory");
@@ -91,7 +91,7 @@ fn images_that_are_none(rt: HostRuntime) {
     let report = recover(rt.alloc(), fresh).expect(&rt, "a report");
     let text = report_text(rt.alloc(), &report).expect(&rt, "memory");
     let want =
-        "image version 1 root 1\npages 0 of 256\nenables none\nrequest none\nuser 0\nmacros 0\n";
+        "image version 2 root 1\npages 0 of 256\nenables none\nrequest none\nuser 0\nmacros 0\n";
     assert_eq!(rt; text.as_slice(), want.as_bytes());
     for size in [0, 1_023, SIZE] {
         let disk = MemDisk::new(rt.alloc(), size).expect(&rt, "memory");

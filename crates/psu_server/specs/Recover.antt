@@ -1,7 +1,7 @@
 -- What `recover` says of an image.
 use Rattle.std.specs.Prelude.{◌≡◌, ℕ, ◌==◌, if◌then◌else◌, List, [], ◌∷◌, length, map, ⊤}
 use Rattle.psu_items.specs.Map.{Item, cost}
-use Rattle.psu_items.specs.Image.{counting, number_in, HasReadableRoot, Stands, IsRefusal}
+use Rattle.psu_items.specs.Image.{counting, number_in, version_in, HasReadableRoot, Stands, IsRefusal}
 use Rattle.psu_items.specs.declared.open_cause.OpenCause.{OpenCause}
 use Rattle.psu_items.specs.declared.open_cause.OpenCause.TheVariants as opening
 use Rattle.psu_nv.specs.Contents.{items_of, IsContents, Contents}
@@ -64,7 +64,7 @@ pub record IsReported {A : Type 0} (image : List ℕ) (report : Report A) : Type
   pub contents : Contents
   pub sound : IsContents contents
   pub stands : Stands image report.limit (items_of contents)
-  pub version : report.version ≡ 1
+  pub version : report.version ≡ version_in (counting image) image
   pub root : report.root ≡ number_in (counting image) image
   pub pages : report.pages ≡ cost (items_of contents)
   pub enables : report.enables ≡ contents.enables

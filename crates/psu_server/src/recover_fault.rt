@@ -18,7 +18,7 @@ pub enum RecoverFault {
     /// What the root that counts says is wrong.
     #[error("bad root")]
     BadRoot,
-    /// The root that counts is of another version.
+    /// The root that counts is of a version that is not read.
     #[error("bad version")]
     BadVersion,
     #[error("out of memory")]

@@ -14,7 +14,7 @@ pub enum StartCause {
     /// What the root that counts says is wrong.
     #[error("bad root")]
     BadRoot,
-    /// The root that counts is of another version.
+    /// The root that counts is of a version that is not read.
     #[error("bad version")]
     BadVersion,
     /// The items are those of no contents.

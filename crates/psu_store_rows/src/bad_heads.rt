@@ -77,12 +77,12 @@ fn keys_and_values_of_the_greatest_length(rt: HostRuntime) -> Result<(), Fail> {
     let rows: [(&[u8], u32, u16, Result<usize, OpenCause>); 8] = [
         (&[7], 512, 1, Ok(1)),
         (&[7], 513, 2, Ok(1)),
-        (&[7; 33], 1, 1, Ok(1)),
-        (&[7; 34], 1, 1, BAD),
-        (&[7; 33], 33_280, 65, Ok(1)),
-        (&[7; 33], 33_281, 66, BAD),
-        (&[7; 33], 33_280, 66, BAD),
-        (&[7; 33], 33_280, 64, BAD),
+        (&[7; 65], 1, 1, Ok(1)),
+        (&[7; 66], 1, 1, BAD),
+        (&[7; 65], 33_280, 65, Ok(1)),
+        (&[7; 65], 33_281, 66, BAD),
+        (&[7; 65], 33_280, 66, BAD),
+        (&[7; 65], 33_280, 64, BAD),
     ];
     for (key, size, count, want) in rows {
         assert_eq!(rt;

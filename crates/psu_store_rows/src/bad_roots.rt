@@ -55,7 +55,7 @@ fn are_the_two(items: &Items<Global>) -> bool {
 fn the_image_holds_two_items(rt: HostRuntime) -> Result<(), Fail> {
     let alloc = rt.alloc();
     let store = opened(alloc, image(alloc)?)?;
-    assert_eq!(rt; (store.limit(), store.number(), store.version()), (6, 1, 1));
+    assert_eq!(rt; (store.limit(), store.number(), store.version()), (6, 1, 2));
     assert!(rt; are_the_two(store.items()));
     Ok(())
 }
@@ -64,7 +64,7 @@ const BAD: Result<usize, OpenCause> = Err(OpenCause::BadRoot);
 
 #[test]
 fn the_words_of_a_root(rt: HostRuntime) -> Result<(), Fail> {
-    let rows: [(u64, &[u8], Result<usize, OpenCause>); 15] = [
+    let rows: [(u64, &[u8], Result<usize, OpenCause>); 17] = [
         // The gate: `a5` alone is open.
         (0, &[0], Err(OpenCause::NoRoot)),
         (0, &[0xa4], Err(OpenCause::NoRoot)),
@@ -73,6 +73,8 @@ fn the_words_of_a_root(rt: HostRuntime) -> Result<(), Fail> {
         (3, &[0x58], BAD),
         // The version.
         (4, &[0, 0], Err(OpenCause::BadVersion)),
+        (4, &[0, 1], Ok(2)),
+        (4, &[0, 3], Err(OpenCause::BadVersion)),
         (4, &[0, 7], Err(OpenCause::BadVersion)),
         (4, &[1, 1], Err(OpenCause::BadVersion)),
         // The limit: the items cost 5 pages, and the disk has room for 6.
@@ -124,7 +126,7 @@ fn the_heads_that_a_root_names(rt: HostRuntime) -> Result<(), Fail> {
 
 // A second root of the number 2, which names the second head.
 const SECOND: [u8; 20] = [
-    0xa5, 0x50, 0x53, 0x55, 0, 1, 0, 6, 0, 0, 0, 0, 0, 0, 0, 2, 0, 1, 0, 5,
+    0xa5, 0x50, 0x53, 0x55, 0, 2, 0, 6, 0, 0, 0, 0, 0, 0, 0, 2, 0, 1, 0, 5,
 ];
 
 // Of two open gates the higher number counts, and the other root's content is not looked at. The number's last byte is at 527.

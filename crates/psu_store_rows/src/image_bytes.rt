@@ -14,7 +14,7 @@ use std::test::Fail;
 fn a_formatted_image(rt: HostRuntime) -> Result<(), Fail> {
     let alloc = rt.alloc();
     let root = [
-        0xa5, 0x50, 0x53, 0x55, 0, 1, 1, 0, 0, 0, 0, 0, 0, 0, 0, 1, 0, 0,
+        0xa5, 0x50, 0x53, 0x55, 0, 2, 1, 0, 0, 0, 0, 0, 0, 0, 0, 1, 0, 0,
     ];
     let mut want = spelled(alloc, 263_168, &[(0, &root)])?;
     let mut got = formatted(alloc, 263_168, 256)?;

@@ -16,6 +16,8 @@ mod losses;
 #[cfg(test)]
 mod maps;
 #[cfg(test)]
+mod migrations;
+#[cfg(test)]
 mod pools;
 #[cfg(test)]
 mod spelled;

@@ -3,7 +3,7 @@ use psu_disk::{Disk, MemDisk};
 use std::alloc::{AllocError, Global};
 use std::test::Fail;
 
-/// The page of a root: its gate, `PSU`, version 1, the limit, the number, and the pages of the heads behind their count.
+/// The page of a root of version 2: its gate, `PSU`, the version, the limit, the number, and the pages of the heads behind their count.
 pub fn root(
     alloc: Global,
     gate: u8,
@@ -11,7 +11,29 @@ pub fn root(
     number: u64,
     names: &[u16],
 ) -> Result<Vec<u8>, AllocError> {
-    let mut page = [gate, 0x50, 0x53, 0x55, 0, 1].to_vec(alloc)?;
+    root_page(alloc, [gate, 0x50, 0x53, 0x55, 0, 2], limit, number, names)
+}
+
+/// The same of version 1.
+pub fn old_root(
+    alloc: Global,
+    gate: u8,
+    limit: u16,
+    number: u64,
+    names: &[u16],
+) -> Result<Vec<u8>, AllocError> {
+    root_page(alloc, [gate, 0x50, 0x53, 0x55, 0, 1], limit, number, names)
+}
+
+// The page of a root that begins with these bytes.
+fn root_page(
+    alloc: Global,
+    first: [u8; 6],
+    limit: u16,
+    number: u64,
+    names: &[u16],
+) -> Result<Vec<u8>, AllocError> {
+    let mut page = first.to_vec(alloc)?;
     page.extend_from_slice(&limit.to_be_bytes())?;
     page.extend_from_slice(&number.to_be_bytes())?;
     add_words(&mut page, names)?;

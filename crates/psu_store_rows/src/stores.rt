@@ -31,7 +31,7 @@ fn fits(pair: &Pair<Global>) -> bool
 {
     let key = pair.key().len();
     let value = pair.value().len();
-    1 <= key && key <= 33 && 1 <= value && value <= 33_280
+    1 <= key && key <= 65 && 1 <= value && value <= 33_280
 }
 
 // Whether an image of this limit can hold a map.
@@ -134,7 +134,7 @@ fn a_disk_that_tells_its_moments_is_stored_on(rt: HostRuntime) -> Result<(), Fai
         Err(FormatFault { cause: _, disk: _ }) => return Err(Fail::from("not formatted")),
     };
     let store = stored(alloc, opened(alloc, disk)?, one_edit(alloc)?)?;
-    assert_eq!(rt; (store.number(), store.version()), (2, 1));
+    assert_eq!(rt; (store.number(), store.version()), (2, 2));
     assert!(rt; is_just(store.items(), &[(1, 36)]));
     assert_eq!(rt; store.into_disk().faults(), 0);
     Ok(())

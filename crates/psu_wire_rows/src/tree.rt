@@ -207,10 +207,10 @@ fn each_fault_before_the_later_ones(rt: HostRuntime) -> Result<(), Fail> {
         // Of each datum from the left its class, digits and suffix, and then of each its range.
         ("MMEM:STOR:STAT 1E32001,5", 123),
         ("MMEM:STOR:STAT \"1\",5", 104),
-        ("MMEM:STOR:STAT 10,5", 104),
+        ("MMEM:STOR:STAT 100,5", 104),
         ("VOLT 1E32001KA", 123),
         ("VOLT 99KA", 131),
-        ("MMEM:STOR:STAT 10,\"/\"", 222),
+        ("MMEM:STOR:STAT 100,\"/\"", 222),
     ];
     for (text, want) in rows {
         reads(&rt, rt.alloc(), text, &[want])?;
@@ -259,7 +259,7 @@ fn parameters_by_their_kinds(rt: HostRuntime) -> Result<(), Fail> {
     reads(
         &rt,
         rt.alloc(),
-        "*PSC 32767;*PSC -32768;*EMC 32768;*SAV 9.4;*SAV 9.5",
+        "*PSC 32767;*PSC -32768;*EMC 32768;*SAV 99.4;*SAV 99.5",
         &[0, 222, 222, 0, 222],
     )?;
     reads(
