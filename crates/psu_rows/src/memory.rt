@@ -169,18 +169,18 @@ impl Row<'_> {
     }
 
     // Less and less of its memory refused, until all of it is there. The buffer of a piece has 65,536 bytes, and the device, which is
-    // there before it, more than 7,200.
+    // there before it, more than 4,800.
     fn run_with_all(&self, rt: &impl Abort, alloc: Global) {
         let mut refused = 0u32;
         let mut partly = 0u32;
-        for left in (0..8_000usize).step_by(64) {
+        for left in (0..8_000usize).step_by(16) {
             let end = self.run_with(rt, alloc, left);
             assert!(rt; end == End::Refused, "at {left}");
         }
-        for left in (72_736..98_336usize).step_by(16) {
+        for left in (70_336..98_336usize).step_by(8) {
             match self.run_with(rt, alloc, left) {
                 End::Whole => {
-                    assert!(rt; refused > 30, "{refused} refused, {partly} in part");
+                    assert!(rt; refused > 200, "{refused} refused, {partly} in part");
                     return;
                 }
                 End::Partly => partly = partly.saturating_add(1),
