@@ -43,6 +43,38 @@ fn the_least_image_holds_two_registers(rt: HostRuntime) {
     }
 }
 
+// The choice of register 0 at power-on takes two pages, and that of `*RST` none. It is a change like others: it waits to be flushed.
+#[test]
+fn the_settings_at_power_on_take_two_pages(rt: HostRuntime) {
+    let mut exec = powered_on(&rt, rt.alloc(), least(rt.alloc()));
+    let session = opened(&rt, &mut exec, 1);
+    let rows: [(&[u8], bool, u128); 8] = [
+        (b"VOLT 1", true, 0),
+        (b"*SAV 0", true, 2),
+        (b"*SAV 1", true, 4),
+        (b"OUTP:PON:STAT RCL0", false, 4),
+        (b"VOLT 0", true, 4),
+        (b"*SAV 1", true, 2),
+        (b"OUTP:PON:STAT RCL0", true, 4),
+        (b"OUTP:PON:STAT RST", true, 2),
+    ];
+    for (text, fits, cost) in rows {
+        let outcome = unit(&rt, &mut exec, session, text);
+        assert!(rt; is_done_or_full(&outcome, fits), "at {text:?}");
+        assert_eq!(rt; exec.contents().cost(), cost, "at {text:?}");
+    }
+}
+
+// A choice that changes nothing is a change that waits, too.
+#[test]
+fn the_choice_of_the_settings_at_power_on_is_flushed(rt: HostRuntime) {
+    let mut exec = powered_on(&rt, rt.alloc(), least(rt.alloc()));
+    let session = opened(&rt, &mut exec, 1);
+    does(&rt, &mut exec, session, b"OUTP:PON:STAT RST");
+    assert!(rt; !exec.is_flushed());
+    says(&rt, &mut exec, session, b"*OPC?", b"parked");
+}
+
 // With 1,024 changes that are not flushed one more comes later, and a query is answered.
 #[test]
 fn a_save_is_later_at_a_full_tail(rt: HostRuntime) {

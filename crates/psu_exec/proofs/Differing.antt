@@ -8,9 +8,9 @@ use Rattle.psu_items.specs.Map.{Item, IsSorted}
 use Rattle.psu_items.specs.Batch.{Edit, changed}
 use Rattle.psu_outputs.specs.declared.output_settings.OutputSettings.{OutputSettings}
 use Rattle.psu_nv.specs.Commands.{settings_at}
-use Rattle.psu_nv.specs.Contents.{Contents, IsContents, enables_items, file_item, items_of, macros_items, register_items, registers_items, user_items}
+use Rattle.psu_nv.specs.Contents.{Contents, IsContents, enables_items, file_item, items_of, macros_items, recall_items, register_items, registers_items, user_items}
 use Rattle.psu_nv.proofs.Encoding.{front, next_register}
-use Rattle.psu_nv.proofs.Parts.{items_sorted}
+use Rattle.psu_nv.proofs.Parts.{items_sorted, rest_of}
 use Rattle.psu_exec.specs.Batch.{assignment, batch, removal}
 use Rattle.psu_exec.proofs.Batches.{changed-batch}
 
@@ -53,19 +53,22 @@ next_file_edits f c r edits new n d file list same within here seen added =
     ∙ ap (λ (l : List Item). front c ++ l) (sym (map-push (take n c.files) file) ∙ ap (map file_item)
     (ap (λ (i : Item). take n c.files ++ i ∷ []) (here ∙ ap (λ (l : List Item). slice_index_or l n d) same) ∙ sym (take-suc c.files n d (subst (λ (l : List Item). n < length l) same within)) ∙ ap (λ (k : ℕ). take k c.files) (let after : suc n ≡ n + 1 = omega arith in after))))
 
-whole_map : (c : Contents) → front c ++ map file_item c.files ≡ items_of c
+whole_map : (c : Contents) → (front c ++ map file_item c.files) ++ recall_items c.recall ≡ items_of c
 unfolding items_of
 whole_map c =
-    append_assoc ((enables_items c.enables ++ registers_items 0 c.registers) ++ user_items c.user) (macros_items c.macros) (map file_item c.files)
-    ∙ append_assoc (enables_items c.enables ++ registers_items 0 c.registers) (user_items c.user) (macros_items c.macros ++ map file_item c.files)
-    ∙ append_assoc (enables_items c.enables) (registers_items 0 c.registers) (user_items c.user ++ (macros_items c.macros ++ map file_item c.files))
+    append_assoc (front c) (map file_item c.files) (recall_items c.recall)
+    ∙ append_assoc ((enables_items c.enables ++ registers_items 0 c.registers) ++ user_items c.user) (macros_items c.macros) (rest_of c)
+    ∙ append_assoc (enables_items c.enables ++ registers_items 0 c.registers) (user_items c.user) (macros_items c.macros ++ rest_of c)
+    ∙ append_assoc (enables_items c.enables) (registers_items 0 c.registers) (user_items c.user ++ (macros_items c.macros ++ rest_of c))
 
-pub all_edits : (before : List Item) (c : Contents) (edits : List Edit) (n : ℕ) (list : List Item) → list ≡ c.files → length list ≤ n
-    → edits ≡ flat_map (removal (items_of c)) before ++ flat_map (assignment before) (front c ++ map file_item (take n c.files)) → edits ≡ batch before (items_of c)
+pub all_edits : (before : List Item) (c : Contents) (edits new : List Edit) (n : ℕ) (list : List Item) → list ≡ c.files → length list ≤ n
+    → edits ≡ flat_map (removal (items_of c)) before ++ flat_map (assignment before) (front c ++ map file_item (take n c.files)) → new ≡ edits ++ flat_map (assignment before) (recall_items c.recall) → new ≡ batch before (items_of c)
 unfolding batch
-all_edits before c edits n list same all seen =
-    seen ∙ ap (λ (l : List Item). flat_map (removal (items_of c)) before ++ flat_map (assignment before) l)
-    (ap (λ (l : List Item). front c ++ map file_item l) (take_all n c.files (subst (λ (l : List Item). length l ≤ n) same all)) ∙ whole_map c)
+all_edits before c edits new n list same all seen added =
+    let whole : take n c.files ≡ c.files = take_all n c.files (subst (λ (l : List Item). length l ≤ n) same all) in
+    added ∙ more_edits (assignment before) (flat_map (removal (items_of c)) before) edits (front c ++ map file_item (take n c.files)) (recall_items c.recall) seen
+    ∙ ap (λ (l : List Item). flat_map (removal (items_of c)) before ++ flat_map (assignment before) l)
+    (ap (λ (l : List Item). (front c ++ map file_item l) ++ recall_items c.recall) whole ∙ whole_map c)
 
 pub edits_lead : (before : List Item) (c : Contents) (edits : List Edit) → IsContents c → IsSorted before → edits ≡ batch before (items_of c) → changed before edits ≡ items_of c
 edits_lead before c edits is sorted same = ap (changed before) same ∙ changed-batch before (items_of c) sorted (items_sorted c is.sorted)

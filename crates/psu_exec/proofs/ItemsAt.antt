@@ -1,15 +1,15 @@
 -- What the map of contents has at a key.
-use Rattle.std.proofs.Common.{◌≡◌, ◌≢◌, ℕ, suc, ◌==◌, ◌&&◌, ◌≤◌, nat_le, not, Bool, true, false, cond, Option, Some, None, is_some, MatchOption, List, [], ◌∷◌, length, refl, sym, ap, ◌∙◌, subst, arith}
+use Rattle.std.proofs.Common.{◌≡◌, ◌≢◌, ℕ, suc, ◌==◌, ◌&&◌, ◌||◌, ◌≤◌, nat_le, not, Bool, true, false, cond, Option, Some, None, is_some, MatchOption, List, [], ◌∷◌, length, refl, sym, ap, ◌∙◌, subst, arith}
 use Rattle.std.proofs.lemmas.Bool.Decides.{nat_tests}
 use Rattle.psu_items.specs.Map.{get}
 use Rattle.psu_outputs.specs.Settings.{bytes_of}
 use Rattle.psu_outputs.specs.declared.output_settings.OutputSettings.{OutputSettings}
 use Rattle.psu_nv.specs.Commands.{settings_at}
-use Rattle.psu_nv.specs.Contents.{Contents, IsContents, Macro, enables_items, items_of, macros_items, user_items}
+use Rattle.psu_nv.specs.Contents.{Contents, IsContents, Macro, enables_items, items_of, macros_items, recall_items, user_items}
 use Rattle.psu_nv.specs.Costs.{is_reset}
-use Rattle.psu_nv.specs.Decoding.{is_key, is_nothing, is_number}
+use Rattle.psu_nv.specs.Decoding.{is_key, is_nothing, is_number, is_single}
 use Rattle.psu_nv.specs.Names.{is_between, is_name}
-use Rattle.psu_nv.specs.Parts.{Enables, File, Macros, Register, User, value_in}
+use Rattle.psu_nv.specs.Parts.{Enables, File, Macros, Recall, Register, User, value_in}
 use Rattle.psu_nv.proofs.Gets.{part_found, value_file, value_register}
 use Rattle.psu_nv.proofs.Kept.{contents_keys, get_bad}
 
@@ -39,10 +39,10 @@ and_false true = refl
 and_false false = refl
 
 -- a key of another kind
-other_key : (kind : ℕ) (rest : List ℕ) → kind ≢ 2 → kind ≢ 5 → is_key (kind ∷ rest) ≡ (is_between 1 4 kind && is_nothing rest)
+other_key : (kind : ℕ) (rest : List ℕ) → kind ≢ 2 → kind ≢ 5 → is_key (kind ∷ rest) ≡ (is_single kind && is_nothing rest)
 other_key kind rest two five =
-    ap (λ (b : Bool). cond b (is_number rest) (cond (kind == 5) (is_name rest) (is_between 1 4 kind && is_nothing rest))) (is_other kind 2 two)
-    ∙ ap (λ (b : Bool). cond b (is_name rest) (is_between 1 4 kind && is_nothing rest)) (is_other kind 5 five)
+    ap (λ (b : Bool). cond b (is_number rest) (cond (kind == 5) (is_name rest) (is_single kind && is_nothing rest))) (is_other kind 2 two)
+    ∙ ap (λ (b : Bool). cond b (is_name rest) (is_single kind && is_nothing rest)) (is_other kind 5 five)
 
 pub none_empty : (c : Contents) (key : List ℕ) → IsContents c → length key ≡ 0 → false ≡ is_some (get (items_of c) key)
 none_empty c key is none = subst (λ (k : List ℕ). false ≡ is_some (get (items_of c) k)) (sym (no_bytes key none)) (none_at c [] is refl)
@@ -50,12 +50,14 @@ none_empty c key is none = subst (λ (k : List ℕ). false ≡ is_some (get (ite
 pub none_long : (c : Contents) (key rest : List ℕ) (kind : ℕ) → IsContents c → key ≡ kind ∷ rest → kind ≢ 2 → kind ≢ 5 → (length rest == 0) ≡ false → false ≡ is_some (get (items_of c) key)
 none_long c key rest kind is same two five long =
     subst (λ (k : List ℕ). false ≡ is_some (get (items_of c) k)) (sym same)
-    (none_at c (kind ∷ rest) is (other_key kind rest two five ∙ ap (λ (b : Bool). is_between 1 4 kind && b) (something rest long) ∙ and_false (is_between 1 4 kind)))
+    (none_at c (kind ∷ rest) is (other_key kind rest two five ∙ ap (λ (b : Bool). is_single kind && b) (something rest long) ∙ and_false (is_single kind)))
 
-pub none_of_kind : (c : Contents) (kind : ℕ) → IsContents c → kind ≢ 2 → kind ≢ 5 → kind ≢ 1 → kind ≢ 3 → kind ≢ 4 → false ≡ is_some (get (items_of c) (kind ∷ []))
-none_of_kind c kind is two five one three four = none_at c (kind ∷ []) is (other_key kind [] two five ∙ ap (λ (b : Bool). b && true) (outside kind one two three four)) where
-  outside : (k : ℕ) → k ≢ 1 → k ≢ 2 → k ≢ 3 → k ≢ 4 → is_between 1 4 k ≡ false
-  outside k = λ a b d e. grind (arith, nat_tests, a, b, d, e)
+pub none_of_kind : (c : Contents) (kind : ℕ) → IsContents c → kind ≢ 2 → kind ≢ 5 → kind ≢ 1 → kind ≢ 3 → kind ≢ 4 → kind ≢ 6 → false ≡ is_some (get (items_of c) (kind ∷ []))
+none_of_kind c kind is two five one three four six =
+    none_at c (kind ∷ []) is (other_key kind [] two five ∙ ap (λ (b : Bool). (b || kind == 6) && true) (outside kind one two three four) ∙ ap (λ (b : Bool). b && true) (is_other kind 6 six))
+  where
+    outside : (k : ℕ) → k ≢ 1 → k ≢ 2 → k ≢ 3 → k ≢ 4 → is_between 1 4 k ≡ false
+    outside k = λ a b d e. grind (arith, nat_tests, a, b, d, e)
 
 -- ---- the parts
 
@@ -85,6 +87,12 @@ macros_at c kind macros four same = ap (λ (l : List Macro). not (length l == 0)
   by : (m : List Macro) → not (length m == 0) ≡ is_some (value_in (macros_items m))
   by [] = refl
   by (x ∷ m) = ap not (not_none (length m))
+
+pub recall_at : (c : Contents) (kind : ℕ) (recall : Bool) → kind ≡ 6 → recall ≡ c.recall → recall ≡ is_some (get (items_of c) (kind ∷ []))
+recall_at c kind recall six same = same ∙ by c.recall ∙ sym (ap is_some (ap (λ (k : ℕ). get (items_of c) (k ∷ [])) six ∙ part_found c Recall)) where
+  by : (r : Bool) → r ≡ is_some (value_in (recall_items r))
+  by true = refl
+  by false = refl
 
 pub register_at : (c : Contents) (bytes rest : List ℕ) (number : ℕ) (settings : List OutputSettings) → bytes ≡ number ∷ rest → (length rest == 0) ≡ true → settings ≡ settings_at c.registers number
     → not (is_reset settings) ≡ is_some (get (items_of c) (2 ∷ bytes))

@@ -68,7 +68,7 @@ impl<A: Allocator + Copy> Device<A> {
     {
         let map = Plan::of(alloc, contents.encode_items(alloc)?);
         let locks = Box::new(alloc, LockTable::new())?;
-        let instrument = Instrument::power_on(contents.enables());
+        let instrument = Instrument::power_on(&contents);
         Ok(Device {
             alloc,
             limit,

@@ -54,6 +54,7 @@ fn has_one<A: Allocator + Copy>(contents: &Contents<A>, kind: u8) -> bool
         1 => contents.enables().is_some(),
         3 => !contents.user().is_empty(),
         4 => !contents.labels().is_empty(),
+        6 => contents.recall(),
         _ => false,
     }
 }

@@ -56,6 +56,7 @@ flag_told : (s : Situation) (which : Flag) (change : nv.Command) → flag_asked 
 flag_told s flag.PowerOnClear change e = cc
 flag_told s flag.Macros change e = cc
 flag_told s flag.Protection change e = cc
+flag_told s flag.Recall change e = cc
 
 query_told : (s : Situation) (asks : Query) (change : nv.Command) → query_means s asks ≡ Keeps change → ⊥
 query_told s query.Identification change e = cc
@@ -122,6 +123,7 @@ kept_are_nonvolatile s (command.Enable enable.ServiceRequest bits) change e = wh
 kept_are_nonvolatile s (command.Flag flag.PowerOnClear on) change e = refl
 kept_are_nonvolatile s (command.Flag flag.Macros on) change e = cc
 kept_are_nonvolatile s (command.Flag flag.Protection on) change e = cc
+kept_are_nonvolatile s (command.Flag flag.Recall on) change e = refl
 kept_are_nonvolatile s (command.Filter group which bits) change e = cc
 kept_are_nonvolatile s (command.Register on_register.Save number) change e = refl
 kept_are_nonvolatile s (command.Register on_register.Recall number) change e = absurd (either _ _ _ (refused _) (done _ _) change e)
@@ -168,6 +170,7 @@ nonvolatile_are_kept s (command.Enable enable.ServiceRequest bits) e = enables_k
 nonvolatile_are_kept s (command.Flag flag.PowerOnClear on) e = kept _
 nonvolatile_are_kept s (command.Flag flag.Macros on) e = cc
 nonvolatile_are_kept s (command.Flag flag.Protection on) e = cc
+nonvolatile_are_kept s (command.Flag flag.Recall on) e = kept _
 nonvolatile_are_kept s (command.Filter group which bits) e = cc
 nonvolatile_are_kept s (command.Register on_register.Save number) e = refused_or (nat_le 100 number) DataOutOfRange _ (kept _)
 nonvolatile_are_kept s (command.Register on_register.Recall number) e = cc

@@ -2,7 +2,7 @@
 use Rattle.std.specs.Prelude.{ℕ, nat_lt, nat_le, Bool, false, if◌then◌else◌, Some, None, is_some, is_none, List, length, codes, decimal}
 use Rattle.psu_lex.specs.Data.{definite_text}
 use Rattle.psu_lex.specs.declared.scpi_error.ScpiError.TheVariants.{CommandProtected, DataOutOfRange, TooMuchData}
-use Rattle.psu_nv.specs.Commands.{ServiceEnable, EventEnable, PowerOnClear, Save, User, settings_at}
+use Rattle.psu_nv.specs.Commands.{ServiceEnable, EventEnable, PowerOnClear, Save, User, Recall}
 use Rattle.psu_outputs.specs.Outputs.{all_settings, restored}
 use Rattle.psu_outputs.specs.Settings.{reset}
 use Rattle.psu_status.specs.Status as reporting
@@ -10,7 +10,7 @@ use Rattle.psu_tree.specs.declared.enable.Enable.{Enable}
 use Rattle.psu_tree.specs.declared.enable.Enable.TheVariants as enable
 use Rattle.psu_tree.specs.declared.flag.Flag.{Flag}
 use Rattle.psu_tree.specs.declared.flag.Flag.TheVariants as flag
-use Rattle.psu_instrument.specs.Instrument.{with_status, with_sre, with_ese, with_supplies}
+use Rattle.psu_instrument.specs.Instrument.{with_status, with_sre, with_ese, with_supplies, with_register}
 use Rattle.psu_instrument.specs.Meaning.{Situation, Meaning, Refuses, Does, Keeps, answers, says, leaves}
 
 -- `*IDN?`: manufacturer, model, serial number, version
@@ -48,20 +48,26 @@ status_byte s = says s (reporting.status_byte s.instrument.status s.available)
 -- ---- flags
 
 -- `*PSC`: while the flag is false the enables are kept, from now on the present ones. `*EMC`: whether calls of macros are expanded.
--- `DIAGnostic:PUD:PROTect`: whether user data is protected.
+-- `DIAGnostic:PUD:PROTect`: whether user data is protected. `OUTPut:PON:STATe`: whether the settings at power-on are those of register 0.
 abbrev pub flagged : Situation → Flag → Bool → Meaning
 flagged s flag.PowerOnClear on = Keeps (PowerOnClear (if on then None else Some (s.instrument.status.sre, s.instrument.status.ese)))
 flagged s flag.Macros on = leaves (record s.instrument { expands = on })
 flagged s flag.Protection on = leaves (record s.instrument { protected = on })
+flagged s flag.Recall on = Keeps (Recall on)
 
 abbrev pub digit : Bool → ℕ
 digit on = if on then 1 else 0
 
--- `*PSC?`, `*EMC?`, `DIAGnostic:PUD:PROTect?`
+-- the settings at power-on, as answered
+abbrev pub choice : Bool → List ℕ
+choice recall = if recall then codes "RCL0" else codes "RST"
+
+-- `*PSC?`, `*EMC?`, `DIAGnostic:PUD:PROTect?`, `OUTPut:PON:STATe?`
 abbrev pub flag_asked : Situation → Flag → Meaning
 flag_asked s flag.PowerOnClear = says s (digit (is_none s.contents.enables))
 flag_asked s flag.Macros = says s (digit s.instrument.expands)
 flag_asked s flag.Protection = says s (digit s.instrument.protected)
+flag_asked s flag.Recall = answers s (choice s.contents.recall)
 
 -- ---- settings
 
@@ -77,7 +83,7 @@ saved s register = if nat_le 100 register then Refuses DataOutOfRange else Keeps
 abbrev pub recalled : Situation → ℕ → Meaning
 recalled s register =
     if nat_le 100 register then Refuses DataOutOfRange
-    else leaves (with_supplies s.instrument (restored s.instrument.supplies (settings_at s.contents.registers register)))
+    else leaves (with_supplies s.instrument (with_register s.instrument.supplies s.contents register))
 
 -- ---- user data
 

@@ -2,7 +2,8 @@
 use Rattle.std.specs.Prelude.{ℕ, ◌-◌, ◌==◌, nat_le, Bool, true, false, if◌then◌else◌, Option, Some, None, List, replicate}
 use Rattle.psu_lex.specs.declared.scpi_error.ScpiError.{ScpiError}
 use Rattle.psu_nv.specs.Commands as nv
-use Rattle.psu_outputs.specs.Outputs.{reset_supply, conditions}
+use Rattle.psu_nv.specs.Contents.{Contents}
+use Rattle.psu_outputs.specs.Outputs.{reset_supply, conditions, restored}
 use Rattle.psu_outputs.specs.declared.supply.Supply.{Supply}
 use Rattle.psu_status.specs.Registers.{with_condition, fifteen_bits}
 use Rattle.psu_status.specs.Status as reporting
@@ -17,9 +18,18 @@ pub record Instrument : Type 0 where
   pub protected : Bool
   pub pending : Option ℕ
 
--- At power-on the outputs are as after `*RST` with loads of 10 ohms, macros are disabled, and user data is protected.
-abbrev pub power_on : Option (ℕ × ℕ) → Instrument
-power_on enables = record { status = reporting.power_on enables; supplies = replicate 4 reset_supply; expands = false; protected = true; pending = None }
+-- the outputs once the settings of a register are put in (`*RCL`): with no trip but those that follow from them
+abbrev pub with_register : List Supply → Contents → ℕ → List Supply
+with_register supplies contents register = restored supplies (nv.settings_at contents.registers register)
+
+-- The outputs at power-on: as after `*RST` with loads of 10 ohms; or, where what is kept says so, with the settings of register 0 put
+-- into these, so that one may trip at once.
+abbrev pub outputs_at_power_on : Contents → List Supply
+outputs_at_power_on c = if c.recall then with_register (replicate 4 reset_supply) c 0 else replicate 4 reset_supply
+
+-- At power-on the condition of QUEStionable is what the outputs give, macros are disabled, and user data is protected.
+abbrev pub power_on : Contents → Instrument
+power_on c = record { status = reporting.power_on c.enables (conditions (outputs_at_power_on c)); supplies = outputs_at_power_on c; expands = false; protected = true; pending = None }
 
 abbrev pub with_status : Instrument → Reported → Instrument
 with_status i status = record i { status = status }

@@ -7,3 +7,4 @@ pub mod Macros
 pub mod Files
 pub mod Commands
 pub mod Nonvolatile
+pub mod PowerOn

@@ -4,7 +4,7 @@ ghost use Rattle.psu_nv.specs.Contents.{Contents as Kept};
 ghost use Rattle.psu_outputs.specs.Outputs.{restored};
 ghost use Rattle.psu_outputs.specs.Settings.{reset};
 ghost use Rattle.psu_status.specs.Status.{cleared};
-ghost use Rattle.psu_instrument.specs.Common.{digit, enabled, enables_asked, event_status, flag_asked, flagged, recalled, saved, user_data};
+ghost use Rattle.psu_instrument.specs.Common.{choice, digit, enabled, enables_asked, event_status, flag_asked, flagged, recalled, saved, user_data};
 ghost use Rattle.psu_instrument.specs.Instrument.{with_supplies};
 ghost use Rattle.psu_instrument.specs.Meaning.{ActsAs, situation};
 
@@ -23,6 +23,17 @@ pub(crate) fn told<A: Allocator + Copy>(alloc: A, on: bool) -> Result<Bytes<A>, 
     ensures { IfOk result (λ text. text ≡ decimal (digit on)) }
 {
     if on { whole(alloc, 1) } else { whole(alloc, 0) }
+}
+
+// The settings at power-on, as answered.
+fn choice<A: Allocator + Copy>(alloc: A, recall: bool) -> Result<Bytes<A>, AllocError>
+    ensures { IfOk result (λ text. text ≡ choice recall) }
+{
+    if recall {
+        Bytes::of(alloc, b"RCL0")
+    } else {
+        Bytes::of(alloc, b"RST")
+    }
 }
 
 impl Instrument {
@@ -84,7 +95,7 @@ impl Instrument {
         }
     }
 
-    // `*PSC`, `*EMC`, `DIAGnostic:PUD:PROTect`.
+    // `*PSC`, `*EMC`, `DIAGnostic:PUD:PROTect`, `OUTPut:PON:STATe`.
     pub(crate) fn flag<'c, A: Allocator + Copy>(&mut self, which: Flag, on: bool) -> Act<'c, A>
         ensures { (limit : ℕ) (contents : Kept) (available : Bool) → ActsAs (flagged (situation limit contents self.old available) which on) self.old (Ok result) self.new }
     {
@@ -98,6 +109,7 @@ impl Instrument {
                 self.protected = on;
                 Act::Done
             }
+            Flag::Recall => Act::Keep(NvCommand::Recall(on)),
         }
     }
 
@@ -115,7 +127,7 @@ impl Instrument {
         }
     }
 
-    // `*PSC?`, `*EMC?`, `DIAGnostic:PUD:PROTect?`.
+    // `*PSC?`, `*EMC?`, `DIAGnostic:PUD:PROTect?`, `OUTPut:PON:STATe?`.
     pub(crate) fn flag_query<'c, A: Allocator + Copy>(
         &self,
         alloc: A,
@@ -128,6 +140,7 @@ impl Instrument {
             Flag::PowerOnClear => Ok(Act::Answer(told(alloc, contents.enables().is_none())?)),
             Flag::Macros => Ok(Act::Answer(told(alloc, self.expands)?)),
             Flag::Protection => Ok(Act::Answer(told(alloc, self.protected)?)),
+            Flag::Recall => Ok(Act::Answer(choice(alloc, contents.recall())?)),
         }
     }
 

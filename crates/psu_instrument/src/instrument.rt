@@ -2,12 +2,13 @@
 ghost use Rattle.std.specs.Prelude.{◌≡◌};
 ghost use Rattle.psu_status.specs.Status.{enabled, first_request, polled, status_byte};
 ghost use Rattle.psu_nv.specs.Views.{command_of};
-ghost use Rattle.psu_instrument.specs.Instrument.{power_on, with_kept, with_error, with_completion, with_pending, with_flushed};
+ghost use Rattle.psu_instrument.specs.Instrument.{outputs_at_power_on, power_on, with_kept, with_error, with_completion, with_pending, with_flushed};
 
 use psu_lex::ScpiError;
-use psu_nv::NvCommand;
+use psu_nv::{Contents, NvCommand, Register};
 use psu_outputs::Outputs;
 use psu_status::Status;
+use std::alloc::Allocator;
 use std::marker::Model;
 
 /// Bit 0 of the event status register: operation complete.
@@ -32,14 +33,27 @@ impl Model for Instrument {
     ghost view = { λ i. record { status = i.status; supplies = i.outputs; expands = i.expands; protected = i.protected; pending = i.pending } };
 }
 
+// The outputs at power-on: as after `*RST` with loads of 10 ohms, or with the settings of register 0 put into these.
+fn outputs_at_power_on<A: Allocator + Copy>(contents: &Contents<A>) -> Outputs
+    ensures { result ≡ outputs_at_power_on contents.now }
+{
+    let mut outputs = Outputs::new();
+    if contents.recall() {
+        outputs.restore(contents.register(Register::first()));
+    }
+    outputs
+}
+
 impl Instrument {
-    /// The instrument at power-on, by the enables that are kept.
-    pub fn power_on(enables: Option<(u8, u8)>) -> Instrument
-        ensures { result ≡ power_on enables }
+    /// The instrument at power-on, by what is kept: the enables, and the settings of register 0 where they are those at power-on. An
+    /// output may trip at once, which makes no event.
+    pub fn power_on<A: Allocator + Copy>(contents: &Contents<A>) -> Instrument
+        ensures { result ≡ power_on contents.now }
     {
+        let outputs = outputs_at_power_on(contents);
         Instrument {
-            status: Status::power_on(enables),
-            outputs: Outputs::new(),
+            status: Status::power_on(contents.enables(), outputs.conditions()),
+            outputs,
             expands: false,
             protected: true,
             pending: None,
@@ -66,7 +80,8 @@ impl Instrument {
             | NvCommand::StoreState(_, _)
             | NvCommand::LoadState(_, _)
             | NvCommand::StoreMacro(_, _)
-            | NvCommand::LoadMacro(_, _) => {}
+            | NvCommand::LoadMacro(_, _)
+            | NvCommand::Recall(_) => {}
         }
     }
 

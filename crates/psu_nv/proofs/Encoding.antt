@@ -5,9 +5,9 @@ use Rattle.std.proofs.Math.Seq.{take-suc, take-length}
 use Rattle.std.proofs.lemmas.List.{length-take-le}
 use Rattle.psu_items.specs.Map.{Item, item_of, Before, IsSorted}
 use Rattle.psu_outputs.specs.declared.output_settings.OutputSettings.{OutputSettings}
-use Rattle.psu_nv.specs.Contents.{Contents, enables_items, register_items, registers_items, user_items, macros_items, file_item}
+use Rattle.psu_nv.specs.Contents.{Contents, enables_items, register_items, registers_items, user_items, macros_items, file_item, recall_items}
 use Rattle.psu_nv.specs.Commands.{settings_at}
-use Rattle.psu_nv.proofs.Parts.{LedBelow, AllBelow, Below, all-append, all-map, below_key, enables_led, registers_below, registers_before, user_below, macros_below, files_before}
+use Rattle.psu_nv.proofs.Parts.{LedBelow, AllBelow, Below, all-append, all-map, below_key, enables_led, registers_below, registers_before, user_below, macros_below, files_before, files_below}
 
 raise : (m n : ℕ) (items : List Item) → m ≤ n → AllBelow m items → AllBelow n items
 raise m n items le all = all-map (λ (i : Item). LedBelow m i.key) (λ (i : Item). LedBelow n i.key) items (λ i led. by_key i.key led) all
@@ -91,3 +91,9 @@ module _ (c : Contents) (files items : List Item) (n : ℕ) (d f : Item) (of : f
       map-push : (l : List Item) (g : Item) → map file_item (l ++ g ∷ []) ≡ map file_item l ++ file_item g ∷ []
       map-push [] g = refl
       map-push (i ∷ l) g = ap (λ (m : List Item). file_item i ∷ m) (map-push l g)
+
+-- all parts before the last
+pub before_recall : (c : Contents) (files items : List Item) (n : ℕ) → files ≡ c.files → items ≡ front c ++ map file_item (take n files) → Below (6 ∷ []) items
+before_recall c files items n of is =
+    subst (Below (6 ∷ [])) (sym is)
+    (below_key 6 [] _ (all-append (λ (i : Item). LedBelow 6 i.key) (front c) (map file_item (take n files)) (raise 5 6 (front c) (omega arith) (led_front c)) (files_below (take n files))))

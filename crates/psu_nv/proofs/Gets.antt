@@ -5,11 +5,11 @@ use Rattle.psu_items.specs.Map.{Item, item_of, get, Before}
 use Rattle.psu_items.proofs.Keys.{same_true, before_not_same, after_not_same}
 use Rattle.psu_outputs.specs.declared.output_settings.OutputSettings.{OutputSettings}
 use Rattle.psu_outputs.specs.Settings.{bytes_of}
-use Rattle.psu_nv.specs.Contents.{Macro, Contents, enables_items, register_items, registers_items, user_items, macros_items, file_item, items_of}
+use Rattle.psu_nv.specs.Contents.{Macro, Contents, enables_items, register_items, registers_items, user_items, macros_items, file_item, recall_items, items_of}
 use Rattle.psu_nv.specs.Costs.{is_reset}
 use Rattle.psu_nv.specs.Commands.{settings_at}
-use Rattle.psu_nv.specs.Parts.{Part, Enables, Register, User, Macros, File, key_of, file_items, part_items, value_in}
-use Rattle.psu_nv.proofs.Parts.{AllBelow, AllFrom, LedBelow, LedFrom, before_led, before_number, IsFrom, registers_from, enables_led, registers_below, user_below, from_macros, from_user, from_registers, files_led, all-map}
+use Rattle.psu_nv.specs.Parts.{Part, Enables, Register, User, Macros, File, Recall, key_of, file_items, part_items, value_in}
+use Rattle.psu_nv.proofs.Parts.{AllBelow, AllFrom, LedBelow, LedFrom, before_led, before_number, IsFrom, registers_from, enables_led, registers_below, user_below, macros_below, from_files, from_macros, from_user, from_registers, files_below, recall_led, rest_of, all-map}
 
 -- the first that is there
 abbrev pub first : Option (List ℕ) → Option (List ℕ) → Option (List ℕ)
@@ -99,6 +99,13 @@ value_file name (Some v) = refl
 
 -- # Each part
 
+higher : (m n : ℕ) (items : List Item) → m ≤ n → AllBelow m items → AllBelow n items
+higher m n items le all = all-map (λ (i : Item). LedBelow m i.key) (λ (i : Item). LedBelow n i.key) items (λ i led. by_key i.key led) all
+  where
+    by_key : (key : List ℕ) → LedBelow m key → LedBelow n key
+    by_key [] led = led
+    by_key (k ∷ key) led = omega (arith, le, led)
+
 module _ (c : Contents) where
   get_enables : get (items_of c) (1 ∷ []) ≡ value_in (enables_items c.enables)
   unfolding items_of
@@ -116,18 +123,11 @@ module _ (c : Contents) where
       ∙ get_register 0 r r c.registers (omega arith)
       ∙ sym (value_register r (settings_at c.registers r))
 
-  past_registers : (n : ℕ) (rest : List ℕ) → 3 ≤ n → get (items_of c) (n ∷ rest) ≡ get (user_items c.user ++ (macros_items c.macros ++ map file_item c.files)) (n ∷ rest)
+  past_registers : (n : ℕ) (rest : List ℕ) → 3 ≤ n → get (items_of c) (n ∷ rest) ≡ get (user_items c.user ++ (macros_items c.macros ++ rest_of c)) (n ∷ rest)
   unfolding items_of
   past_registers n rest le =
       get_back (enables_items c.enables) _ (n ∷ rest) (get_below (enables_items c.enables) n rest (higher 2 n (enables_items c.enables) (omega (arith, le)) (enables_led c.enables)))
       ∙ get_back (registers_items 0 c.registers) _ (n ∷ rest) (get_below (registers_items 0 c.registers) n rest (higher 3 n (registers_items 0 c.registers) le (registers_below c.registers)))
-    where
-      higher : (m n : ℕ) (items : List Item) → m ≤ n → AllBelow m items → AllBelow n items
-      higher m n items le all = all-map (λ (i : Item). LedBelow m i.key) (λ (i : Item). LedBelow n i.key) items (λ i led. by_key i.key led) all
-        where
-          by_key : (key : List ℕ) → LedBelow m key → LedBelow n key
-          by_key [] led = led
-          by_key (k ∷ key) led = omega (arith, le, led)
 
   get_user : get (items_of c) (3 ∷ []) ≡ value_in (user_items c.user)
   get_user = past_registers 3 [] (omega arith) ∙ get_front (user_items c.user) _ (3 ∷ []) (get_from _ 3 [] (from_macros c)) ∙ by_user c.user
@@ -139,26 +139,28 @@ module _ (c : Contents) where
   get_macros : get (items_of c) (4 ∷ []) ≡ value_in (macros_items c.macros)
   get_macros =
       past_registers 4 [] (omega arith) ∙ get_back (user_items c.user) _ (4 ∷ []) (get_below (user_items c.user) 4 [] (user_below c.user))
-      ∙ get_front (macros_items c.macros) _ (4 ∷ []) (get_from _ 4 [] (files_led c.files)) ∙ by_macros c.macros
+      ∙ get_front (macros_items c.macros) _ (4 ∷ []) (get_from _ 4 [] (from_files c)) ∙ by_macros c.macros
     where
       by_macros : (macros : List Macro) → get (macros_items macros) (4 ∷ []) ≡ value_in (macros_items macros)
       by_macros [] = refl
       by_macros (m ∷ macros) = refl
 
+  past_macros : (n : ℕ) (rest : List ℕ) → 5 ≤ n → get (items_of c) (n ∷ rest) ≡ get (rest_of c) (n ∷ rest)
+  past_macros n rest le =
+      past_registers n rest (omega (arith, le))
+      ∙ get_back (user_items c.user) _ (n ∷ rest) (get_below (user_items c.user) n rest (higher 4 n (user_items c.user) (omega (arith, le)) (user_below c.user)))
+      ∙ get_back (macros_items c.macros) _ (n ∷ rest) (get_below (macros_items c.macros) n rest (higher 5 n (macros_items c.macros) le (macros_below c.macros)))
+
   get_files : (name : List ℕ) → get (items_of c) (5 ∷ name) ≡ get c.files name
   get_files name =
-      past_registers 5 name (omega arith)
-      ∙ get_back (user_items c.user) _ (5 ∷ name) (by_user c.user)
-      ∙ get_back (macros_items c.macros) _ (5 ∷ name) (by_macros c.macros)
-      ∙ get_file c.files name
-    where
-      by_user : (user : List ℕ) → get (user_items user) (5 ∷ name) ≡ None
-      by_user [] = refl
-      by_user (b ∷ user) = refl
+      past_macros 5 name (omega arith) ∙ get_front (map file_item c.files) _ (5 ∷ name) (get_from (recall_items c.recall) 5 name (recall_led c.recall)) ∙ get_file c.files name
 
-      by_macros : (macros : List Macro) → get (macros_items macros) (5 ∷ name) ≡ None
-      by_macros [] = refl
-      by_macros (m ∷ macros) = refl
+  get_recall : get (items_of c) (6 ∷ []) ≡ value_in (recall_items c.recall)
+  get_recall = past_macros 6 [] (omega arith) ∙ get_back (map file_item c.files) _ (6 ∷ []) (get_below (map file_item c.files) 6 [] (files_below c.files)) ∙ by_recall c.recall
+    where
+      by_recall : (recall : Bool) → get (recall_items recall) (6 ∷ []) ≡ value_in (recall_items recall)
+      by_recall true = refl
+      by_recall false = refl
 
 -- what a part is kept as is found under its key
 pub part_found : (c : Contents) (part : Part) → get (items_of c) (key_of part) ≡ value_in (part_items c part)
@@ -167,3 +169,4 @@ part_found c (Register number) = get_registers c number
 part_found c User = get_user c
 part_found c Macros = get_macros c
 part_found c (File name) = get_files c name ∙ sym (value_file name (get c.files name))
+part_found c Recall = get_recall c

@@ -12,22 +12,22 @@ use Rattle.psu_nv.specs.Names.{small, same_label, is_label}
 use Rattle.psu_nv.specs.Contents.{Macro, Contents, contents_of, body_at, has_label, HasDistinct, IsMacro, IsFile, IsContents}
 use Rattle.psu_nv.specs.Commands.{without_label, macro_of}
 
-with_files : (c : Contents) (files : List Item) → IsContents c → AllByRecursion IsFile files → IsSorted files → IsContents (contents_of c.registers c.user c.macros c.enables files)
+with_files : (c : Contents) (files : List Item) → IsContents c → AllByRecursion IsFile files → IsSorted files → IsContents (contents_of c.registers c.user c.macros c.enables files c.recall)
 with_files c files is all sorted = record { count = is.count; settings = is.settings; user = is.user; macros = is.macros; distinct = is.distinct; most_macros = is.most_macros; mss = is.mss; files = all; sorted = sorted }
 
-pub kept_put : (c : Contents) (files : List Item) (key name value : List ℕ) → IsContents c → key ≡ name → files ≡ put c.files key value → IsFile (item_of name value) → IsContents (contents_of c.registers c.user c.macros c.enables files)
+pub kept_put : (c : Contents) (files : List Item) (key name value : List ℕ) → IsContents c → key ≡ name → files ≡ put c.files key value → IsFile (item_of name value) → IsContents (contents_of c.registers c.user c.macros c.enables files c.recall)
 kept_put c files key name value is same is_put file =
-    subst (λ (l : List Item). IsContents (contents_of c.registers c.user c.macros c.enables l)) (sym is_put)
+    subst (λ (l : List Item). IsContents (contents_of c.registers c.user c.macros c.enables l c.recall)) (sym is_put)
     (with_files c (put c.files key value) is (all_put IsFile c.files key value is.files (subst (λ (k : List ℕ). IsFile (item_of k value)) (sym same) file)) (sorted-put c.files key value is.sorted))
 
-pub kept_without : (c : Contents) (files : List Item) (name : List ℕ) → IsContents c → files ≡ without c.files name → IsContents (contents_of c.registers c.user c.macros c.enables files)
+pub kept_without : (c : Contents) (files : List Item) (name : List ℕ) → IsContents c → files ≡ without c.files name → IsContents (contents_of c.registers c.user c.macros c.enables files c.recall)
 kept_without c files name is is_without =
-    subst (λ (l : List Item). IsContents (contents_of c.registers c.user c.macros c.enables l)) (sym is_without)
+    subst (λ (l : List Item). IsContents (contents_of c.registers c.user c.macros c.enables l c.recall)) (sym is_without)
     (with_files c (without c.files name) is (all_without IsFile c.files name is.files) (sorted-without c.files name is.sorted))
 
 -- # Macros
 
-with_macros : (c : Contents) (macros : List Macro) → IsContents c → AllByRecursion IsMacro macros → HasDistinct macros → length macros ≤ 32 → IsContents (contents_of c.registers c.user macros c.enables c.files)
+with_macros : (c : Contents) (macros : List Macro) → IsContents c → AllByRecursion IsMacro macros → HasDistinct macros → length macros ≤ 32 → IsContents (contents_of c.registers c.user macros c.enables c.files c.recall)
 with_macros c macros is all distinct most = record { count = is.count; settings = is.settings; user = is.user; macros = all; distinct = distinct; most_macros = most; mss = is.mss; files = is.files; sorted = is.sorted }
 
 same_sym : (m n : ℕ) → (m == n) ≡ (n == m)
@@ -69,9 +69,9 @@ all-push P [] new all here = (here, tt)
 all-push P (m ∷ macros) new all here = (all.0, all-push P macros new all.1 here)
 
 pub kept_push : (c : Contents) (macros : List Macro) (made : Macro) (label body : List ℕ) → IsContents c → macros ≡ c.macros ++ made ∷ [] → made ≡ macro_of label body → is_label label ≡ true → length body ≤ 1024 → has_label c.macros label ≡ false → length c.macros < 32
-    → IsContents (contents_of c.registers c.user macros c.enables c.files)
+    → IsContents (contents_of c.registers c.user macros c.enables c.files c.recall)
 kept_push c macros made label body is is_push is_made good short none room =
-    subst (λ (l : List Macro). IsContents (contents_of c.registers c.user l c.enables c.files)) (sym (is_push ∙ ap (λ (m : Macro). c.macros ++ m ∷ []) is_made))
+    subst (λ (l : List Macro). IsContents (contents_of c.registers c.user l c.enables c.files c.recall)) (sym (is_push ∙ ap (λ (m : Macro). c.macros ++ m ∷ []) is_made))
     (with_macros c (c.macros ++ macro_of label body ∷ []) is (all-push IsMacro c.macros (macro_of label body) is.macros (record { label = good; body = short })) (distinct-push c.macros (macro_of label body) is.distinct none) (omega (arith, room, length-append c.macros (macro_of label body ∷ []))))
 
 label-without : (macros : List Macro) (label other : List ℕ) → has_label macros other ≡ false → has_label (without_label macros label) other ≡ false
@@ -109,9 +109,9 @@ length-without_label (m ∷ macros) label = by_test (same_label m.label label) (
     by_test true rest = omega arith
     by_test false rest = omega (arith, rest)
 
-pub kept_without_label : (c : Contents) (macros : List Macro) (label : List ℕ) → IsContents c → macros ≡ without_label c.macros label → IsContents (contents_of c.registers c.user macros c.enables c.files)
+pub kept_without_label : (c : Contents) (macros : List Macro) (label : List ℕ) → IsContents c → macros ≡ without_label c.macros label → IsContents (contents_of c.registers c.user macros c.enables c.files c.recall)
 kept_without_label c macros label is is_without =
-    subst (λ (l : List Macro). IsContents (contents_of c.registers c.user l c.enables c.files)) (sym is_without)
+    subst (λ (l : List Macro). IsContents (contents_of c.registers c.user l c.enables c.files c.recall)) (sym is_without)
     (with_macros c (without_label c.macros label) is (all-without_label c.macros label is.macros) (distinct-without c.macros label is.distinct) (omega (arith, length-without_label c.macros label, is.most_macros)))
 
 -- the first macro with a label leaves
@@ -123,7 +123,7 @@ place_found macros at d label lt front same =
     front ∙ ap (λ (l : List Macro). take at macros ++ without_label l label) split ∙ ap (λ (b : Bool). take at macros ++ cond b (drop (suc at) macros) (here ∷ without_label (drop (suc at) macros) label)) same
 
 -- another ESE
-pub kept_event : (c : Contents) (sre ese bits : ℕ) → IsContents c → c.enables ≡ Some (sre, ese) → IsContents (contents_of c.registers c.user c.macros (Some (sre, bits)) c.files)
+pub kept_event : (c : Contents) (sre ese bits : ℕ) → IsContents c → c.enables ≡ Some (sre, ese) → IsContents (contents_of c.registers c.user c.macros (Some (sre, bits)) c.files c.recall)
 kept_event c sre ese bits is here = record { count = is.count; settings = is.settings; user = is.user; macros = is.macros; distinct = is.distinct; most_macros = is.most_macros; mss = mss (subst (λ (o : Option (ℕ × ℕ)). ForSome o (λ e. bit_and e.0 64 ≡ 0)) here is.mss); files = is.files; sorted = is.sorted }
   where
     mss : ForSome (Some (sre, ese)) (λ (e : ℕ × ℕ). bit_and e.0 64 ≡ 0) → ForSome (Some (sre, bits)) (λ (e : ℕ × ℕ). bit_and e.0 64 ≡ 0)

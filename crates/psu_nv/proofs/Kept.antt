@@ -1,6 +1,6 @@
 -- Which maps are those of contents: by what is under each key.
 use Rattle.std.proofs.Common.{◌≡◌, ℕ, ◌+◌, ◌<◌, ◌≤◌, Bool, true, false, cond, List, [], ◌∷◌, length, map, Option, Some, None, Result, Ok, Err, refl, sym, ◌∙◌, ap, subst, bytes_eq, arith}
-use Rattle.std.specs.Prelude.{◌&&◌, ◌==◌, nat_le, bit_and, IfErr}
+use Rattle.std.specs.Prelude.{◌&&◌, ◌||◌, ◌==◌, nat_le, bit_and, IfErr}
 use Rattle.std.specs.Option.{ForSome}
 use Rattle.std.specs.List.{AllByRecursion}
 use Rattle.std.proofs.lemmas.Bool.Decides.{nat_tests}
@@ -10,11 +10,11 @@ use Rattle.psu_items.proofs.Maps.{same_map}
 use Rattle.psu_outputs.specs.declared.output_settings.OutputSettings.{OutputSettings}
 use Rattle.psu_outputs.specs.Settings.{AreSettings, reset, bytes_of}
 use Rattle.psu_nv.specs.Names.{is_between, is_name}
-use Rattle.psu_nv.specs.Contents.{Macro, Contents, contents_of, IsContents, IsMacro, IsFile, HasDistinct, enables_items, register_items, registers_items, user_items, macros_items, file_item, items_of}
+use Rattle.psu_nv.specs.Contents.{Macro, Contents, contents_of, IsContents, IsMacro, IsFile, HasDistinct, enables_items, register_items, registers_items, user_items, macros_items, file_item, recall_items, items_of}
 use Rattle.psu_nv.specs.Costs.{is_reset}
 use Rattle.psu_nv.specs.Commands.{settings_at}
-use Rattle.psu_nv.specs.Parts.{Part, Enables, Register, User, Macros, File, key_of, part_items, value_in}
-use Rattle.psu_nv.specs.Decoding.{is_nothing, is_number, is_key, has_keys, IsKept, name_in, files_in, fits_file, fit_files}
+use Rattle.psu_nv.specs.Parts.{Part, Enables, Register, User, Macros, File, Recall, key_of, part_items, value_in}
+use Rattle.psu_nv.specs.Decoding.{is_nothing, is_number, is_single, is_key, has_keys, IsKept, name_in, files_in, fits_file, fit_files}
 use Rattle.psu_nv.proofs.Finding.{all_at}
 use Rattle.psu_nv.proofs.Parts.{all-append, items_sorted}
 use Rattle.psu_nv.proofs.Gets.{part_found, value_file}
@@ -58,7 +58,8 @@ contents_keys c is =
     (all-append HasKey (enables_items c.enables) _ (by_enables c.enables)
     (all-append HasKey (registers_items 0 c.registers) _ (registers_keys 0 c.registers (omega (arith, is.count)))
     (all-append HasKey (user_items c.user) _ (by_user c.user)
-    (all-append HasKey (macros_items c.macros) _ (by_macros c.macros) (files_keys c.files is.files)))))
+    (all-append HasKey (macros_items c.macros) _ (by_macros c.macros)
+    (all-append HasKey (map file_item c.files) _ (files_keys c.files is.files) (by_recall c.recall))))))
   where
     by_enables : (e : Option (ℕ × ℕ)) → AllByRecursion HasKey (enables_items e)
     by_enables None = tt
@@ -71,6 +72,10 @@ contents_keys c is =
     by_macros : (macros : List Macro) → AllByRecursion HasKey (macros_items macros)
     by_macros [] = tt
     by_macros (m ∷ macros) = (refl, tt)
+
+    by_recall : (recall : Bool) → AllByRecursion HasKey (recall_items recall)
+    by_recall true = (refl, tt)
+    by_recall false = tt
 
 -- # Files of contents
 
@@ -100,7 +105,8 @@ contents_files c is =
     (all-append HasFile (enables_items c.enables) _ (by_enables c.enables)
     (all-append HasFile (registers_items 0 c.registers) _ (registers_files 0 c.registers)
     (all-append HasFile (user_items c.user) _ (by_user c.user)
-    (all-append HasFile (macros_items c.macros) _ (by_macros c.macros) (files_files c.files is.files)))))
+    (all-append HasFile (macros_items c.macros) _ (by_macros c.macros)
+    (all-append HasFile (map file_item c.files) _ (files_files c.files is.files) (by_recall c.recall))))))
   where
     by_enables : (e : Option (ℕ × ℕ)) → AllByRecursion HasFile (enables_items e)
     by_enables None = tt
@@ -114,6 +120,10 @@ contents_files c is =
     by_macros [] = tt
     by_macros (m ∷ macros) = (refl, tt)
 
+    by_recall : (recall : Bool) → AllByRecursion HasFile (recall_items recall)
+    by_recall true = (refl, tt)
+    by_recall false = tt
+
 -- # The part that a key leads to
 
 abbrev pub IsPart : Part → Type 0
@@ -122,6 +132,7 @@ IsPart (Register number) = number < 100
 IsPart User = Unit {0}
 IsPart Macros = Unit {0}
 IsPart (File name) = Unit {0}
+IsPart Recall = Unit {0}
 
 pub record PartAt (key : List ℕ) : Type 0 where
   pub part : Part
@@ -171,14 +182,19 @@ part_at (kind ∷ bytes) is = by_two (kind == 2) refl is
         let not_three = not_kind 3 f in
         record { part = Macros; key_is = alone 4 none (let four : 4 ≡ kind = omega arith in four); is = tt }
 
-    by_five : (b : Bool) → (kind == 5) ≡ b → (kind == 2) ≡ false → cond b (is_name bytes) (is_between 1 4 kind && is_nothing bytes) ≡ true → PartAt (kind ∷ bytes)
+    by_six : (b : Bool) → is_between 1 4 kind ≡ b → (kind == 2) ≡ false → b || kind == 6 ≡ true → bytes ≡ [] → PartAt (kind ∷ bytes)
+    by_six true e two is none =
+        let q = between e in
+        by_one (kind == 1) refl (kind == 3) refl q.0 q.1 (not_kind 2 two) none
+    by_six false e two is none = record { part = Recall; key_is = alone 6 none (sym (is_kind 6 is)); is = tt }
+
+    by_five : (b : Bool) → (kind == 5) ≡ b → (kind == 2) ≡ false → cond b (is_name bytes) (is_single kind && is_nothing bytes) ≡ true → PartAt (kind ∷ bytes)
     by_five true e two is = record { part = File bytes; key_is = ap (λ (k : ℕ). k ∷ bytes) (is_kind 5 e); is = tt }
     by_five false e two is =
-        let p = both (is_between 1 4 kind) (is_nothing bytes) is in
-        let q = between p.0 in
-        by_one (kind == 1) refl (kind == 3) refl q.0 q.1 (not_kind 2 two) (nothing_is bytes p.1)
+        let p = both (is_single kind) (is_nothing bytes) is in
+        by_six (is_between 1 4 kind) refl two p.0 (nothing_is bytes p.1)
 
-    by_two : (b : Bool) → (kind == 2) ≡ b → cond b (is_number bytes) (cond (kind == 5) (is_name bytes) (is_between 1 4 kind && is_nothing bytes)) ≡ true → PartAt (kind ∷ bytes)
+    by_two : (b : Bool) → (kind == 2) ≡ b → cond b (is_number bytes) (cond (kind == 5) (is_name bytes) (is_single kind && is_nothing bytes)) ≡ true → PartAt (kind ∷ bytes)
     by_two true e is = subst (λ (k : ℕ). PartAt (k ∷ bytes)) (sym (is_kind 2 e)) (number_is bytes is)
     by_two false e is = by_five (kind == 5) refl e is
 
@@ -210,9 +226,10 @@ module _ (items : List Item) (e : Option (ℕ × ℕ)) (registers : List (List O
     (count : length registers ≡ 100) (are : AllByRecursion AreSettings registers) (r_is : (r : ℕ) → r < 100 → value_in (register_items r (settings_at registers r)) ≡ get items (2 ∷ r ∷ []))
     (u_most : length user ≤ 63) (u_is : value_in (user_items user) ≡ get items (3 ∷ []))
     (m_all : AllByRecursion IsMacro macros) (m_distinct : HasDistinct macros) (m_most : length macros ≤ 32) (m_is : value_in (macros_items macros) ≡ get items (4 ∷ []))
+    (recall : Bool) (p_is : value_in (recall_items recall) ≡ get items (6 ∷ []))
     (fit : fit_files items ≡ true) where
   abbrev pub made : Contents
-  made = contents_of registers user macros e (files_in items)
+  made = contents_of registers user macros e (files_in items) recall
 
   pub are_contents : IsContents made
   are_contents = record { count = count; settings = are; user = u_most; macros = m_all; distinct = m_distinct; most_macros = m_most; mss = mss; files = are_files items keys fit; sorted = sorted_files items sorted }
@@ -226,6 +243,7 @@ module _ (items : List Item) (e : Option (ℕ × ℕ)) (registers : List (List O
       each User is = u_is
       each Macros is = m_is
       each (File name) is = value_file name (get (files_in items) name) ∙ get-files_in items name
+      each Recall is = p_is
 
 -- # No contents
 

@@ -9,7 +9,7 @@ use Rattle.std.specs.Cmp.Lexicographic.{slice_cmp}
 use Rattle.psu_items.specs.Map.{Item, item_of, Before, IsSorted}
 use Rattle.psu_outputs.specs.declared.output_settings.OutputSettings.{OutputSettings}
 use Rattle.psu_outputs.specs.Settings.{bytes_of}
-use Rattle.psu_nv.specs.Contents.{Macro, Contents, enables_items, register_items, registers_items, user_items, macros_items, file_item, items_of}
+use Rattle.psu_nv.specs.Contents.{Macro, Contents, enables_items, register_items, registers_items, user_items, macros_items, file_item, recall_items, items_of}
 use Rattle.psu_nv.specs.Costs.{is_reset}
 
 -- # Order by the first byte
@@ -134,6 +134,14 @@ pub files_led : (files : List Item) → AllFrom 5 (map file_item files)
 files_led [] = tt
 files_led (f ∷ files) = (omega arith, files_led files)
 
+pub files_below : (files : List Item) → AllBelow 6 (map file_item files)
+files_below [] = tt
+files_below (f ∷ files) = (omega arith, files_below files)
+
+pub recall_led : (recall : Bool) → AllFrom 6 (recall_items recall)
+recall_led true = (omega arith, tt)
+recall_led false = tt
+
 pub files_before : (files : List Item) (name : List ℕ) → Below name files → Below (5 ∷ name) (map file_item files)
 files_before [] name below = tt
 files_before (f ∷ files) name below = (below.0, files_before files name below.1)
@@ -156,14 +164,21 @@ fewer m n items le all = all-map (λ (i : Item). LedFrom n i.key) (λ (i : Item)
     by_key (k ∷ key) led = omega (arith, le, led)
 
 module _ (c : Contents) where
-  pub from_macros : AllFrom 4 (macros_items c.macros ++ map file_item c.files)
-  from_macros = all-append (λ (i : Item). LedFrom 4 i.key) (macros_items c.macros) (map file_item c.files) (macros_led c.macros) (fewer 4 5 (map file_item c.files) (omega arith) (files_led c.files))
+  -- what comes behind the macros
+  abbrev pub rest_of : List Item
+  rest_of = map file_item c.files ++ recall_items c.recall
 
-  pub from_user : AllFrom 3 (user_items c.user ++ (macros_items c.macros ++ map file_item c.files))
-  from_user = all-append (λ (i : Item). LedFrom 3 i.key) (user_items c.user) (macros_items c.macros ++ map file_item c.files) (user_led c.user) (fewer 3 4 (macros_items c.macros ++ map file_item c.files) (omega arith) from_macros)
+  pub from_files : AllFrom 5 rest_of
+  from_files = all-append (λ (i : Item). LedFrom 5 i.key) (map file_item c.files) (recall_items c.recall) (files_led c.files) (fewer 5 6 (recall_items c.recall) (omega arith) (recall_led c.recall))
 
-  pub from_registers : AllFrom 2 (registers_items 0 c.registers ++ (user_items c.user ++ (macros_items c.macros ++ map file_item c.files)))
-  from_registers = all-append (λ (i : Item). LedFrom 2 i.key) (registers_items 0 c.registers) (user_items c.user ++ (macros_items c.macros ++ map file_item c.files)) (registers_led c.registers) (fewer 2 3 (user_items c.user ++ (macros_items c.macros ++ map file_item c.files)) (omega arith) from_user)
+  pub from_macros : AllFrom 4 (macros_items c.macros ++ rest_of)
+  from_macros = all-append (λ (i : Item). LedFrom 4 i.key) (macros_items c.macros) rest_of (macros_led c.macros) (fewer 4 5 rest_of (omega arith) from_files)
+
+  pub from_user : AllFrom 3 (user_items c.user ++ (macros_items c.macros ++ rest_of))
+  from_user = all-append (λ (i : Item). LedFrom 3 i.key) (user_items c.user) (macros_items c.macros ++ rest_of) (user_led c.user) (fewer 3 4 (macros_items c.macros ++ rest_of) (omega arith) from_macros)
+
+  pub from_registers : AllFrom 2 (registers_items 0 c.registers ++ (user_items c.user ++ (macros_items c.macros ++ rest_of)))
+  from_registers = all-append (λ (i : Item). LedFrom 2 i.key) (registers_items 0 c.registers) (user_items c.user ++ (macros_items c.macros ++ rest_of)) (registers_led c.registers) (fewer 2 3 (user_items c.user ++ (macros_items c.macros ++ rest_of)) (omega arith) from_user)
 
   pub items_sorted : IsSorted c.files → IsSorted (items_of c)
   unfolding items_of
@@ -171,7 +186,9 @@ module _ (c : Contents) where
       sorted-append 2 (enables_items c.enables) _ (one c.enables)
       (sorted-append 3 (registers_items 0 c.registers) _ (registers_sorted 0 c.registers)
       (sorted-append 4 (user_items c.user) _ (two c.user)
-      (sorted-append 5 (macros_items c.macros) _ (three c.macros) (files_sorted c.files sorted) (macros_below c.macros) (files_led c.files))
+      (sorted-append 5 (macros_items c.macros) _ (three c.macros)
+      (sorted-append 6 (map file_item c.files) _ (files_sorted c.files sorted) (four c.recall) (files_below c.files) (recall_led c.recall))
+      (macros_below c.macros) from_files)
       (user_below c.user) from_macros)
       (registers_below c.registers) from_user)
       (enables_led c.enables) from_registers
@@ -187,3 +204,7 @@ module _ (c : Contents) where
       three : (macros : List Macro) → IsSorted (macros_items macros)
       three [] = tt
       three (m ∷ macros) = (tt, tt)
+
+      four : (recall : Bool) → IsSorted (recall_items recall)
+      four true = (tt, tt)
+      four false = tt

@@ -7,10 +7,10 @@ use Rattle.psu_items.proofs.Maps.{same_map}
 use Rattle.psu_outputs.specs.declared.output_settings.OutputSettings.{OutputSettings}
 use Rattle.psu_outputs.specs.Settings.{AreSettings, reset, bytes_of}
 use Rattle.psu_outputs.proofs.Apart.{same_settings}
-use Rattle.psu_nv.specs.Contents.{Macro, Contents, contents_of, IsContents, IsMacro, enables_items, user_items, macros_items, macro_bytes, items_of}
+use Rattle.psu_nv.specs.Contents.{Macro, Contents, contents_of, IsContents, IsMacro, enables_items, user_items, macros_items, macro_bytes, recall_items, items_of}
 use Rattle.psu_nv.specs.Costs.{is_reset}
 use Rattle.psu_nv.specs.Commands.{settings_at}
-use Rattle.psu_nv.specs.Parts.{Part, Enables, Register, User, Macros, File, key_of, part_items, value_in}
+use Rattle.psu_nv.specs.Parts.{Part, Enables, Register, User, Macros, File, Recall, key_of, part_items, value_in}
 use Rattle.psu_nv.proofs.Finding.{all_at}
 use Rattle.psu_nv.proofs.Gets.{part_found, kept_settings, value_register, value_file}
 use Rattle.psu_nv.proofs.MacroBytes.{same_macros}
@@ -59,6 +59,12 @@ same_defined [] (n ∷ b) all_a all_b same = absurd cc
 same_defined (m ∷ a) [] all_a all_b same = absurd cc
 same_defined (m ∷ a) (n ∷ b) all_a all_b same = same_macros (m ∷ a) (n ∷ b) all_a all_b (same_had (flat_map macro_bytes (m ∷ a)) (flat_map macro_bytes (n ∷ b)) same)
 
+same_recall : (a b : Bool) → value_in (recall_items a) ≡ value_in (recall_items b) → a ≡ b
+same_recall true true same = refl
+same_recall true false same = absurd cc
+same_recall false true same = absurd cc
+same_recall false false same = refl
+
 -- contents that have the same of each part are the same
 pub same_by_parts : (a b : Contents) → IsContents a → IsContents b → ((part : Part) → value_in (part_items a part) ≡ value_in (part_items b part)) → a ≡ b
 same_by_parts a b is_a is_b same =
@@ -67,11 +73,13 @@ same_by_parts a b is_a is_b same =
     let user : a.user ≡ b.user = same_user a.user b.user (same User) in
     let macros : a.macros ≡ b.macros = same_defined a.macros b.macros is_a.macros is_b.macros (same Macros) in
     let files : a.files ≡ b.files = same_map a.files b.files is_a.sorted is_b.sorted (λ name. sym (value_file name (get a.files name)) ∙ same (File name) ∙ value_file name (get b.files name)) in
-    ap (λ r. contents_of r a.user a.macros a.enables a.files) registers
-    ∙ ap (λ u. contents_of b.registers u a.macros a.enables a.files) user
-    ∙ ap (λ m. contents_of b.registers b.user m a.enables a.files) macros
-    ∙ ap (λ e. contents_of b.registers b.user b.macros e a.files) enables
-    ∙ ap (λ f. contents_of b.registers b.user b.macros b.enables f) files
+    let recall : a.recall ≡ b.recall = same_recall a.recall b.recall (same Recall) in
+    ap (λ r. contents_of r a.user a.macros a.enables a.files a.recall) registers
+    ∙ ap (λ u. contents_of b.registers u a.macros a.enables a.files a.recall) user
+    ∙ ap (λ m. contents_of b.registers b.user m a.enables a.files a.recall) macros
+    ∙ ap (λ e. contents_of b.registers b.user b.macros e a.files a.recall) enables
+    ∙ ap (λ f. contents_of b.registers b.user b.macros b.enables f a.recall) files
+    ∙ ap (λ r. contents_of b.registers b.user b.macros b.enables b.files r) recall
   where
     register : (i : ℕ) → i < length a.registers → get_or a.registers i reset ≡ get_or b.registers i reset
     register i lt =

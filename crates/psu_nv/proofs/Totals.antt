@@ -18,7 +18,7 @@ use Rattle.psu_nv.proofs.Items.{all_put, all_without}
 use Rattle.psu_items.specs.Map.{Item, item_of, get, put, without, cost, IsSorted}
 use Rattle.psu_outputs.specs.declared.output_settings.OutputSettings.{OutputSettings}
 use Rattle.psu_outputs.specs.Settings.{AreSettings, bytes_of}
-use Rattle.psu_nv.specs.Contents.{Macro, Contents, IsMacro, body_at, has_label, enables_items, register_items, registers_items, user_items, macro_bytes, macros_items, file_item, items_of, cost_of}
+use Rattle.psu_nv.specs.Contents.{Macro, Contents, IsMacro, body_at, has_label, enables_items, register_items, registers_items, user_items, macro_bytes, macros_items, file_item, recall_items, items_of, cost_of}
 use Rattle.psu_nv.specs.Costs.{page_count, is_reset, registers_cost, macros_length, macros_cost, size_at, pages_of, IsShort}
 
 pub cost-append : (a b : List Item) → cost (a ++ b) ≡ cost a + cost b
@@ -60,15 +60,16 @@ files-cost [] = refl
 files-cost (f ∷ files) = ap (λ (n : ℕ). (1 + (length f.value + 511) / 512) + n) (files-cost files)
 
 -- part by part
-pub parts_cost : (c : Contents) → AllByRecursion AreSettings c.registers → cost_of c ≡ cost (enables_items c.enables) + (registers_cost c.registers + (cost (user_items c.user) + (macros_cost c.macros + cost c.files)))
+pub parts_cost : (c : Contents) → AllByRecursion AreSettings c.registers → cost_of c ≡ cost (enables_items c.enables) + (registers_cost c.registers + (cost (user_items c.user) + (macros_cost c.macros + (cost c.files + cost (recall_items c.recall)))))
 unfolding items_of
 parts_cost c are =
     omega (
       arith,
-      cost-append (enables_items c.enables) (registers_items 0 c.registers ++ (user_items c.user ++ (macros_items c.macros ++ map file_item c.files))),
-      cost-append (registers_items 0 c.registers) (user_items c.user ++ (macros_items c.macros ++ map file_item c.files)),
-      cost-append (user_items c.user) (macros_items c.macros ++ map file_item c.files),
-      cost-append (macros_items c.macros) (map file_item c.files),
+      cost-append (enables_items c.enables) (registers_items 0 c.registers ++ (user_items c.user ++ (macros_items c.macros ++ (map file_item c.files ++ recall_items c.recall)))),
+      cost-append (registers_items 0 c.registers) (user_items c.user ++ (macros_items c.macros ++ (map file_item c.files ++ recall_items c.recall))),
+      cost-append (user_items c.user) (macros_items c.macros ++ (map file_item c.files ++ recall_items c.recall)),
+      cost-append (macros_items c.macros) (map file_item c.files ++ recall_items c.recall),
+      cost-append (map file_item c.files) (recall_items c.recall),
       registers-cost 0 c.registers are,
       macros-cost c.macros,
       files-cost c.files,
@@ -209,9 +210,9 @@ fewer_is macros label count is has = omega (arith, length-without_label macros l
 pub some_macro : (macros : List Macro) (label : List ℕ) → has_label macros label ≡ true → 1 ≤ length macros
 some_macro macros label has = omega (arith, length-without_label macros label has)
 
-pub parts_total : (c : Contents) (e r u m f total : ℕ) → AllByRecursion AreSettings c.registers → e ≡ cost (enables_items c.enables) → r ≡ registers_cost c.registers → u ≡ cost (user_items c.user) → m ≡ macros_cost c.macros → f ≡ cost c.files
-    → total ≡ e + (r + (u + (m + f))) → total ≡ cost_of c
-parts_total c e r u m f total are ee er eu em ef is = omega (arith, parts_cost c are, ee, er, eu, em, ef, is)
+pub parts_total : (c : Contents) (e r u m f p total : ℕ) → AllByRecursion AreSettings c.registers → e ≡ cost (enables_items c.enables) → r ≡ registers_cost c.registers → u ≡ cost (user_items c.user) → m ≡ macros_cost c.macros → f ≡ cost c.files
+    → p ≡ cost (recall_items c.recall) → total ≡ e + (r + (u + (m + (f + p)))) → total ≡ cost_of c
+parts_total c e r u m f p total are ee er eu em ef ep is = omega (arith, parts_cost c are, ee, er, eu, em, ef, ep, is)
 
 -- # Files with their total
 

@@ -1,5 +1,5 @@
 -- The nonvolatile commands: when one is refused, and what it makes of the contents. Sources: IEEE 488.2 (`*SRE`, `*ESE`, `*PSC`, `*SAV`, `*PUD`,
--- `*DMC`, `*RMC`, `*PMC`), SCPI-1999 (MMEMory); the order of refusals is this project's own.
+-- `*DMC`, `*RMC`, `*PMC`), SCPI-1999 (MMEMory, OUTPut:PON); the order of refusals is this project's own.
 use Rattle.std.specs.Prelude.{ℕ, ◌%◌, ◌==◌, ◌&&◌, not, nat_lt, nat_le, Bool, if◌then◌else◌, Option, Some, None, is_some, unwrap_or, List, [], ◌∷◌, ◌++◌, length, take, drop, slice_index, slice_index_or, slice_set, bit_and}
 use Rattle.std.specs.List.{list_all}
 use Rattle.std.specs.Str.{bytes_eq}
@@ -30,6 +30,7 @@ pub data Command : Type 0 where
   LoadState : (register : ℕ) → (name : List ℕ) → Command
   StoreMacro : (label : List ℕ) → (name : List ℕ) → Command
   LoadMacro : (label : List ℕ) → (name : List ℕ) → Command
+  Recall : (on : Bool) → Command
 
 -- # What is found
 
@@ -88,6 +89,7 @@ refused c (User bytes) = None
 refused c (DefineMacro label body) = first_of ((not (is_label label), IllegalMacroLabel) ∷ (nat_lt 1024 (length body), MacroDefinitionTooLong) ∷ (has_label c.macros label, MacroRedefinitionNotAllowed) ∷ [])
 refused c (RemoveMacro label) = first_of ((not (has_label c.macros label), MacroHeaderNotFound) ∷ [])
 refused c PurgeMacros = None
+refused c (Recall on) = None
 refused c (StoreBytes name bytes) = first_of ((not (is_name name), FileNameError) ∷ [])
 refused c (Delete name) = first_of ((not (is_name name), FileNameError) ∷ (not (has_file c.files name), FileNameNotFound) ∷ [])
 refused c (Copy from to) = first_of ((not (is_name from), FileNameError) ∷ (not (is_name to), FileNameError) ∷ (not (has_file c.files from), FileNameNotFound) ∷ (has_file c.files to, FileNameError) ∷ [])
@@ -137,6 +139,7 @@ apply c (StoreState register name) = record c { files = put c.files name (1 ∷ 
 apply c (LoadState register name) = record c { registers = slice_set c.registers register (settings_in (bytes_in c.files name)) }
 apply c (StoreMacro label name) = record c { files = put c.files name (2 ∷ body_of c.macros label) }
 apply c (LoadMacro label name) = record c { macros = c.macros ++ macro_of label (bytes_in c.files name) ∷ [] }
+apply c (Recall on) = record c { recall = on }
 
 -- the contents after commands, the first of them first
 abbrev pub applied : Contents → List Command → Contents

@@ -16,16 +16,18 @@ pub record Macro : Type 0 where
   pub body : List ℕ
 
 -- Contents: a hundred registers of settings; user data; macros in order of definition; SRE and ESE where the power-on status clear flag
--- is false; files by name, each the byte of its type and then its own bytes.
+-- is false; files by name, each the byte of its type and then its own bytes; whether the settings at power-on are those of register 0
+-- (else they are those of `*RST`).
 pub record Contents : Type 0 where
   pub registers : List (List OutputSettings)
   pub user : List ℕ
   pub macros : List Macro
   pub enables : Option (ℕ × ℕ)
   pub files : List Item
+  pub recall : Bool
 
-abbrev pub contents_of : List (List OutputSettings) → List ℕ → List Macro → Option (ℕ × ℕ) → List Item → Contents
-contents_of registers user macros enables files = record { registers = registers; user = user; macros = macros; enables = enables; files = files }
+abbrev pub contents_of : List (List OutputSettings) → List ℕ → List Macro → Option (ℕ × ℕ) → List Item → Bool → Contents
+contents_of registers user macros enables files recall = record { registers = registers; user = user; macros = macros; enables = enables; files = files; recall = recall }
 
 -- # What contents may be
 
@@ -69,9 +71,9 @@ pub record IsContents (c : Contents) : Type 0 where
   pub files : AllByRecursion IsFile c.files
   pub sorted : IsSorted c.files
 
--- freshly formatted: reset settings, and nothing else
+-- freshly formatted: reset settings, at power-on too, and nothing else
 abbrev pub fresh : Contents
-fresh = record { registers = replicate 100 reset; user = []; macros = []; enables = None; files = [] }
+fresh = record { registers = replicate 100 reset; user = []; macros = []; enables = None; files = []; recall = false }
 
 -- # Items, in the order of their keys
 
@@ -106,9 +108,14 @@ macros_items (m ∷ macros) = item_of (4 ∷ []) (flat_map macro_bytes (m ∷ ma
 abbrev pub file_item : Item → Item
 file_item file = item_of (5 ∷ file.key) file.value
 
+-- key 06: the byte 1 where the settings at power-on are those of register 0; absent where they are those of `*RST`
+abbrev pub recall_items : Bool → List Item
+recall_items false = []
+recall_items true = item_of (6 ∷ []) (1 ∷ []) ∷ []
+
 -- the map that contents are kept as
 unfoldable pub items_of : Contents → List Item
-items_of c = enables_items c.enables ++ (registers_items 0 c.registers ++ (user_items c.user ++ (macros_items c.macros ++ map file_item c.files)))
+items_of c = enables_items c.enables ++ (registers_items 0 c.registers ++ (user_items c.user ++ (macros_items c.macros ++ (map file_item c.files ++ recall_items c.recall))))
 
 -- # Cost
 

@@ -1,5 +1,5 @@
 -- Which maps are those of contents, and why another is refused.
-use Rattle.std.specs.Prelude.{◌≡◌, ℕ, ◌≤◌, ◌==◌, ◌&&◌, nat_le, Bool, true, false, if◌then◌else◌, Option, Some, None, List, [], ◌∷◌, ◌++◌, length}
+use Rattle.std.specs.Prelude.{◌≡◌, ℕ, ◌≤◌, ◌==◌, ◌&&◌, ◌||◌, nat_le, Bool, true, false, if◌then◌else◌, Option, Some, None, List, [], ◌∷◌, ◌++◌, length}
 use Rattle.std.specs.List.{flat_map, list_all, AllByRecursion}
 use Rattle.psu_items.specs.Map.{Item, item_of}
 use Rattle.psu_nv.specs.declared.decode_fault.DecodeFault.{DecodeFault}
@@ -18,13 +18,17 @@ abbrev pub is_number : List ℕ → Bool
 is_number [] = false
 is_number (number ∷ bytes) = nat_le number 99 && is_nothing bytes
 
--- a key that contents may have: 1, 3 or 4 alone, 2 and the number of a register, 5 and a file's name
+-- a part of which there is one at most: its key is this byte alone
+abbrev pub is_single : ℕ → Bool
+is_single kind = is_between 1 4 kind || kind == 6
+
+-- a key that contents may have: 1, 3, 4 or 6 alone, 2 and the number of a register, 5 and a file's name
 abbrev pub is_key : List ℕ → Bool
 is_key [] = false
 is_key (kind ∷ bytes) =
     if kind == 2 then is_number bytes
     else (if kind == 5 then is_name bytes
-    else is_between 1 4 kind && is_nothing bytes)
+    else is_single kind && is_nothing bytes)
 
 abbrev pub has_keys : List Item → Bool
 has_keys items = list_all (λ (i : Item). is_key i.key) items

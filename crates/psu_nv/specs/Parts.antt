@@ -2,7 +2,7 @@
 use Rattle.std.specs.Prelude.{◌≡◌, ◌⊎◌, ℕ, Option, Some, None, List, [], ◌∷◌}
 use Rattle.psu_items.specs.Map.{Item, item_of, get}
 use Rattle.psu_items.specs.Batch.{Edit}
-use Rattle.psu_nv.specs.Contents.{Contents, enables_items, register_items, user_items, macros_items}
+use Rattle.psu_nv.specs.Contents.{Contents, enables_items, register_items, user_items, macros_items, recall_items}
 use Rattle.psu_nv.specs.Commands.{settings_at}
 
 -- what is kept under one key
@@ -12,6 +12,7 @@ pub data Part : Type 0 where
   User : Part
   Macros : Part
   File : (name : List ℕ) → Part
+  Recall : Part
 
 abbrev pub key_of : Part → List ℕ
 key_of Enables = 1 ∷ []
@@ -19,6 +20,7 @@ key_of (Register number) = 2 ∷ number ∷ []
 key_of User = 3 ∷ []
 key_of Macros = 4 ∷ []
 key_of (File name) = 5 ∷ name
+key_of Recall = 6 ∷ []
 
 -- the file of a name, as it is kept
 abbrev pub file_items : List ℕ → Option (List ℕ) → List Item
@@ -32,6 +34,7 @@ part_items c (Register number) = register_items number (settings_at c.registers 
 part_items c User = user_items c.user
 part_items c Macros = macros_items c.macros
 part_items c (File name) = file_items name (get c.files name)
+part_items c Recall = recall_items c.recall
 
 -- the value of an item that there may be
 abbrev pub value_in : List Item → Option (List ℕ)

@@ -1,6 +1,6 @@
 -- The commands and the types of the code, as data with no borrows.
 use Rattle.std.specs.Prelude.{ℕ, Option, Some, None, if◌then◌else◌, ◌==◌}
-use Rattle.psu_nv.specs.Commands.{Command, ServiceEnable, EventEnable, PowerOnClear, Save, User, DefineMacro, RemoveMacro, PurgeMacros, StoreBytes, Delete, Copy, Move, StoreState, LoadState, StoreMacro, LoadMacro}
+use Rattle.psu_nv.specs.Commands.{Command, ServiceEnable, EventEnable, PowerOnClear, Save, User, DefineMacro, RemoveMacro, PurgeMacros, StoreBytes, Delete, Copy, Move, StoreState, LoadState, StoreMacro, LoadMacro, Recall}
 use Rattle.psu_nv.specs.declared.file_kind.FileKind.{FileKind}
 use Rattle.psu_nv.specs.declared.file_kind.FileKind.TheVariants.{Binary, State, Macro}
 use Rattle.psu_nv.specs.declared.command.NvCommand.{NvCommand}
@@ -36,6 +36,7 @@ command_of (given.StoreState register name) = StoreState register.number name.no
 command_of (given.LoadState register name) = LoadState register.number name.now
 command_of (given.StoreMacro label name) = StoreMacro label.now name.now
 command_of (given.LoadMacro label name) = LoadMacro label.now name.now
+command_of (given.Recall on) = Recall on
 
 -- the part as data
 abbrev pub part_of : Part → kept.Part
@@ -44,3 +45,4 @@ part_of (parts.Register register) = kept.Register register.number
 part_of parts.User = kept.User
 part_of parts.Macros = kept.Macros
 part_of (parts.File name) = kept.File name.now
+part_of parts.Recall = kept.Recall

@@ -9,6 +9,7 @@ ghost use Rattle.psu_nv.specs.Costs.{macros_cost, registers_cost};
 ghost use Rattle.psu_nv.specs.Views.{command_of};
 
 use crate::pages::{Pages, enables_pages, register_pages, registers_pages, user_pages};
+use crate::recall::recall_pages;
 use crate::state::state_in;
 use crate::{Contents, NvCommand, Register};
 use psu_outputs::Settings;
@@ -31,7 +32,8 @@ impl<A: Allocator + Copy> Contents<A> {
             | NvCommand::RemoveMacro(_)
             | NvCommand::PurgeMacros
             | NvCommand::LoadState(_, _)
-            | NvCommand::LoadMacro(_, _) => self.files.cost(),
+            | NvCommand::LoadMacro(_, _)
+            | NvCommand::Recall(_) => self.files.cost(),
             NvCommand::Move(from, to) => self.files_moved(from, to),
             NvCommand::StoreBytes(name, file) => self.files_with(name, 1 + file.bytes().len()),
             NvCommand::Delete(name) => self.files_without(name),
@@ -62,7 +64,8 @@ impl<A: Allocator + Copy> Contents<A> {
             | NvCommand::Move(_, _)
             | NvCommand::StoreState(_, _)
             | NvCommand::LoadState(_, _)
-            | NvCommand::StoreMacro(_, _) => self.macros_now(),
+            | NvCommand::StoreMacro(_, _)
+            | NvCommand::Recall(_) => self.macros_now(),
             NvCommand::DefineMacro(label, body) => self.macros_with(label.len() + body.len()),
             NvCommand::RemoveMacro(label) => self.macros_without(label),
             NvCommand::PurgeMacros => 0,
@@ -104,7 +107,8 @@ impl<A: Allocator + Copy> Contents<A> {
             | NvCommand::Move(_, _)
             | NvCommand::StoreState(_, _)
             | NvCommand::StoreMacro(_, _)
-            | NvCommand::LoadMacro(_, _) => registers_pages(&self.registers),
+            | NvCommand::LoadMacro(_, _)
+            | NvCommand::Recall(_) => registers_pages(&self.registers),
             NvCommand::Save(register, settings) => self.registers_with(*register, *settings),
             NvCommand::LoadState(register, name) => self.registers_with(
                 *register,
@@ -132,7 +136,8 @@ impl<A: Allocator + Copy> Contents<A> {
             | NvCommand::StoreState(_, _)
             | NvCommand::LoadState(_, _)
             | NvCommand::StoreMacro(_, _)
-            | NvCommand::LoadMacro(_, _) => user_pages(self.user.bytes()),
+            | NvCommand::LoadMacro(_, _)
+            | NvCommand::Recall(_) => user_pages(self.user.bytes()),
             NvCommand::User(user) => user_pages(user.bytes()),
         }
     }
@@ -156,7 +161,8 @@ impl<A: Allocator + Copy> Contents<A> {
             | NvCommand::StoreState(_, _)
             | NvCommand::LoadState(_, _)
             | NvCommand::StoreMacro(_, _)
-            | NvCommand::LoadMacro(_, _) => enables_pages(self.enables),
+            | NvCommand::LoadMacro(_, _)
+            | NvCommand::Recall(_) => enables_pages(self.enables),
             NvCommand::PowerOnClear(enables) => enables_pages(*enables),
         }
     }
@@ -179,7 +185,8 @@ impl<A: Allocator + Copy> Contents<A> {
             | NvCommand::Move(_, _)
             | NvCommand::StoreState(_, _)
             | NvCommand::LoadState(_, _)
-            | NvCommand::StoreMacro(_, _) => count,
+            | NvCommand::StoreMacro(_, _)
+            | NvCommand::Recall(_) => count,
             NvCommand::PurgeMacros => 0,
             NvCommand::DefineMacro(_, _) | NvCommand::LoadMacro(_, _) => count + 1,
             NvCommand::RemoveMacro(label) => self.count_without(label),
@@ -197,6 +204,7 @@ impl<A: Allocator + Copy> Contents<A> {
             user: self.user_after(command),
             macros: self.macros_after(command),
             files: self.files_after(command),
+            recall: self.recall_after(command),
         };
         pages.total()
     }
@@ -220,6 +228,7 @@ impl<A: Allocator + Copy> Contents<A> {
             user: user_pages(self.user.bytes()),
             macros: self.macros_now(),
             files: self.files.cost(),
+            recall: recall_pages(self.recall),
         };
         pages.total()
     }

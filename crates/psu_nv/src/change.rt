@@ -49,6 +49,7 @@ impl<A: Allocator + Copy> Contents<A> {
             NvCommand::User(user) => self.set_user(user),
             NvCommand::RemoveMacro(label) => self.remove_macro(label),
             NvCommand::PurgeMacros => self.purge(),
+            NvCommand::Recall(on) => self.set_recall(*on),
             NvCommand::Delete(name) => self.drop_file(name),
             NvCommand::LoadState(register, name) => self.load_state(*register, name),
             NvCommand::DefineMacro(label, body) => return self.define(label, body),

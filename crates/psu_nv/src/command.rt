@@ -37,4 +37,6 @@ pub enum NvCommand<'a> {
     StoreMacro(&'a [u8], &'a [u8]),
     /// `MMEMory:LOAD:MACRo` of a label from a file.
     LoadMacro(&'a [u8], &'a [u8]),
+    /// `OUTPut:PON:STATe`: whether the settings at power-on are those of register 0.
+    Recall(bool),
 }

@@ -13,7 +13,7 @@ use std::alloc::{AllocError, Allocator};
 use std::marker::Model;
 
 /// What is kept without power: a hundred registers of settings, user data, macros, the enables where the power-on status clear flag is
-/// false, and files. Contracts see the `Contents` of `specs/`.
+/// false, files, and whether the settings at power-on are those of register 0. Contracts see the `Contents` of `specs/`.
 #[derive(Drop)]
 pub struct Contents<A: Allocator + Copy> {
     pub(crate) alloc: A,
@@ -22,6 +22,7 @@ pub struct Contents<A: Allocator + Copy> {
     pub(crate) macros: Vec<Definition<A>, A>,
     pub(crate) enables: Option<(u8, u8)>,
     pub(crate) files: Files<A>,
+    pub(crate) recall: bool,
 }
 
 impl<A: Allocator + Copy> Model for Contents<A> {
@@ -29,9 +30,9 @@ impl<A: Allocator + Copy> Model for Contents<A> {
 
     ghost Value = { Contents };
 
-    ghost view = { λ c. contents_of c.registers c.user c.macros.items c.enables c.files };
+    ghost view = { λ c. contents_of c.registers c.user c.macros.items c.enables c.files c.recall };
 
-    ghost invariant = { λ c. IsContents (contents_of c.registers c.user c.macros.items c.enables c.files) };
+    ghost invariant = { λ c. IsContents (contents_of c.registers c.user c.macros.items c.enables c.files c.recall) };
 }
 
 impl<A: Allocator + Copy> Contents<A> {
@@ -46,6 +47,7 @@ impl<A: Allocator + Copy> Contents<A> {
             macros: Vec::new(alloc),
             enables: None,
             files: Files::new(alloc),
+            recall: false,
         }
     }
 

@@ -20,6 +20,7 @@ impl<A: Allocator + Copy> Contents<A> {
             macros,
             enables: self.enables,
             files: self.files.copy(alloc)?,
+            recall: self.recall,
         })
     }
 }

@@ -12,6 +12,7 @@ ghost use Rattle.psu_nv.specs.Decoding.{has_keys, IsKept, IsFault, files_in};
 
 use crate::files::Files;
 use crate::keys::{files_of, fit_files, has_keys};
+use crate::recall::recall_in;
 use crate::written::{WrittenMacros, macros_of};
 use crate::{Contents, DecodeFault, UserData};
 use arrayvec::ArrayVec;
@@ -26,6 +27,7 @@ struct Read<'a> {
     registers: [Settings; 100],
     user: UserData,
     macros: WrittenMacros<'a>,
+    recall: bool,
 }
 
 impl<A: Allocator + Copy> Contents<A> {
@@ -47,8 +49,8 @@ impl<A: Allocator + Copy> Contents<A> {
 // What a map says of the parts, if it is that of contents.
 fn parts_of<A: Allocator + Copy>(items: &Items<A>) -> Result<Read<'_>, DecodeFault>
     requires { has_keys items.now ≡ true }
-    ensures are { IfOk result (λ r. IsContents (contents_of r.registers r.user r.macros.items r.enables (files_in items.now))) }
-    ensures items { IfOk result (λ r. items_of (contents_of r.registers r.user r.macros.items r.enables (files_in items.now)) ≡ items.now) }
+    ensures are { IfOk result (λ r. IsContents (contents_of r.registers r.user r.macros.items r.enables (files_in items.now) r.recall)) }
+    ensures items { IfOk result (λ r. items_of (contents_of r.registers r.user r.macros.items r.enables (files_in items.now) r.recall) ≡ items.now) }
     ensures bad { IfErr result (λ e. e ≡ BadValue) }
     ensures none { IfErr result (λ e. IsKept items.now → ⊥) }
 {
@@ -56,6 +58,7 @@ fn parts_of<A: Allocator + Copy>(items: &Items<A>) -> Result<Read<'_>, DecodeFau
     let registers = registers_in(items)?;
     let user = user_in(items.get(&[3]))?;
     let macros = macros_in(items.get(&[4]))?;
+    let recall = recall_in(items.get(&[6]))?;
     if !fit_files(items.pairs()) {
         return Err(DecodeFault::BadValue);
     }
@@ -64,6 +67,7 @@ fn parts_of<A: Allocator + Copy>(items: &Items<A>) -> Result<Read<'_>, DecodeFau
         registers,
         user,
         macros,
+        recall,
     })
 }
 
@@ -73,8 +77,8 @@ fn build<A: Allocator + Copy>(
     read: &Read<'_>,
     items: &Items<A>,
 ) -> Result<Contents<A>, AllocError>
-    requires { IsContents (contents_of read.now.registers read.now.user read.now.macros.items read.now.enables (files_in items.now)) }
-    ensures { IfOk result (λ c. c ≡ contents_of read.now.registers read.now.user read.now.macros.items read.now.enables (files_in items.now)) }
+    requires { IsContents (contents_of read.now.registers read.now.user read.now.macros.items read.now.enables (files_in items.now) read.now.recall) }
+    ensures { IfOk result (λ c. c ≡ contents_of read.now.registers read.now.user read.now.macros.items read.now.enables (files_in items.now) read.now.recall) }
 {
     let mut macros = Vec::new(alloc);
     for written in read.macros.as_slice() {
@@ -87,6 +91,7 @@ fn build<A: Allocator + Copy>(
         macros,
         enables: read.enables,
         files: Files::of(files_of(alloc, items)?),
+        recall: read.recall,
     })
 }
 

@@ -32,6 +32,7 @@ impl<A: Allocator + Copy> Contents<A> {
             let key = with_first(alloc, 5, pair.key())?;
             items.append(key, pair.value().to_vec(alloc)?)?;
         }
+        self.append(alloc, &mut items, Part::Recall)?;
         Ok(items)
     }
 
@@ -51,6 +52,7 @@ impl<A: Allocator + Copy> Contents<A> {
                 Some(value) => Ok(Some(value.to_vec(alloc)?)),
                 None => Ok(None),
             },
+            Part::Recall => self.recall_value(alloc),
         }
     }
 

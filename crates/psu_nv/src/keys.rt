@@ -2,7 +2,7 @@
 ghost use Rattle.std.specs.Prelude.{◌≡◌, IfOk, option_map};
 ghost use Rattle.psu_items.specs.Map.{IsSorted};
 ghost use Rattle.psu_nv.specs.Contents.{begins_with_kind};
-ghost use Rattle.psu_nv.specs.Decoding.{is_number, is_key, has_keys, name_in, files_in, fits_file, fit_files};
+ghost use Rattle.psu_nv.specs.Decoding.{is_number, is_single, is_key, has_keys, name_in, files_in, fits_file, fit_files};
 
 use crate::file_kind::FileKind;
 use crate::names::is_name;
@@ -16,7 +16,7 @@ pub(crate) fn has_keys<A: Allocator + Copy>(pairs: &[Pair<A>]) -> bool
     pairs.iter().all(|pair| is_key(pair.key()))
 }
 
-// Whether contents may have a key: 1, 3 or 4 alone, 2 and the number of a register, 5 and a file's name.
+// Whether contents may have a key: 1, 3, 4 or 6 alone, 2 and the number of a register, 5 and a file's name.
 fn is_key(key: &[u8]) -> bool
     ensures { result ≡ is_key key.now }
 {
@@ -24,8 +24,15 @@ fn is_key(key: &[u8]) -> bool
         [] => false,
         [2, rest @ ..] => is_number(rest),
         [5, name @ ..] => is_name(name),
-        [kind, rest @ ..] => *kind >= 1 && *kind <= 4 && rest.is_empty(),
+        [kind, rest @ ..] => is_single(*kind) && rest.is_empty(),
     }
+}
+
+// Whether this byte alone is the key of a part.
+fn is_single(kind: u8) -> bool
+    ensures { result ≡ is_single kind }
+{
+    kind >= 1 && kind <= 4 || kind == 6
 }
 
 // Whether bytes are the number of a register, and nothing behind it.

@@ -21,6 +21,7 @@ mod making;
 mod names;
 mod pages;
 mod part;
+mod recall;
 mod refusal;
 mod register;
 mod room;

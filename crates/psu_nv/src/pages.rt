@@ -16,6 +16,7 @@ pub(crate) struct Pages {
     pub(crate) user: u8,
     pub(crate) macros: u128,
     pub(crate) files: u128,
+    pub(crate) recall: u8,
     ghost few_macros: { macros < 2 ^ 125 },
     ghost few_files: { files < 2 ^ 125 },
 }
@@ -23,10 +24,10 @@ pub(crate) struct Pages {
 impl Pages {
     // All of them.
     pub(crate) fn total(&self) -> u128
-        ensures { result ≡ self.now.enables + (self.now.registers + (self.now.user + (self.now.macros + self.now.files))) }
+        ensures { result ≡ self.now.enables + (self.now.registers + (self.now.user + (self.now.macros + (self.now.files + self.now.recall)))) }
     {
         let small = self.enables as u128 + (self.registers as u128 + self.user as u128);
-        small + (self.macros + self.files)
+        small + (self.macros + (self.files + self.recall as u128))
     }
 }
 

@@ -19,6 +19,8 @@ pub enum Part<'a> {
     Macros,
     /// The file of a name.
     File(&'a [u8]),
+    /// Whether the settings at power-on are those of register 0.
+    Recall,
 }
 
 impl<'a> Part<'a> {
@@ -32,6 +34,7 @@ impl<'a> Part<'a> {
             Part::User => [3].to_vec(alloc),
             Part::Macros => [4].to_vec(alloc),
             Part::File(name) => with_first(alloc, 5, name),
+            Part::Recall => [6].to_vec(alloc),
         }
     }
 }

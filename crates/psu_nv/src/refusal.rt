@@ -22,7 +22,8 @@ impl<A: Allocator + Copy> Contents<A> {
             | NvCommand::PowerOnClear(_)
             | NvCommand::Save(_, _)
             | NvCommand::User(_)
-            | NvCommand::PurgeMacros => None,
+            | NvCommand::PurgeMacros
+            | NvCommand::Recall(_) => None,
             NvCommand::DefineMacro(label, body) => self.define_refusal(label, body),
             NvCommand::RemoveMacro(label) => self.remove_refusal(label),
             NvCommand::StoreBytes(name, _) | NvCommand::StoreState(_, name) => name_refusal(name),

@@ -21,6 +21,13 @@ impl Register {
         }
     }
 
+    /// The register whose settings may be those at power-on.
+    pub fn first() -> Register
+        ensures { result.number ≡ 0 }
+    {
+        Register { number: 0 }
+    }
+
     /// Its number, 0 to 99.
     pub fn number(self) -> u8
         ensures value { result ≡ self.number }

@@ -61,7 +61,8 @@ fn keys_that_no_contents_have(rt: HostRuntime) -> Result<(), Fail> {
         &[
             (&[], &[1], BAD_KEY),
             (&[0], &[1], BAD_KEY),
-            (&[6], &[1], BAD_KEY),
+            (&[6, 0], &[1], BAD_KEY),
+            (&[7], &[1], BAD_KEY),
             (&[1, 0], &[32, 128], BAD_KEY),
             (&[2], &settings([1; 7]), BAD_KEY),
             (&[2, 100], &good, BAD_KEY),
@@ -96,6 +97,22 @@ fn enables(rt: HostRuntime) -> Result<(), Fail> {
             (&[1], &[32], BAD_VALUE),
             (&[1], &[32, 128, 0], BAD_VALUE),
             (&[1], &[96, 128], BAD_VALUE),
+        ],
+    )
+}
+
+// The choice of the settings at power-on is there for register 0 alone.
+#[test]
+fn settings_at_power_on(rt: HostRuntime) -> Result<(), Fail> {
+    rows(
+        &rt,
+        rt.alloc(),
+        &[
+            (&[6], &[1], None),
+            (&[6], &[], BAD_VALUE),
+            (&[6], &[0], BAD_VALUE),
+            (&[6], &[2], BAD_VALUE),
+            (&[6], &[1, 0], BAD_VALUE),
         ],
     )
 }
@@ -193,7 +210,7 @@ fn as_many_macros_as_there_may_be(rt: HostRuntime) -> Result<(), Fail> {
 fn a_bad_key_comes_first(rt: HostRuntime) -> Result<(), Fail> {
     let alloc = rt.alloc();
     let mut items = one(alloc, &[1], &[96, 0])?;
-    items.insert([6].to_vec(alloc)?, [0].to_vec(alloc)?)?;
+    items.insert([7].to_vec(alloc)?, [0].to_vec(alloc)?)?;
     let Err(fault) = Contents::decode_items(alloc, &items) else {
         return Err(Fail::from("accepted"));
     };
@@ -206,6 +223,7 @@ fn whole(alloc: Global) -> Result<Items<Global>, AllocError> {
     let mut items = one(alloc, b"\x05B", &[2])?;
     items.insert([1].to_vec(alloc)?, [0, 8].to_vec(alloc)?)?;
     items.insert(b"\x05A".to_vec(alloc)?, b"\x00xyz".to_vec(alloc)?)?;
+    items.insert([6].to_vec(alloc)?, [1].to_vec(alloc)?)?;
     items.insert([4].to_vec(alloc)?, b"\x01M\x00\x01!".to_vec(alloc)?)?;
     items.insert([3].to_vec(alloc)?, [9].to_vec(alloc)?)?;
     let on = settings([0, 0, 0, 0, 0xea, 0x60, 2]);
@@ -227,6 +245,7 @@ fn all_parts_together(rt: HostRuntime) -> Result<(), Fail> {
         contents.file(b"A").ok_or("no file")?.bytes,
         b"xyz".as_slice()
     );
+    assert!(rt; contents.recall());
     assert_eq!(rt; contents.cost(), items.cost());
     Ok(())
 }
@@ -239,7 +258,7 @@ fn a_copy_is_encoded_to_the_same_map(rt: HostRuntime) -> Result<(), Fail> {
     };
     let copy = contents.copy(rt.alloc())?;
     let again = copy.encode_items(rt.alloc())?;
-    assert_eq!(rt; again.pairs().len(), 6);
+    assert_eq!(rt; again.pairs().len(), 7);
     for (a, b) in again.pairs().iter().zip(items.pairs()) {
         assert!(rt; a.key() == b.key() && a.value() == b.value());
     }

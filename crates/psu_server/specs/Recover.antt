@@ -59,7 +59,7 @@ told file = entry_with file.name (file.kind, file.size)
 
 -- The image stands for these contents, and the report tells them: their cost, the enables, the first service request that is
 -- prescribed for them, how many user data and macros there are, and the files in byte order of their names; and the number of the root
--- that counts.
+-- that counts; and whether the settings at power-on are those of register 0.
 pub record IsReported {A : Type 0} (image : List ℕ) (report : Report A) : Type 0 where
   pub contents : Contents
   pub sound : IsContents contents
@@ -72,6 +72,7 @@ pub record IsReported {A : Type 0} (image : List ℕ) (report : Report A) : Type
   pub user : report.user ≡ length contents.user
   pub macros : report.macros ≡ length contents.macros
   pub files : map told report.files.items ≡ map entry contents.files
+  pub recall : report.recall ≡ contents.recall
 
 -- a report of a device at power-on, with what its store says of the image
 pub record Reports {A : Type 0} (s : State) (version root limit pages : ℕ) (report : Report A) : Type 0 where
@@ -84,6 +85,7 @@ pub record Reports {A : Type 0} (s : State) (version root limit pages : ℕ) (re
   pub user : report.user ≡ length s.flush.contents.user
   pub macros : report.macros ≡ length s.flush.contents.macros
   pub files : map told report.files.items ≡ map entry s.flush.contents.files
+  pub recall : report.recall ≡ s.flush.contents.recall
 
 -- Why an image isn't reported. A failed disk call says nothing of the image. Memory is wanted only where a root can be read.
 abbrev pub IsRecoverRefusal : List ℕ → RecoverFault → Type 0

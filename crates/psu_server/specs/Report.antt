@@ -1,5 +1,5 @@
 -- The text of a report: a line for each fact. The texts are this project's own.
-use Rattle.std.specs.Prelude.{ℕ, Option, Some, None, List, [], ◌∷◌, ◌++◌, codes, decimal}
+use Rattle.std.specs.Prelude.{ℕ, Bool, true, false, Option, Some, None, List, [], ◌∷◌, ◌++◌, codes, decimal}
 use Rattle.psu_nv.specs.declared.file_kind.FileKind.{FileKind}
 use Rattle.psu_nv.specs.declared.file_kind.FileKind.TheVariants.{Binary, State, Macro}
 use Rattle.psu_server.specs.declared.report.Report.{Report}
@@ -23,6 +23,11 @@ abbrev pub request_line : Option ℕ → List ℕ
 request_line None = codes "request none\n"
 request_line (Some byte) = count_line (codes "request ") byte
 
+-- a line only where the settings at power-on are those of register 0
+abbrev pub power_line : Bool → List ℕ
+power_line true = codes "power RCL0\n"
+power_line false = []
+
 abbrev pub kind_text : FileKind → List ℕ
 kind_text Binary = codes "BIN"
 kind_text State = codes "STAT"
@@ -39,4 +44,4 @@ file_lines (file ∷ files) = file_line file.name file.kind file.size ++ file_li
 abbrev pub report_text_of : {A : Type 0} → Report A → List ℕ
 report_text_of r =
     image_line r.version r.root ++ pages_line r.pages r.limit ++ enables_line r.enables ++ request_line r.request
-    ++ count_line (codes "user ") r.user ++ count_line (codes "macros ") r.macros ++ file_lines r.files.items
+    ++ power_line r.recall ++ count_line (codes "user ") r.user ++ count_line (codes "macros ") r.macros ++ file_lines r.files.items

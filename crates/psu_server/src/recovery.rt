@@ -100,5 +100,6 @@ fn report_of<D: Disk, A: Allocator + Copy>(
         user: contents.user().len(),
         macros: contents.labels().len(),
         files,
+        recall: contents.recall(),
     })
 }

@@ -1,6 +1,6 @@
 //! What a restart would find in an image.
 ghost use Rattle.std.specs.Prelude.{◌≡◌, IfOk, OnOk, ◌++◌};
-ghost use Rattle.psu_server.specs.Report.{image_line, pages_line, enables_line, request_line, count_line, file_line, file_lines, kind_text, report_text_of};
+ghost use Rattle.psu_server.specs.Report.{image_line, pages_line, enables_line, request_line, power_line, count_line, file_line, file_lines, kind_text, report_text_of};
 
 use crate::ReportedFile;
 use itoa::Buffer;
@@ -28,6 +28,8 @@ pub struct Report<A: Allocator + Copy> {
     pub macros: usize,
     /// The files, in byte order of their names.
     pub files: Vec<ReportedFile<A>, A>,
+    /// Whether the settings at power-on are those of register 0.
+    pub recall: bool,
 }
 
 /// The report as text, a line for each fact.
@@ -42,6 +44,7 @@ pub fn report_text<A: Allocator + Copy>(
     put_pages(&mut text, report)?;
     put_enables(&mut text, report.enables)?;
     put_request(&mut text, report.request)?;
+    put_power(&mut text, report.recall)?;
     put_count(&mut text, b"user ", report.user)?;
     put_count(&mut text, b"macros ", report.macros)?;
     put_files(&mut text, &report.files)?;
@@ -111,6 +114,16 @@ fn put_request<A: Allocator + Copy>(
         return Ok(());
     };
     put_count(text, b"request ", usize::from(byte))?;
+    Ok(())
+}
+
+// The settings at power-on, where they are those of register 0.
+fn put_power<A: Allocator + Copy>(text: &mut Vec<u8, A>, recall: bool) -> Result<(), AllocError>
+    ensures { OnOk result (text.new.items ≡ text.old.items ++ power_line recall) }
+{
+    if recall {
+        text.extend_from_slice(b"power RCL0\n")?;
+    }
     Ok(())
 }
 

@@ -32,8 +32,9 @@ by_event : (sre : ℕ) (event : Bool) → requested (byte_of event) (eqb (bit_an
 by_event sre true = ap (λ (n : ℕ). requested 32 (eqb n 0)) (bit_of_sre sre) ∙ with_event (eqb (bit_and sre 32) 0)
 by_event sre false = ap (λ (n : ℕ). requested 0 (eqb n 0)) (and_zero_l (bit_and sre 191)) ∙ sym (without_event (not (eqb (bit_and sre 32) 0)))
 
-pub request_at_power_on : (enables : Option (ℕ × ℕ)) → first_request (power_on enables) ≡ prescribed enables
-request_at_power_on None = refl
-request_at_power_on (Some enables) =
+-- no condition asks for service
+pub request_at_power_on : (enables : Option (ℕ × ℕ)) (bits : ℕ) → first_request (power_on enables bits) ≡ prescribed enables
+request_at_power_on None bits = refl
+request_at_power_on (Some enables) bits =
     by_event enables.0 (not (eqb (bit_and 128 enables.1) 0))
     ∙ ap (λ (n : ℕ). cond (not (eqb (bit_and enables.0 32) 0) && not (eqb n 0)) (Some 96) no_request) (and_comm 128 enables.1)

@@ -7,7 +7,7 @@ use Rattle.psu_lex.specs.declared.scpi_error.ScpiError.TheVariants.{QueueOverflo
 use Rattle.psu_status.specs.declared.group.Group.{Group}
 use Rattle.psu_status.specs.declared.group.Group.TheVariants.{Operation, Questionable}
 use Rattle.psu_status.specs.declared.registers.Registers.{Registers}
-use Rattle.psu_status.specs.Registers.{HaveFifteenBits, preset, summary, without_events}
+use Rattle.psu_status.specs.Registers.{HaveFifteenBits, fifteen_bits, preset, summary, without_events}
 
 -- The event status register with its enables and those of the status byte, the groups, and the errors, oldest first.
 pub record Reported : Type 0 where
@@ -109,10 +109,14 @@ abbrev pub ese_kept : Option (ℕ × ℕ) → ℕ
 ese_kept None = 0
 ese_kept (Some enables) = enables.1
 
+-- a group as after PRESet whose condition stands from the start, so no bit of it has risen
+abbrev pub standing : ℕ → Registers
+standing bits = record (preset no_registers) { condition = bits }
+
 -- PON alone in ESR (bit 7); the enables that were kept, or 0 where the power-on status clear flag is true; groups as
--- after PRESet, no event, no error
-abbrev pub power_on : Option (ℕ × ℕ) → Reported
-power_on enables = record { esr = 128; sre = sre_kept enables; ese = ese_kept enables; operation = preset no_registers; questionable = preset no_registers; errors = [] }
+-- after PRESet, the condition of QUEStionable as it stands then; no event, no error
+abbrev pub power_on : Option (ℕ × ℕ) → ℕ → Reported
+power_on enables bits = record { esr = 128; sre = sre_kept enables; ese = ese_kept enables; operation = preset no_registers; questionable = standing (fifteen_bits bits); errors = [] }
 
 -- the service request that the status makes as it is, with no message available: the status byte, where MSS is 1
 abbrev pub first_request : Reported → Option ℕ

@@ -1,6 +1,7 @@
 // The registers of one group.
 ghost use Rattle.std.specs.Prelude.{◌≡◌};
 ghost use Rattle.psu_status.specs.Registers.{preset, filter_of, with_filter, with_condition, without_events, summary, fifteen_bits, HaveFifteenBits};
+ghost use Rattle.psu_status.specs.Status.{standing};
 
 use crate::Filter;
 
@@ -30,6 +31,16 @@ impl Registers {
             positive: FIFTEEN_BITS,
             negative: 0,
         }
+    }
+
+    /// No event, with the filters of PRESet, and a condition that stands from the start, without bit 15.
+    pub fn standing(condition: u16) -> Registers
+        ensures registers { result ≡ standing (fifteen_bits condition) }
+        ensures fifteen { HaveFifteenBits result }
+    {
+        let mut registers = Registers::new();
+        registers.condition = condition & FIFTEEN_BITS;
+        registers
     }
 
     /// The filters of PRESet: rises are events, falls are none, and no event is enabled. Condition and events stay.

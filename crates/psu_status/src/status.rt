@@ -61,11 +61,12 @@ impl Model for Status {
 
 impl Status {
     /// The status at power-on: PON alone in the event status register, SRE and ESE as kept or 0 where none are kept (the
-    /// power-on status clear flag is true), the groups as after PRESet with no event, no error.
-    pub fn power_on(enables: Option<(u8, u8)>) -> Status
-        ensures status { result ≡ power_on enables }
+    /// power-on status clear flag is true), the groups as after PRESet with no event, no error. The QUEStionable condition is
+    /// this one, without bit 15.
+    pub fn power_on(enables: Option<(u8, u8)>, condition: u16) -> Status
+        ensures status { result ≡ power_on enables condition }
 
-        // The first service request is the one that IEEE 488.2 prescribes for the flag.
+        // The first service request is the one that IEEE 488.2 prescribes for the flag, whatever condition stands.
         ensures request { first_request result ≡ prescribed enables }
     {
         let (sre, ese) = enables.unwrap_or((0, 0));
@@ -74,7 +75,7 @@ impl Status {
             sre: sre & ENABLE_BITS,
             ese,
             operation: Registers::new(),
-            questionable: Registers::new(),
+            questionable: Registers::standing(condition),
             errors: ArrayVec::new(),
         }
     }

@@ -8,7 +8,7 @@ use Rattle.psu_lex.specs.declared.datum_class.DatumClass.{DatumClass}
 use Rattle.psu_lex.specs.declared.datum_class.DatumClass.TheVariants.{Numeric, Character, String, Block}
 use Rattle.psu_lex.specs.declared.scpi_error.ScpiError.{ScpiError}
 use Rattle.psu_tree.specs.Commands.{CommandReads, Makes, unit_of, greatest_of}
-use Rattle.psu_tree.specs.Parameters.{One, Perhaps, Two, mapped, next, paired, WholeOf, SwitchOf, AmountOf, WordOf, StringOf, BlockOf, TakesWhole, TakesSwitch, TakesAmount, TakesWord, TakesString, TakesBlock, amount_of, counted, flagged, switched, extreme_of, leveled, at_most, labeled, named}
+use Rattle.psu_tree.specs.Parameters.{One, Perhaps, Two, mapped, next, paired, WholeOf, SwitchOf, AmountOf, WordOf, StringOf, BlockOf, TakesWhole, TakesSwitch, TakesAmount, TakesWord, TakesString, TakesBlock, amount_of, counted, flagged, switched, extreme_of, leveled, recalled, at_most, labeled, named}
 use Rattle.psu_tree.specs.Path.{words_of}
 use Rattle.psu_tree.specs.Reading.{FormReads, SyntaxReads, Reads, header_reads}
 use Rattle.psu_tree.specs.declared.choice.Choice.{Choice}
@@ -122,6 +122,7 @@ one_command law (f.Level which) output list r q g h = makes_of _ _ (one_of (Take
 one_command law (f.LevelQuery which) output list r q g h = makes_of _ _ (perhaps_of TakesWord extreme_of words list) r q g h
 one_command law (f.Switch which) output list r q g h = makes_of _ _ (one_of TakesSwitch switched (switches law) list) r q g h
 one_command law f.Protect output list r q g h = makes_of _ _ (one_of TakesSwitch switched (switches law) list) r q g h
+one_command law f.PowerOn output list r q g h = makes_of _ _ (one_of TakesWord recalled words list) r q g h
 one_command law f.UserData output list r q g h = makes_of _ _ (one_of TakesBlock (at_most 63) (blocks law) list) r q g h
 one_command law f.Define output list r q g h = makes_of _ _ (two_of TakesString labeled TakesBlock (λ body. Ok body) (strings law) (blocks law) list) r q g h
 one_command law (f.Macro what) output list r q g h = makes_of _ _ (one_of TakesString labeled (strings law) list) r q g h

@@ -7,12 +7,12 @@ use Rattle.psu_lex.specs.declared.unit_fault.UnitFault.{UnitFault}
 use Rattle.psu_lex.specs.declared.scpi_error.ScpiError.{ScpiError}
 use Rattle.psu_lex.specs.declared.scpi_error.ScpiError.TheVariants.{MissingParameter, ParameterNotAllowed}
 use Rattle.psu_tree.specs.Commands.{CommandReads, Makes, alone, unit_of, greatest_of}
-use Rattle.psu_tree.specs.Parameters.{One, Perhaps, Two, mapped, next, paired, TakesWhole, TakesSwitch, TakesAmount, TakesWord, TakesString, TakesBlock, counted, flagged, switched, extreme_of, leveled, at_most, labeled, named}
+use Rattle.psu_tree.specs.Parameters.{One, Perhaps, Two, mapped, next, paired, TakesWhole, TakesSwitch, TakesAmount, TakesWord, TakesString, TakesBlock, counted, flagged, switched, extreme_of, leveled, recalled, at_most, labeled, named}
 use Rattle.psu_tree.specs.Path.{words_of}
 use Rattle.psu_tree.specs.Reading.{FormReads, SyntaxReads, Reads, header_reads}
 use Rattle.psu_tree.specs.declared.command.Command.{Command}
 use Rattle.psu_tree.specs.declared.command.Command.TheVariants as c
-use Rattle.psu_tree.specs.declared.flag.Flag.TheVariants.{Protection}
+use Rattle.psu_tree.specs.declared.flag.Flag.TheVariants.{Protection, Recall}
 use Rattle.psu_tree.specs.declared.form.Form.{Form}
 use Rattle.psu_tree.specs.declared.form.Form.TheVariants as f
 use Rattle.psu_tree.specs.declared.output.Output.{Output}
@@ -64,6 +64,7 @@ some_command (f.Level which) output list g = makes_some _ (c.Level which output)
 some_command (f.LevelQuery which) output list g = makes_some _ (c.LevelQuery which output) (perhaps_some TakesWord extreme_of some_word list g)
 some_command (f.Switch which) output list g = makes_some _ (c.Switch which output) (one_some TakesSwitch switched some_switch list g)
 some_command f.Protect output list g = makes_some _ (c.Flag Protection) (one_some TakesSwitch switched some_switch list g)
+some_command f.PowerOn output list g = makes_some _ (c.Flag Recall) (one_some TakesWord recalled some_word list g)
 some_command f.UserData output list g = makes_some _ c.UserData (one_some TakesBlock (at_most 63) some_block list g)
 some_command f.Define output list g = makes_some _ _ (two_some TakesString labeled TakesBlock (λ body. Ok body) some_string some_block list g)
 some_command (f.Macro what) output list g = makes_some _ (c.Macro what) (one_some TakesString labeled some_string list g)

@@ -4,10 +4,10 @@ use Rattle.std.specs.Prelude.{◌≡◌, ℕ, ◌%◌, List, [], ◌∷◌, Resu
 use Rattle.psu_lex.specs.Syntax.{Datum}
 use Rattle.psu_lex.specs.declared.scpi_error.ScpiError.{ScpiError}
 use Rattle.psu_lex.specs.declared.scpi_error.ScpiError.TheVariants.{ParameterNotAllowed}
-use Rattle.psu_tree.specs.Parameters.{One, Perhaps, Two, mapped, TakesWhole, TakesSwitch, TakesAmount, TakesWord, TakesString, TakesBlock, counted, flagged, switched, extreme_of, leveled, at_most, labeled, named}
+use Rattle.psu_tree.specs.Parameters.{One, Perhaps, Two, mapped, TakesWhole, TakesSwitch, TakesAmount, TakesWord, TakesString, TakesBlock, counted, flagged, switched, extreme_of, leveled, recalled, at_most, labeled, named}
 use Rattle.psu_tree.specs.declared.command.Command.{Command}
 use Rattle.psu_tree.specs.declared.command.Command.TheVariants as c
-use Rattle.psu_tree.specs.declared.flag.Flag.TheVariants.{Protection}
+use Rattle.psu_tree.specs.declared.flag.Flag.TheVariants.{Protection, Recall}
 use Rattle.psu_tree.specs.declared.form.Form.{Form}
 use Rattle.psu_tree.specs.declared.form.Form.TheVariants as f
 use Rattle.psu_tree.specs.declared.level.Level.{Level}
@@ -50,6 +50,7 @@ CommandReads (f.Level which) output list reading = Makes (One (TakesAmount (unit
 CommandReads (f.LevelQuery which) output list reading = Makes (Perhaps TakesWord extreme_of list) (c.LevelQuery which output) reading
 CommandReads (f.Switch which) output list reading = Makes (One TakesSwitch switched list) (c.Switch which output) reading
 CommandReads f.Protect output list reading = Makes (One TakesSwitch switched list) (c.Flag Protection) reading
+CommandReads f.PowerOn output list reading = Makes (One TakesWord recalled list) (c.Flag Recall) reading
 CommandReads f.UserData output list reading = Makes (One TakesBlock (at_most 63) list) c.UserData reading
 CommandReads f.Define output list reading = Makes (Two TakesString labeled TakesBlock (λ body. Ok body) list) (λ v. c.Define v.0 v.1) reading
 CommandReads (f.Macro what) output list reading = Makes (One TakesString labeled list) (c.Macro what) reading

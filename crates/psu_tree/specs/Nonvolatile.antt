@@ -7,7 +7,7 @@ use Rattle.psu_tree.specs.declared.action.Action.TheVariants.{PurgeMacros}
 use Rattle.psu_tree.specs.declared.command.Command.{Command}
 use Rattle.psu_tree.specs.declared.command.Command.TheVariants as c
 use Rattle.psu_tree.specs.declared.flag.Flag.{Flag}
-use Rattle.psu_tree.specs.declared.flag.Flag.TheVariants.{PowerOnClear}
+use Rattle.psu_tree.specs.declared.flag.Flag.TheVariants.{PowerOnClear, Recall}
 use Rattle.psu_tree.specs.declared.form.Form.{Form}
 use Rattle.psu_tree.specs.declared.form.Form.TheVariants as f
 use Rattle.psu_tree.specs.declared.on_file.OnFile.{OnFile}
@@ -23,6 +23,7 @@ of_action _ = Never
 
 abbrev pub of_flag : Flag → Keeping
 of_flag PowerOnClear = Always
+of_flag Recall = Always
 of_flag _ = Never
 
 abbrev pub of_register : OnRegister → Keeping
@@ -45,6 +46,7 @@ of_form (f.Action action) = of_action action
 of_form (f.Register what) = of_register what
 of_form (f.Macro what) = of_macro what
 of_form (f.File what) = of_file what
+of_form f.PowerOn = Always
 of_form f.UserData = Always
 of_form f.Define = Always
 of_form f.Contents = Always

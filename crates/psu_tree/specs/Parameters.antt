@@ -112,6 +112,10 @@ extreme_of text =
     if is_word (codes "MIN") text || is_word (codes "MINIMUM") text then Ok Least
     else (if is_word (codes "MAX") text || is_word (codes "MAXIMUM") text then Ok Greatest else Err IllegalParameterValue)
 
+-- RST or RCL0: whether it is RCL0
+abbrev pub recalled : List ℕ → Result Bool ScpiError
+recalled text = if is_word (codes "RST") text then Ok false else (if is_word (codes "RCL0") text then Ok true else Err IllegalParameterValue)
+
 -- the end of a range from 0
 abbrev pub end_of : ℕ → Extreme → ℕ
 end_of most Least = 0

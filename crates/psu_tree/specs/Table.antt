@@ -1,7 +1,7 @@
 -- The table of commands. Sources: IEEE 488.2, chapter 10; SCPI-1999 volume 2; what `SIMulation` and `DIAGnostic` have is this instrument's own.
 use Rattle.std.specs.Prelude.{List, [], ◌∷◌, codes}
 use Rattle.psu_tree.specs.Headers.{Entry, both, only, asks, kept, kept_while_false}
-use Rattle.psu_tree.specs.declared.form.Form.TheVariants.{Action, Query, OutputQuery, ClearTrip, Enable, Flag, Filter, Register, Load, Level, LevelQuery, Switch, Protect, UserData, Define, Macro, Contents, File, Names, StateFile, MacroFile}
+use Rattle.psu_tree.specs.declared.form.Form.TheVariants.{Action, Query, OutputQuery, ClearTrip, Enable, Flag, Filter, Register, Load, Level, LevelQuery, Switch, Protect, PowerOn, UserData, Define, Macro, Contents, File, Names, StateFile, MacroFile}
 use Rattle.psu_tree.specs.declared.action.Action.TheVariants as a
 use Rattle.psu_tree.specs.declared.query.Query.TheVariants as q
 use Rattle.psu_tree.specs.declared.enable.Enable.TheVariants as e
@@ -54,6 +54,7 @@ table =
     ∷ both (codes "STATus:QUEStionable:NTRansition") (Filter Questionable f.Falling) (Query (q.Filter Questionable f.Falling))
     ∷ only (codes "STATus:PRESet") (Action a.PresetStatus)
     ∷ both (codes "OUTPut<n>[:STATe]") (Switch s.Output) (OutputQuery o.State)
+    ∷ kept (both (codes "OUTPut:PON:STATe") PowerOn (Query (q.Flag g.Recall)))
     ∷ asks (codes "MEASure<n>[:SCALar]:VOLTage[:DC]") (OutputQuery o.Voltage)
     ∷ asks (codes "MEASure<n>[:SCALar]:CURRent[:DC]") (OutputQuery o.Current)
     ∷ both (codes "SIMulation:LOAD<n>") Load (OutputQuery o.Load)

@@ -9,7 +9,8 @@ ghost use Rattle.psu_tree.specs.declared.output.Output.{Output as SomeOutput};
 use crate::counts::alone;
 use crate::double::{label_and_body, label_and_name, name_and_bytes, register_and_name, two_names};
 use crate::single::{
-    one_block, one_count, one_flag, one_label, one_level, one_name, one_switch, perhaps_extreme,
+    one_block, one_count, one_flag, one_label, one_level, one_name, one_recall, one_switch,
+    perhaps_extreme,
 };
 use crate::{
     Command, Enable, Filter, Flag, Form, Group, Level, OnFile, OnMacro, OnNames, OnRegister,
@@ -95,6 +96,14 @@ fn protect<'a>(parameters: &Data<'a>) -> Result<Command<'a>, ScpiError>
 {
     let value = one_switch(parameters)?;
     Ok(Command::Flag(Flag::Protection, value))
+}
+
+// The settings at power-on.
+fn power_on<'a>(parameters: &Data<'a>) -> Result<Command<'a>, ScpiError>
+    ensures { (output : SomeOutput) (list : List DatumData) → HoldsData parameters.now list → CommandReads f.PowerOn output list result }
+{
+    let value = one_recall(parameters)?;
+    Ok(Command::Flag(Flag::Recall, value))
 }
 
 // User data.
@@ -183,6 +192,7 @@ pub fn command_of<'a>(
         Form::LevelQuery(which) => level_query(which, output, parameters),
         Form::Switch(which) => switch(which, output, parameters),
         Form::Protect => protect(parameters),
+        Form::PowerOn => power_on(parameters),
         Form::UserData => user_data(parameters),
         Form::Define => define(parameters),
         Form::Macro(what) => on_macro(what, parameters),

@@ -1,9 +1,11 @@
 // Flags of the device.
 
-/// The flags of the device: two take a number, one a Boolean.
+/// The flags of the device: two take a number, one a Boolean, one a word.
 #[derive(Clone, Copy, Debug, PartialEq, Eq)]
 pub enum Flag {
     PowerOnClear,
     Macros,
     Protection,
+    /// Whether the settings at power-on are those of register 0.
+    Recall,
 }

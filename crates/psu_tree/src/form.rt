@@ -33,6 +33,8 @@ pub enum Form {
     Switch(Switch),
     /// The same.
     Protect,
+    /// RST or RCL0.
+    PowerOn,
     /// A block of at most 63 bytes.
     UserData,
     /// A string and a block.

@@ -10,7 +10,7 @@ pub fn nonvolatile(command: &Command<'_>, flag: bool) -> bool
 {
     match command {
         Command::Enable(_, _) => !flag,
-        Command::Flag(which, _) => matches!(which, Flag::PowerOnClear),
+        Command::Flag(which, _) => matches!(which, Flag::PowerOnClear | Flag::Recall),
         Command::Action(action) => matches!(action, Action::PurgeMacros),
         Command::Register(what, _) => matches!(what, OnRegister::Save),
         Command::Macro(what, _) => matches!(what, OnMacro::Remove),

@@ -5,7 +5,7 @@ ghost use Rattle.psu_lex.specs.Shown.{IsSomeDatum};
 ghost use Rattle.psu_lex.specs.Syntax.{datum_of};
 ghost use Rattle.psu_tree.specs.Commands.{greatest_of, unit_of};
 ghost use Rattle.psu_tree.specs.Headers.{same_letters};
-ghost use Rattle.psu_tree.specs.Parameters.{TakesAmount, TakesSwitch, TakesWhole, TakesWord, amount_of, counted, end_of, extreme_of, flagged, leveled, mapped, places_of, switched};
+ghost use Rattle.psu_tree.specs.Parameters.{TakesAmount, TakesSwitch, TakesWhole, TakesWord, amount_of, counted, end_of, extreme_of, flagged, leveled, mapped, places_of, recalled, switched};
 ghost use Rattle.psu_tree.specs.Taken.{Gives};
 
 use crate::walks::is_same;
@@ -218,6 +218,33 @@ pub fn extreme(datum: &Datum<'_>) -> Result<Extreme, ScpiError>
 {
     match datum.class {
         DatumClass::Character => extreme_of(datum.text),
+        DatumClass::Numeric | DatumClass::String | DatumClass::Block => {
+            Err(ScpiError::DataTypeError)
+        }
+    }
+}
+
+// ---- settings at power-on
+
+// Whether the settings at power-on are those of register 0: RCL0, or RST.
+fn recalled(word: &[u8]) -> Result<bool, ScpiError>
+    ensures { result ≡ recalled word.now }
+{
+    if is_word(word, b"RST") {
+        return Ok(false);
+    }
+    if is_word(word, b"RCL0") {
+        return Ok(true);
+    }
+    Err(ScpiError::IllegalParameterValue)
+}
+
+/// RST or RCL0.
+pub fn recall(datum: &Datum<'_>) -> Result<bool, ScpiError>
+    ensures { Gives TakesWord recalled (datum_of datum.now) result }
+{
+    match datum.class {
+        DatumClass::Character => recalled(datum.text),
         DatumClass::Numeric | DatumClass::String | DatumClass::Block => {
             Err(ScpiError::DataTypeError)
         }

@@ -3,10 +3,12 @@ ghost use Rattle.std.specs.Prelude.{◌≡◌, ◌≤◌, List, IfOk};
 ghost use Rattle.psu_lex.specs.Shown.{HoldsData};
 ghost use Rattle.psu_lex.specs.Syntax.{Datum as DatumData};
 ghost use Rattle.psu_tree.specs.Commands.{greatest_of, unit_of};
-ghost use Rattle.psu_tree.specs.Parameters.{One, Perhaps, TakesAmount, TakesBlock, TakesString, TakesSwitch, TakesWhole, TakesWord, at_most, counted, extreme_of, flagged, labeled, leveled, named, switched};
+ghost use Rattle.psu_tree.specs.Parameters.{One, Perhaps, TakesAmount, TakesBlock, TakesString, TakesSwitch, TakesWhole, TakesWord, at_most, counted, extreme_of, flagged, labeled, leveled, named, recalled, switched};
 
 use crate::counts::{one, perhaps};
-use crate::parameters::{amount, counted, extreme, flagged, leveled, switch_of, switched, whole};
+use crate::parameters::{
+    amount, counted, extreme, flagged, leveled, recall, switch_of, switched, whole,
+};
 use crate::texts::{at_most, block, label, name};
 use crate::{Extreme, Level, Text};
 use psu_lex::{Data, ScpiError};
@@ -52,6 +54,14 @@ pub fn perhaps_extreme(parameters: &Data<'_>) -> Result<Option<Extreme>, ScpiErr
         return Ok(None);
     };
     Ok(Some(extreme(&datum)?))
+}
+
+/// RST or RCL0: whether it is RCL0.
+pub fn one_recall(parameters: &Data<'_>) -> Result<bool, ScpiError>
+    ensures { (list : List DatumData) → HoldsData parameters.now list → One TakesWord recalled list result }
+{
+    let datum = one(parameters)?;
+    recall(&datum)
 }
 
 /// A block that is not too long.

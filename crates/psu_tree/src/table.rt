@@ -1,7 +1,8 @@
 // The table of commands.
 use crate::Form::{
     Action, ClearTrip, Contents, Define, Enable, File, Filter, Flag, Level, LevelQuery, Load,
-    Macro, MacroFile, Names, OutputQuery, Protect, Query, Register, StateFile, Switch, UserData,
+    Macro, MacroFile, Names, OutputQuery, PowerOn, Protect, Query, Register, StateFile, Switch,
+    UserData,
 };
 use crate::Group::{Operation, Questionable};
 use crate::{
@@ -79,6 +80,8 @@ const STATUS: [Row; 11] = [
 
 const OUTPUT: [Row; 1] = [row!({[:STATe]} Switch(S::Output), OutputQuery(O::State))];
 
+const POWER_ON: [Row; 1] = [row!({PON:STATe} PowerOn, Query(Q::Flag(G::Recall)))];
+
 const MEASURE: [Row; 2] = [
     row!({[:SCALar]:VOLTage[:DC]}? OutputQuery(O::Voltage)),
     row!({[:SCALar]:CURRent[:DC]}? OutputQuery(O::Current)),
@@ -111,7 +114,7 @@ const SOURCE: [Row; 6] = [
 
 /// The table of commands, by the first nodes of their headers: those whose first node may be left out stand
 /// last, since their rows are tried for each header that came so far.
-pub static PATTERNS: [Section; 9] = [
+pub static PATTERNS: [Section; 10] = [
     Section {
         first: b'*',
         second: 0,
@@ -135,6 +138,12 @@ pub static PATTERNS: [Section; 9] = [
         second: b'U',
         root: node!(OUTPut <n>),
         rows: &OUTPUT,
+    },
+    Section {
+        first: b'O',
+        second: b'U',
+        root: node!(OUTPut),
+        rows: &POWER_ON,
     },
     Section {
         first: b'M',

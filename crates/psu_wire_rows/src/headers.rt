@@ -76,6 +76,6 @@ fn headers_made_from_the_table(rt: HostRuntime) -> Result<(), Fail> {
             }
         }
     }
-    assert_eq!(rt; made, 10_044);
+    assert_eq!(rt; made, 10_230);
     Ok(())
 }

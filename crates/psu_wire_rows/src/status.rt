@@ -4,7 +4,7 @@ use psu_status::{Filter, Group, Status};
 
 #[test]
 fn a_queue_that_overflows(rt: HostRuntime) {
-    let mut status = Status::power_on(None);
+    let mut status = Status::power_on(None, 0);
     for _ in 0..17 {
         status.push_error(ScpiError::UndefinedHeader);
     }
@@ -31,12 +31,12 @@ fn the_first_service_request(rt: HostRuntime) {
     ];
     for (enables, want) in rows {
         assert_eq!(rt;
-            Status::power_on(enables).first_request(),
+            Status::power_on(enables, 3).first_request(),
             want,
             "at {enables:?}"
         );
     }
-    let mut status = Status::power_on(Some((255, 128)));
+    let mut status = Status::power_on(Some((255, 128)), 0);
     assert_eq!(rt; status.sre(), 191);
     assert_eq!(rt; status.status_byte(true), 16 + 32 + 64);
     status.clear();
@@ -48,8 +48,19 @@ fn the_first_service_request(rt: HostRuntime) {
 }
 
 #[test]
+fn a_condition_that_stands_at_power_on_makes_no_event(rt: HostRuntime) {
+    let mut status = Status::power_on(None, 32_768 + 3);
+    assert_eq!(rt; status.group_condition(Group::Questionable), 3);
+    assert_eq!(rt; status.group_condition(Group::Operation), 0);
+    assert_eq!(rt; status.group_event(Group::Questionable), 0);
+    status.condition(1);
+    status.condition(3);
+    assert_eq!(rt; status.take_group_events(Group::Questionable), 2);
+}
+
+#[test]
 fn conditions_make_events(rt: HostRuntime) {
-    let mut status = Status::power_on(None);
+    let mut status = Status::power_on(None, 0);
     status.condition(2);
     status.condition(0);
     assert_eq!(rt; status.group_condition(Group::Questionable), 0);

@@ -139,6 +139,7 @@ fn each_row_in_its_shortest_and_longest_form(rt: HostRuntime) -> Result<(), Fail
             false,
         ),
         ("OUTP", ":OUTPUT4:STATE", true, true),
+        ("OUTP:PON:STAT", ":OUTPUT:PON:STATE", true, true),
         ("MEAS:VOLT", ":MEASURE1:SCALAR:VOLTAGE:DC", false, true),
         ("MEAS:CURR", ":MEASURE3:SCALAR:CURRENT:DC", false, true),
         ("SIM:LOAD", ":SIMULATION:LOAD2", true, true),
@@ -188,6 +189,33 @@ fn numeric_suffixes(rt: HostRuntime) -> Result<(), Fail> {
         "SOUR9:FOO;VOLT2 1;:SOUR:VOLT1 1;:SYST1:ERR?",
         &[113, 113, 113, 113],
     )
+}
+
+// One word of two without regard to case, and a number behind no node.
+#[test]
+fn the_settings_at_power_on(rt: HostRuntime) -> Result<(), Fail> {
+    let rows: [(&str, &[u16]); 4] = [
+        (
+            "OUTP:PON:STAT RST;STAT rcl0;STATE Rcl0;STAT?",
+            &[0, 0, 0, 0],
+        ),
+        (
+            "OUTP:PON:STAT RCL;STAT RCL1;STAT 0;STAT \"RST\"",
+            &[224, 113, 113, 113],
+        ),
+        (
+            "OUTP:PON:STAT 0;:OUTP:PON:STAT \"RST\";:OUTP:PON:STAT;:OUTP:PON:STAT RST,RST;:OUTP:PON:STAT? RST",
+            &[104, 104, 109, 108, 108],
+        ),
+        (
+            "OUTP1:PON:STAT RST;:OUTP:PON1:STAT RST;:OUTP:PON:STAT1 RST;:OUTP1:PON:STAT?;:OUTP:PON RST",
+            &[113, 113, 113, 113, 113],
+        ),
+    ];
+    for (text, wanted) in rows {
+        reads(&rt, rt.alloc(), text, wanted)?;
+    }
+    Ok(())
 }
 
 #[test]

@@ -1,5 +1,5 @@
 use Rattle.std.proofs.Common.{◌∙◌, ap, not}
-use Rattle.psu_exec.proofs.ItemsAt.{enables_at, macros_at, user_at}
+use Rattle.psu_exec.proofs.ItemsAt.{enables_at, macros_at, recall_at, user_at}
 use Rattle.psu_exec.proofs.has_item.has_one.Goals as goal
 
 pub returns-in-1 : goal.returns-in-1
@@ -10,3 +10,6 @@ returns-in-3 g c = ap not c.is_empty.ensures ∙ user_at c.args.contents.now c.a
 
 pub returns-in-4 : goal.returns-in-4
 returns-in-4 g c = ap not c.is_empty-in-4.ensures ∙ macros_at c.args.contents.now c.args.kind c.labels.result.now c.in-4.is c.labels.ensures
+
+pub returns-in-6 : goal.returns-in-6
+returns-in-6 g c = recall_at c.args.contents.now c.args.kind c.recall.result c.in-6.is c.recall.ensures

@@ -1,5 +1,5 @@
 use Rattle.std.proofs.Common.{◌≡◌, sym, ◌∙◌, ap, true, false, rules}
-use Rattle.psu_nv.specs.Parts.{Enables, User, Macros}
+use Rattle.psu_nv.specs.Parts.{Enables, User, Macros, Recall}
 use Rattle.psu_nv.specs.Decoding.{IsKept, fit_files}
 use Rattle.psu_nv.proofs.Kept.{kept_part, kept_files, at_error, are_contents, items_again}
 use Rattle.psu_nv.proofs.decode.parts_of.Goals as goal
@@ -16,6 +16,10 @@ pub returns-in_err-macros-clause-none : goal.returns-in_err-macros-clause-none
 returns-in_err-macros-clause-none g c = at_error c.from_residual-in_err-macros.result (λ (kept : IsKept c.args.items.now).
     c.in_err-macros.ensures.none kept.contents.macros kept.are.macros kept.are.distinct kept.are.most_macros (kept_part c.args.items.now kept Macros ∙ sym c.get-3.ensures))
 
+pub returns-in_err-recall-clause-none : goal.returns-in_err-recall-clause-none
+returns-in_err-recall-clause-none g c = at_error c.from_residual-in_err-recall.result (λ (kept : IsKept c.args.items.now).
+    c.in_err-recall.ensures.none kept.contents.recall (kept_part c.args.items.now kept Recall ∙ sym c.get-4.ensures))
+
 pub returns-then-not-fit_files-clause-none : goal.returns-then-not-fit_files-clause-none
 returns-then-not-fit_files-clause-none g c = λ kept.
     let fit : fit_files c.pairs.result.now ≡ true = ap fit_files c.pairs.ensures.all ∙ kept_files c.args.items.now kept in
@@ -30,7 +34,8 @@ returns-clause-are g c =
     c.in_ok-enables.ensures.mss (c.in_ok-enables.ensures.found ∙ c.get.ensures)
     c.in_ok-registers.ensures.count c.in_ok-registers.ensures.are c.in_ok-registers.ensures.found
     c.in_ok-user.ensures.most (c.in_ok-user.ensures.found ∙ c.get-2.ensures)
-    c.in_ok-macros.ensures.are c.in_ok-macros.ensures.distinct c.in_ok-macros.ensures.most (c.in_ok-macros.ensures.found ∙ c.get-3.ensures) fit
+    c.in_ok-macros.ensures.are c.in_ok-macros.ensures.distinct c.in_ok-macros.ensures.most (c.in_ok-macros.ensures.found ∙ c.get-3.ensures)
+    c.in_ok-recall.recall (c.in_ok-recall.ensures.found ∙ c.get-4.ensures) fit
 
 pub returns-clause-items : goal.returns-clause-items
 returns-clause-items g c =
@@ -40,4 +45,5 @@ returns-clause-items g c =
     c.in_ok-enables.ensures.mss (c.in_ok-enables.ensures.found ∙ c.get.ensures)
     c.in_ok-registers.ensures.count c.in_ok-registers.ensures.are c.in_ok-registers.ensures.found
     c.in_ok-user.ensures.most (c.in_ok-user.ensures.found ∙ c.get-2.ensures)
-    c.in_ok-macros.ensures.are c.in_ok-macros.ensures.distinct c.in_ok-macros.ensures.most (c.in_ok-macros.ensures.found ∙ c.get-3.ensures) fit
+    c.in_ok-macros.ensures.are c.in_ok-macros.ensures.distinct c.in_ok-macros.ensures.most (c.in_ok-macros.ensures.found ∙ c.get-3.ensures)
+    c.in_ok-recall.recall (c.in_ok-recall.ensures.found ∙ c.get-4.ensures) fit

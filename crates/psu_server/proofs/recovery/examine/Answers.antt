@@ -45,6 +45,7 @@ returns-in-Ok-power_on-clause-found g c = λ h.
       user = is.user;
       macros = is.macros;
       files = is.files;
+      recall = is.recall;
     })
 
 pub returns-in-Ok-power_on-clause-refused : goal.returns-in-Ok-power_on-clause-refused

@@ -1,7 +1,7 @@
 use Rattle.std.proofs.Common.{◌<◌, ◌∙◌, ◌∷◌, List, ℕ, sym, ap, subst, length, arith}
 use Rattle.psu_items.specs.Map.{IsSorted}
 use Rattle.psu_nv.specs.Contents.{Contents}
-use Rattle.psu_nv.proofs.Encoding.{before_register, next_register, before_user, before_macros, before_file, next_file}
+use Rattle.psu_nv.proofs.Encoding.{before_register, next_register, before_user, before_macros, before_file, before_recall, next_file}
 use Rattle.psu_nv.proofs.contents.Contents.encode_items.Goals as goal
 use Rattle.psu_nv.proofs.contents.Contents.encode_items.Goals.{in-Some+in_ok-append-2, in_default}
 
@@ -39,3 +39,8 @@ loop-pair-preserved g c =
     let led = c.in_ok-key.ensures ∙ ap (λ (l : List ℕ). 5 ∷ l) c.key.ensures in
     next_file c.args.self.now c.pairs-pair-items.result.now c.loop-pair.items c.loop-pair.pair-index _ _ same c.loop-pair.invariant c.loop-pair-test.true c.pair-item.is _ led
     _ _ _ (c.in_ok-to_vec.ensures.items_if_clones_equal (λ x y e. e) ∙ c.value.ensures) (omega arith) c.in_ok-append-5.ensures.ok
+
+pub append-requires-4 : goal.append-requires-4
+append-requires-4 g c =
+    let same = c.pairs-pair-items.ensures.all ∙ ap (λ (k : Contents). k.files) c.self.view_is in
+    before_recall c.args.self.now c.pairs-pair-items.result.now c.loop-pair.items c.loop-pair.pair-index same c.loop-pair.invariant

@@ -9,13 +9,13 @@ pub returns-clause-status : goal.returns-clause-status
 returns-clause-status c = search rules
 
 pub returns-clause-request : goal.returns-clause-request
-returns-clause-request c = ap first_request (returns-clause-status c) ∙ request_at_power_on c.args.enables
+returns-clause-request c = ap first_request (returns-clause-status c) ∙ request_at_power_on c.args.enables c.args.condition
 
 pub invariant_of-result : goal.invariant_of-result
 invariant_of-result c = record {
   sre = bit_6_of_sre c.unwrap_or-sre.result.0;
   operation = c.new.ensures.fifteen;
-  questionable = c.new-2.ensures.fifteen;
+  questionable = c.standing.ensures.fifteen;
   idle = ap (λ (r : Registers). r.condition) c.new.ensures.registers;
-  queue = omega (arith, ap length c.new-3.ensures);
+  queue = omega (arith, ap length c.new-2.ensures);
 }

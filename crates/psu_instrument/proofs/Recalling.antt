@@ -1,0 +1,25 @@
+-- Power-on with register 0 against `*RCL 0`.
+use Rattle.std.proofs.Common.{◌≡◌, ◌∙◌, ap, sym, refl, ℕ, Bool, true, List}
+use Rattle.psu_nv.specs.Contents.{Contents}
+use Rattle.psu_outputs.specs.Outputs.{conditions}
+use Rattle.psu_outputs.specs.declared.supply.Supply.{Supply}
+use Rattle.psu_status.specs.Registers.{fifteen_bits}
+use Rattle.std.specs.Prelude.{replicate, if◌then◌else◌}
+use Rattle.psu_outputs.specs.Outputs.{reset_supply}
+use Rattle.psu_instrument.specs.Instrument.{Instrument, outputs_at_power_on, power_on, with_register, with_supplies}
+use Rattle.psu_instrument.specs.Meaning.{leaves}
+use Rattle.psu_instrument.specs.PowerOn.{PowersOnAsRecalled, StandsSo, without_recall}
+
+same_left : (i j : Instrument) → leaves i ≡ leaves j → i ≡ j
+same_left i j e = cc
+
+pub powers_on_as_recalled : PowersOnAsRecalled
+powers_on_as_recalled c is limit available left e =
+    let put = with_register (replicate 4 reset_supply) c 0 in
+    let after : with_supplies (power_on (without_recall c)) put ≡ left = same_left (with_supplies (power_on (without_recall c)) put) left e in
+    let outputs : outputs_at_power_on c ≡ put = ap (λ (b : Bool). if b then put else replicate 4 reset_supply) is in
+    record {
+      outputs = outputs ∙ ap (λ (i : Instrument). i.supplies) after;
+      condition = ap (λ (l : List Supply). fifteen_bits (conditions l)) outputs ∙ ap (λ (i : Instrument). i.status.questionable.condition) after;
+      quiet = refl;
+    }
