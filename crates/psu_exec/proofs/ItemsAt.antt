@@ -2,11 +2,10 @@
 use Rattle.std.proofs.Common.{◌≡◌, ◌≢◌, ℕ, suc, ◌==◌, ◌&&◌, ◌||◌, ◌≤◌, nat_le, not, Bool, true, false, cond, Option, Some, None, is_some, MatchOption, List, [], ◌∷◌, length, refl, sym, ap, ◌∙◌, subst, arith}
 use Rattle.std.proofs.lemmas.Bool.Decides.{nat_tests}
 use Rattle.psu_items.specs.Map.{get}
-use Rattle.psu_outputs.specs.Settings.{bytes_of}
+use Rattle.psu_outputs.specs.Settings.{bytes_of, is_reset}
 use Rattle.psu_outputs.specs.declared.output_settings.OutputSettings.{OutputSettings}
 use Rattle.psu_nv.specs.Commands.{settings_at}
 use Rattle.psu_nv.specs.Contents.{Contents, IsContents, Macro, enables_items, items_of, macros_items, recall_items, user_items}
-use Rattle.psu_nv.specs.Costs.{is_reset}
 use Rattle.psu_nv.specs.Decoding.{is_key, is_nothing, is_number, is_single}
 use Rattle.psu_nv.specs.Names.{is_between, is_name}
 use Rattle.psu_nv.specs.Parts.{Enables, File, Macros, Recall, Register, User, value_in}

@@ -5,7 +5,6 @@ ghost use Rattle.psu_nv.specs.Contents.{IsContents, items_of};
 
 use crate::Contents;
 use psu_nv::Register;
-use psu_outputs::Settings;
 use std::alloc::Allocator;
 
 /// Whether the map that contents are kept as has an item under a key.
@@ -37,7 +36,7 @@ fn has_register<A: Allocator + Copy>(contents: &Contents<A>, number: &[u8]) -> b
         return false;
     }
     match Register::of(*number) {
-        Some(register) => contents.register(register).to_bytes() != Settings::reset().to_bytes(),
+        Some(register) => !contents.register(register).is_reset(),
         None => false,
     }
 }

@@ -4,9 +4,8 @@ use Rattle.std.specs.List.{AllByRecursion}
 use Rattle.psu_items.specs.Map.{Item, item_of, get, Before}
 use Rattle.psu_items.proofs.Keys.{same_true, before_not_same, after_not_same}
 use Rattle.psu_outputs.specs.declared.output_settings.OutputSettings.{OutputSettings}
-use Rattle.psu_outputs.specs.Settings.{bytes_of}
+use Rattle.psu_outputs.specs.Settings.{bytes_of, is_reset}
 use Rattle.psu_nv.specs.Contents.{Macro, Contents, enables_items, register_items, registers_items, user_items, macros_items, file_item, recall_items, items_of}
-use Rattle.psu_nv.specs.Costs.{is_reset}
 use Rattle.psu_nv.specs.Commands.{settings_at}
 use Rattle.psu_nv.specs.Parts.{Part, Enables, Register, User, Macros, File, Recall, key_of, file_items, part_items, value_in}
 use Rattle.psu_nv.proofs.Parts.{AllBelow, AllFrom, LedBelow, LedFrom, before_led, before_number, IsFrom, registers_from, enables_led, registers_below, user_below, macros_below, from_files, from_macros, from_user, from_registers, files_below, recall_led, rest_of, all-map}

@@ -5,10 +5,9 @@ use Rattle.psu_items.specs.Map.{get}
 use Rattle.psu_items.proofs.Keys.{same_key}
 use Rattle.psu_items.proofs.Maps.{same_map}
 use Rattle.psu_outputs.specs.declared.output_settings.OutputSettings.{OutputSettings}
-use Rattle.psu_outputs.specs.Settings.{AreSettings, reset, bytes_of}
+use Rattle.psu_outputs.specs.Settings.{AreSettings, reset, bytes_of, is_reset}
 use Rattle.psu_outputs.proofs.Apart.{same_settings}
 use Rattle.psu_nv.specs.Contents.{Macro, Contents, contents_of, IsContents, IsMacro, enables_items, user_items, macros_items, macro_bytes, recall_items, items_of}
-use Rattle.psu_nv.specs.Costs.{is_reset}
 use Rattle.psu_nv.specs.Commands.{settings_at}
 use Rattle.psu_nv.specs.Parts.{Part, Enables, Register, User, Macros, File, Recall, key_of, part_items, value_in}
 use Rattle.psu_nv.proofs.Finding.{all_at}

@@ -3,11 +3,10 @@
 use Rattle.std.specs.Prelude.{◌≡◌, ℕ, ◌+◌, ◌≤◌, ◌&&◌, nat_le, Bool, true, false, if◌then◌else◌, Option, Some, None, is_some, List, [], ◌∷◌, ◌++◌, length, map, replicate, bit_and, ⊤}
 use Rattle.std.specs.Option.{ForSome}
 use Rattle.std.specs.List.{flat_map, AllByRecursion}
-use Rattle.std.specs.Str.{bytes_eq}
 use Rattle.std.specs.Int.{w16, to_be_bytes}
 use Rattle.psu_items.specs.Map.{Item, item_of, cost, IsSorted}
 use Rattle.psu_outputs.specs.declared.output_settings.OutputSettings.{OutputSettings}
-use Rattle.psu_outputs.specs.Settings.{AreSettings, reset, bytes_of}
+use Rattle.psu_outputs.specs.Settings.{AreSettings, reset, is_reset, bytes_of}
 use Rattle.psu_nv.specs.Names.{is_label, is_name, same_label}
 
 -- a macro: its label as written, and its body
@@ -84,7 +83,7 @@ enables_items (Some e) = item_of (1 ∷ []) (e.0 ∷ e.1 ∷ []) ∷ []
 
 -- key 02 and the register: the 28 bytes of its settings; absent where it holds the reset settings
 abbrev pub register_items : ℕ → List OutputSettings → List Item
-register_items r settings = if bytes_eq (bytes_of settings) (bytes_of reset) then [] else item_of (2 ∷ r ∷ []) (bytes_of settings) ∷ []
+register_items r settings = if is_reset settings then [] else item_of (2 ∷ r ∷ []) (bytes_of settings) ∷ []
 
 abbrev pub registers_items : ℕ → List (List OutputSettings) → List Item
 registers_items r [] = []

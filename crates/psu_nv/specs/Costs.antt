@@ -1,18 +1,14 @@
 -- The cost of contents, part by part.
 use Rattle.std.specs.Prelude.{ℕ, ◌+◌, ◌/◌, ◌≤◌, Bool, Option, Some, None, if◌then◌else◌, List, [], ◌∷◌, length, sum_by}
-use Rattle.std.specs.Str.{bytes_eq}
 use Rattle.psu_items.specs.Map.{Item}
 use Rattle.psu_outputs.specs.declared.output_settings.OutputSettings.{OutputSettings}
-use Rattle.psu_outputs.specs.Settings.{reset, bytes_of}
+use Rattle.psu_outputs.specs.Settings.{is_reset}
 use Rattle.psu_nv.specs.Names.{same_label}
 use Rattle.psu_nv.specs.Contents.{Macro}
 
 -- one page for an item, and one for each 512 bytes begun of its value
 abbrev pub page_count : ℕ → ℕ
 page_count size = 1 + (size + 511) / 512
-
-abbrev pub is_reset : List OutputSettings → Bool
-is_reset settings = bytes_eq (bytes_of settings) (bytes_of reset)
 
 -- the bytes of the item of macros
 abbrev pub macros_length : List Macro → ℕ

@@ -102,11 +102,10 @@ fn settings_value<A: Allocator + Copy>(
 ) -> Result<Option<Vec<u8, A>>, AllocError>
     ensures { IfOk result (λ value. (number : ℕ) → option_map (λ bytes. bytes.items) value ≡ value_in (register_items number settings)) }
 {
-    let bytes = settings.to_bytes();
-    if bytes == Settings::reset().to_bytes() {
+    if settings.is_reset() {
         return Ok(None);
     }
-    Ok(Some(bytes.to_vec(alloc)?))
+    Ok(Some(settings.to_bytes().to_vec(alloc)?))
 }
 
 // These bytes; none where there are none.

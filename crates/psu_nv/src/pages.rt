@@ -2,7 +2,8 @@
 ghost use Rattle.std.specs.Prelude.{◌≡◌, ◌+◌, ◌^◌, ◌<◌, ◌≤◌, length, if◌then◌else◌, ◌==◌};
 ghost use Rattle.psu_items.specs.Map.{cost};
 ghost use Rattle.psu_nv.specs.Contents.{enables_items, user_items};
-ghost use Rattle.psu_nv.specs.Costs.{page_count, is_reset, registers_cost, macros_length};
+ghost use Rattle.psu_outputs.specs.Settings.{is_reset};
+ghost use Rattle.psu_nv.specs.Costs.{page_count, registers_cost, macros_length};
 
 use crate::{Contents, Definition};
 use psu_outputs::Settings;
@@ -54,11 +55,7 @@ pub(crate) fn register_pages(settings: Settings) -> u8
     ensures value { result ≡ (if is_reset settings then 0 else 2) }
     ensures most { result ≤ 2 }
 {
-    if settings.to_bytes() == Settings::reset().to_bytes() {
-        0
-    } else {
-        2
-    }
+    if settings.is_reset() { 0 } else { 2 }
 }
 
 pub(crate) fn registers_pages(registers: &[Settings]) -> u8

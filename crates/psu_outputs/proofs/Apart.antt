@@ -6,7 +6,7 @@ use Rattle.std.proofs.lemmas.Bool.Decides.{nat_tests}
 use Rattle.psu_outputs.specs.declared.output_settings.OutputSettings.{OutputSettings}
 use Rattle.psu_outputs.specs.Settings.{AreSettings, is_allowed, flag, output_bytes, bytes_of}
 
-both : (a b : Bool) → (a && b) ≡ true → (a ≡ true) × (b ≡ true)
+pub both : (a b : Bool) → (a && b) ≡ true → (a ≡ true) × (b ≡ true)
 both true b e = (refl, e)
 both false b e = absurd cc
 

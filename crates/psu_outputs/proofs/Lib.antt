@@ -1,4 +1,5 @@
 mod Bytes
 mod Four
 mod Ranges
+mod Resets
 pub mod Apart

@@ -2,6 +2,7 @@
 -- Sources: SCPI-1999 volume 2 (SOURce, OUTPut); ranges, bytes and formulas are this project's profile.
 use Rattle.std.specs.Prelude.{◌≡◌, ℕ, ◌+◌, ◌*◌, ◌/◌, ◌==◌, ◌&&◌, nat_lt, nat_le, Bool, true, false, if◌then◌else◌, Option, Some, None, List, [], ◌∷◌, ◌++◌, length, replicate, slice_index_or, slice_set}
 use Rattle.std.specs.List.{list_all, flat_map}
+use Rattle.std.specs.Str.{bytes_eq}
 use Rattle.std.specs.Int.{w16, to_be_bytes}
 use Rattle.psu_outputs.specs.declared.output.Output.{Output}
 use Rattle.psu_outputs.specs.declared.output.Output.TheVariants.{First, Second, Third, Fourth}
@@ -72,6 +73,10 @@ output_bytes o = to_be_bytes w16 o.voltage.0 ++ (to_be_bytes w16 o.current.0 ++ 
 
 abbrev pub bytes_of : List OutputSettings → List ℕ
 bytes_of outputs = flat_map output_bytes outputs
+
+-- the bytes are those of `*RST`
+abbrev pub is_reset : List OutputSettings → Bool
+is_reset outputs = bytes_eq (bytes_of outputs) (bytes_of reset)
 
 -- # Measuring
 

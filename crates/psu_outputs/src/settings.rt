@@ -1,6 +1,6 @@
 // The settings of the four outputs.
 ghost use Rattle.std.specs.Prelude.{◌≡◌, OnOk, IfErr, IfSome, true, false, List, IfNone};
-ghost use Rattle.psu_outputs.specs.Settings.{reset, settings_of, is_in_range, after_set, AreSettings, bytes_of, is_allowed};
+ghost use Rattle.psu_outputs.specs.Settings.{reset, is_reset, settings_of, is_in_range, after_set, AreSettings, bytes_of, is_allowed};
 ghost use Rattle.std.specs.List.{list_all};
 ghost use Rattle.psu_lex.specs.declared.scpi_error.ScpiError.TheVariants.{DataOutOfRange};
 ghost use Rattle.psu_outputs.specs.declared.output_settings.OutputSettings.{OutputSettings as Each};
@@ -37,6 +37,14 @@ impl Settings {
         Settings {
             outputs: [OutputSettings::RESET; 4],
         }
+    }
+
+    /// Whether they are those of `*RST`.
+    pub fn is_reset(&self) -> bool
+        ensures { result ≡ is_reset self.now }
+    {
+        let _ = &self.outputs;
+        *self == Settings::reset()
     }
 
     /// What is set of an output.

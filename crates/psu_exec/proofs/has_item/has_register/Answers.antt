@@ -1,4 +1,4 @@
-use Rattle.std.proofs.Common.{◌∙◌, ap, not, refl, sym}
+use Rattle.std.proofs.Common.{◌∙◌, ap, not, sym}
 use Rattle.psu_nv.specs.Commands.{settings_at}
 use Rattle.psu_exec.proofs.ItemsAt.{high_register, long_register, no_register, register_at}
 use Rattle.psu_exec.proofs.has_item.has_register.Goals as goal
@@ -12,7 +12,7 @@ returns-then-not-is_empty g c =
 
 pub returns-in-Some-of : goal.returns-in-Some-of
 returns-in-Some-of g c =
-    c.ne.ensures ∙ ap not (rw (c.to_bytes.ensures, c.to_bytes-in-Some-of.ensures, c.reset.ensures) refl)
+    ap not c.is_reset.ensures
     ∙ register_at c.args.contents.now c.args.number.now c.in-Some.rest.now c.in-Some.number.now c.register.result c.in-Some.ensures.cases.0 (sym c.is_empty.ensures ∙ c.if-not-is_empty.false)
     (c.register.ensures ∙ ap (settings_at c.args.contents.now.registers) c.in-Some-of.ensures.found)
 
