@@ -53,12 +53,12 @@ all_stand before entries sorted are = entries_of before entries (subst (AllByRec
 
 -- ---- an edit at the place of its key
 
-key_there : (entries : List Entry) (at : ℕ) (d : Entry) → at < length entries → key_at (items_in entries) at ≡ (let e = get_or entries at d in e.key)
+pub key_there : (entries : List Entry) (at : ℕ) (d : Entry) → at < length entries → key_at (items_in entries) at ≡ (let e = get_or entries at d in e.key)
 key_there [] at d within = absurd (omega (arith, within))
 key_there (e ∷ entries) zero d within = refl
 key_there (e ∷ entries) (suc at) d within = key_there entries at d (omega (arith, within))
 
-in_entries : (entries : List Entry) (key : List ℕ) (at : ℕ) → IsAt (items_in entries) key at → at < length entries
+pub in_entries : (entries : List Entry) (key : List ℕ) (at : ℕ) → IsAt (items_in entries) key at → at < length entries
 in_entries entries key at found = let within = found.in_range in omega (arith, within, length-map entries item_in)
 
 -- the item of the entry at a place

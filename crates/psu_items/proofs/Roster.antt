@@ -49,7 +49,7 @@ two_each [] all = omega arith
 two_each (i ∷ items) all = let rest = two_each items all.1 in let some = all.0.value in omega arith
 
 -- the value of a head is that of its key
-listed_value : (image : List ℕ) (heads : List Head) (i : ℕ) (d : Head) → i < length heads → AreApart (keys heads) → get (listed image heads) (let h = get_or heads i d in h.key) ≡ Some (value_in image (get_or heads i d))
+pub listed_value : (image : List ℕ) (heads : List Head) (i : ℕ) (d : Head) → i < length heads → AreApart (keys heads) → get (listed image heads) (let h = get_or heads i d in h.key) ≡ Some (value_in image (get_or heads i d))
 listed_value image [] i d lt apart = absurd (omega (arith, lt))
 listed_value image (h ∷ heads) zero d lt apart = ap (λ (b : Bool). cond b (Some (value_in image h)) (get (listed image heads) h.key)) (same_true h.key h.key refl)
 listed_value image (h ∷ heads) (suc i) d lt apart =

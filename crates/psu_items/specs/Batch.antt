@@ -1,5 +1,6 @@
 -- A batch as the list of its edits, and what it makes of a map.
 use Rattle.std.specs.Prelude.{◌≡◌, ℕ, List, [], ◌∷◌, Option, Some, None, if◌then◌else◌}
+use Rattle.std.specs.List.{AllByRecursion}
 use Rattle.std.specs.Str.{bytes_eq}
 use Rattle.psu_items.specs.Map.{Item, get, put, without}
 
@@ -26,3 +27,7 @@ assigned (e ∷ edits) key had = assigned edits key (if bytes_eq e.key key then 
 -- new has at each key what the edits say
 abbrev pub Assigns : List Item → List Edit → List Item → Type 0
 Assigns old edits new = (k : List ℕ) → get new k ≡ assigned edits k (get old k)
+
+-- no edit gives the key another value than this, and none removes it
+abbrev pub KeepsValue : List Edit → List ℕ → List ℕ → Type 0
+KeepsValue edits key value = AllByRecursion (λ (e : Edit). e.key ≡ key → e.value ≡ Some value) edits

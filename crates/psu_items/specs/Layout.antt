@@ -8,6 +8,8 @@ use Rattle.psu_pages.specs.Free.{is_free}
 use Rattle.psu_pages.specs.Writing.{IsWritten}
 use Rattle.psu_pages.specs.Outcome.{IsPlanned}
 use Rattle.psu_pages.specs.declared.pages.Pages.{Pages}
+use Rattle.psu_items.specs.Batch.{Edit, KeepsValue}
+use Rattle.psu_items.specs.Target.{Entry, standing}
 use Rattle.psu_items.specs.declared.slot.Slot.{Slot}
 
 -- the head at this place is one of an item with this key, and with a value of this length
@@ -52,6 +54,14 @@ pub record IsSlot {D A : Type 0} {G : Ghosts D} (pages : Pages D A G) (before ta
   pub planned : slot.is_new ≡ true → IsPlanned pages slot.head
   pub kept : slot.is_new ≡ false → IsOneOf pages.heads.items slot.head
   pub stands : slot.is_new ≡ false → get before slot.head.key ≡ get target slot.head.key
+
+-- of these heads the slots have each of an entry that stands
+abbrev pub HaveStanding : {A : Type 0} → List Entry → List Head → List (Slot A) → Type 0
+HaveStanding entries heads slots = (head : Head) (value : List ℕ) → IsOneOf heads head → standing entries head.key ≡ Some value → head.size ≡ length value → IsOneOf (heads_of slots) head
+
+-- of the old heads the new ones have each of an item whose value the edits keep
+abbrev pub HaveKept : List Edit → List Item → List Head → List Head → Type 0
+HaveKept edits map old new = (head : Head) (value : List ℕ) → IsOneOf old head → get map head.key ≡ Some value → KeepsValue edits head.key value → head.size ≡ length value → IsOneOf new head
 
 -- slots for these items of the target, with pages of their own
 pub record AreSlots {D A : Type 0} {G : Ghosts D} (pages : Pages D A G) (before target items : List Item) (slots : List (Slot A)) : Type 0 where

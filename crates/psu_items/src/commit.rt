@@ -6,7 +6,7 @@ ghost use Rattle.psu_items.specs.Capacity.{CanHold};
 ghost use Rattle.psu_items.specs.Batch.{changed};
 ghost use Rattle.psu_items.specs.Image.{EachStands, EachIsEither, IsEither, EachIsEitherRoot, IsEitherRoot};
 ghost use Rattle.psu_items.specs.Standing.{IsOnDisk};
-ghost use Rattle.psu_items.specs.Writing.{SameBehind};
+ghost use Rattle.psu_items.specs.Writing.{SameBehind, EachKeepsHeads};
 
 use crate::renew::{Unwritten, renew};
 use crate::{Batch, Broken, BrokenCause, Plan, Store};
@@ -59,6 +59,9 @@ impl<D: Disk, A: Allocator + Copy> Store<D, A> {
         ensures roots { D.honest → EachIsEitherRoot (D.state (disk_of result)) self.version self.number self.limit self.items (changed self.items batch) }
         ensures roots_time { D.honest → D.tells
             → LeavesOnly D.moment D.left_since self.disk (disk_of result) (IsEitherRoot self.version self.number self.limit self.items (changed self.items batch)) }
+
+        // Items that no edit changes keep their pages.
+        ensures heads { D.honest → IfStored result (λ store. EachKeepsHeads batch (D.state self.disk) (D.state store.disk)) }
 
         // Behind the roots and the pool each byte stays as it might have been left before.
         ensures behind { D.honest → Follows (SameBehind self.limit) (Left (D.state self.disk)) (Left (D.state (disk_of result))) }

@@ -1,5 +1,5 @@
 //! Items that a commit leaves as they are, with their heads.
-ghost use Rattle.std.specs.Prelude.{◌≡◌, ◌<◌, IfSome, IsTrue, length, true};
+ghost use Rattle.std.specs.Prelude.{◌≡◌, ◌<◌, ◌↔◌, ℕ, IfSome, IfNone, IsTrue, length, true};
 ghost use Rattle.psu_items.specs.Layout.{HasHead};
 ghost use Rattle.psu_items.specs.Target.{item_in};
 
@@ -16,6 +16,7 @@ pub fn kept<A: Allocator + Copy>(
 ) -> Option<usize>
     ensures head { IfSome result (HasHead heads.now (item_in entry.now)) }
     ensures stands { IfSome result (λ _. entry.now.stands ≡ true) }
+    ensures found { IfNone result (entry.now.stands ≡ true → (at : ℕ) → HasHead heads.now (item_in entry.now) at → ⊥) }
 {
     if !entry.stands {
         return None;
@@ -27,7 +28,8 @@ pub fn kept<A: Allocator + Copy>(
 
 // Where the head of an item is, looked for from this place on, and then from the front.
 fn find<A: Allocator + Copy>(heads: &[Head<A>], from: usize, entry: &Entry<'_>) -> Option<usize>
-    ensures { IfSome result (HasHead heads.now (item_in entry.now)) }
+    ensures head { IfSome result (HasHead heads.now (item_in entry.now)) }
+    ensures found { IfNone result ((at : ℕ) → HasHead heads.now (item_in entry.now) at → ⊥) }
 {
     for at in from..heads.len() {
         if is_of(heads, at, entry) {
@@ -45,7 +47,7 @@ fn find<A: Allocator + Copy>(heads: &[Head<A>], from: usize, entry: &Entry<'_>) 
 // Whether the head is one of an item with this key, and with a value of this length.
 fn is_of<A: Allocator + Copy>(heads: &[Head<A>], at: usize, entry: &Entry<'_>) -> bool
     requires { at < length heads.now }
-    ensures { IsTrue result → HasHead heads.now (item_in entry.now) at }
+    ensures { IsTrue result ↔ HasHead heads.now (item_in entry.now) at }
 {
     let head = &heads[at];
     head.key() == entry.key && head.size() as usize == entry.value.len()

@@ -7,7 +7,7 @@ ghost use Rattle.psu_pages.specs.Free.{is_free};
 ghost use Rattle.psu_items.specs.Standing.{AreSpare, IsSpare};
 ghost use Rattle.psu_pages.specs.Image.{IsNone, pages_of, taken, AreApart, Head as HeadOf};
 ghost use Rattle.psu_pages.specs.Outcome.{IsPlanned, HasSameRoots};
-ghost use Rattle.psu_items.specs.Layout.{heads_of, IsOneOf, IsSlot, IsSlotFor, AreSlots};
+ghost use Rattle.psu_items.specs.Layout.{heads_of, IsOneOf, IsSlot, IsSlotFor, AreSlots, HaveStanding};
 ghost use Rattle.psu_items.specs.Target.{aimed, item_in, IsOf};
 ghost use Rattle.psu_items.specs.declared.slot.Slot.{Slot as SlotOf};
 
@@ -35,6 +35,7 @@ pub fn lay_out<D: Disk, A: Allocator + Copy>(
     requires { AllByRecursion Fits (aimed target.now) }
     ensures roots { HasSameRoots pages.old pages.new }
     ensures laid { IfOk result (λ layout. AreSlots pages.new target.now.before (aimed target.now) (aimed target.now) layout.slots.items) }
+    ensures standing { IfOk result (λ layout. HaveStanding target.now.entries pages.old.heads.items layout.slots.items) }
     ensures claims { IfOk result (λ layout. (page : ℕ) → IsNone (taken (heads_of layout.slots.items)) page → is_free pages.new.free page ≡ is_free pages.old.free page) }
     ensures spare { IfErr result (λ _. IsSpare pages.old pages.old.heads.items → IsSpare pages.new pages.new.heads.items) }
     ensures room { IfOk result (λ layout. (layout.heads.items ≡ []) × (length (aimed target.now) ≤ vec_capacity layout.heads)) }
@@ -61,6 +62,7 @@ fn fill<D: Disk, A: Allocator + Copy>(
     requires none { slots.old.items ≡ [] }
     ensures roots { HasSameRoots pages.old pages.new }
     ensures filled { OnOk result (AreSlots pages.new target.now.before (aimed target.now) (aimed target.now) slots.new.items) }
+    ensures standing { OnOk result (HaveStanding target.now.entries pages.old.heads.items slots.new.items) }
     ensures planned { AllByRecursion (λ (slot : SlotOf A). slot.is_new ≡ true → IsPlanned pages.new slot.head) slots.new.items }
     ensures apart { AreApart (taken (heads_of slots.new.items)) }
     ensures kept { AllByRecursion (λ (slot : SlotOf A). slot.is_new ≡ false → IsOneOf pages.new.heads.items slot.head) slots.new.items }
@@ -86,6 +88,7 @@ fn slot_for<D: Disk, A: Allocator + Copy>(
     ensures roots { HasSameRoots pages.old pages.new }
     ensures others { (other : HeadOf) → IsPlanned pages.old other → IsPlanned pages.new other }
     ensures slot { (before : List Item) → IsOf before entry.now → IfOk result (IsSlotFor pages.old pages.new before (item_in entry.now)) }
+    ensures standing { IfOk result (λ slot. entry.now.stands ≡ true → (head : HeadOf) → IsOneOf pages.old.heads.items head → head.key ≡ entry.now.key → head.size ≡ length entry.now.value → slot.head ≡ head) }
     ensures marks { IfOk result (λ slot. (page : ℕ) → IsNone (pages_of slot.head) page → is_free pages.new.free page ≡ is_free pages.old.free page) }
     ensures unmarked { IfErr result (λ _. pages.new.free ≡ pages.old.free) }
 {

@@ -49,6 +49,7 @@ pub fn put<D: Disk, A: Allocator + Copy>(
     ensures limit { pages.new.limit ≡ pages.old.limit }
     ensures version { OnOk result (pages.new.version ≡ 2) }
     ensures number { OnOk result (pages.new.number ≡ pages.old.number + 1) }
+    ensures heads { OnOk result (pages.new.heads.items ≡ heads_of layout.slots.items) }
     ensures left { D.honest → (before : List Item) → ShowsMap pages.old before → EachIsEitherRoot (D.state pages.new.disk) pages.old.version pages.old.number pages.old.limit before (aimed target.now) }
     ensures time { D.honest → D.tells → (before : List Item) → ShowsMap pages.old before → LeavesOnly D.moment D.left_since pages.old.disk pages.new.disk (IsEitherRoot pages.old.version pages.old.number pages.old.limit before (aimed target.now)) }
     ensures behind { D.honest → Follows (SameBehind pages.old.limit) (Left (D.state pages.old.disk)) (Left (D.state pages.new.disk)) }

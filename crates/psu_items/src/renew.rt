@@ -6,6 +6,7 @@ ghost use Rattle.psu_pages.specs.Writing.{Reaches};
 ghost use Rattle.psu_items.specs.Capacity.{CanHold};
 ghost use Rattle.psu_items.specs.Batch.{changed};
 ghost use Rattle.psu_items.specs.Image.{EachIsEitherRoot, IsEitherRoot};
+ghost use Rattle.psu_items.specs.Layout.{HaveKept};
 ghost use Rattle.psu_items.specs.Standing.{KeepsMap};
 ghost use Rattle.psu_items.specs.Writing.{SameBehind};
 ghost use Rattle.psu_items.specs.declared.renew.Unwritten.TheVariants.{Memory, Device};
@@ -40,6 +41,7 @@ pub fn renew<D: Disk, A: Allocator + Copy>(
     ensures keeps { OnOk result (KeepsMap pages.new (changed before.now batch.now)) }
     ensures version { OnOk result (pages.new.version ≡ 2) }
     ensures number { OnOk result (pages.new.number ≡ pages.old.number + 1) }
+    ensures heads { OnOk result (HaveKept batch.now before.now pages.old.heads.items pages.new.heads.items) }
     ensures works { OnOk result (D.failures pages.new.disk ≡ D.failures pages.old.disk) }
     ensures limit { pages.new.limit ≡ pages.old.limit }
     ensures extent { D.extent pages.new.disk ≡ D.extent pages.old.disk }

@@ -1,9 +1,9 @@
 //! The map that a commit aims at: that before, after a batch.
-ghost use Rattle.std.specs.Prelude.{◌≡◌, OnOk, Some, None, IfOk, option_map};
+ghost use Rattle.std.specs.Prelude.{◌≡◌, ℕ, List, OnOk, Some, None, IfOk, option_map};
 ghost use Rattle.std.specs.List.{AllByRecursion};
 ghost use Rattle.psu_items.specs.Map.{get, IsSorted};
-ghost use Rattle.psu_items.specs.Batch.{changed, edited};
-ghost use Rattle.psu_items.specs.Target.{aimed, items_in, IsOf};
+ghost use Rattle.psu_items.specs.Batch.{changed, edited, KeepsValue};
+ghost use Rattle.psu_items.specs.Target.{aimed, items_in, standing, IsOf};
 
 use crate::entry::Entry;
 use crate::search::find;
@@ -36,6 +36,7 @@ impl<'t, A: Allocator + Copy> Target<'t, A> {
         requires { IsSorted before.now }
         ensures before { IfOk result (λ target. target.before ≡ before.now) }
         ensures aimed { IfOk result (λ target. aimed target ≡ changed before.now batch.now) }
+        ensures standing { IfOk result (λ target. (key value : List ℕ) → get before.now key ≡ Some value → KeepsValue batch.now key value → standing target.entries key ≡ Some value) }
     {
         let mut target = Target::standing(alloc, before)?;
         for edit in batch.edits() {
@@ -68,6 +69,7 @@ impl<'t, A: Allocator + Copy> Target<'t, A> {
         requires { IsSorted before.now }
         ensures before { IfOk result (λ target. target.before ≡ before.now) }
         ensures aimed { IfOk result (λ target. aimed target ≡ before.now) }
+        ensures standing { IfOk result (λ target. (key : List ℕ) → standing target.entries key ≡ get before.now key) }
     {
         let mut entries = Vec::with_capacity(alloc, before.len())?;
         for pair in before {
@@ -80,6 +82,7 @@ impl<'t, A: Allocator + Copy> Target<'t, A> {
     fn make(&mut self, edit: &'t Edit<A>) -> Result<(), AllocError>
         ensures before { self.new.before ≡ self.old.before }
         ensures aimed { OnOk result (aimed self.new ≡ edited (aimed self.old) edit.now.key edit.now.value) }
+        ensures standing { OnOk result ((key value : List ℕ) → standing self.old.entries key ≡ Some value → (edit.now.key ≡ key → edit.now.value ≡ Some value) → standing self.new.entries key ≡ Some value) }
     {
         match edit.value() {
             Some(value) => self.put(edit.key(), value),
@@ -94,6 +97,7 @@ impl<'t, A: Allocator + Copy> Target<'t, A> {
     fn put(&mut self, key: &'t [u8], value: &'t [u8]) -> Result<(), AllocError>
         ensures before { self.new.before ≡ self.old.before }
         ensures aimed { OnOk result (aimed self.new ≡ edited (aimed self.old) key.now (Some value.now)) }
+        ensures standing { OnOk result ((other its : List ℕ) → standing self.old.entries other ≡ Some its → (key.now ≡ other → value.now ≡ its) → standing self.new.entries other ≡ Some its) }
     {
         match find(&self.entries, key) {
             Ok(at) => {
@@ -112,6 +116,7 @@ impl<'t, A: Allocator + Copy> Target<'t, A> {
     fn remove(&mut self, key: &[u8])
         ensures before { self.new.before ≡ self.old.before }
         ensures aimed { aimed self.new ≡ edited (aimed self.old) key.now None }
+        ensures standing { (other its : List ℕ) → standing self.old.entries other ≡ Some its → (key.now ≡ other → ⊥) → standing self.new.entries other ≡ Some its }
     {
         if let Ok(at) = find(&self.entries, key) {
             self.entries.remove(at);

@@ -1,11 +1,13 @@
-use Rattle.std.proofs.Common.{◌≡◌, ◌∙◌, ◌++◌, ◌∷◌, ◌<◌, [], List, ap, sym, subst, length, get_or, arith}
-use Rattle.std.proofs.lemmas.List.{length-map}
+use Rattle.std.proofs.Common.{◌≡◌, ◌∙◌, ◌++◌, ◌∷◌, ◌<◌, [], List, ap, sym, subst, length, get_or, take, arith}
+use Rattle.std.proofs.lemmas.List.{length-map, take_all}
 use Rattle.psu_pages.proofs.Lists.{all_at}
 use Rattle.psu_items.specs.Capacity.{Fits}
-use Rattle.psu_items.specs.Target.{Entry, aimed, item_in, IsOf}
+use Rattle.psu_items.specs.Target.{Entry, aimed, item_in, standing, IsOf}
 use Rattle.psu_items.proofs.Aiming.{item_there, its_own}
 use Rattle.psu_items.proofs.Laying.{slots_more, slots_planned, planned_still, roots_on}
 use Rattle.psu_items.proofs.Sparing.{claims_step, slots_kept, kept_still}
+use Rattle.psu_items.specs.Layout.{IsOneOf}
+use Rattle.psu_items.proofs.Keeping.{have_more}
 use Rattle.psu_items.proofs.layout.fill.Goals as goal
 
 pub returns-in_err-reserve-clause-planned : goal.returns-in_err-reserve-clause-planned
@@ -28,6 +30,8 @@ loop-entry-preserved g c =
     record {
       slots = slots_more l.pages c.slot_for.new.pages s.roots s.others aim.before (aimed aim) l.slots.items c.add.new.slots.items l.entry-index (item_in c.entry-item.result) (item_in c.entry-item.result) c.in_ok-slot.slot there.ensures.sorted within
           (item_there aim.entries l.entry-index c.entry-item.result within is) more (c.in_ok-slot.ensures.slot aim.before of) l.invariant.slots;
+      standing = have_more aim.entries l.entry-index c.entry-item.result (omega (arith, c.loop-entry-test.true, ap (λ (xs : List Entry). length xs) there.ensures.all)) is (let p = c.args.pages.now in p.heads.items) l.slots.items c.add.new.slots.items c.in_ok-slot.slot more l.invariant.standing
+          (λ stands head one. c.in_ok-slot.ensures.standing stands head (subst (λ hs. IsOneOf hs head) (sym (ap (λ v. v.items) l.invariant.roots.heads)) one));
       roots = roots_on c.args.pages.now l.pages c.slot_for.new.pages l.invariant.roots s.roots;
       claims = claims_step c.args.pages.now l.pages c.slot_for.new.pages l.slots.items c.add.new.slots.items c.in_ok-slot.slot more l.invariant.claims c.in_ok-slot.ensures.marks;
     }
@@ -54,3 +58,11 @@ slot_for-requires g c =
     let is : e ≡ get_or aim.entries n e = c.entry-item.is ∙ ap (λ (xs : List Entry). get_or xs n e) there.ensures.all in
     let within : n < length (aimed aim) = omega (arith, c.loop-entry-test.true, many) in
     subst Fits (sym (item_there aim.entries n e within is)) (all_at Fits (aimed aim) n (item_in e) within c.requires.fits)
+
+pub returns-clause-standing : goal.returns-clause-standing
+returns-clause-standing g c = λ head value one stands.
+    let l = c.loop-entry in
+    let there = c.entries-entry-items in
+    let entries = (let aim = c.args.target.now in aim.entries) in
+    let all : take l.entry-index entries ≡ entries = take_all l.entry-index entries (omega (arith, c.loop-entry-test.false, ap (λ (xs : List Entry). length xs) there.ensures.all)) in
+    l.invariant.standing head value one (ap (λ (es : List Entry). standing es head.key) all ∙ stands)

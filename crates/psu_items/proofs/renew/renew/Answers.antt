@@ -1,10 +1,12 @@
-use Rattle.std.proofs.Common.{inl, sym, subst}
+use Rattle.std.proofs.Common.{inl, List, sym, subst}
 use Rattle.psu_disk.specs.Disk.{HasFailed}
 use Rattle.psu_items.specs.Map.{IsSorted}
 use Rattle.psu_items.specs.Capacity.{CanHold}
 use Rattle.psu_items.specs.Batch.{changed}
 use Rattle.psu_items.specs.Standing.{ShowsMap}
+use Rattle.psu_items.specs.Layout.{IsOneOf}
 use Rattle.psu_items.specs.Target.{aimed}
+use Rattle.psu_pages.specs.Image.{Head}
 use Rattle.psu_items.proofs.Maps.{sorted-changed}
 use Rattle.psu_items.proofs.Standing.{pages_as}
 use Rattle.psu_items.proofs.Laying.{slots_planned}
@@ -106,3 +108,7 @@ returns-clause-behind g c = λ h. behind_back c.args.pages.now c.lay_out.new.pag
 
 pub returns-clause-behind_time : goal.returns-clause-behind_time
 returns-clause-behind_time g c = λ h t. behind_time_back c.args.pages.now c.lay_out.new.pages c.lay_out.ensures.roots (let last = c.put.new.pages in last.disk) (c.put.ensures.behind_time h t)
+
+pub returns-in-Ok-put-clause-heads : goal.returns-in-Ok-put-clause-heads
+returns-in-Ok-put-clause-heads g c = λ head value one had keeps size.
+    subst (λ (hs : List Head). IsOneOf hs head) (sym c.in-Ok-put.ensures.heads) (c.in-Ok-lay_out.ensures.standing head value one (c.in-Ok.ensures.standing head.key value had keeps) size)

@@ -1,13 +1,15 @@
 use Rattle.std.proofs.Common.{◌≡◌, inl, ◌∙◌, ◌+◌, ◌≤◌, ℕ, List, Err, refl, sym, ap, subst, arith}
 use Rattle.psu_items.specs.Map.{Item}
-use Rattle.psu_items.specs.Batch.{changed}
+use Rattle.psu_items.specs.Batch.{Edit, changed}
 use Rattle.psu_items.specs.Image.{IsEither, Stands}
+use Rattle.psu_items.specs.Layout.{HaveKept}
 use Rattle.psu_items.specs.Plan.{Planned}
 use Rattle.psu_items.specs.Standing.{on_pages}
 use Rattle.psu_items.proofs.Standing.{pages_on_disk, pages_stand, pages_as}
 use Rattle.psu_items.proofs.Committing.{not_true, none_run, to_either, either_run, number_back, items_back, limit_back, failed_back, left_out}
 use Rattle.psu_items.proofs.Renewing.{map_called, edits_called, either_called, weakly_called, time_called, target_called, view_again, keeps_called}
 use Rattle.psu_items.proofs.Behind.{behind_none, behind_still}
+use Rattle.psu_items.proofs.Retaining.{each_kept}
 use Rattle.psu_items.proofs.store.Store.commit.Goals as goal
 
 -- ---- it is worn
@@ -92,6 +94,15 @@ returns-in-Ok-renew-clause-time g c = λ h t.
     let edits_are = edits_called s.items c.pairs.result.now c.args.batch c.edits.result.now c.in-Ok.plan c.in-Ok.ensures.ok c.pairs.ensures.all c.edits.ensures in
     rw (← c.self.view_is) (either_run g.D.Disk s.pages.version s.pages.number s.pages.limit s.items (changed s.items c.args.batch) s.pages.disk (let p = c.renew.new.pages in p.disk)
     (time_called s.items c.pairs.result.now c.args.batch c.edits.result.now map_is edits_are g.D.Disk s.pages.version s.pages.number s.pages.limit s.pages.disk (let p = c.renew.new.pages in p.disk) (c.renew.ensures.time h t)))
+
+pub returns-in-Ok-renew-clause-heads : goal.returns-in-Ok-renew-clause-heads
+returns-in-Ok-renew-clause-heads g c = λ h.
+    let s = c.self.inside in
+    let map_is = map_called s.items c.pairs.result.now c.args.batch c.edits.result.now c.in-Ok.plan c.in-Ok.ensures.ok c.pairs.ensures.all c.edits.ensures in
+    let edits_are = edits_called s.items c.pairs.result.now c.args.batch c.edits.result.now c.in-Ok.plan c.in-Ok.ensures.ok c.pairs.ensures.all c.edits.ensures in
+    let new = c.renew.new.pages in
+    let have = subst (λ (edits : List Edit). HaveKept edits s.items (let p = s.pages in p.heads.items) new.heads.items) edits_are (subst (λ (m : List Item). HaveKept c.edits.result.now m (let p = s.pages in p.heads.items) new.heads.items) map_is c.in-Ok-renew.ensures.heads) in
+    rw (← c.self.view_is) (each_kept h s.pages new s.items (changed c.pairs.result.now c.edits.result.now) c.self.invariant.shows c.in-Ok-renew.ensures.keeps.shows c.args.batch have)
 
 pub returns-in-Ok-renew-clause-behind : goal.returns-in-Ok-renew-clause-behind
 returns-in-Ok-renew-clause-behind g c = λ h. rw (← c.self.view_is) (c.renew.ensures.behind h)
