@@ -100,6 +100,12 @@ module _ {D A : Type 0} {G : Ghosts D} (pages : Pages D A G) (before target : Li
       by_kind true e = (is.planned e).claimed
       by_kind false e = one_all (λ (p : ℕ). is_free pages.free p ≡ false) pages.heads.items s.head (is.kept e) pages.claimed
 
+  -- the pages of slots for these items are those that the items cost
+  pub part_cost : (items : List Item) (slots : List (Slot A)) → AreSlots pages before target items slots → AllByRecursion (λ (i : Item). get target i.key ≡ Some i.value) items → length (taken (heads_of slots)) ≡ cost items
+  part_cost items slots so own =
+      taken_cost target slots (all_map (IsSlot pages before target) (λ (s : Slot A). IsHead s.head × (s.head.size ≡ length (value_at target s.head.key))) (λ s is. (is_head s is, is.size_is)) slots so.each)
+      ∙ ap (keys_cost target) so.keys_are ∙ own_cost target items own
+
   module _ (slots : List (Slot A)) (so : AreSlots pages before target target slots) where
     pub slots_sized : AllByRecursion (IsSized target) slots
     slots_sized = all_map (IsSlot pages before target) (IsSized target) (λ s is. record { has = is.has; size_is = is.size_is }) slots so.each
@@ -108,9 +114,7 @@ module _ {D A : Type 0} {G : Ghosts D} (pages : Pages D A G) (before target : Li
     slots_claimed = join_pages (λ (p : ℕ). is_free pages.free p ≡ false) slots (all_map (IsSlot pages before target) (λ (s : Slot A). AreClaimed pages.free (pages_of s.head)) are_claimed slots so.each)
 
     cost_is : IsSorted target → length (taken (heads_of slots)) ≡ cost target
-    cost_is sorted =
-        taken_cost target slots (all_map (IsSlot pages before target) (λ (s : Slot A). IsHead s.head × (s.head.size ≡ length (value_at target s.head.key))) (λ s is. (is_head s is, is.size_is)) slots so.each)
-        ∙ ap (keys_cost target) so.keys_are ∙ own_cost target target (all_own target sorted)
+    cost_is sorted = part_cost target slots so (all_own target sorted)
 
     pub slots_roster : (limit : ℕ) → pages.limit ≡ limit → CanHold limit target → IsSorted target → IsRoster pages.limit (heads_of slots)
     slots_roster limit limit_is can sorted = record {

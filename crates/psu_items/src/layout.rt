@@ -3,10 +3,10 @@ ghost use Rattle.std.specs.Prelude.{◌≡◌, ◌+◌, ◌<◌, ◌≤◌, ◌+
 ghost use Rattle.std.specs.List.{AllByRecursion};
 ghost use Rattle.psu_items.specs.Map.{Item};
 ghost use Rattle.psu_items.specs.Capacity.{Fits, CanHold};
-ghost use Rattle.psu_pages.specs.Free.{is_free};
+ghost use Rattle.psu_pages.specs.Free.{is_free, free_pages};
 ghost use Rattle.psu_items.specs.Standing.{AreSpare, IsSpare};
 ghost use Rattle.psu_pages.specs.Image.{IsNone, pages_of, taken, AreApart, Head as HeadOf};
-ghost use Rattle.psu_pages.specs.Outcome.{IsPlanned, HasSameRoots};
+ghost use Rattle.psu_pages.specs.Outcome.{IsPlanned, HasSameRoots, pages_for};
 ghost use Rattle.psu_items.specs.Layout.{heads_of, IsOneOf, IsSlot, IsSlotFor, AreSlots, HaveStanding};
 ghost use Rattle.psu_items.specs.Target.{aimed, item_in, IsOf};
 ghost use Rattle.psu_items.specs.declared.slot.Slot.{Slot as SlotOf};
@@ -17,7 +17,7 @@ use crate::slot::Slot;
 use crate::target::Target;
 use psu_disk::Disk;
 use psu_pages::{Head, PageFault, Pages};
-use std::alloc::Allocator;
+use std::alloc::{AllocError, Allocator};
 
 /// The slots of the next root, and room for their heads.
 #[derive(Drop)]
@@ -26,27 +26,29 @@ pub struct Layout<A: Allocator + Copy> {
     pub heads: Vec<Head<A>, A>,
 }
 
-/// Claims the pages of all items that don't stand already. Where that is refused, what was claimed is given up.
+/// Claims the pages of all items that don't stand already. The pool has room for them beside those that stand: the only error is a want
+/// of memory, and then what was claimed is given up.
 pub fn lay_out<D: Disk, A: Allocator + Copy>(
     alloc: A,
     pages: &mut Pages<D, A>,
     target: &Target<'_, A>,
-) -> Result<Layout<A>, PageFault>
-    requires { AllByRecursion Fits (aimed target.now) }
+) -> Result<Layout<A>, AllocError>
+    requires spare { IsSpare pages.old pages.old.heads.items }
+    requires can { CanHold pages.old.limit (aimed target.now) }
     ensures roots { HasSameRoots pages.old pages.new }
     ensures laid { IfOk result (λ layout. AreSlots pages.new target.now.before (aimed target.now) (aimed target.now) layout.slots.items) }
     ensures standing { IfOk result (λ layout. HaveStanding target.now.entries pages.old.heads.items layout.slots.items) }
     ensures claims { IfOk result (λ layout. (page : ℕ) → IsNone (taken (heads_of layout.slots.items)) page → is_free pages.new.free page ≡ is_free pages.old.free page) }
-    ensures spare { IfErr result (λ _. IsSpare pages.old pages.old.heads.items → IsSpare pages.new pages.new.heads.items) }
+    ensures spare { IfErr result (λ _. IsSpare pages.new pages.new.heads.items) }
     ensures room { IfOk result (λ layout. (layout.heads.items ≡ []) × (length (aimed target.now) ≤ vec_capacity layout.heads)) }
 {
     let heads = Vec::with_capacity(alloc, target.entries().len())?;
     let mut slots = Vec::new(alloc);
     match fill(alloc, pages, target, &mut slots) {
         Ok(()) => Ok(Layout { slots, heads }),
-        Err(fault) => {
+        Err(AllocError) => {
             give_up(pages, slots);
-            Err(fault)
+            Err(AllocError)
         }
     }
 }
@@ -57,8 +59,9 @@ fn fill<D: Disk, A: Allocator + Copy>(
     pages: &mut Pages<D, A>,
     target: &Target<'_, A>,
     slots: &mut Vec<Slot<A>, A>,
-) -> Result<(), PageFault>
-    requires fits { AllByRecursion Fits (aimed target.now) }
+) -> Result<(), AllocError>
+    requires spare { IsSpare pages.old pages.old.heads.items }
+    requires can { CanHold pages.old.limit (aimed target.now) }
     requires none { slots.old.items ≡ [] }
     ensures roots { HasSameRoots pages.old pages.new }
     ensures filled { OnOk result (AreSlots pages.new target.now.before (aimed target.now) (aimed target.now) slots.new.items) }
@@ -83,8 +86,9 @@ fn slot_for<D: Disk, A: Allocator + Copy>(
     pages: &mut Pages<D, A>,
     next: &mut usize,
     entry: &Entry<'_>,
-) -> Result<Slot<A>, PageFault>
-    requires { Fits (item_in entry.now) }
+) -> Result<Slot<A>, AllocError>
+    requires fits { Fits (item_in entry.now) }
+    requires room { pages_for (length entry.now.value) ≤ length (free_pages pages.old.free) }
     ensures roots { HasSameRoots pages.old pages.new }
     ensures others { (other : HeadOf) → IsPlanned pages.old other → IsPlanned pages.new other }
     ensures slot { (before : List Item) → IsOf before entry.now → IfOk result (IsSlotFor pages.old pages.new before (item_in entry.now)) }
@@ -98,10 +102,11 @@ fn slot_for<D: Disk, A: Allocator + Copy>(
             is_new: false,
         });
     }
-    Ok(Slot {
-        head: pages.plan(alloc, entry.key, entry.value.len() as u32)?,
-        is_new: true,
-    })
+    match pages.plan(alloc, entry.key, entry.value.len() as u32) {
+        Ok(head) => Ok(Slot { head, is_new: true }),
+        Err(PageFault::Memory) => Err(AllocError),
+        Err(PageFault::NoPage | PageFault::Device) => unreachable!(),
+    }
 }
 
 // Puts a slot after the others.

@@ -1,13 +1,18 @@
-use Rattle.std.proofs.Common.{◌≡◌, ◌∙◌, ◌++◌, ◌∷◌, ◌<◌, [], List, ap, sym, subst, length, get_or, take, arith}
+use Rattle.std.proofs.Common.{◌≡◌, ◌∙◌, ◌++◌, ◌∷◌, ◌<◌, [], List, Some, ap, sym, subst, length, get_or, take, arith}
 use Rattle.std.proofs.lemmas.List.{length-map, take_all}
-use Rattle.psu_pages.proofs.Lists.{all_at}
+use Rattle.psu_pages.proofs.Lists.{all_at, all_take}
 use Rattle.psu_items.specs.Capacity.{Fits}
 use Rattle.psu_items.specs.Target.{Entry, aimed, item_in, standing, IsOf}
 use Rattle.psu_items.proofs.Aiming.{item_there, its_own}
 use Rattle.psu_items.proofs.Laying.{slots_more, slots_planned, planned_still, roots_on}
 use Rattle.psu_items.proofs.Sparing.{claims_step, slots_kept, kept_still}
-use Rattle.psu_items.specs.Layout.{IsOneOf}
+use Rattle.psu_items.specs.Layout.{IsOneOf, heads_of}
 use Rattle.psu_items.proofs.Keeping.{have_more}
+use Rattle.psu_items.proofs.Roster.{part_cost}
+use Rattle.psu_items.proofs.Room.{cost_more, room_left}
+use Rattle.psu_items.proofs.Writing.{all_own}
+use Rattle.psu_items.specs.Map.{Item, cost, get}
+use Rattle.psu_pages.specs.Image.{taken}
 use Rattle.psu_items.proofs.layout.fill.Goals as goal
 
 pub returns-in_err-reserve-clause-planned : goal.returns-in_err-reserve-clause-planned
@@ -48,8 +53,8 @@ returns-in_err-slot-clause-kept g c = let l = c.loop-entry in rw c.reserve.ensur
 pub returns-clause-kept : goal.returns-clause-kept
 returns-clause-kept g c = let l = c.loop-entry in slots_kept l.pages (let aim = c.args.target.now in aim.before) (aimed c.args.target.now) _ l.slots.items l.invariant.slots
 
-pub slot_for-requires : goal.slot_for-requires
-slot_for-requires g c =
+pub slot_for-requires-clause-fits : goal.slot_for-requires-clause-fits
+slot_for-requires-clause-fits g c =
     let aim = c.args.target.now in
     let there = c.entries-entry-items in
     let n = c.loop-entry.entry-index in
@@ -57,7 +62,26 @@ slot_for-requires g c =
     let many : length there.result.now ≡ length (aimed aim) = ap (λ (xs : List Entry). length xs) there.ensures.all ∙ sym (length-map aim.entries item_in) in
     let is : e ≡ get_or aim.entries n e = c.entry-item.is ∙ ap (λ (xs : List Entry). get_or xs n e) there.ensures.all in
     let within : n < length (aimed aim) = omega (arith, c.loop-entry-test.true, many) in
-    subst Fits (sym (item_there aim.entries n e within is)) (all_at Fits (aimed aim) n (item_in e) within c.requires.fits)
+    subst Fits (sym (item_there aim.entries n e within is)) (all_at Fits (aimed aim) n (item_in e) within c.requires.can.fits)
+
+-- what stands takes no more than the limit, and neither do the items up to this one
+pub slot_for-requires-clause-room : goal.slot_for-requires-clause-room
+slot_for-requires-clause-room g c =
+    let l = c.loop-entry in
+    let old = c.args.pages.now in
+    let aim = c.args.target.now in
+    let there = c.entries-entry-items in
+    let n = l.entry-index in
+    let e = c.entry-item.result in
+    let many : length there.result.now ≡ length (aimed aim) = ap (λ (xs : List Entry). length xs) there.ensures.all ∙ sym (length-map aim.entries item_in) in
+    let is : e ≡ get_or aim.entries n e = c.entry-item.is ∙ ap (λ (xs : List Entry). get_or xs n e) there.ensures.all in
+    let within : n < length (aimed aim) = omega (arith, c.loop-entry-test.true, many) in
+    let value : length e.value ≡ length (let i = get_or (aimed aim) n (item_in e) in i.value) = ap (λ (i : Item). length i.value) (item_there aim.entries n e within is) in
+    let own = all_take (λ (i : Item). get (aimed aim) i.key ≡ Some i.value) n (aimed aim) (all_own (aimed aim) there.ensures.sorted) in
+    let spent : length (taken (heads_of l.slots.items)) ≡ cost (take n (aimed aim)) = part_cost l.pages aim.before (aimed aim) (take n (aimed aim)) l.slots.items l.invariant.slots own in
+    let left = room_left (let p = l.pages in p.free) old.limit (taken old.heads.items) (taken (heads_of l.slots.items)) (omega (arith, l.pages.sized, l.invariant.roots.limit))
+    (λ page pool none others. l.invariant.claims page others ∙ c.requires.spare page pool none) in
+    omega (arith, left, spent, value, old.roster.cost, c.requires.can.cost, cost_more (aimed aim) n (item_in e) within)
 
 pub returns-clause-standing : goal.returns-clause-standing
 returns-clause-standing g c = λ head value one stands.

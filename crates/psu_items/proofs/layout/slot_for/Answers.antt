@@ -16,8 +16,8 @@ returns-in-Some-clause-standing g c = λ stands head one key size.
     let same = key_of heads item at found.result found.is has ∙ sym key in
     c.in_ok-copy.ensures ∙ found.is ∙ one_key heads at here.0 found.result head c.heads-in-Some.ensures.roster.distinct has.within here.1 (ap (λ (h : Head). h.key) (sym found.is) ∙ same ∙ ap (λ (h : Head). h.key) (sym here.2)) ∙ here.2
 
-pub returns-clause-standing : goal.returns-clause-standing
-returns-clause-standing g c = λ stands head one key size.
+pub returns-in-Ok-clause-standing : goal.returns-in-Ok-clause-standing
+returns-in-Ok-clause-standing g c = λ stands head one key size.
     let heads = c.heads.result.now in
     let here = subst (λ (hs : List Head). IsOneOf hs head) (sym c.heads.ensures.value) one in
     absurd (c.in_default.ensures.found stands here.0 (one_has heads (item_in c.args.entry.now) head here key size))

@@ -25,7 +25,7 @@ returns-in_default-clause-time g c = λ h t.
 
 pub returns-in_default-lay_out-clause-same : goal.returns-in_default-lay_out-clause-same
 returns-in_default-lay_out-clause-same g c = λ memory.
-    (c.lay_out.ensures.roots, record { shows = still_shows c.args.pages.now c.lay_out.new.pages c.lay_out.ensures.roots c.args.before.now c.requires.keeps.shows; spare = c.in_default-lay_out.ensures.spare c.requires.keeps.spare })
+    (c.lay_out.ensures.roots, record { shows = still_shows c.args.pages.now c.lay_out.new.pages c.lay_out.ensures.roots c.args.before.now c.requires.keeps.shows; spare = c.in_default-lay_out.ensures.spare })
 
 pub returns-in_default-lay_out-clause-left : goal.returns-in_default-lay_out-clause-left
 returns-in_default-lay_out-clause-left g c = rw c.lay_out.ensures.roots.disk (λ h x l. inl (pages_as c.args.pages.now c.args.before.now c.requires.keeps.shows h x l))
