@@ -11,3 +11,4 @@ pub mod Filed
 pub mod Kept
 pub mod Telling
 pub mod Edits
+pub mod ItemsAt

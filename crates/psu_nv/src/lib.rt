@@ -15,6 +15,7 @@ mod file_bytes;
 mod file_kind;
 mod files;
 mod found;
+mod has_item;
 mod keys;
 mod laws;
 mod making;

@@ -1,5 +1,5 @@
 -- What the map of contents has at a key.
-use Rattle.std.proofs.Common.{◌≡◌, ◌≢◌, ℕ, suc, ◌==◌, ◌&&◌, ◌||◌, ◌≤◌, nat_le, not, Bool, true, false, cond, Option, Some, None, is_some, MatchOption, List, [], ◌∷◌, length, refl, sym, ap, ◌∙◌, subst, arith}
+use Rattle.std.proofs.Common.{◌≡◌, ◌≢◌, ℕ, suc, ◌==◌, ◌&&◌, ◌||◌, ◌≤◌, nat_le, not, Bool, true, false, cond, Option, Some, None, is_some, option_map, List, [], ◌∷◌, length, refl, sym, ap, ◌∙◌, subst, arith}
 use Rattle.std.proofs.lemmas.Bool.Decides.{nat_tests}
 use Rattle.psu_items.specs.Map.{get}
 use Rattle.psu_outputs.specs.Settings.{bytes_of, is_reset}
@@ -60,14 +60,13 @@ none_of_kind c kind is two five one three four six =
 
 -- ---- the parts
 
-pub file_at : (c : Contents) (key name : List ℕ) (kind : ℕ) {F : Type 0} (found : Option F) (value : F → List ℕ) → key ≡ kind ∷ name → kind ≡ 5
-    → MatchOption found (get c.files name ≡ None) (λ f. get c.files name ≡ Some (value f)) → is_some found ≡ is_some (get (items_of c) key)
-file_at c key name kind found value same five match =
-    by value found match ∙ sym (ap is_some (ap (get (items_of c)) (same ∙ ap (λ (k : ℕ). k ∷ name) five) ∙ part_found c (File name) ∙ value_file name (get c.files name)))
+pub file_at : (c : Contents) (key name : List ℕ) (kind : ℕ) {F : Type 0} (found : Option F) (value : F → List ℕ) → key ≡ kind ∷ name → kind ≡ 5 → option_map value found ≡ get c.files name → is_some found ≡ is_some (get (items_of c) key)
+file_at c key name kind found value same five is =
+    by value found ∙ ap is_some is ∙ sym (ap is_some (ap (get (items_of c)) (same ∙ ap (λ (k : ℕ). k ∷ name) five) ∙ part_found c (File name) ∙ value_file name (get c.files name)))
   where
-    by : {F : Type 0} (value : F → List ℕ) (o : Option F) → MatchOption o (get c.files name ≡ None) (λ f. get c.files name ≡ Some (value f)) → is_some o ≡ is_some (get c.files name)
-    by value None m = sym (ap is_some m)
-    by value (Some f) m = sym (ap is_some m)
+    by : {F : Type 0} (value : F → List ℕ) (o : Option F) → is_some o ≡ is_some (option_map value o)
+    by value None = refl
+    by value (Some f) = refl
 
 pub enables_at : (c : Contents) (kind : ℕ) (found : Option (ℕ × ℕ)) → kind ≡ 1 → found ≡ c.enables → is_some found ≡ is_some (get (items_of c) (kind ∷ []))
 enables_at c kind found one same = ap is_some same ∙ by c.enables ∙ sym (ap is_some (ap (λ (k : ℕ). get (items_of c) (k ∷ [])) one ∙ part_found c Enables)) where
