@@ -1,4 +1,4 @@
-use Rattle.std.proofs.Common.{◌≡◌, ◌∙◌, List, ℕ, Option, ap, option_map, sym, subst}
+use Rattle.std.proofs.Common.{◌∙◌, ap, sym, subst}
 use Rattle.psu_items.specs.Map.{get}
 use Rattle.psu_nv.specs.Contents.{Contents, IsContents}
 use Rattle.psu_nv.proofs.ItemsAt.{file_at, none_empty, none_long}
