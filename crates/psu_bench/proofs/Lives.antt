@@ -1,15 +1,12 @@
 -- A history happens, call by call.
-use Rattle.std.proofs.Common.{◌≡◌, ◌⊎◌, ℕ, Some, None, List, [], ◌∷◌, refl, sym, ap, subst, inl, inr}
+use Rattle.std.proofs.Common.{◌≡◌, Some, None, List, [], ◌∷◌, refl, sym, ap, subst, inl, inr}
 use Rattle.std.specs.Prelude.{⊤}
-use Rattle.psu_disk.specs.Disk.{DiskState, Left}
-use Rattle.psu_items.specs.Image.{Stands}
-use Rattle.psu_nv.specs.Contents.{items_of}
+use Rattle.psu_disk.specs.Disk.{DiskState}
 use Rattle.psu_exec.specs.Device.{State}
 use Rattle.psu_exec.specs.Calls.{Entry}
 use Rattle.psu_exec.specs.Calls.Entry.{Executed, Settled, Took, GaveBack, Opened, Closed, Cleared, Sent, Delivered, Queried, Fetched, Told, Locked, Released, Ticked, Informed, Due}
-use Rattle.psu_exec.specs.Headline.{IsPrefix}
 use Rattle.psu_exec.specs.Lives.{broken_life}
-use Rattle.psu_exec.specs.World.{World, Running, Event, Call, DiskCall, Loss, Restart, DiskAfter, Happens, IsStart, Run, after, recorded}
+use Rattle.psu_exec.specs.World.{World, Running, Event, Call, DiskCall, Loss, Restart, DiskAfter, Happens, Run, recorded}
 use Rattle.psu_exec.proofs.BrokenLife.{breaks_and_mends}
 use Rattle.psu_exec.proofs.Events.{prefix_is_left}
 use Rattle.psu_turn.specs.History.{Leads}

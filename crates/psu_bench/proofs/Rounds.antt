@@ -1,9 +1,9 @@
 -- Rounds of the flusher.
-use Rattle.std.proofs.Common.{◌≡◌, ℕ, suc, arith, ◌+◌, List, [], ◌∷◌, ◌++◌, refl, sym, ap, ◌∙◌, subst, inl, inr, ⊎_elim, Option, Result, Ok, Err}
+use Rattle.std.proofs.Common.{◌≡◌, ℕ, suc, arith, ◌+◌, List, [], ◌∷◌, ◌++◌, refl, ap, ◌∙◌, subst}
 use Rattle.psu_disk.specs.declared.disk.Disk.{Ghosts}
-use Rattle.psu_exec.specs.Calls.{Entry, JobData, JobEnd, Taken, Commit, Reopen, Job, Nothing, Out, Memory}
-use Rattle.psu_exec.specs.Calls.Entry.{Took, GaveBack}
-use Rattle.psu_exec.specs.Jobs.{finished_of, job_data, taken_of, RunsTo}
+use Rattle.psu_exec.specs.Calls.{Entry, Taken}
+use Rattle.psu_exec.specs.Calls.Entry.{Took}
+use Rattle.psu_exec.specs.Jobs.{finished_of, job_data, RunsTo}
 use Rattle.psu_exec.specs.Shown.{none_of}
 use Rattle.psu_exec.specs.declared.job.Job.{Job as AnyJob}
 use Rattle.psu_exec.specs.declared.job.Job.TheVariants as job

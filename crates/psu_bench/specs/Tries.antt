@@ -1,7 +1,7 @@
 -- What the worker of a session calls.
 use Rattle.std.specs.Prelude.{◌≡◌, ℕ, ◌+◌, ◌≤◌, Bool, true, false, All, length, Option, Some, None, List, [], ◌∷◌, ◌++◌}
 use Rattle.psu_tree.specs.declared.unit_request.Request.{Request}
-use Rattle.psu_exec.specs.Device.{Reply, Done, Answer, Error, Expand, Parked, Held, Later}
+use Rattle.psu_exec.specs.Device.{Reply, Parked, Held, Later}
 use Rattle.psu_exec.specs.Calls.{Entry}
 use Rattle.psu_exec.specs.Calls.Entry.{Executed, Settled}
 

@@ -1,14 +1,12 @@
 -- Power-on with register 0 against `*RCL 0`.
-use Rattle.std.proofs.Common.{◌≡◌, ◌∙◌, ap, sym, refl, ℕ, Bool, true, List}
-use Rattle.psu_nv.specs.Contents.{Contents}
-use Rattle.psu_outputs.specs.Outputs.{conditions}
+use Rattle.std.proofs.Common.{◌≡◌, ◌∙◌, ap, refl, Bool, List}
+use Rattle.psu_outputs.specs.Outputs.{conditions, reset_supply}
 use Rattle.psu_outputs.specs.declared.supply.Supply.{Supply}
 use Rattle.psu_status.specs.Registers.{fifteen_bits}
 use Rattle.std.specs.Prelude.{replicate, if◌then◌else◌}
-use Rattle.psu_outputs.specs.Outputs.{reset_supply}
 use Rattle.psu_instrument.specs.Instrument.{Instrument, outputs_at_power_on, power_on, with_register, with_supplies}
 use Rattle.psu_instrument.specs.Meaning.{leaves}
-use Rattle.psu_instrument.specs.PowerOn.{PowersOnAsRecalled, StandsSo, without_recall}
+use Rattle.psu_instrument.specs.PowerOn.{PowersOnAsRecalled, without_recall}
 
 same_left : (i j : Instrument) → leaves i ≡ leaves j → i ≡ j
 same_left i j e = cc
