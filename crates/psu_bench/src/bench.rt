@@ -45,13 +45,21 @@ impl<D: Disk, A: Allocator + Copy> Bench<D, A> {
         ensures seat { IfOk result (λ made. Begins made.0 exec.device made.1) }
         ensures back { IfErr result (λ refused. refused.object ≡ exec) }
     {
+        let exec = match Box::new(alloc, exec) {
+            Ok(exec) => exec,
+            Err(refused) => return Err(NoMemory {
+                object: refused.value,
+            }),
+        };
         match Turn::new(alloc, Guarded { exec }) {
             Ok((turn, seat)) => Ok((Bench { turn }, seat)),
             Err(
                 NoMemory {
                     object: Guarded { exec },
                 },
-            ) => Err(NoMemory { object: exec }),
+            ) => Err(NoMemory {
+                object: Box::into_inner(exec),
+            }),
         }
     }
 
@@ -324,6 +332,6 @@ impl<D: Disk, A: Allocator + Copy> Bench<D, A> {
     {
         let Bench { turn } = self;
         let Guarded { exec } = turn.close(rt, seat);
-        exec
+        Box::into_inner(exec)
     }
 }

@@ -16,7 +16,8 @@ use std::alloc::Allocator;
 /// The state with its store. A call with a session that isn't open acts on nothing.
 #[derive(Drop)]
 pub struct Guarded<D: Disk, A: Allocator + Copy> {
-    pub exec: Exec<D, A>,
+    // Several kilobytes, which would else be moved twice in each turn.
+    pub exec: Box<Exec<D, A>, A>,
 }
 
 impl<D: Disk, A: Allocator + Copy> Machine for Guarded<D, A> {
@@ -24,7 +25,7 @@ impl<D: Disk, A: Allocator + Copy> Machine for Guarded<D, A> {
 
     type Entry = Call;
 
-    ghost state = { λ g. g.exec.device };
+    ghost state = { λ g. g.exec.value.device };
 
     ghost allows = { Admits };
 }
@@ -34,7 +35,7 @@ impl<D: Disk, A: Allocator + Copy> Guarded<D, A> {
 
     /// One unit of a session. Later where the session isn't open.
     pub fn execute(&mut self, session: Session, request: &Request<'_>) -> Outcome<A>
-        ensures call { Admits self.old.exec.device (Executed session request.now (outcome_of result)) self.new.exec.device }
+        ensures call { Admits self.old.exec.value.device (Executed session request.now (outcome_of result)) self.new.exec.value.device }
     {
         if !self.exec.is_open(session) {
             return Outcome::Later;
@@ -44,7 +45,7 @@ impl<D: Disk, A: Allocator + Copy> Guarded<D, A> {
 
     /// What the wait of a session came to. Later where the session isn't open.
     pub fn settle(&mut self, session: Session) -> Outcome<A>
-        ensures call { Admits self.old.exec.device (Settled session (outcome_of result)) self.new.exec.device }
+        ensures call { Admits self.old.exec.value.device (Settled session (outcome_of result)) self.new.exec.value.device }
     {
         if !self.exec.is_open(session) {
             return Outcome::Later;
@@ -54,21 +55,21 @@ impl<D: Disk, A: Allocator + Copy> Guarded<D, A> {
 
     /// A job, as `Exec::take` gives it.
     pub fn take(&mut self) -> Result<Job<D, A>, NoJob>
-        ensures call { Admits self.old.exec.device (Took (taken_of result)) self.new.exec.device }
+        ensures call { Admits self.old.exec.value.device (Took (taken_of result)) self.new.exec.value.device }
     {
         self.exec.take()
     }
 
     /// A job's end, as `Exec::give_back` takes it.
     pub fn give_back(&mut self, finished: Finished<D, A>) -> Result<Sessions, Stranger<D, A>>
-        ensures call { Admits self.old.exec.device (GaveBack (finished_of finished) (over_of result)) self.new.exec.device }
+        ensures call { Admits self.old.exec.value.device (GaveBack (finished_of finished) (over_of result)) self.new.exec.value.device }
     {
         self.exec.give_back(finished)
     }
 
     /// Opens the session of the least free number.
     pub fn open_session(&mut self) -> Result<Session, Crowded>
-        ensures call { Admits self.old.exec.device (Opened (session_of result)) self.new.exec.device }
+        ensures call { Admits self.old.exec.value.device (Opened (session_of result)) self.new.exec.value.device }
     {
         match self.exec.open_session() {
             Ok(session) => Ok(session),
@@ -78,7 +79,7 @@ impl<D: Disk, A: Allocator + Copy> Guarded<D, A> {
 
     /// Closes a session, where it is open.
     pub fn close_session(&mut self, session: Session) -> Sessions
-        ensures call { Admits self.old.exec.device (Closed session result) self.new.exec.device }
+        ensures call { Admits self.old.exec.value.device (Closed session result) self.new.exec.value.device }
     {
         if !self.exec.is_open(session) {
             return Sessions::new();
@@ -88,7 +89,7 @@ impl<D: Disk, A: Allocator + Copy> Guarded<D, A> {
 
     /// Drops the wait of a session, where it is open.
     pub fn clear(&mut self, session: Session)
-        ensures call { Admits self.old.exec.device (Cleared session) self.new.exec.device }
+        ensures call { Admits self.old.exec.value.device (Cleared session) self.new.exec.value.device }
     {
         if self.exec.is_open(session) {
             self.exec.clear(session);
@@ -97,7 +98,7 @@ impl<D: Disk, A: Allocator + Copy> Guarded<D, A> {
 
     /// An answer is sent to a session, where it is open.
     pub fn sent(&mut self, session: Session)
-        ensures call { Admits self.old.exec.device (Sent session) self.new.exec.device }
+        ensures call { Admits self.old.exec.value.device (Sent session) self.new.exec.value.device }
     {
         if self.exec.is_open(session) {
             self.exec.sent(session);
@@ -106,7 +107,7 @@ impl<D: Disk, A: Allocator + Copy> Guarded<D, A> {
 
     /// What was sent to a session is delivered, where it is open.
     pub fn delivered(&mut self, session: Session)
-        ensures call { Admits self.old.exec.device (Delivered session) self.new.exec.device }
+        ensures call { Admits self.old.exec.value.device (Delivered session) self.new.exec.value.device }
     {
         if self.exec.is_open(session) {
             self.exec.delivered(session);
@@ -115,7 +116,7 @@ impl<D: Disk, A: Allocator + Copy> Guarded<D, A> {
 
     /// The answer to a status query. 0 where the session isn't open.
     pub fn status(&mut self, session: Session) -> u8
-        ensures call { Admits self.old.exec.device (Queried session result) self.new.exec.device }
+        ensures call { Admits self.old.exec.value.device (Queried session result) self.new.exec.value.device }
     {
         if !self.exec.is_open(session) {
             return 0;
@@ -125,7 +126,7 @@ impl<D: Disk, A: Allocator + Copy> Guarded<D, A> {
 
     /// The service request of a session. None where it isn't open.
     pub fn requests(&mut self, session: Session) -> Option<u8>
-        ensures call { Admits self.old.exec.device (Fetched session result) self.new.exec.device }
+        ensures call { Admits self.old.exec.value.device (Fetched session result) self.new.exec.value.device }
     {
         if !self.exec.is_open(session) {
             return None;
@@ -135,7 +136,7 @@ impl<D: Disk, A: Allocator + Copy> Guarded<D, A> {
 
     /// Who asked for service, and whether there is a job, as `Exec::news` tells it.
     pub fn news(&mut self) -> (Sessions, bool)
-        ensures call { Admits self.old.exec.device (Told result.0 result.1) self.new.exec.device }
+        ensures call { Admits self.old.exec.value.device (Told result.0 result.1) self.new.exec.value.device }
     {
         self.exec.news()
     }
@@ -148,7 +149,7 @@ impl<D: Disk, A: Allocator + Copy> Guarded<D, A> {
         now: u64,
         timeout: u32,
     ) -> Result<Grant, LockRefusal>
-        ensures call { Admits self.old.exec.device (Locked session kind now timeout result) self.new.exec.device }
+        ensures call { Admits self.old.exec.value.device (Locked session kind now timeout result) self.new.exec.value.device }
     {
         if !self.exec.is_open(session) {
             return Ok(Grant::Failed);
@@ -158,7 +159,7 @@ impl<D: Disk, A: Allocator + Copy> Guarded<D, A> {
 
     /// A session gives up a lock. It holds none where it isn't open.
     pub fn release(&mut self, session: Session) -> Result<(Freed, Sessions), LockRefusal>
-        ensures call { Admits self.old.exec.device (Released session result) self.new.exec.device }
+        ensures call { Admits self.old.exec.value.device (Released session result) self.new.exec.value.device }
     {
         if !self.exec.is_open(session) {
             return Err(LockRefusal::NotHeld);
@@ -168,21 +169,21 @@ impl<D: Disk, A: Allocator + Copy> Guarded<D, A> {
 
     /// Requests for locks fail in time, as `Exec::tick` does it.
     pub fn tick(&mut self, now: u64) -> Sessions
-        ensures call { Admits self.old.exec.device (Ticked now result) self.new.exec.device }
+        ensures call { Admits self.old.exec.value.device (Ticked now result) self.new.exec.value.device }
     {
         self.exec.tick(now)
     }
 
     /// What is told of the locks.
     pub fn info(&self) -> Info
-        ensures call { Admits self.now.exec.device (Informed result) self.now.exec.device }
+        ensures call { Admits self.now.exec.value.device (Informed result) self.now.exec.value.device }
     {
         self.exec.info()
     }
 
     /// When a request for a lock fails next.
     pub fn next_deadline(&self) -> Option<u128>
-        ensures call { Admits self.now.exec.device (Due result) self.now.exec.device }
+        ensures call { Admits self.now.exec.value.device (Due result) self.now.exec.value.device }
     {
         self.exec.next_deadline()
     }

@@ -13,3 +13,5 @@ mod many;
 mod overlaps;
 #[cfg(test)]
 mod refusals;
+#[cfg(test)]
+mod turns;

@@ -5,3 +5,4 @@ pub mod Moments
 pub mod Ranges
 pub mod Touched
 pub mod Past
+pub mod Medium

@@ -1,73 +1,127 @@
 // A disk in a file of the system. Nothing is claimed of what a file holds: every clause on bytes or moments has a premise
 // that this kind of disk does not meet.
-ghost use Rattle.std.specs.Prelude.{◌≡◌, ◌≤◌, IfOk};
-ghost use Rattle.psu_disk.specs.Disk.{HasFailed};
+ghost use Rattle.std.specs.Prelude.{◌≡◌, ◌↔◌, IfOk, IsErrAnd};
+ghost use Rattle.std.specs.Fs.{metadata_len};
+ghost use Rattle.std.specs.IoError.{error_kind};
+ghost use Rattle.psu_disk.specs.declared.open_fault.OpenFault.TheVariants.{Memory};
 
-use crate::{Disk, DiskFault, OpenFault};
-use std::fs::{File, OpenOptions, TryLockError};
-use std::io::{Error, ErrorKind};
+use crate::system_file::SystemFile;
+use crate::{Disk, DiskFault, KeptDisk, OpenFault};
+use std::alloc::{AllocError, Global};
+use std::fs::{File, Metadata, OpenOptions, TryLockError, remove_file};
+use std::io;
+use std::io::{Error, ErrorKind, Read};
 use std::os::fd::AsRawFd;
-use std::os::unix::fs::FileExt;
+use std::path::Path;
 use std::rt::Files;
 
-/// A disk in a file of the system. A sync is the system's own, of the file's data (fdatasync). The file is locked while it is open, so that no
-/// other disk is in it.
+/// A disk in a file of the system. A sync is the system's own, of the file's data (fdatasync), and works only where the file behind it has
+/// the disk's length and a name still. After one that failed what was written since the last that worked is written again before the
+/// next. The file is locked while it is open, so that no other disk is in it.
 #[derive(Drop)]
 pub struct FileDisk {
-    file: File,
-    size: u64,
-    failed: u64,
+    disk: KeptDisk<SystemFile, Global>,
 }
 
 impl FileDisk {
     /// The disk in a file that is there: its size is the file's. The file stays as it is. One that another disk is in is refused.
-    pub fn of<R: Files<File = File>>(rt: &R, path: &str) -> Result<FileDisk, OpenFault>
-        ensures fresh { IfOk result (λ disk. disk.failed ≡ 0) }
+    pub fn of<R: Files<File = File>>(
+        rt: &R,
+        alloc: Global,
+        path: &str,
+    ) -> Result<FileDisk, OpenFault>
+        ensures fresh { IfOk result (λ disk. disk.disk.faults ≡ 0) }
     {
         let mut options = OpenOptions::new();
         options.read(true).write(true);
-        let file = options.open(rt, path).map_err(fault_of)?;
-        let metadata = file.metadata().map_err(fault_of)?;
-        if !metadata.is_file() || !is_ours(&file) {
-            return Err(OpenFault::NotOpened);
-        }
-        Ok(FileDisk {
-            file,
-            size: metadata.len(),
-            failed: 0,
-        })
+        let file = FileDisk::in_file(opened(rt, path, &options))?;
+        FileDisk::over(alloc, file)
     }
 
-    /// A new file of `size` bytes 00; one that is there already is refused and stays as it is. A file that was made before a
-    /// later step failed may stay.
-    pub fn make<R: Files<File = File>>(rt: &R, path: &str, size: u64) -> Result<FileDisk, OpenFault>
-        ensures size { IfOk result (λ disk. disk.size ≡ size) }
-        ensures fresh { IfOk result (λ disk. disk.failed ≡ 0) }
+    /// A new file of `size` bytes 00, each of them written, and made to last with its name; one that is there already is refused and stays
+    /// as it is. A file that was made before a later step failed, as one that can't have its room, is removed where that is possible.
+    pub fn make<R: Files<File = File>>(
+        rt: &R,
+        alloc: Global,
+        path: &str,
+        size: u64,
+    ) -> Result<FileDisk, OpenFault>
+        ensures size { IfOk result (λ disk. disk.disk.medium.size ≡ size) }
+        ensures fresh { IfOk result (λ disk. disk.disk.faults ≡ 0) }
     {
         let mut options = OpenOptions::new();
         options.read(true).write(true).create_new(true);
-        let file = options.open(rt, path).map_err(fault_of)?;
-        if !is_ours(&file) {
-            return Err(OpenFault::NotOpened);
+        let mut file = FileDisk::in_file(opened(rt, path, &options))?;
+        if let Err(error) = made_to_last(rt, path, &mut file.file, size) {
+            let _ = remove_file(rt, path);
+            return Err(fault_of(error));
         }
-        file.set_len(size).map_err(fault_of)?;
-        file.sync_all().map_err(fault_of)?;
-        Ok(FileDisk {
-            file,
-            size,
-            failed: 0,
-        })
+        file.size = size;
+        FileDisk::over(alloc, file)
     }
 
-    // One more failed call, up to the last value of the count.
-    fn fail(&mut self) -> DiskFault
-        ensures size { self.new.size ≡ self.old.size }
-        ensures failed { HasFailed self.old.failed self.new.failed }
-        ensures later { self.old.failed ≤ self.new.failed }
+    // The disk over a file.
+    fn over(alloc: Global, file: SystemFile) -> Result<FileDisk, OpenFault>
+        ensures size { IfOk result (λ disk. disk.disk.medium.size ≡ file.size) }
+        ensures fresh { IfOk result (λ disk. disk.disk.faults ≡ 0) }
     {
-        self.failed = self.failed.saturating_add(1);
-        DiskFault
+        match KeptDisk::new(alloc, file) {
+            Ok(disk) => Ok(FileDisk { disk }),
+            Err(AllocError) => Err(OpenFault::Memory),
+        }
     }
+
+    // The medium in a file that was opened, by what the system told of it. Want of memory is told exactly where the system told it.
+    fn in_file(opened: io::Result<(File, Metadata)>) -> Result<SystemFile, OpenFault>
+        ensures size { IfOk result (λ made. IfOk opened (λ file. made.size ≡ metadata_len file.1)) }
+        ensures memory { IsErrAnd result (λ fault. fault ≡ Memory) ↔ IsErrAnd opened (λ error. error_kind error ≡ ErrorKind.OutOfMemory) }
+    {
+        let (file, metadata) = opened.map_err(fault_of)?;
+        if !metadata.is_file() || !is_ours(&file) {
+            return Err(OpenFault::NotOpened);
+        }
+        Ok(SystemFile {
+            file,
+            size: metadata.len(),
+        })
+    }
+}
+
+// A file, and what the system tells of it.
+fn opened<R: Files<File = File>>(
+    rt: &R,
+    path: &str,
+    options: &OpenOptions,
+) -> io::Result<(File, Metadata)> {
+    let file = options.open(rt, path)?;
+    let metadata = file.metadata()?;
+    Ok((file, metadata))
+}
+
+// Writes a file full of zeros up to this length, and makes it and its name last.
+fn made_to_last<R: Files<File = File>>(
+    rt: &R,
+    path: &str,
+    file: &mut File,
+    size: u64,
+) -> io::Result<()> {
+    fill(file, size)?;
+    File::open(rt, folder_of(path))?.sync_all()
+}
+
+// The folder of the file that a path names.
+fn folder_of(path: &str) -> Path<'_> {
+    match Path::new(path).parent() {
+        Some(folder) if !folder.as_str().is_empty() => folder,
+        _ => Path::new("."),
+    }
+}
+
+// Writes a file full of zeros up to this length, so that its room is taken, and makes them last.
+fn fill(file: &mut File, size: u64) -> io::Result<()> {
+    file.set_len(size)?;
+    io::copy(&mut io::repeat(0).take(size), file)?;
+    file.sync_all()
 }
 
 // Whether a file is this program's alone: no other open of it has it locked, and it stands under no number of a standard stream that was closed,
@@ -76,7 +130,10 @@ fn is_ours(file: &File) -> bool {
     file.as_raw_fd() > 2 && !matches!(file.try_lock(), Err(TryLockError::WouldBlock))
 }
 
-fn fault_of(error: Error) -> OpenFault {
+// Want of memory is told exactly where the system told it. Which of the others is told where, no contract says.
+fn fault_of(error: Error) -> OpenFault
+    ensures memory { result ≡ Memory ↔ error_kind error ≡ ErrorKind.OutOfMemory }
+{
     match error.kind() {
         ErrorKind::NotFound => OpenFault::NoFile,
         ErrorKind::AlreadyExists => OpenFault::Exists,
@@ -93,7 +150,7 @@ impl Disk for FileDisk {
 
     ghost tells = { ⊥ };
 
-    ghost extent = { λ d. d.size };
+    ghost extent = { λ d. d.disk.medium.size };
 
     ghost state = { λ _. memory [] [] };
 
@@ -101,7 +158,7 @@ impl Disk for FileDisk {
 
     ghost left_since = { λ _ _ _. ⊥ };
 
-    ghost failures = { λ d. d.failed };
+    ghost failures = { λ d. d.disk.faults };
 
     ghost sized = { λ honest. absurd honest };
 
@@ -110,31 +167,22 @@ impl Disk for FileDisk {
     ghost only_now = { λ tells. absurd tells };
 
     fn size(&self) -> u64 {
-        self.size
+        self.disk.size()
     }
 
     fn faults(&self) -> u64 {
-        self.failed
+        self.disk.faults()
     }
 
     fn read(&mut self, at: u64, into: &mut [u8]) -> Result<(), DiskFault> {
-        if self.file.read_exact_at(into, at).is_err() {
-            return Err(self.fail());
-        }
-        Ok(())
+        self.disk.read(at, into)
     }
 
     fn write(&mut self, at: u64, bytes: &[u8]) -> Result<(), DiskFault> {
-        if self.file.write_all_at(bytes, at).is_err() {
-            return Err(self.fail());
-        }
-        Ok(())
+        self.disk.write(at, bytes)
     }
 
     fn sync(&mut self) -> Result<(), DiskFault> {
-        if self.file.sync_data().is_err() {
-            return Err(self.fail());
-        }
-        Ok(())
+        self.disk.sync()
     }
 }

@@ -1,5 +1,5 @@
 -- Jobs and the stores that they hold.
-use Rattle.std.specs.Prelude.{◌≡◌, ◌≢◌, ◌⊎◌, ◌≤◌, ℕ, List, Bool, true, false, Result, Ok, Err}
+use Rattle.std.specs.Prelude.{◌≡◌, ◌≢◌, ◌⊎◌, ◌≤◌, ◌+◌, ◌^◌, ℕ, List, Bool, true, false, Result, Ok, Err}
 use Rattle.psu_disk.specs.Disk.{HasFailed}
 use Rattle.psu_disk.specs.declared.disk.Disk.{Ghosts}
 use Rattle.psu_items.specs.Map.{Item}
@@ -116,6 +116,11 @@ ReopensTo old (finished.Reopened store) = HasReopened old store
 abbrev pub RunsTo : {D A : Type 0} {G : Ghosts D} → Job D A G → Finished D A G → Type 0
 RunsTo (job.Commit planned) finished = CommitsTo planned.store planned.batch finished
 RunsTo (job.Reopen alloc broken) finished = ReopensTo broken finished
+
+-- a commit behind which there is no number for a root
+abbrev pub IsAtLastNumber : {D A : Type 0} {G : Ghosts D} → Job D A G → Type 0
+IsAtLastNumber (job.Commit planned) = 2 ^ 64 ≤ planned.store.number + 1
+IsAtLastNumber (job.Reopen alloc broken) = ⊥
 
 -- not begun, since the root's number is the last
 abbrev pub IsLastNumber : {D A : Type 0} {G : Ghosts D} → Finished D A G → Type 0

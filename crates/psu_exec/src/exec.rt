@@ -1,5 +1,5 @@
 //! The one state with its store, and its jobs.
-ghost use Rattle.std.specs.Prelude.{◌≡◌, ◌↔◌, ◌<◌, ◌≤◌, ◌==◌, IfOk, IfErr, IfSome, OnOk, OnErr, true, false, Some, None, is_none, not, List, ℕ};
+ghost use Rattle.std.specs.Prelude.{◌≡◌, ◌≢◌, [], ◌↔◌, ◌<◌, ◌≤◌, ◌==◌, IfOk, IfErr, IfSome, OnOk, OnErr, true, false, Some, None, is_none, not, List, ℕ};
 ghost use Rattle.std.specs.Option.{ForSome};
 ghost use Rattle.psu_items.specs.Batch.{changed};
 ghost use Rattle.psu_exec.specs.Batch.{batch};
@@ -98,10 +98,11 @@ impl<D: Disk, A: Allocator + Copy> Exec<D, A> {
         ensures step { Allows self.old.device (Executed session request.now (outcome_of result)) self.new.device }
         ensures home { self.new.home ≡ self.old.home }
 
-        // What follows from the step: `*OPC?` is answered only where no change is left that is not flushed; an error is
+        // What follows from the step: `*OPC?` is answered only where no change is left that is not flushed; no answer is empty; an error is
         // reported and changes nothing else but the latches that follow; a unit that is to come later changes nothing; it is Held exactly
         // where another session's lock denies it, and then nothing changes.
         ensures complete { asks_opc request.now.reading ≡ true → (text : List ℕ) → outcome_of result ≡ Answer text → self.old.device.flush.unflushed ≡ 0 }
+        ensures text { (text : List ℕ) → outcome_of result ≡ Answer text → text ≢ [] }
         ensures refused { (e : AnyError) → outcome_of result ≡ Error e → self.new.device ≡ followed self.old.device (refused self.old.device e) }
         ensures later { outcome_of result ≡ Later → self.new.device ≡ self.old.device }
         ensures held { (outcome_of result ≡ Held) ↔ (is_denied self.old.device session ≡ true) }
@@ -122,9 +123,10 @@ impl<D: Disk, A: Allocator + Copy> Exec<D, A> {
         ensures home { self.new.home ≡ self.old.home }
 
         // What follows from the step: the session waits on only while a change is left that is not flushed, its wait ends with 1
-        // only where none before it is left, and an error is reported.
+        // only where none before it is left, no answer is empty, and an error is reported.
         ensures parked { result ≡ Outcome.Parked → 0 < self.old.device.flush.unflushed }
         ensures complete { (text : List ℕ) → outcome_of result ≡ Answer text → (c : Completion) × (wait_of self.old.device.flush session ≡ Some (Until c 0)) }
+        ensures text { (text : List ℕ) → outcome_of result ≡ Answer text → text ≢ [] }
         ensures refused { (e : AnyError) → outcome_of result ≡ Error e → self.new.device.volatile ≡ (followed self.old.device (refused self.old.device e)).volatile }
         ensures kept { self.new.device.flush.contents ≡ self.old.device.flush.contents }
 

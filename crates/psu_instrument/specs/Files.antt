@@ -7,7 +7,7 @@ use Rattle.psu_lex.specs.declared.scpi_error.ScpiError.TheVariants.{DataOutOfRan
 use Rattle.psu_nv.specs.Commands as nv
 use Rattle.psu_nv.specs.Commands.{first_of, has_file, bytes_in, StoreBytes, Delete, Copy, Move, StoreState, LoadState, StoreMacro, LoadMacro}
 use Rattle.psu_nv.specs.Contents.{Contents, cost_of}
-use Rattle.psu_nv.specs.Names.{is_name}
+use Rattle.psu_lex.specs.Names.{is_name}
 use Rattle.psu_tree.specs.declared.on_file.OnFile.{OnFile}
 use Rattle.psu_tree.specs.declared.on_file.OnFile.TheVariants as on_file
 use Rattle.psu_tree.specs.declared.on_names.OnNames.{OnNames}

@@ -8,3 +8,4 @@ pub mod Files
 pub mod Commands
 pub mod Nonvolatile
 pub mod PowerOn
+pub mod Speaking

@@ -36,18 +36,18 @@ abbrev pub quoted : List ℕ → List ℕ
 quoted text = 34 ∷ (text ++ 34 ∷ [])
 
 -- labels behind a first one
-abbrev pub more_labels : List Macro → List ℕ
+abbrev pub more_labels : List (List ℕ) → List ℕ
 more_labels [] = []
-more_labels (m ∷ macros) = 44 ∷ (quoted m.label ++ more_labels macros)
+more_labels (label ∷ labels) = 44 ∷ (quoted label ++ more_labels labels)
 
 -- labels as answered, in order of definition; `""` where there is none
-abbrev pub labels_text : List Macro → List ℕ
+abbrev pub labels_text : List (List ℕ) → List ℕ
 labels_text [] = quoted []
-labels_text (m ∷ macros) = quoted m.label ++ more_labels macros
+labels_text (label ∷ labels) = quoted label ++ more_labels labels
 
 -- `*LMC?`
 abbrev pub labels_asked : Situation → Meaning
-labels_asked s = answers s (labels_text s.contents.macros)
+labels_asked s = answers s (labels_text (map (λ (m : Macro). m.label) s.contents.macros))
 
 -- ---- calls
 

@@ -6,7 +6,7 @@ ghost use Rattle.psu_instrument.specs.Meaning.{ActsAs, situation, text_of};
 
 use crate::Act;
 use psu_lex::{Bytes, ScpiError, definite};
-use psu_nv::{Contents, Definition, NvCommand};
+use psu_nv::{Contents, Label, NvCommand};
 use psu_tree::{OnMacro, Text};
 use std::alloc::{AllocError, Allocator};
 
@@ -52,15 +52,12 @@ pub(crate) fn put_quoted<A: Allocator + Copy>(
 }
 
 // Puts labels that stand behind a first one.
-fn put_more<A: Allocator + Copy>(
-    text: &mut Bytes<A>,
-    labels: &[Definition<A>],
-) -> Result<(), AllocError>
+fn put_more<A: Allocator + Copy>(text: &mut Bytes<A>, labels: &[Label]) -> Result<(), AllocError>
     ensures { OnOk result (text.new ≡ text.old ++ more_labels labels.now) }
 {
-    for definition in labels {
+    for label in labels {
         text.put(b",")?;
-        put_quoted(text, definition.label())?;
+        put_quoted(text, label.bytes())?;
     }
     Ok(())
 }
@@ -68,7 +65,7 @@ fn put_more<A: Allocator + Copy>(
 // The labels as answered.
 pub(crate) fn labels_text<A: Allocator + Copy>(
     alloc: A,
-    labels: &[Definition<A>],
+    labels: &[Label],
 ) -> Result<Bytes<A>, AllocError>
     ensures { IfOk result (λ text. text ≡ labels_text labels.now) }
 {
@@ -76,7 +73,7 @@ pub(crate) fn labels_text<A: Allocator + Copy>(
     match labels {
         [] => put_quoted(&mut text, &[])?,
         [first, others @ ..] => {
-            put_quoted(&mut text, first.label())?;
+            put_quoted(&mut text, first.bytes())?;
             put_more(&mut text, others)?;
         }
     }

@@ -1,5 +1,5 @@
 //! A store whose disk failed in a commit.
-ghost use Rattle.std.specs.Prelude.{◌≡◌, ◌≢◌, ◌⊎◌, ◌↔◌, ◌≤◌, List, ℕ, IsTrue, IfOk, IfErr};
+ghost use Rattle.std.specs.Prelude.{◌≡◌, ◌≢◌, ◌⊎◌, ◌↔◌, ◌≤◌, List, ℕ, IsTrue, IfOk, IfErr, OnErr};
 ghost use Rattle.psu_disk.specs.Disk.{HasFailed, Left, LeavesOnly};
 ghost use Rattle.psu_items.specs.Batch.{changed};
 ghost use Rattle.psu_items.specs.Image.{EachIsEither, IsEither, counting, number_in};
@@ -167,20 +167,38 @@ fn recover<D: Disk, A: Allocator + Copy>(
     ensures moments { D.honest → D.tells → LeavesOnly D.moment D.left_since disk (recovered_disk result) (IsOldOrSame (D.state disk)) }
 {
     match Store::open(alloc, disk) {
-        Ok(store) => {
-            if is_one_of(&store, limit, before, target) {
-                return Ok(store);
-            }
-            Err(Unfound {
-                cause: BrokenCause::Strange,
-                disk: store.into_disk(),
-            })
-        }
+        Ok(store) => match one_of(store, limit, before, target) {
+            Ok(store) => Ok(store),
+            Err(strange) => Err(strange),
+        },
         Err(refused) => Err(Unfound {
             cause: BrokenCause::from(refused.cause),
             disk: refused.disk,
         }),
     }
+}
+
+// The store, where it holds one of two maps. Where it holds another the disk is strange, whatever disk it is: nothing here takes memory.
+fn one_of<D: Disk, A: Allocator + Copy>(
+    store: Store<D, A>,
+    limit: u16,
+    before: &Items<A>,
+    target: &Items<A>,
+) -> Result<Store<D, A>, Unfound<D>>
+    ensures same { IfOk result (λ found. found ≡ store) }
+    ensures limit { IfOk result (λ found. found.limit ≡ limit) }
+    ensures found { IfOk result (λ found. (found.items ≡ before.now) ⊎ (found.items ≡ target.now)) }
+    ensures strange { IfErr result (λ e. e.cause ≡ Strange) }
+    ensures disk { IfErr result (λ e. e.disk ≡ store.disk) }
+    ensures neither { OnErr result ((store.limit ≡ limit) × ((store.items ≡ before.now) ⊎ (store.items ≡ target.now)) → ⊥) }
+{
+    if is_one_of(&store, limit, before, target) {
+        return Ok(store);
+    }
+    Err(Unfound {
+        cause: BrokenCause::Strange,
+        disk: store.into_disk(),
+    })
 }
 
 // Whether one of two maps was found.

@@ -9,5 +9,6 @@ pub mod Macros
 pub mod MacroScan
 pub mod Decimals
 pub mod Syntax
+pub mod Names
 pub mod Shown
 pub mod SyntaxScan

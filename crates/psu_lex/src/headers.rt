@@ -15,7 +15,7 @@ fn joins(begun: bool, several: bool, byte: u8) -> bool
 }
 
 /// Whether the byte is a letter, a digit or `_`.
-fn is_name_byte(byte: u8) -> bool
+pub fn is_name_byte(byte: u8) -> bool
     ensures { result ≡ is_name_byte byte }
 {
     byte.is_ascii_alphabetic() || byte.is_ascii_digit() || byte == b'_'

@@ -1,6 +1,6 @@
 -- What is found in the parts of contents.
-use Rattle.std.proofs.Common.{◌≡◌, ℕ, zero, suc, ◌<◌, ◌≤◌, inl, inr, Bool, true, false, cond, List, [], ◌∷◌, length, get_or, drop, Option, Some, None, refl, sym, ◌∙◌, ap, subst, bytes_eq, arith}
-use Rattle.std.specs.Prelude.{not, is_some, unwrap_or}
+use Rattle.std.proofs.Common.{Bor, ◌≡◌, ℕ, zero, suc, ◌<◌, ◌≤◌, inl, inr, Bool, true, false, cond, List, [], ◌∷◌, length, get_or, drop, Option, Some, None, refl, sym, ◌∙◌, ap, subst, bytes_eq, arith}
+use Rattle.std.specs.Prelude.{not, is_some, unwrap_or, option_map, IfSome}
 use Rattle.std.specs.List.{AllByRecursion}
 use Rattle.psu_lex.specs.declared.scpi_error.ScpiError.{ScpiError}
 use Rattle.psu_nv.specs.Commands.{first_of}
@@ -8,7 +8,7 @@ use Rattle.std.proofs.lemmas.Bool.{cases_Bool}
 use Rattle.std.proofs.lemmas.Bool.Decides.{nat_tests}
 use Rattle.psu_items.specs.Map.{Item, get}
 use Rattle.psu_nv.specs.Contents.{Macro, body_at, begins_with_kind, IsFile, IsMacro}
-use Rattle.psu_nv.specs.Names.{same_label}
+use Rattle.psu_nv.specs.Labels.{same_label}
 use Rattle.psu_nv.specs.Views.{kind_of}
 
 pub body_next : (macros : List Macro) (i next : ℕ) (d : Macro) (label : List ℕ) → next ≡ suc i → i < length macros
@@ -88,3 +88,8 @@ got_length files name value all is = subst (λ (l : List ℕ). length l ≤ 3276
 
 pub body_length : (macros : List Macro) (label body : List ℕ) → AllByRecursion IsMacro macros → body_at macros label ≡ Some body → length body ≤ 1024
 body_length macros label body all is = subst (λ (l : List ℕ). length l ≤ 1024) (ap (λ (o : Option (List ℕ)). unwrap_or o []) is) (body_most macros label all)
+
+-- what a lookup gives is short
+pub found_most : (o : Option (Bor (List ℕ))) (macros : List Macro) (label : List ℕ) → AllByRecursion IsMacro macros → option_map (λ body. body.now) o ≡ body_at macros label → IfSome o (λ body. length body.now ≤ 1024)
+found_most None macros label all is = tt
+found_most (Some body) macros label all is = body_length macros label body.now all (sym is)

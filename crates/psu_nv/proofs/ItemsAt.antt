@@ -7,7 +7,8 @@ use Rattle.psu_outputs.specs.declared.output_settings.OutputSettings.{OutputSett
 use Rattle.psu_nv.specs.Commands.{settings_at}
 use Rattle.psu_nv.specs.Contents.{Contents, IsContents, Macro, enables_items, items_of, macros_items, recall_items, user_items}
 use Rattle.psu_nv.specs.Decoding.{is_key, is_nothing, is_number, is_single}
-use Rattle.psu_nv.specs.Names.{is_between, is_name}
+use Rattle.psu_lex.specs.Names.{is_name}
+use Rattle.psu_nv.specs.Decoding.{is_between}
 use Rattle.psu_nv.specs.Parts.{Enables, File, Macros, Recall, Register, User, value_in}
 use Rattle.psu_nv.proofs.Gets.{part_found, value_file, value_register}
 use Rattle.psu_nv.proofs.Kept.{contents_keys, get_bad}

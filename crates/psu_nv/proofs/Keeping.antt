@@ -1,14 +1,14 @@
 -- What contents may be, kept over each change of a part.
-use Rattle.std.proofs.Common.{◌≡◌, inl, inr, ℕ, suc, ◌<◌, ◌≤◌, Bool, true, false, cond, List, [], ◌∷◌, ◌++◌, length, get_or, drop, take, Option, Some, None, refl, sym, ◌∙◌, ap, subst, arith, length-append, drop-cons}
-use Rattle.std.specs.Prelude.{◌&&◌, is_some, ◌==◌, bit_and}
+use Rattle.std.proofs.Common.{◌≡◌, ℕ, zero, suc, ◌<◌, ◌≤◌, Bool, true, false, cond, List, [], ◌∷◌, ◌++◌, length, get_or, take, Option, Some, None, refl, sym, ◌∙◌, ap, subst, arith, length-append}
+use Rattle.std.specs.Prelude.{is_some, bit_and}
 use Rattle.std.specs.Option.{ForSome}
-use Rattle.std.specs.List.{AllByRecursion, remove}
-use Rattle.std.proofs.lemmas.Bool.{cases_eq}
-use Rattle.std.proofs.lemmas.Bool.Decides.{nat_tests}
+use Rattle.std.specs.List.{AllByRecursion}
 use Rattle.psu_items.specs.Map.{Item, item_of, put, without, IsSorted}
 use Rattle.psu_items.proofs.Maps.{sorted-put, sorted-without}
 use Rattle.psu_nv.proofs.Items.{all_put, all_without}
-use Rattle.psu_nv.specs.Names.{small, same_label, is_label}
+use Rattle.std.specs.Cmp.Lexicographic.{nat_list_eq_equiv}
+use Rattle.psu_lex.specs.Names.{is_label}
+use Rattle.psu_nv.specs.Labels.{lowercase, same_label}
 use Rattle.psu_nv.specs.Contents.{Macro, Contents, contents_of, body_at, has_label, HasDistinct, IsMacro, IsFile, IsContents}
 use Rattle.psu_nv.specs.Commands.{without_label, macro_of}
 
@@ -30,17 +30,8 @@ kept_without c files name is is_without =
 with_macros : (c : Contents) (macros : List Macro) → IsContents c → AllByRecursion IsMacro macros → HasDistinct macros → length macros ≤ 32 → IsContents (contents_of c.registers c.user macros c.enables c.files c.recall)
 with_macros c macros is all distinct most = record { count = is.count; settings = is.settings; user = is.user; macros = all; distinct = distinct; most_macros = most; mss = is.mss; files = is.files; sorted = is.sorted }
 
-same_sym : (m n : ℕ) → (m == n) ≡ (n == m)
-same_sym m n = elim (cases_eq m n) [
-  | inl same ↦ ap (λ (k : ℕ). k == n) same ∙ sym (ap (λ (k : ℕ). n == k) same)
-  | inr other ↦ let a : (m == n) ≡ false = grind (arith, nat_tests) in let b : (n == m) ≡ false = grind (arith, nat_tests) in a ∙ sym b
-]
-
 pub label_sym : (a b : List ℕ) → same_label a b ≡ same_label b a
-label_sym [] [] = refl
-label_sym [] (y ∷ b) = refl
-label_sym (x ∷ a) [] = refl
-label_sym (x ∷ a) (y ∷ b) = ap (λ (t : Bool). t && same_label a b) (same_sym (small x) (small y)) ∙ ap (λ (t : Bool). (small y == small x) && t) (label_sym a b)
+label_sym a b = nat_list_eq_equiv.symm (lowercase a) (lowercase b)
 
 label-push : (macros : List Macro) (new : Macro) (label : List ℕ) → has_label macros label ≡ false → same_label new.label label ≡ false → has_label (macros ++ new ∷ []) label ≡ false
 label-push [] new label none other = ap (λ (b : Bool). is_some (cond b (Some new.body) None)) other
@@ -58,6 +49,19 @@ not_first m macros label none = by_test (same_label m.label label) none
     by_test true none = absurd cc
     by_test false none = (refl, none)
 
+other_at : (macros : List Macro) (i : ℕ) (d : Macro) (label : List ℕ) → has_label macros label ≡ false → i < length macros → (let m = get_or macros i d in same_label m.label label ≡ false)
+other_at [] i d label none lt = absurd (omega (arith, lt))
+other_at (m ∷ macros) zero d label none lt = (not_first m macros label none).0
+other_at (m ∷ macros) (suc i) d label none lt = other_at macros i d label (not_first m macros label none).1 (omega (arith, lt))
+
+-- no macro has the label of one before it
+pub free_at : (macros : List Macro) (i : ℕ) (d : Macro) → HasDistinct macros → i < length macros → (let m = get_or macros i d in has_label (take i macros) m.label ≡ false)
+free_at [] i d distinct lt = absurd (omega (arith, lt))
+free_at (m ∷ macros) zero d distinct lt = refl
+free_at (m ∷ macros) (suc i) d distinct lt =
+    let label : List ℕ = (let q = get_or macros i d in q.label) in
+    ap (λ (b : Bool). is_some (cond b (Some m.body) (body_at (take i macros) label))) (label_sym m.label label ∙ other_at macros i d m.label distinct.0 (omega (arith, lt))) ∙ free_at macros i d distinct.1 (omega (arith, lt))
+
 pub distinct-push : (macros : List Macro) (new : Macro) → HasDistinct macros → has_label macros new.label ≡ false → HasDistinct (macros ++ new ∷ [])
 distinct-push [] new distinct none = (refl, tt)
 distinct-push (m ∷ macros) new distinct none =
@@ -68,10 +72,10 @@ pub all-push : (P : Macro → Type 0) (macros : List Macro) (new : Macro) → Al
 all-push P [] new all here = (here, tt)
 all-push P (m ∷ macros) new all here = (all.0, all-push P macros new all.1 here)
 
-pub kept_push : (c : Contents) (macros : List Macro) (made : Macro) (label body : List ℕ) → IsContents c → macros ≡ c.macros ++ made ∷ [] → made ≡ macro_of label body → is_label label ≡ true → length body ≤ 1024 → has_label c.macros label ≡ false → length c.macros < 32
+pub kept_push : (c : Contents) (macros : List Macro) (label body : List ℕ) → IsContents c → macros ≡ c.macros ++ macro_of label body ∷ [] → is_label label ≡ true → length body ≤ 1024 → has_label c.macros label ≡ false → length c.macros < 32
     → IsContents (contents_of c.registers c.user macros c.enables c.files c.recall)
-kept_push c macros made label body is is_push is_made good short none room =
-    subst (λ (l : List Macro). IsContents (contents_of c.registers c.user l c.enables c.files c.recall)) (sym (is_push ∙ ap (λ (m : Macro). c.macros ++ m ∷ []) is_made))
+kept_push c macros label body is is_push good short none room =
+    subst (λ (l : List Macro). IsContents (contents_of c.registers c.user l c.enables c.files c.recall)) (sym is_push)
     (with_macros c (c.macros ++ macro_of label body ∷ []) is (all-push IsMacro c.macros (macro_of label body) is.macros (record { label = good; body = short })) (distinct-push c.macros (macro_of label body) is.distinct none) (omega (arith, room, length-append c.macros (macro_of label body ∷ []))))
 
 label-without : (macros : List Macro) (label other : List ℕ) → has_label macros other ≡ false → has_label (without_label macros label) other ≡ false
@@ -113,14 +117,6 @@ pub kept_without_label : (c : Contents) (macros : List Macro) (label : List ℕ)
 kept_without_label c macros label is is_without =
     subst (λ (l : List Macro). IsContents (contents_of c.registers c.user l c.enables c.files c.recall)) (sym is_without)
     (with_macros c (without_label c.macros label) is (all-without_label c.macros label is.macros) (distinct-without c.macros label is.distinct) (omega (arith, length-without_label c.macros label, is.most_macros)))
-
--- the first macro with a label leaves
-pub place_found : (macros : List Macro) (at : ℕ) (d : Macro) (label : List ℕ) → at < length macros → without_label macros label ≡ take at macros ++ without_label (drop at macros) label
-    → (let m = get_or macros at d in same_label m.label label ≡ true) → without_label macros label ≡ remove macros at
-place_found macros at d label lt front same =
-    let here = get_or macros at d in
-    let split : drop at macros ≡ here ∷ drop (suc at) macros = drop-cons macros at d lt in
-    front ∙ ap (λ (l : List Macro). take at macros ++ without_label l label) split ∙ ap (λ (b : Bool). take at macros ++ cond b (drop (suc at) macros) (here ∷ without_label (drop (suc at) macros) label)) same
 
 -- another ESE
 pub kept_event : (c : Contents) (sre ese bits : ℕ) → IsContents c → c.enables ≡ Some (sre, ese) → IsContents (contents_of c.registers c.user c.macros (Some (sre, bits)) c.files c.recall)

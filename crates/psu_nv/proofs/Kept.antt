@@ -9,7 +9,8 @@ use Rattle.psu_items.proofs.Keys.{same_key}
 use Rattle.psu_items.proofs.Maps.{same_map}
 use Rattle.psu_outputs.specs.declared.output_settings.OutputSettings.{OutputSettings}
 use Rattle.psu_outputs.specs.Settings.{AreSettings, reset, bytes_of, is_reset}
-use Rattle.psu_nv.specs.Names.{is_between, is_name}
+use Rattle.psu_lex.specs.Names.{is_name}
+use Rattle.psu_nv.specs.Decoding.{is_between}
 use Rattle.psu_nv.specs.Contents.{Macro, Contents, contents_of, IsContents, IsMacro, IsFile, HasDistinct, enables_items, register_items, registers_items, user_items, macros_items, file_item, recall_items, items_of}
 use Rattle.psu_nv.specs.Commands.{settings_at}
 use Rattle.psu_nv.specs.Parts.{Part, Enables, Register, User, Macros, File, Recall, key_of, part_items, value_in}

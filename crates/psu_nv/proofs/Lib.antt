@@ -2,7 +2,9 @@ pub mod Items
 pub mod Finding
 pub mod States
 pub mod Totals
+pub mod Labels
 pub mod Keeping
+pub mod Entries
 pub mod Parts
 pub mod Gets
 pub mod Encoding

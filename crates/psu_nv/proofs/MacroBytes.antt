@@ -6,7 +6,7 @@ use Rattle.std.specs.Int.{w16, to_be_bytes, from_be_bytes}
 use Rattle.std.proofs.Math.Seq.{take-append_seam, drop-append_seam}
 use Rattle.std.proofs.lemmas.Nat.{from_be_bytes-to_be_bytes_2}
 use Rattle.std.proofs.lemmas.List.Concat.{flat_map-cons}
-use Rattle.psu_nv.specs.Names.{same_label}
+use Rattle.psu_nv.specs.Labels.{same_label}
 use Rattle.psu_nv.specs.Contents.{Macro, IsMacro, HasDistinct, has_label, body_at, macro_bytes}
 use Rattle.psu_nv.specs.Commands.{macro_of}
 use Rattle.psu_nv.specs.Decoding.{AreMacros}

@@ -1,7 +1,7 @@
 -- The cost of contents is the sum over their parts.
-use Rattle.std.proofs.Common.{◌≡◌, ℕ, zero, suc, ◌+◌, ◌-◌, ◌*◌, ◌/◌, ◌≤◌, ◌<◌, eqb, Bool, true, false, cond, inl, inr, List, [], ◌∷◌, ◌++◌, length, get_or, drop, map, Option, Some, None, refl, sym, ◌∙◌, ap, subst, bytes_eq, arith, length-append}
-use Rattle.std.specs.Prelude.{◌&&◌, nat_le, is_some}
-use Rattle.std.specs.List.{list_all, flat_map, AllByRecursion}
+use Rattle.std.proofs.Common.{◌≡◌, ℕ, ◌+◌, ◌-◌, ◌*◌, ◌/◌, ◌≤◌, eqb, Bool, true, false, cond, inl, inr, List, [], ◌∷◌, ◌++◌, length, map, Option, Some, None, refl, sym, ◌∙◌, ap, subst, bytes_eq, arith, length-append}
+use Rattle.std.specs.Prelude.{is_some}
+use Rattle.std.specs.List.{flat_map, AllByRecursion}
 use Rattle.std.proofs.lemmas.Bool.Decides.{nat_tests}
 use Rattle.std.specs.Int.{w16, to_be_bytes}
 use Rattle.std.proofs.lemmas.Bool.{cases_Bool}
@@ -12,7 +12,8 @@ use Rattle.std.specs.Cmp.Lexicographic.{slice_cmp}
 use Rattle.psu_items.specs.Map.{Before}
 use Rattle.psu_items.proofs.Maps.{get_before, all_after, get-put, sorted-put}
 use Rattle.psu_items.proofs.Keys.{same_key, after-tests}
-use Rattle.psu_nv.specs.Names.{is_label, is_label_byte, begins_with_letter, same_label}
+use Rattle.psu_nv.specs.Labels.{same_label}
+use Rattle.psu_nv.proofs.Labels.{label_short}
 use Rattle.psu_nv.specs.Commands.{without_label, macro_of}
 use Rattle.psu_nv.proofs.Items.{all_put, all_without}
 use Rattle.psu_items.specs.Map.{Item, item_of, get, put, without, cost, IsSorted}
@@ -145,29 +146,10 @@ pub macros_cost_is : (macros : List Macro) (count size : ℕ) → length macros 
 macros_cost_is [] count size long is = sym (ap (λ (n : ℕ). cond (eqb n 0) 0 (page_count size)) (sym long))
 macros_cost_is (m ∷ macros) count size long is = ap page_count is ∙ sym (ap (λ (b : Bool). cond b 0 (page_count size)) (let other : eqb count 0 ≡ false = grind (arith, nat_tests) in other))
 
-size_next : (macros : List Macro) (i next : ℕ) (d : Macro) (label : List ℕ) → next ≡ suc i → i < length macros
-    → size_at (drop i macros) label ≡ cond (let m = get_or macros i d in same_label m.label label) (let m = get_or macros i d in 3 + (length m.label + length m.body)) (size_at (drop next macros) label)
-size_next [] i next d label is lt = absurd (omega arith)
-size_next (m ∷ macros) zero next d label is lt = ap (λ (n : ℕ). cond (same_label m.label label) (3 + (length m.label + length m.body)) (size_at (drop n (m ∷ macros)) label)) (sym is)
-size_next (m ∷ macros) (suc i) next d label is lt = size_next macros i (suc i) d label refl (omega arith)
-    ∙ ap (λ (n : ℕ). cond (let q = get_or macros i d in same_label q.label label) (let q = get_or macros i d in 3 + (length q.label + length q.body)) (size_at (drop n (m ∷ macros)) label)) (sym is)
-
 -- no macro of contents is long
 pub few_bytes : (macros : List Macro) → AllByRecursion IsMacro macros → macros_length macros ≤ 1039 * length macros
 few_bytes [] are = omega arith
 few_bytes (m ∷ macros) are = omega (arith, sum_by-cons (λ (n : Macro). 3 + (length n.label + length n.body)) m macros, few_bytes macros are.1, are.0.body, label_short m.label are.0.label)
-  where
-    both : (a b : Bool) → (a && b) ≡ true → (a ≡ true) × (b ≡ true)
-    both true b e = (refl, e)
-    both false b e = absurd cc
-
-    low_enough : (n : ℕ) → nat_le n 12 ≡ true → n ≤ 12
-    low_enough n is = grind (arith, nat_tests)
-
-    label_short : (label : List ℕ) → is_label label ≡ true → length label ≤ 12
-    label_short label is =
-        let long : nat_le (length label) 12 ≡ true = (both (list_all is_label_byte label) (nat_le (length label) 12) (both (begins_with_letter label) (list_all is_label_byte label && nat_le (length label) 12) is).1).1 in
-        low_enough (length label) long
 
 -- # As the code computes it: by what is kept, which is what the contents have
 

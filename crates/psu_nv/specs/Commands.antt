@@ -1,6 +1,6 @@
 -- The nonvolatile commands: when one is refused, and what it makes of the contents. Sources: IEEE 488.2 (`*SRE`, `*ESE`, `*PSC`, `*SAV`, `*PUD`,
 -- `*DMC`, `*RMC`, `*PMC`), SCPI-1999 (MMEMory, OUTPut:PON); the order of refusals is this project's own.
-use Rattle.std.specs.Prelude.{ℕ, ◌%◌, ◌==◌, ◌&&◌, not, nat_lt, nat_le, Bool, if◌then◌else◌, Option, Some, None, is_some, unwrap_or, List, [], ◌∷◌, ◌++◌, length, take, drop, slice_index, slice_index_or, slice_set, bit_and}
+use Rattle.std.specs.Prelude.{ℕ, ◌%◌, ◌==◌, ◌&&◌, not, nat_lt, nat_le, Bool, true, false, if◌then◌else◌, Option, Some, None, is_some, unwrap_or, List, [], ◌∷◌, ◌++◌, length, take, drop, slice_index, slice_index_or, slice_set, bit_and}
 use Rattle.std.specs.List.{list_all}
 use Rattle.std.specs.Str.{bytes_eq}
 use Rattle.std.specs.Int.{w16, from_be_bytes}
@@ -9,7 +9,8 @@ use Rattle.psu_lex.specs.declared.scpi_error.ScpiError.{ScpiError}
 use Rattle.psu_lex.specs.declared.scpi_error.ScpiError.TheVariants.{IllegalMacroLabel, MacroDefinitionTooLong, MacroRedefinitionNotAllowed, MacroHeaderNotFound, FileNameError, FileNameNotFound, MassStorageError, MediaFull}
 use Rattle.psu_outputs.specs.declared.output_settings.OutputSettings.{OutputSettings}
 use Rattle.psu_outputs.specs.Settings.{reset, is_allowed, bytes_of}
-use Rattle.psu_nv.specs.Names.{is_label, is_name, same_label}
+use Rattle.psu_lex.specs.Names.{is_label, is_name}
+use Rattle.psu_nv.specs.Labels.{same_label}
 use Rattle.psu_nv.specs.Contents.{Macro, Contents, body_at, has_label, fits}
 
 -- a nonvolatile command with all that it needs: `*SAV` carries the settings, `*PSC` the enables that are kept, or none
@@ -140,6 +141,17 @@ apply c (LoadState register name) = record c { registers = slice_set c.registers
 apply c (StoreMacro label name) = record c { files = put c.files name (2 ∷ body_of c.macros label) }
 apply c (LoadMacro label name) = record c { macros = c.macros ++ macro_of label (bytes_in c.files name) ∷ [] }
 apply c (Recall on) = record c { recall = on }
+
+-- whether a command takes memory: it defines a macro or makes a file
+abbrev pub takes_memory : Command → Bool
+takes_memory (DefineMacro label body) = true
+takes_memory (StoreBytes name bytes) = true
+takes_memory (Copy from to) = true
+takes_memory (Move from to) = true
+takes_memory (StoreState register name) = true
+takes_memory (StoreMacro label name) = true
+takes_memory (LoadMacro label name) = true
+takes_memory command = false
 
 -- the contents after commands, the first of them first
 abbrev pub applied : Contents → List Command → Contents

@@ -3,7 +3,7 @@ use Rattle.std.specs.Prelude.{ℕ, ◌+◌, ◌/◌, ◌≤◌, Option, Some, No
 use Rattle.psu_items.specs.Map.{Item}
 use Rattle.psu_outputs.specs.declared.output_settings.OutputSettings.{OutputSettings}
 use Rattle.psu_outputs.specs.Settings.{is_reset}
-use Rattle.psu_nv.specs.Names.{same_label}
+use Rattle.psu_nv.specs.Labels.{same_label}
 use Rattle.psu_nv.specs.Contents.{Macro}
 
 -- one page for an item, and one for each 512 bytes begun of its value

@@ -4,7 +4,7 @@ use Rattle.std.specs.List.{flat_map, list_all, AllByRecursion}
 use Rattle.psu_items.specs.Map.{Item, item_of}
 use Rattle.psu_nv.specs.declared.decode_fault.DecodeFault.{DecodeFault}
 use Rattle.psu_nv.specs.declared.decode_fault.DecodeFault.TheVariants.{BadKey, BadValue, Memory}
-use Rattle.psu_nv.specs.Names.{is_between, is_name}
+use Rattle.psu_lex.specs.Names.{is_name}
 use Rattle.psu_nv.specs.Contents.{Macro, Contents, IsContents, IsMacro, HasDistinct, begins_with_kind, macro_bytes, items_of}
 
 -- # Keys
@@ -17,6 +17,9 @@ is_nothing (byte ∷ bytes) = false
 abbrev pub is_number : List ℕ → Bool
 is_number [] = false
 is_number (number ∷ bytes) = nat_le number 99 && is_nothing bytes
+
+abbrev pub is_between : ℕ → ℕ → ℕ → Bool
+is_between low high kind = nat_le low kind && nat_le kind high
 
 -- a part of which there is one at most: its key is this byte alone
 abbrev pub is_single : ℕ → Bool

@@ -23,17 +23,6 @@ impl<A: Allocator + Copy> Contents<A> {
         ensures most { result < 2 ^ 125 }
     {
         match command {
-            NvCommand::ServiceEnable(_)
-            | NvCommand::EventEnable(_)
-            | NvCommand::PowerOnClear(_)
-            | NvCommand::Save(_, _)
-            | NvCommand::User(_)
-            | NvCommand::DefineMacro(_, _)
-            | NvCommand::RemoveMacro(_)
-            | NvCommand::PurgeMacros
-            | NvCommand::LoadState(_, _)
-            | NvCommand::LoadMacro(_, _)
-            | NvCommand::Recall(_) => self.files.cost(),
             NvCommand::Move(from, to) => self.files_moved(from, to),
             NvCommand::StoreBytes(name, file) => self.files_with(name, 1 + file.bytes().len()),
             NvCommand::Delete(name) => self.files_without(name),
@@ -43,6 +32,7 @@ impl<A: Allocator + Copy> Contents<A> {
                 name,
                 1 + self.body_of(label).len(),
             ),
+            _ => self.files.cost(),
         }
     }
 
@@ -53,25 +43,13 @@ impl<A: Allocator + Copy> Contents<A> {
         ensures most { result < 2 ^ 125 }
     {
         match command {
-            NvCommand::ServiceEnable(_)
-            | NvCommand::EventEnable(_)
-            | NvCommand::PowerOnClear(_)
-            | NvCommand::Save(_, _)
-            | NvCommand::User(_)
-            | NvCommand::StoreBytes(_, _)
-            | NvCommand::Delete(_)
-            | NvCommand::Copy(_, _)
-            | NvCommand::Move(_, _)
-            | NvCommand::StoreState(_, _)
-            | NvCommand::LoadState(_, _)
-            | NvCommand::StoreMacro(_, _)
-            | NvCommand::Recall(_) => self.macros_now(),
             NvCommand::DefineMacro(label, body) => self.macros_with(label.len() + body.len()),
             NvCommand::RemoveMacro(label) => self.macros_without(label),
             NvCommand::PurgeMacros => 0,
             NvCommand::LoadMacro(label, name) => {
                 self.macros_with(label.len() + self.bytes_of(name).len())
             }
+            _ => self.macros_now(),
         }
     }
 
@@ -94,26 +72,12 @@ impl<A: Allocator + Copy> Contents<A> {
         ensures are { AllByRecursion AreSettings (apply self.now (command_of command.now)).registers }
     {
         match command {
-            NvCommand::ServiceEnable(_)
-            | NvCommand::EventEnable(_)
-            | NvCommand::PowerOnClear(_)
-            | NvCommand::User(_)
-            | NvCommand::DefineMacro(_, _)
-            | NvCommand::RemoveMacro(_)
-            | NvCommand::PurgeMacros
-            | NvCommand::StoreBytes(_, _)
-            | NvCommand::Delete(_)
-            | NvCommand::Copy(_, _)
-            | NvCommand::Move(_, _)
-            | NvCommand::StoreState(_, _)
-            | NvCommand::StoreMacro(_, _)
-            | NvCommand::LoadMacro(_, _)
-            | NvCommand::Recall(_) => registers_pages(&self.registers),
             NvCommand::Save(register, settings) => self.registers_with(*register, *settings),
             NvCommand::LoadState(register, name) => self.registers_with(
                 *register,
                 self.state_of(name),
             ),
+            _ => registers_pages(&self.registers),
         }
     }
 
@@ -122,23 +86,8 @@ impl<A: Allocator + Copy> Contents<A> {
         ensures { result ≡ cost (user_items (apply self.now (command_of command.now)).user) }
     {
         match command {
-            NvCommand::ServiceEnable(_)
-            | NvCommand::EventEnable(_)
-            | NvCommand::PowerOnClear(_)
-            | NvCommand::Save(_, _)
-            | NvCommand::DefineMacro(_, _)
-            | NvCommand::RemoveMacro(_)
-            | NvCommand::PurgeMacros
-            | NvCommand::StoreBytes(_, _)
-            | NvCommand::Delete(_)
-            | NvCommand::Copy(_, _)
-            | NvCommand::Move(_, _)
-            | NvCommand::StoreState(_, _)
-            | NvCommand::LoadState(_, _)
-            | NvCommand::StoreMacro(_, _)
-            | NvCommand::LoadMacro(_, _)
-            | NvCommand::Recall(_) => user_pages(self.user.bytes()),
             NvCommand::User(user) => user_pages(user.bytes()),
+            _ => user_pages(self.user.bytes()),
         }
     }
 
@@ -147,23 +96,8 @@ impl<A: Allocator + Copy> Contents<A> {
         ensures { result ≡ cost (enables_items (apply self.now (command_of command.now)).enables) }
     {
         match command {
-            NvCommand::ServiceEnable(_)
-            | NvCommand::EventEnable(_)
-            | NvCommand::Save(_, _)
-            | NvCommand::User(_)
-            | NvCommand::DefineMacro(_, _)
-            | NvCommand::RemoveMacro(_)
-            | NvCommand::PurgeMacros
-            | NvCommand::StoreBytes(_, _)
-            | NvCommand::Delete(_)
-            | NvCommand::Copy(_, _)
-            | NvCommand::Move(_, _)
-            | NvCommand::StoreState(_, _)
-            | NvCommand::LoadState(_, _)
-            | NvCommand::StoreMacro(_, _)
-            | NvCommand::LoadMacro(_, _)
-            | NvCommand::Recall(_) => enables_pages(self.enables),
             NvCommand::PowerOnClear(enables) => enables_pages(*enables),
+            _ => enables_pages(self.enables),
         }
     }
 
@@ -174,22 +108,10 @@ impl<A: Allocator + Copy> Contents<A> {
     {
         let count = self.macros.len();
         match command {
-            NvCommand::ServiceEnable(_)
-            | NvCommand::EventEnable(_)
-            | NvCommand::PowerOnClear(_)
-            | NvCommand::Save(_, _)
-            | NvCommand::User(_)
-            | NvCommand::StoreBytes(_, _)
-            | NvCommand::Delete(_)
-            | NvCommand::Copy(_, _)
-            | NvCommand::Move(_, _)
-            | NvCommand::StoreState(_, _)
-            | NvCommand::LoadState(_, _)
-            | NvCommand::StoreMacro(_, _)
-            | NvCommand::Recall(_) => count,
             NvCommand::PurgeMacros => 0,
             NvCommand::DefineMacro(_, _) | NvCommand::LoadMacro(_, _) => count + 1,
             NvCommand::RemoveMacro(label) => self.count_without(label),
+            _ => count,
         }
     }
 

@@ -1,7 +1,7 @@
 // One change of the contents.
-ghost use Rattle.std.specs.Prelude.{◌≡◌, ◌⊎◌, ◌≤◌, Some, None, length, IfErr, OnOk, OnErr};
+ghost use Rattle.std.specs.Prelude.{◌≡◌, ◌⊎◌, ◌≤◌, Some, None, true, length, IfErr, OnOk, OnErr};
 ghost use Rattle.psu_lex.specs.declared.scpi_error.ScpiError.TheVariants.{OutOfMemory};
-ghost use Rattle.psu_nv.specs.Commands.{answer, apply, refused};
+ghost use Rattle.psu_nv.specs.Commands.{answer, apply, refused, takes_memory};
 ghost use Rattle.psu_nv.specs.Contents.{IsContents};
 ghost use Rattle.psu_nv.specs.Views.{command_of};
 
@@ -11,11 +11,13 @@ use std::alloc::{AllocError, Allocator};
 
 impl<A: Allocator + Copy> Contents<A> {
     /// Makes a nonvolatile command's change where its result fits the limit. The errors in their order: those of names and
-    /// labels and what they find, -254 where the result doesn't fit, -225 where memory is refused. After each nothing has changed.
+    /// labels and what they find, -254 where the result doesn't fit, -225 where memory is refused to a command that defines a macro or
+    /// makes a file. After each nothing has changed.
     pub fn change(&mut self, limit: u16, command: &NvCommand) -> Result<(), ScpiError>
         ensures sound { OnOk result (IsContents self.new) }
         ensures ok { OnOk result ((answer limit self.old (command_of command.now) ≡ None) × (self.new ≡ apply self.old (command_of command.now))) }
         ensures refused { IfErr result (λ e. (answer limit self.old (command_of command.now) ≡ Some e) ⊎ ((answer limit self.old (command_of command.now) ≡ None) × (e ≡ OutOfMemory))) }
+        ensures memory { IfErr result (λ e. e ≡ OutOfMemory → takes_memory (command_of command.now) ≡ true) }
         ensures err { OnErr result (self.new ≡ self.old) }
     {
         if let Some(error) = self.refusal(command) {
@@ -39,6 +41,7 @@ impl<A: Allocator + Copy> Contents<A> {
         requires found { refused self.old (command_of command.now) ≡ None }
         requires room { length (apply self.old (command_of command.now)).macros ≤ 32 }
         ensures ok { OnOk result (self.new ≡ apply self.old (command_of command.now)) }
+        ensures memory { OnErr result (takes_memory (command_of command.now) ≡ true) }
         ensures err { OnErr result (self.new ≡ self.old) }
     {
         match command {

@@ -1,12 +1,12 @@
 // What is kept without power, as one value.
-ghost use Rattle.std.specs.Prelude.{◌≡◌, ◌≤◌, length, IfOk, IfSome, option_map, Option, Some, None};
+ghost use Rattle.std.specs.Prelude.{◌≡◌, ◌≤◌, length, map, IfOk, IfSome, option_map, Option, Some, None};
 ghost use Rattle.psu_items.specs.Map.{get};
 ghost use Rattle.psu_nv.specs.Contents.{fresh};
 ghost use Rattle.psu_nv.specs.Commands.{settings_at};
 
 use crate::files::Files;
-use crate::names::same_label;
-use crate::{Definition, File, FileKind, Register, UserData};
+use crate::macros::Macros;
+use crate::{File, FileKind, Label, Register, UserData};
 use psu_items::Pair;
 use psu_outputs::Settings;
 use std::alloc::{AllocError, Allocator};
@@ -19,7 +19,7 @@ pub struct Contents<A: Allocator + Copy> {
     pub(crate) alloc: A,
     pub(crate) registers: [Settings; 100],
     pub(crate) user: UserData,
-    pub(crate) macros: Vec<Definition<A>, A>,
+    pub(crate) macros: Macros<A>,
     pub(crate) enables: Option<(u8, u8)>,
     pub(crate) files: Files<A>,
     pub(crate) recall: bool,
@@ -30,9 +30,9 @@ impl<A: Allocator + Copy> Model for Contents<A> {
 
     ghost Value = { Contents };
 
-    ghost view = { λ c. contents_of c.registers c.user c.macros.items c.enables c.files c.recall };
+    ghost view = { λ c. contents_of c.registers c.user c.macros c.enables c.files c.recall };
 
-    ghost invariant = { λ c. IsContents (contents_of c.registers c.user c.macros.items c.enables c.files c.recall) };
+    ghost invariant = { λ c. IsContents (contents_of c.registers c.user c.macros c.enables c.files c.recall) };
 }
 
 impl<A: Allocator + Copy> Contents<A> {
@@ -44,7 +44,7 @@ impl<A: Allocator + Copy> Contents<A> {
             alloc,
             registers: [Settings::reset(); 100],
             user: UserData::none(),
-            macros: Vec::new(alloc),
+            macros: Macros::new(alloc),
             enables: None,
             files: Files::new(alloc),
             recall: false,
@@ -73,11 +73,11 @@ impl<A: Allocator + Copy> Contents<A> {
         self.enables
     }
 
-    /// The macros in order of definition.
-    pub fn labels(&self) -> &[Definition<A>]
-        ensures { result.now ≡ self.now.macros }
+    /// The labels of the macros as they were written, in order of definition.
+    pub fn labels(&self) -> &[Label]
+        ensures { result.now ≡ map (λ m. m.label) self.now.macros }
     {
-        &self.macros
+        self.macros.labels()
     }
 }
 
@@ -91,12 +91,7 @@ impl<A: Allocator + Copy> Contents<A> {
         ensures value { option_map (λ body. body.now) result ≡ body_at self.now.macros label.now }
         ensures most { IfSome result (λ body. length body.now ≤ 1024) }
     {
-        for definition in &self.macros {
-            if same_label(definition.label(), label) {
-                return Some(definition.body());
-            }
-        }
-        None
+        self.macros.body(&Label::of(label)?)
     }
 
     /// The file of a name; none where there is none.

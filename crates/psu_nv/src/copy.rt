@@ -1,7 +1,7 @@
 // The same contents once more.
 ghost use Rattle.std.specs.Prelude.{◌≡◌, IfOk};
 
-use crate::{Contents, Definition};
+use crate::Contents;
 use std::alloc::{AllocError, Allocator};
 
 impl<A: Allocator + Copy> Contents<A> {
@@ -9,15 +9,11 @@ impl<A: Allocator + Copy> Contents<A> {
     pub fn copy(&self, alloc: A) -> Result<Contents<A>, AllocError>
         ensures { IfOk result (λ copy. copy ≡ self.now) }
     {
-        let mut macros = Vec::new(alloc);
-        for definition in &self.macros {
-            macros.push(Definition::new(alloc, definition.label(), definition.body())?)?;
-        }
         Ok(Contents {
             alloc,
             registers: self.registers,
             user: self.user.copy(),
-            macros,
+            macros: self.macros.copy(alloc)?,
             enables: self.enables,
             files: self.files.copy(alloc)?,
             recall: self.recall,

@@ -12,6 +12,7 @@ ghost use Rattle.psu_nv.specs.Decoding.{has_keys, IsKept, IsFault, files_in};
 
 use crate::files::Files;
 use crate::keys::{files_of, fit_files, has_keys};
+use crate::macros::Macros;
 use crate::recall::recall_in;
 use crate::written::{WrittenMacros, macros_of};
 use crate::{Contents, DecodeFault, UserData};
@@ -80,9 +81,9 @@ fn build<A: Allocator + Copy>(
     requires { IsContents (contents_of read.now.registers read.now.user read.now.macros.items read.now.enables (files_in items.now) read.now.recall) }
     ensures { IfOk result (λ c. c ≡ contents_of read.now.registers read.now.user read.now.macros.items read.now.enables (files_in items.now) read.now.recall) }
 {
-    let mut macros = Vec::new(alloc);
+    let mut macros = Macros::new(alloc);
     for written in read.macros.as_slice() {
-        macros.push(written.definition(alloc)?)?;
+        written.define(alloc, &mut macros)?;
     }
     Ok(Contents {
         alloc,

@@ -1,13 +1,13 @@
 // The map that contents are kept as.
-ghost use Rattle.std.specs.Prelude.{◌≡◌, ◌≤◌, ℕ, ◌++◌, ◌∷◌, [], length, IfOk, OnOk, OnErr, option_map};
+ghost use Rattle.std.specs.Prelude.{◌≡◌, ℕ, ◌++◌, ◌∷◌, [], IfOk, OnOk, OnErr, option_map};
 ghost use Rattle.std.specs.List.{AllByRecursion};
 ghost use Rattle.psu_items.specs.Map.{Item, Before};
-ghost use Rattle.psu_nv.specs.Contents.{items_of, register_items, user_items, macros_items, macro_bytes};
+ghost use Rattle.psu_nv.specs.Contents.{items_of, register_items, user_items, macros_items};
 ghost use Rattle.psu_nv.specs.Parts.{key_of, part_items, value_in, edit_of};
 ghost use Rattle.psu_nv.specs.Views.{part_of};
 
 use crate::part::with_first;
-use crate::{Contents, Definition, Part, Register};
+use crate::{Contents, Part, Register};
 use psu_items::{Batch, Items};
 use psu_outputs::Settings;
 use std::alloc::{AllocError, Allocator};
@@ -87,11 +87,7 @@ impl<A: Allocator + Copy> Contents<A> {
         if self.macros.is_empty() {
             return Ok(None);
         }
-        let mut bytes = Vec::new(alloc);
-        for definition in &self.macros {
-            put_macro(&mut bytes, definition)?;
-        }
-        Ok(Some(bytes))
+        Ok(Some(self.macros.value(alloc)?))
     }
 }
 
@@ -116,22 +112,4 @@ fn some_bytes<A: Allocator + Copy>(alloc: A, bytes: &[u8]) -> Result<Option<Vec<
         return Ok(None);
     }
     Ok(Some(bytes.to_vec(alloc)?))
-}
-
-// Adds the bytes of a macro: label length, label, body length in two bytes, body.
-fn put_macro<A: Allocator + Copy>(
-    bytes: &mut Vec<u8, A>,
-    definition: &Definition<A>,
-) -> Result<(), AllocError>
-    requires label { length definition.now.label ≤ 12 }
-    requires body { length definition.now.body ≤ 1024 }
-    ensures { OnOk result (bytes.new.items ≡ bytes.old.items ++ macro_bytes definition.now) }
-{
-    let label = definition.label();
-    let body = definition.body();
-    bytes.push(label.len() as u8)?;
-    bytes.extend_from_slice(label)?;
-    bytes.extend_from_slice(&(body.len() as u16).to_be_bytes())?;
-    bytes.extend_from_slice(body)?;
-    Ok(())
 }

@@ -52,7 +52,7 @@ impl<A: Allocator + Copy> Contents<A> {
         match kind {
             1 => self.enables().is_some(),
             3 => !self.user().is_empty(),
-            4 => !self.labels().is_empty(),
+            4 => !self.macros.is_empty(),
             6 => self.recall(),
             _ => false,
         }

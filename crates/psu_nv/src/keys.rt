@@ -5,8 +5,8 @@ ghost use Rattle.psu_nv.specs.Contents.{begins_with_kind};
 ghost use Rattle.psu_nv.specs.Decoding.{is_number, is_single, is_key, has_keys, name_in, files_in, fits_file, fit_files};
 
 use crate::file_kind::FileKind;
-use crate::names::is_name;
 use psu_items::{Items, Pair};
+use psu_lex::is_name;
 use std::alloc::{AllocError, Allocator};
 
 // Whether contents may have all of these keys.

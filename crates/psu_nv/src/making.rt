@@ -1,13 +1,13 @@
 // The changes of the parts of contents. Each takes its memory first.
-ghost use Rattle.std.specs.Prelude.{◌≡◌, ◌<◌, ◌≤◌, ◌++◌, ◌∷◌, [], length, remove, slice_set, true, false, OnOk, OnErr, IfOk, bit_and};
+ghost use Rattle.std.specs.Prelude.{◌≡◌, ◌<◌, ◌≤◌, ◌++◌, ◌∷◌, [], length, slice_set, true, false, OnOk, OnErr, IfOk, bit_and};
 ghost use Rattle.std.specs.Option.{ForSome};
 ghost use Rattle.psu_items.specs.Map.{put, without};
-ghost use Rattle.psu_nv.specs.Names.{is_label, is_name};
+ghost use Rattle.psu_lex.specs.Names.{is_label, is_name};
 ghost use Rattle.psu_nv.specs.Contents.{has_label, begins_with_kind};
-ghost use Rattle.psu_nv.specs.Commands.{without_label, without_mss, kept, with_service, with_event};
+ghost use Rattle.psu_nv.specs.Commands.{macro_of, without_label, without_mss, kept, with_service, with_event};
 
-use crate::names::same_label;
-use crate::{Contents, Definition, Register, UserData};
+use crate::body::Body;
+use crate::{Contents, Label, Register, UserData};
 use psu_outputs::Settings;
 use std::alloc::{AllocError, Allocator};
 
@@ -85,24 +85,23 @@ impl<A: Allocator + Copy> Contents<A> {
         self.files.remove(name);
     }
 
-    pub(crate) fn push_macro(&mut self, definition: Definition<A>) -> Result<(), AllocError>
-        requires label { is_label definition.label ≡ true }
-        requires body { length definition.body ≤ 1024 }
-        requires free { has_label self.old.macros definition.label ≡ false }
+    pub(crate) fn put_macro(&mut self, label: &[u8], body: Body<A>) -> Result<(), AllocError>
+        requires label { is_label label.now ≡ true }
+        requires body { length body ≤ 1024 }
+        requires free { has_label self.old.macros label.now ≡ false }
         requires room { length self.old.macros < 32 }
-        ensures ok { OnOk result (self.new ≡ record self.old { macros = self.old.macros ++ definition ∷ [] }) }
+        ensures ok { OnOk result (self.new ≡ record self.old { macros = self.old.macros ++ macro_of label.now body ∷ [] }) }
         ensures err { OnErr result (self.new ≡ self.old) }
     {
-        self.macros.push(definition)?;
+        self.macros.define(Label::new(label), body)?;
         Ok(())
     }
 
     pub(crate) fn remove_macro(&mut self, label: &[u8])
         ensures { self.new ≡ record self.old { macros = without_label self.old.macros label.now } }
     {
-        let at = place_of(&self.macros, label);
-        if at < self.macros.len() {
-            self.macros.remove(at);
+        if let Some(label) = Label::of(label) {
+            self.macros.remove(&label);
         }
     }
 }
@@ -113,17 +112,4 @@ fn without_mss(bits: u8) -> u8
     ensures mss { bit_and result 64 ≡ 0 }
 {
     bits & 191
-}
-
-// The place of the first macro with a label, or their number.
-fn place_of<A: Allocator + Copy>(macros: &[Definition<A>], label: &[u8]) -> usize
-    ensures within { result ≤ length macros.now }
-    ensures found { without_label macros.now label.now ≡ remove macros.now result }
-{
-    for at in 0..macros.len() {
-        if same_label(macros[at].label(), label) {
-            return at;
-        }
-    }
-    macros.len()
 }

@@ -3,11 +3,9 @@ ghost use Rattle.std.specs.Prelude.{◌≡◌, ◌+◌, ◌^◌, ◌<◌, ◌≤
 ghost use Rattle.psu_items.specs.Map.{cost};
 ghost use Rattle.psu_nv.specs.Contents.{enables_items, user_items};
 ghost use Rattle.psu_outputs.specs.Settings.{is_reset};
-ghost use Rattle.psu_nv.specs.Costs.{page_count, registers_cost, macros_length};
+ghost use Rattle.psu_nv.specs.Costs.{page_count, registers_cost};
 
-use crate::{Contents, Definition};
 use psu_outputs::Settings;
-use std::alloc::Allocator;
 
 // The pages of each part.
 #[derive(Clone, Copy)]
@@ -74,16 +72,4 @@ pub(crate) fn user_pages(user: &[u8]) -> u8
     ensures { result ≡ cost (user_items user.now) }
 {
     if user.is_empty() { 0 } else { 2 }
-}
-
-// The bytes that macros have in their item.
-pub(crate) fn macros_length<A: Allocator + Copy>(macros: &[Definition<A>]) -> u128
-    requires { macros_length macros.now < 2 ^ 100 }
-    ensures { result ≡ macros_length macros.now }
-{
-    let mut size: u128 = 0;
-    for definition in macros {
-        size += 3 + (definition.label().len() as u128 + definition.body().len() as u128);
-    }
-    size
 }

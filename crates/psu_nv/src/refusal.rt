@@ -1,14 +1,13 @@
 // What names and labels find: the refusals of a nonvolatile command before its result is looked at.
 ghost use Rattle.std.specs.Prelude.{◌≡◌, ℕ, ◌∷◌, [], not};
 ghost use Rattle.psu_lex.specs.declared.scpi_error.ScpiError.TheVariants.{FileNameError};
-ghost use Rattle.psu_nv.specs.Names.{is_name};
+ghost use Rattle.psu_lex.specs.Names.{is_name};
 ghost use Rattle.psu_nv.specs.Commands.{DefineMacro, RemoveMacro, Delete, Copy, LoadState, StoreMacro, LoadMacro, first_of, refused};
 ghost use Rattle.psu_nv.specs.Views.{command_of};
 
-use crate::names::{is_label, is_name};
 use crate::state::is_state;
 use crate::{Contents, NvCommand};
-use psu_lex::ScpiError;
+use psu_lex::{ScpiError, is_label, is_name};
 use std::alloc::Allocator;
 
 impl<A: Allocator + Copy> Contents<A> {

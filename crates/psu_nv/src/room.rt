@@ -6,9 +6,8 @@ ghost use Rattle.psu_outputs.specs.Settings.{bytes_of};
 ghost use Rattle.psu_nv.specs.Commands.{Move, macro_of, refused, settings_at, value_of, without_label};
 ghost use Rattle.psu_nv.specs.Costs.{macros_cost, macros_length, size_at, pages_of};
 
-use crate::names::same_label;
-use crate::pages::{macros_length, page_count};
-use crate::{Contents, Register};
+use crate::pages::page_count;
+use crate::{Contents, Label, Register};
 use std::alloc::Allocator;
 
 impl<A: Allocator + Copy> Contents<A> {
@@ -52,7 +51,7 @@ impl<A: Allocator + Copy> Contents<A> {
         ensures value { result ≡ macros_length self.now.macros }
         ensures most { result < 2 ^ 60 }
     {
-        macros_length(&self.macros)
+        self.macros.size()
     }
 
     // The pages of the macros as they are.
@@ -94,12 +93,10 @@ impl<A: Allocator + Copy> Contents<A> {
     fn size_at(&self, label: &[u8]) -> u128
         ensures { result ≡ size_at self.now.macros label.now }
     {
-        for definition in &self.macros {
-            if same_label(definition.label(), label) {
-                return 3 + (definition.label().len() as u128 + definition.body().len() as u128);
-            }
+        match Label::of(label) {
+            Some(label) => self.macros.size_at(&label),
+            None => 0,
         }
-        0
     }
 }
 

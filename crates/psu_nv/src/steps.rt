@@ -2,7 +2,8 @@
 ghost use Rattle.std.specs.Prelude.{◌≡◌, ◌<◌, ◌≤◌, None, length, OnOk, OnErr};
 ghost use Rattle.psu_nv.specs.Commands.{DefineMacro, StoreBytes, Copy, Move, StoreState, LoadState, StoreMacro, LoadMacro, apply, refused};
 
-use crate::{Contents, Definition, Register};
+use crate::body::Body;
+use crate::{Contents, Register};
 use std::alloc::{AllocError, Allocator};
 
 impl<A: Allocator + Copy> Contents<A> {
@@ -22,8 +23,8 @@ impl<A: Allocator + Copy> Contents<A> {
         ensures ok { OnOk result (self.new ≡ apply self.old (DefineMacro label.now body.now)) }
         ensures err { OnErr result (self.new ≡ self.old) }
     {
-        let definition = Definition::new(self.alloc, label, body)?;
-        self.push_macro(definition)
+        let body = Body::of(self.alloc, body)?;
+        self.put_macro(label, body)
     }
 
     #[tactic(auto, unfolding(crate::specs::Commands::apply))]
@@ -33,8 +34,8 @@ impl<A: Allocator + Copy> Contents<A> {
         ensures ok { OnOk result (self.new ≡ apply self.old (LoadMacro label.now name.now)) }
         ensures err { OnErr result (self.new ≡ self.old) }
     {
-        let definition = Definition::new(self.alloc, label, self.bytes_of(name))?;
-        self.push_macro(definition)
+        let body = Body::of(self.alloc, self.bytes_of(name))?;
+        self.put_macro(label, body)
     }
 
     #[tactic(auto, unfolding(crate::specs::Commands::apply))]

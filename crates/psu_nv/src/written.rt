@@ -1,12 +1,15 @@
 // Macros as the bytes of their item.
-ghost use Rattle.std.specs.Prelude.{◌≡◌, ◌<◌, ◌≤◌, ◌++◌, ◌∷◌, List, ℕ, true, false, length, IfSome, IfNone, IfOk};
+ghost use Rattle.std.specs.Prelude.{◌≡◌, ◌<◌, ◌≤◌, ◌++◌, ◌∷◌, [], List, ℕ, true, false, length, IfSome, IfNone, OnOk};
 ghost use Rattle.std.specs.Int.{w16, to_be_bytes};
 ghost use Rattle.psu_nv.specs.Contents.{Macro, IsMacro, macro_bytes, has_label};
 ghost use Rattle.psu_nv.specs.Decoding.{AreMacros};
 
-use crate::Definition;
-use crate::names::{is_label, same_label};
+use crate::Label;
+use crate::body::Body;
+use crate::label::same_label;
+use crate::macros::Macros;
 use arrayvec::ArrayVec;
+use psu_lex::is_label;
 use std::alloc::{AllocError, Allocator};
 use std::marker::Model;
 
@@ -33,14 +36,17 @@ impl<'a> Model for Written<'a> {
 pub(crate) type WrittenMacros<'a> = ArrayVec<Written<'a>, MACROS_MOST>;
 
 impl<'a> Written<'a> {
-    // The same in memory of its own.
-    pub(crate) fn definition<A: Allocator + Copy>(
+    // Puts the macro behind all others, in memory of its own.
+    pub(crate) fn define<A: Allocator + Copy>(
         &self,
         alloc: A,
-    ) -> Result<Definition<A>, AllocError>
-        ensures { IfOk result (λ definition. definition ≡ self.now) }
+        macros: &mut Macros<A>,
+    ) -> Result<(), AllocError>
+        requires good { IsMacro self.now }
+        requires free { has_label macros.old self.now.label ≡ false }
+        ensures { OnOk result (macros.new ≡ macros.old ++ self.now ∷ []) }
     {
-        Definition::new(alloc, self.label, self.body)
+        macros.define(Label::new(self.label), Body::of(alloc, self.body)?)
     }
 
     // Whether a macro may be so.

@@ -179,7 +179,7 @@ fn the_33rd_macro_does_not_fit(rt: HostRuntime) -> Result<(), Fail> {
         ],
     );
     assert!(rt; contents.body(b"a1") == Some(b"*CLS".as_slice()));
-    assert!(rt; matches!(contents.labels().last(), Some(last) if last.label() == b"E".as_slice()));
+    assert!(rt; matches!(contents.labels().last(), Some(last) if last.bytes() == b"E".as_slice()));
     Ok(())
 }
 

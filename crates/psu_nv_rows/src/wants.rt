@@ -50,6 +50,22 @@ fn defined(alloc: Global, left: usize) -> Result<End, Fail> {
     Ok(end_of(answer, count == 1, count == 0 && contents.cost() == 0))
 }
 
+// A macro of a file's bytes, with so many bytes of memory left for both.
+fn loaded(alloc: Global, left: usize) -> Result<End, Fail> {
+    let arena = arena_with(alloc, left)?;
+    let mut contents = Contents::fresh(&arena);
+    let Some(file) = FileBytes::of(b"*CLS;*RST") else {
+        return Err(Fail::from("too many bytes"));
+    };
+    let stored = contents.change(256, &NvCommand::StoreBytes(b"F", file));
+    if stored.is_err() {
+        return Ok(end_of(stored, false, contents.cost() == 0));
+    }
+    let answer = contents.change(256, &NvCommand::LoadMacro(b"AB", b"F"));
+    let count = contents.labels().len();
+    Ok(end_of(answer, count == 1, count == 0 && contents.cost() == 2))
+}
+
 // A file with so many bytes of memory left.
 fn stored(alloc: Global, left: usize) -> Result<End, Fail> {
     let arena = arena_with(alloc, left)?;
@@ -148,13 +164,16 @@ fn each_allocation_of_a_change_refused(rt: HostRuntime) -> Result<(), Fail> {
         done: 0,
         refused: 0,
     };
-    for step in 0..60usize {
-        let left = step * 16;
+    for step in 0..200usize {
+        let left = step * 8;
         ends = ends.with(defined(rt.alloc(), left)?).ok_or("a macro")?;
+        ends = ends
+            .with(loaded(rt.alloc(), left)?)
+            .ok_or("a file's macro")?;
         ends = ends.with(stored(rt.alloc(), left)?).ok_or("a file")?;
     }
-    assert!(rt; ends.refused > 8, "{} refused", ends.refused);
-    assert!(rt; ends.done > 80, "{} done", ends.done);
+    assert!(rt; ends.refused > 100, "{} refused", ends.refused);
+    assert!(rt; ends.done > 200, "{} done", ends.done);
     Ok(())
 }
 

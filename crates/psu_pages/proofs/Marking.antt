@@ -1,5 +1,5 @@
 -- Pages are claimed and given up one by one.
-use Rattle.std.proofs.Common.{◌≡◌, ◌≢◌, ◌⊎◌, inl, inr, ℕ, zero, suc, ◌+◌, ◌<◌, ◌≤◌, Bool, true, false, List, [], ◌∷◌, ◌++◌, length, get_or, set, take, refl, sym, ◌∙◌, ap, subst, arith}
+use Rattle.std.proofs.Common.{◌≡◌, ◌≢◌, ◌⊎◌, inl, inr, ℕ, zero, suc, ◌+◌, ◌<◌, ◌≤◌, Bool, true, false, List, [], ◌∷◌, ◌++◌, length, get_or, set, take, refl, sym, ◌∙◌, ap, subst, arith, length-append}
 use Rattle.std.specs.Prelude.{slice_set}
 use Rattle.std.specs.List.{AllByRecursion}
 use Rattle.std.proofs.lemmas.Bool.{cases_eq}
@@ -121,6 +121,14 @@ module _ (n i : ℕ) (d : Bool) (free : List Bool) (lt : i < length free) (pages
 
   pub left_out : get_or free i d ≡ false → pages ≡ take n (free_pages (take (i + 1) free))
   left_out is = so ∙ ap (take n) (sym (free_same 0 i d free lt is))
+
+-- how many are free, when one mark more is looked at
+module _ (i : ℕ) (d : Bool) (free : List Bool) (lt : i < length free) where
+  pub counted : get_or free i d ≡ true → length (free_pages (take (i + 1) free)) ≡ length (free_pages (take i free)) + 1
+  counted is = ap (λ (l : List ℕ). length l) (free_more 0 i d free lt is) ∙ length-append (free_pages (take i free)) ((0 + i) ∷ [])
+
+  pub not_counted : get_or free i d ≡ false → length (free_pages (take (i + 1) free)) ≡ length (free_pages (take i free))
+  not_counted is = ap (λ (l : List ℕ). length l) (free_same 0 i d free lt is)
 
 -- what a page that comes next among pages is still marked
 pub still : (mark other : Bool) (pages : List ℕ) (i d : ℕ) (old mid : List Bool) → i < length pages → AllByRecursion (λ (p : ℕ). is_free old p ≡ mark) pages → AreApart pages → Marks other (take i pages) old mid → is_free mid (get_or pages i d) ≡ mark

@@ -20,12 +20,12 @@ choice_refused image BadRoot why = why
 choice_refused image BadVersion why = why
 choice_refused image Memory why = tt
 
-pub scan_refused : (image : List ℕ) (cause : OpenCause) → IsScanCause cause → (cause ≡ BadRoot → HasBadRoot image) → IsRefusal image cause
-scan_refused image Device is bad = tt
-scan_refused image NoRoot is bad = absurd is
-scan_refused image BadRoot is bad = bad refl
-scan_refused image BadVersion is bad = absurd is
-scan_refused image Memory is bad = tt
+pub scan_refused : (image : List ℕ) (cause : OpenCause) → IsScanCause cause → IsRefusal image cause
+scan_refused image Device is = tt
+scan_refused image NoRoot is = absurd is
+scan_refused image BadRoot is = absurd is
+scan_refused image BadVersion is = absurd is
+scan_refused image Memory is = tt
 
 -- heads that are fit, few, cheap and of distinct keys
 pub roster_of : (limit : ℕ) (heads : List Head) → CanStand limit heads → length heads ≤ 240 → length (taken heads) ≤ limit → AreApart (keys heads) → IsRoster limit heads

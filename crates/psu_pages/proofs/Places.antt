@@ -1,11 +1,12 @@
 -- Where roots lie, and ranges of a page.
-use Rattle.std.proofs.Common.{◌≡◌, ◌⊎◌, inl, inr, ℕ, ◌+◌, ◌<◌, ◌≤◌, List, length, get_or, refl, sym, ◌∙◌, ap, arith}
+use Rattle.std.proofs.Common.{◌≡◌, ◌⊎◌, inl, inr, ℕ, suc, ◌+◌, ◌<◌, ◌≤◌, List, ◌∷◌, length, get_or, take, refl, sym, ◌∙◌, ap, arith, drop-cons}
 use Rattle.std.proofs.lemmas.List.{same_lists, get_or_default}
-use Rattle.psu_disk.specs.Disk.{Range}
-use Rattle.psu_disk.specs.Ranges.{length-range, range_index}
+use Rattle.psu_disk.specs.Disk.{Range, SameBut}
+use Rattle.psu_disk.specs.Ranges.{length-range, range_index, range_kept}
 use Rattle.psu_pages.specs.declared.root.Root.{Root}
 use Rattle.psu_pages.specs.declared.root.Root.TheVariants.{First, Second}
-use Rattle.psu_pages.specs.Image.{other, gate_at}
+use Rattle.psu_pages.specs.Finding.{page_of}
+use Rattle.psu_pages.specs.Image.{other, gate, gate_at}
 
 pub gate_low : (root : Root) → gate_at root + 512 ≤ 1024
 gate_low First = omega arith
@@ -18,6 +19,16 @@ other_other Second = refl
 pub gates_apart : (root : Root) → (gate_at root + 512 ≤ gate_at (other root)) ⊎ (gate_at (other root) + 512 ≤ gate_at root)
 gates_apart First = inl (omega arith)
 gates_apart Second = inr (omega arith)
+
+-- the page of a root that has this after its gate, once the gate is written
+pub page_gated : (root : Root) (byte : ℕ) (told x y : List ℕ) → 1024 ≤ length x → Range (gate_at root + 1) 511 x ≡ told → SameBut (gate_at root) 1 x y → gate root y ≡ byte → page_of root y ≡ byte ∷ told
+page_gated root byte told x y long says but is =
+    let at = gate_at root in
+    let next : suc at ≡ at + 1 = omega arith in
+    ap (take 512) (drop-cons y at 0 (omega (arith, but.size, long, gate_low root)))
+    ∙ ap (λ (n : ℕ). get_or y at 0 ∷ Range n 511 y) next
+    ∙ ap (λ (b : ℕ). b ∷ Range (at + 1) 511 y) is
+    ∙ ap (λ (l : List ℕ). byte ∷ l) (range_kept at 1 (at + 1) 511 x y but (omega (arith, long, gate_low root)) (inr (omega arith)) ∙ says)
 
 -- a range inside of another
 pub range_inside : (at n from m : ℕ) (x : List ℕ) → at + n ≤ length x → from + m ≤ n → Range (at + from) m x ≡ Range from m (Range at n x)

@@ -30,12 +30,6 @@ pub first_and_rest : (pages rest : List ℕ) (at : ℕ) → 1 ≤ length pages �
 first_and_rest [] rest at le is last = absurd (omega (arith, le))
 first_and_rest (p ∷ pages) rest at le is last = ap (λ (q : ℕ). q ∷ rest) is ∙ ap (λ (l : List ℕ). p ∷ l) last
 
-pub at_most : (n : ℕ) (xs : List ℕ) → length (take n xs) ≤ n
-at_most zero [] = omega arith
-at_most zero (x ∷ xs) = omega arith
-at_most (suc n) [] = omega arith
-at_most (suc n) (x ∷ xs) = omega (arith, at_most n xs)
-
 -- pages that were claimed stay so while free ones are claimed
 module _ (pages : List ℕ) (old new : List Bool) (free : AllByRecursion (λ (p : ℕ). is_free old p ≡ true) pages) (claims : Marks false pages old new) where
   pub kept_one : (page : ℕ) → is_free old page ≡ false → is_free new page ≡ false

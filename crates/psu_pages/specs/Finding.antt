@@ -109,11 +109,11 @@ pub record AreFit (limit : ℕ) (heads : List Head) (free : List Bool) : Type 0 
   pub claimed : AreClaimed free (taken heads)
   pub rest : (page : ℕ) → IsInPool limit page → IsNone (taken heads) page → is_free free page ≡ true
 
--- what a scan may be refused for
+-- why heads that are good may not be read
 abbrev pub IsScanCause : OpenCause → Type 0
 IsScanCause Device = ⊤
 IsScanCause NoRoot = ⊥
-IsScanCause BadRoot = ⊤
+IsScanCause BadRoot = ⊥
 IsScanCause BadVersion = ⊥
 IsScanCause Memory = ⊤
 

@@ -27,6 +27,10 @@ said limit number pages = mark ++ (to_be_bytes w16 2 ++ (to_be_bytes w16 limit +
 abbrev pub spelled : Head → List ℕ
 spelled head = length head.key ∷ (head.key ++ (to_be_bytes w32 head.size ++ (to_be_bytes w16 (length head.pages) ++ spelled_words head.pages)))
 
+-- the page of a root whose gate is open and that names these heads, with zeros after what it says
+abbrev pub open_root : ℕ → ℕ → List Head → List ℕ
+open_root limit number heads = 165 ∷ filled 511 (said limit number (names heads))
+
 -- a page with these bytes, and zeros after them
 abbrev pub draft_of : ℕ → List ℕ → Draft
 draft_of page bytes = record { page = page; bytes = filled 512 bytes }

@@ -1,7 +1,9 @@
 //! A disk that is laid out anew.
-ghost use Rattle.std.specs.Prelude.{◌≡◌, ◌≢◌, ◌+◌, ◌*◌, ◌≤◌, [], List, ℕ, true, length, OnOk, IfOk, IfErr};
+ghost use Rattle.std.specs.Prelude.{◌≡◌, ◌≢◌, ◌+◌, ◌*◌, ◌≤◌, [], ◌∷◌, List, ℕ, true, length, OnOk, IfOk, IfErr};
 ghost use Rattle.psu_disk.specs.Disk.{Left, HasCause, HasFailed};
-ghost use Rattle.psu_pages.specs.Spelling.{IsTold};
+ghost use Rattle.psu_pages.specs.Finding.{page_of};
+ghost use Rattle.psu_pages.specs.Image.{gate};
+ghost use Rattle.psu_pages.specs.Spelling.{IsTold, open_root};
 ghost use Rattle.psu_pages.specs.Shown.{items_in, EachBears, EachShut};
 ghost use Rattle.psu_pages.specs.declared.format_fault.FormatCause.TheVariants.{Device as NotWritten, Memory as NoMemory};
 ghost use Rattle.psu_pages.specs.declared.root.Root.TheVariants.{First, Second};
@@ -25,6 +27,8 @@ impl<D: Disk, A: Allocator + Copy> Pages<D, A> {
         requires limit_most { limit ≤ 480 }
         requires room { 512 * (2 + 2 * limit) ≤ D.extent disk }
         ensures fresh { IfOk result (IsFresh limit) }
+        ensures spelled { D.honest → IfOk result (λ pages. page_of First (D.state pages.disk).bytes ≡ open_root limit 1 []) }
+        ensures zero { D.honest → IfOk result (λ pages. gate Second (D.state pages.disk).bytes ≡ 0) }
         ensures empty { D.honest → IfOk result (λ pages. items_in pages.root (D.state pages.disk).bytes ≡ []) }
         ensures extent { D.extent (formatted_disk result) ≡ D.extent disk }
         ensures works { IfOk result (λ pages. D.failures pages.disk ≡ D.failures disk) }
@@ -66,6 +70,8 @@ fn lay_out<D: Disk>(disk: &mut D, told: &[u8]) -> Result<(), DiskFault>
     requires told { length told.now ≡ 511 }
     ensures extent { D.extent disk.new ≡ D.extent disk.old }
     ensures cause { HasCause (D.failures disk.old) (D.failures disk.new) result }
+    ensures spelled { D.honest → OnOk result (page_of First (D.state disk.new).bytes ≡ 165 ∷ told.now) }
+    ensures zero { D.honest → OnOk result (gate Second (D.state disk.new).bytes ≡ 0) }
     ensures borne { D.honest → (limit number : ℕ) → IsTold limit number [] told.now (D.state disk.old).bytes → 4 ≤ limit → limit ≤ 480 → 512 * (2 + 2 * limit) ≤ D.extent disk.old
         → OnOk result (EachBears (D.state disk.new) First 2 limit number [] []) }
     ensures shut { D.honest → OnOk result (EachShut (D.state disk.new) Second) }

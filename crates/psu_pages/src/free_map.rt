@@ -139,6 +139,19 @@ impl<A: Allocator + Copy> FreeMap<A> {
         true
     }
 
+    /// How many pages are free.
+    pub(crate) fn count(&self) -> usize
+        ensures { result ≡ length (free_pages self.now) }
+    {
+        let mut count = 0;
+        for free in &self.free {
+            if *free {
+                count += 1;
+            }
+        }
+        count
+    }
+
     /// The first pages that are free: as many as asked for, or all where there are fewer.
     pub(crate) fn first_free(&self, alloc: A, count: usize) -> Result<Vec<u16, A>, AllocError>
         requires { length self.now ≤ 2 ^ 16 }

@@ -1,5 +1,5 @@
 //! What a head says, how it is read, and how it is spelled.
-ghost use Rattle.std.specs.Prelude.{◌≡◌, ◌*◌, ◌≤◌, ◌+◌, ◌++◌, length, IfOk, IfSome, IsNone};
+ghost use Rattle.std.specs.Prelude.{◌≡◌, ◌*◌, ◌≤◌, ◌+◌, ◌++◌, length, IfOk, OnErr, IfSome, IsNone};
 ghost use Rattle.std.specs.List.{AllByRecursion};
 ghost use Rattle.psu_pages.specs.Image.{head_on, head_after, words, IsHead};
 ghost use Rattle.psu_pages.specs.Spelling.{spelled, spelled_words};
@@ -71,6 +71,7 @@ impl<A: Allocator + Copy> Head<A> {
         requires { length page.now ≡ 512 }
         ensures found { IfOk result (λ found. IfSome found (λ head. (head ≡ head_on at page.now) × IsHead head)) }
         ensures none { IfOk result (λ found. IsNone found → IsHead (head_on at page.now) → ⊥) }
+        ensures memory { OnErr result (IsHead (head_on at page.now)) }
     {
         match page {
             [] => Ok(None),
@@ -93,6 +94,7 @@ impl<A: Allocator + Copy> Head<A> {
         requires long { 170 ≤ length bytes.now }
         ensures found { IfOk result (λ found. IfSome found (λ head. (head ≡ head_after at key.now bytes.now) × IsHead head)) }
         ensures none { IfOk result (λ found. IsNone found → IsHead (head_after at key.now bytes.now) → ⊥) }
+        ensures memory { OnErr result (IsHead (head_after at key.now bytes.now)) }
     {
         let (number, more) = bytes.split_at(4);
         let size = u32::from_be_bytes([number[0], number[1], number[2], number[3]]);

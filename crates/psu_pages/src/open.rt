@@ -103,7 +103,8 @@ fn look<D: Disk, A: Allocator + Copy>(alloc: A, disk: &mut D) -> Result<Opened<A
         return Err(OpenCause::Memory);
     };
     let found = match scan(alloc, disk, chosen.limit, &names) {
-        Ok(found) => found,
+        Ok(Some(found)) => found,
+        Ok(None) => return Err(OpenCause::BadRoot),
         Err(cause) => return Err(cause),
     };
     if !stand_together(&found.heads, chosen.limit, chosen.version) {

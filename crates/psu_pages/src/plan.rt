@@ -2,7 +2,7 @@
 ghost use Rattle.std.specs.Prelude.{◌≡◌, ◌≤◌, ◌<◌, true, ℕ, length, IfOk, OnOk, OnErr, IsErrOf};
 ghost use Rattle.psu_pages.specs.Free.{free_pages, Marks};
 ghost use Rattle.psu_pages.specs.Image.{AreClear, pages_of, Head as HeadOf};
-ghost use Rattle.psu_pages.specs.declared.page_fault.PageFault.TheVariants.{NoPage, Device};
+ghost use Rattle.psu_pages.specs.declared.page_fault.PageFault.TheVariants.{NoPage, Device, Memory};
 
 use crate::{Head, PageFault, Pages};
 use psu_disk::Disk;
@@ -21,14 +21,15 @@ impl<D: Disk, A: Allocator + Copy> Pages<D, A> {
         ensures others { (other : HeadOf) → IsPlanned self.old other → IsPlanned self.new other }
         ensures roots { HasSameRoots self.old self.new }
         ensures no_page { IsErrOf result NoPage → length (free_pages self.old.free) < pages_for size }
+        ensures memory { IsErrOf result Memory → pages_for size ≤ length (free_pages self.old.free) }
         ensures no_call { IsErrOf result Device → ⊥ }
         ensures unchanged { OnErr result (self.new ≡ self.old) }
     {
         let count = 1 + (size as usize + 511) / 512;
-        let mut pages = self.free.first_free(alloc, count)?;
-        if pages.len() < count {
+        if self.free.count() < count {
             return Err(PageFault::NoPage);
         }
+        let mut pages = self.free.first_free(alloc, count)?;
         let key = key.to_vec(alloc)?;
         self.free.claim_all(&pages);
         let at = pages.remove(0);

@@ -3,9 +3,11 @@ ghost use Rattle.std.specs.Prelude.{◌≡◌, ◌≢◌, ◌+◌, ◌<◌, ◌�
 ghost use Rattle.std.specs.List.{AllByRecursion};
 ghost use Rattle.psu_disk.specs.Disk.{Left, SameBut, Follows, LeavesOnly, HasFailed};
 ghost use Rattle.psu_pages.specs.Free.{is_free, AreClaimed, IsRoster};
-ghost use Rattle.psu_pages.specs.Image.{AreClear, IsNone, IsInPool, gate_at, head_at, other, pages_of, taken, Head as HeadOf};
+ghost use Rattle.psu_pages.specs.Finding.{page_of};
+ghost use Rattle.psu_pages.specs.Image.{AreClear, IsNone, IsInPool, gate, gate_at, head_at, other, pages_of, taken, Head as HeadOf};
 ghost use Rattle.psu_pages.specs.Shown.{item_in, items_in, Bears, BearsEither};
-ghost use Rattle.psu_pages.specs.Writing.{Misses, Reaches, IsWritten};
+ghost use Rattle.psu_pages.specs.Spelling.{head_drafts, open_root};
+ghost use Rattle.psu_pages.specs.Writing.{Misses, Reaches, AreWritten, IsWritten};
 ghost use Rattle.psu_pages.specs.declared.page_fault.PageFault.TheVariants.{Device};
 ghost use Rattle.psu_pages.specs.declared.standing.Standing.TheVariants.{One, Both, Unsure};
 
@@ -36,6 +38,7 @@ impl<D: Disk, A: Allocator + Copy> Pages<D, A> {
         ensures same { HasSameHeads self.old self.new }
         ensures standing { OnOk result (self.new.standing ≡ self.old.standing) }
         ensures planned { (other : HeadOf) → IsPlanned self.old other → IsPlanned self.new other }
+        ensures spelled { D.honest → OnOk result (AreWritten (head_drafts head.now value.now) (D.state self.new.disk).bytes) }
         ensures written { D.honest → OnOk result (IsWritten (D.state self.new.disk).bytes head.now value.now) }
         ensures others { D.honest → (other : HeadOf) (its : List ℕ) → IsWritten (D.state self.old.disk).bytes other its → AllByRecursion (IsInPool self.old.limit) (pages_of other) → AreClear (pages_of head.now) (pages_of other)
             → IsWritten (D.state self.new.disk).bytes other its }
@@ -74,6 +77,7 @@ impl<D: Disk, A: Allocator + Copy> Pages<D, A> {
         ensures published { OnOk result (HasPublished self.old self.new heads.items) }
         ensures limit { self.new.limit ≡ self.old.limit }
         ensures planned { (other : HeadOf) → IsPlanned self.old other → AreClear (pages_of other) (taken heads.items) → IsPlanned self.new other }
+        ensures spelled { D.honest → OnOk result (page_of self.new.root (D.state self.new.disk).bytes ≡ open_root self.old.limit (self.old.number + 1) heads.items) }
         ensures shown { D.honest → OnOk result (items_in self.new.root (D.state self.new.disk).bytes ≡ map (item_in (D.state self.old.disk).bytes) heads.items) }
 
         // At every moment the items before stand, or those of the heads, and no page but the next root's is written.
@@ -113,6 +117,7 @@ impl<D: Disk, A: Allocator + Copy> Pages<D, A> {
         ensures closed { OnOk result (HasClosed self.old self.new) }
         ensures limit { self.new.limit ≡ self.old.limit }
         ensures planned { (other : HeadOf) → IsPlanned self.old other → IsPlanned self.new other }
+        ensures zero { D.honest → OnOk result (self.old.standing ≡ Both → gate (other self.old.root) (D.state self.new.disk).bytes ≡ 0) }
         ensures none { OnOk result (self.old.standing ≡ One → (self.new.disk ≡ self.old.disk) × (self.new.free ≡ self.old.free)) }
 
         // At every moment the same items stand, and nothing but the older gate is written.

@@ -1,8 +1,8 @@
 //! The heads that a root names.
-ghost use Rattle.std.specs.Prelude.{◌≡◌, ◌≢◌, ◌+◌, ◌*◌, ◌≤◌, ◌++◌, ◌∷◌, [], List, ℕ, false, length, map, OnOk, IfOk, IfErr, IsErrOf};
+ghost use Rattle.std.specs.Prelude.{◌≡◌, ◌≢◌, ◌+◌, ◌*◌, ◌≤◌, ◌++◌, ◌∷◌, [], List, ℕ, true, false, length, map, slice_set, OnOk, IfOk, IfErr, IfSome, IsNone, IsErrOf};
 ghost use Rattle.psu_disk.specs.Disk.{Left, LeavesOnly, HasFailed};
-ghost use Rattle.psu_pages.specs.Image.{head_at, pages_of};
-ghost use Rattle.psu_pages.specs.Free.{Marks};
+ghost use Rattle.psu_pages.specs.Image.{head_at, pages_of, IsHead};
+ghost use Rattle.psu_pages.specs.Free.{is_free, Marks};
 ghost use Rattle.psu_pages.specs.Finding.{IsFit, AreFit, CanStand, IsScanCause};
 
 use crate::pool::pool;
@@ -18,13 +18,13 @@ pub struct Found<A: Allocator + Copy> {
     pub free: FreeMap<A>,
 }
 
-/// Reads the heads on these pages, each page once.
+/// Reads the heads on these pages, each page once; none where one of them is no head, or a page comes twice.
 pub fn scan<D: Disk, A: Allocator + Copy>(
     alloc: A,
     disk: &mut D,
     limit: u16,
     names: &[u16],
-) -> Result<Found<A>, OpenCause>
+) -> Result<Option<Found<A>>, OpenCause>
     requires limit { limit ≤ 480 }
     requires room { 512 * (2 + 2 * limit) ≤ D.extent disk.old }
     ensures extent { D.extent disk.new ≡ D.extent disk.old }
@@ -33,10 +33,10 @@ pub fn scan<D: Disk, A: Allocator + Copy>(
     ensures device { IsErrOf result OpenCause.Device → HasFailed (D.failures disk.old) (D.failures disk.new) }
     ensures quiet { IfErr result (λ cause. cause ≢ OpenCause.Device → D.failures disk.new ≡ D.failures disk.old) }
     ensures cause { IfErr result IsScanCause }
-    ensures many { IfOk result (λ found. length found.heads.items ≡ length names.now) }
-    ensures fit { IfOk result (λ found. AreFit limit found.heads.items found.free) }
-    ensures found { D.honest → IfOk result (λ found. found.heads.items ≡ map (head_at (D.state disk.old).bytes) names.now) }
-    ensures none { D.honest → IsErrOf result OpenCause.BadRoot → CanStand limit (map (head_at (D.state disk.old).bytes) names.now) → ⊥ }
+    ensures many { IfOk result (λ all. IfSome all (λ found. length found.heads.items ≡ length names.now)) }
+    ensures fit { IfOk result (λ all. IfSome all (λ found. AreFit limit found.heads.items found.free)) }
+    ensures found { D.honest → IfOk result (λ all. IfSome all (λ found. found.heads.items ≡ map (head_at (D.state disk.old).bytes) names.now)) }
+    ensures none { D.honest → IfOk result (λ all. IsNone all → CanStand limit (map (head_at (D.state disk.old).bytes) names.now) → ⊥) }
     ensures seen { D.honest → (D.state disk.new).bytes ≡ (D.state disk.old).bytes }
     ensures left { D.honest → (x : List ℕ) → Left (D.state disk.new) x → Left (D.state disk.old) x }
     ensures time { D.honest → D.tells → LeavesOnly D.moment D.left_since disk.old disk.new (Left (D.state disk.old)) }
@@ -45,21 +45,23 @@ pub fn scan<D: Disk, A: Allocator + Copy>(
     let mut heads = Vec::with_capacity(alloc, names.len())?;
     for name in names {
         let head = match read_head(alloc, disk, &mut free, *name) {
-            Ok(head) => head,
+            Ok(Some(head)) => head,
+            Ok(None) => return Ok(None),
             Err(cause) => return Err(cause),
         };
         add(&mut heads, head)?;
     }
-    Ok(Found { heads, free })
+    Ok(Some(Found { heads, free }))
 }
 
-// Reads the head on a page, and claims its pages. A page that isn't free, or that comes twice, is none of a good root.
+// Reads the head on a page, and claims its pages; none where a page of it isn't free or comes twice. Where memory is refused, nothing was
+// found wrong with it.
 fn read_head<D: Disk, A: Allocator + Copy>(
     alloc: A,
     disk: &mut D,
     free: &mut FreeMap<A>,
     name: u16,
-) -> Result<Head<A>, OpenCause>
+) -> Result<Option<Head<A>>, OpenCause>
     requires { 512 * length free.old ≤ D.extent disk.old }
     ensures extent { D.extent disk.new ≡ D.extent disk.old }
     ensures works { OnOk result (D.failures disk.new ≡ D.failures disk.old) }
@@ -67,26 +69,28 @@ fn read_head<D: Disk, A: Allocator + Copy>(
     ensures device { IsErrOf result OpenCause.Device → HasFailed (D.failures disk.old) (D.failures disk.new) }
     ensures quiet { IfErr result (λ cause. cause ≢ OpenCause.Device → D.failures disk.new ≡ D.failures disk.old) }
     ensures cause { IfErr result IsScanCause }
-    ensures fit { IfOk result (IsFit free.old) }
-    ensures claimed { IfOk result (λ head. Marks false (pages_of head) free.old free.new) }
-    ensures found { D.honest → IfOk result (λ head. head ≡ head_at (D.state disk.old).bytes name) }
-    ensures none { D.honest → IsErrOf result OpenCause.BadRoot → IsFit free.old (head_at (D.state disk.old).bytes name) → ⊥ }
+    ensures fit { IfOk result (λ found. IfSome found (IsFit free.old)) }
+    ensures claimed { IfOk result (λ found. IfSome found (λ head. Marks false (pages_of head) free.old free.new)) }
+    ensures found { D.honest → IfOk result (λ found. IfSome found (λ head. head ≡ head_at (D.state disk.old).bytes name)) }
+    ensures none { D.honest → IfOk result (λ found. IsNone found → IsFit free.old (head_at (D.state disk.old).bytes name) → ⊥) }
+    ensures memory { D.honest → IsErrOf result OpenCause.Memory → IsHead (head_at (D.state disk.old).bytes name) }
+    ensures unclaimed { IsErrOf result OpenCause.Memory → (is_free free.old name ≡ true) × (free.new ≡ slice_set free.old name false) }
     ensures seen { D.honest → (D.state disk.new).bytes ≡ (D.state disk.old).bytes }
     ensures left { D.honest → (x : List ℕ) → Left (D.state disk.new) x → Left (D.state disk.old) x }
     ensures time { D.honest → D.tells → LeavesOnly D.moment D.left_since disk.old disk.new (Left (D.state disk.old)) }
 {
     if !free.take(name) {
-        return Err(OpenCause::BadRoot);
+        return Ok(None);
     }
     let mut page = [0; 512];
     read_page(disk, name, &mut page)?;
     let Some(head) = Head::on(alloc, name, &page)? else {
-        return Err(OpenCause::BadRoot);
+        return Ok(None);
     };
     if !free.take_all(head.pages()) {
-        return Err(OpenCause::BadRoot);
+        return Ok(None);
     }
-    Ok(head)
+    Ok(Some(head))
 }
 
 // Puts a head after the others.

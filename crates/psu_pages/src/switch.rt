@@ -1,6 +1,7 @@
 //! From the root that counts to the next one.
-ghost use Rattle.std.specs.Prelude.{◌≡◌, ◌+◌, ◌≤◌, List, ℕ, length, map, OnOk};
+ghost use Rattle.std.specs.Prelude.{◌≡◌, ◌+◌, ◌≤◌, ◌∷◌, List, ℕ, length, map, OnOk};
 ghost use Rattle.psu_disk.specs.Disk.{Left, SameBut, Follows, LeavesOnly, HasCause};
+ghost use Rattle.psu_pages.specs.Finding.{page_of};
 ghost use Rattle.psu_pages.specs.Image.{Head, gate_at, other};
 ghost use Rattle.psu_pages.specs.Shown.{Item, item_in, EachBears, EachShut, EachLower, BearsEither};
 ghost use Rattle.psu_pages.specs.Spelling.{IsTold};
@@ -17,6 +18,7 @@ pub fn switch<D: Disk>(disk: &mut D, next: Root, told: &[u8]) -> Result<(), Disk
     ensures extent { D.extent disk.new ≡ D.extent disk.old }
     ensures cause { HasCause (D.failures disk.old) (D.failures disk.new) result }
 
+    ensures spelled { D.honest → OnOk result (page_of next (D.state disk.new).bytes ≡ 165 ∷ told.now) }
     ensures borne { D.honest → (version limit number : ℕ) (before heads : List Head) (items : List Item)
         → EachBears (D.state disk.old) (other next) version limit number before items → EachShut (D.state disk.old) next → IsTold limit (number + 1) heads told.now (D.state disk.old).bytes
         → OnOk result (EachBears (D.state disk.new) next 2 limit (number + 1) heads (map (item_in (D.state disk.old).bytes) heads)) }

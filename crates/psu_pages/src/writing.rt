@@ -3,7 +3,7 @@ ghost use Rattle.std.specs.Prelude.{◌≡◌, ◌+◌, ◌*◌, ◌<◌, ◌≤
 ghost use Rattle.std.specs.List.{AllByRecursion};
 ghost use Rattle.psu_disk.specs.Disk.{Left, Follows, LeavesOnly, HasCause};
 ghost use Rattle.psu_pages.specs.Image.{IsHead, AreApart, page_in, pages_of};
-ghost use Rattle.psu_pages.specs.Spelling.{filled, value_drafts};
+ghost use Rattle.psu_pages.specs.Spelling.{filled, value_drafts, head_drafts};
 ghost use Rattle.psu_pages.specs.Writing.{Misses, Reaches, AreWritten, IsWritten};
 
 use crate::Head;
@@ -24,6 +24,7 @@ pub fn write_item<D: Disk, A: Allocator + Copy>(
     requires room { AllByRecursion (λ page. 512 * page + 512 ≤ D.extent disk.old) (pages_of head.now) }
     ensures extent { D.extent disk.new ≡ D.extent disk.old }
     ensures cause { HasCause (D.failures disk.old) (D.failures disk.new) result }
+    ensures spelled { D.honest → OnOk result (AreWritten (head_drafts head.now value.now) (D.state disk.new).bytes) }
     ensures written { D.honest → OnOk result (IsWritten (D.state disk.new).bytes head.now value.now) }
     ensures seen { D.honest → Misses (pages_of head.now) (D.state disk.old).bytes (D.state disk.new).bytes }
     ensures left { D.honest → Follows (Misses (pages_of head.now)) (Left (D.state disk.old)) (Left (D.state disk.new)) }

@@ -30,6 +30,8 @@ mod messages;
 #[cfg(test)]
 mod old_images;
 #[cfg(test)]
+mod path_rows;
+#[cfg(test)]
 mod power_on_rows;
 #[cfg(test)]
 mod reports;

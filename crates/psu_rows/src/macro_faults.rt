@@ -163,3 +163,19 @@ fn thirty_two_macros(rt: HostRuntime) {
     let got = written(rt.alloc(), &input).expect(&rt, "the run ends well");
     assert!(rt; got.as_slice() == want.as_bytes(), "{got:?}");
 }
+
+// Labels are told in the order of definition, as they were written: what is removed leaves no gap, and what is defined again stands last.
+#[test]
+fn middle_macros_are_defined_again(rt: HostRuntime) {
+    let input = thirty_two(
+        rt.alloc(),
+        b"*RMC \"BC\";*RMC \"bd\";*RMC \"Ca\"\n*DMC \"bD\",#11x;*DMC \"CA\",#10;*DMC \"Bc\",#10\n*LMC?;*GMC? \"BD\";:SYST:ERR?\n",
+    )
+    .expect(&rt, "memory");
+    let want =
+        "\"AA\",\"AB\",\"AC\",\"AD\",\"AE\",\"AF\",\"AG\",\"AH\",\"BA\",\"BB\",\"BE\",\"BF\",\"BG\",\"BH\",\
+\"CB\",\"CC\",\"CD\",\"CE\",\"CF\",\"CG\",\"CH\",\"DA\",\"DB\",\"DC\",\"DD\",\"DE\",\"DF\",\"DG\",\"DH\",\"bD\",\"CA\",\"Bc\";\
+#11x;0,\"No error\"\n";
+    let got = written(rt.alloc(), &input).expect(&rt, "the run ends well");
+    assert!(rt; got.as_slice() == want.as_bytes(), "{got:?}");
+}

@@ -1,5 +1,6 @@
 // The server: it powers on, and gives each connection a thread.
-use crate::caller::{Caller, ServedDisk};
+use crate::caller::Caller;
+use crate::condition::Condition;
 use crate::connection::Connection;
 use crate::flushing::Flusher;
 use crate::link::Link;
@@ -8,7 +9,7 @@ use crate::server::Server;
 use crate::shared_gate::SharedGate;
 use crate::silent::Silent;
 use psu_bench::{Gate, Gated};
-use psu_disk::FileDisk;
+use psu_disk::{Disk, FileDisk};
 use psu_exec::Exec;
 use psu_items::Store;
 use std::alloc::Global;
@@ -24,19 +25,20 @@ use std::{io, thread};
 /// How long the acceptor sleeps where no connection can be accepted, in milliseconds.
 const PAUSE: u64 = 20;
 
-// The device, powered on with what an image holds.
-fn power_on<R: Files<File = File>, G: Gate + Drop>(
-    rt: &R,
+/// The disk of the server, with a gate before each write.
+type Served<D, G> = Gated<D, SharedGate<G>>;
+
+// The device, powered on with what a disk holds.
+fn power_on<D: Disk + Drop, G: Gate + Drop>(
     alloc: Global,
-    image: &str,
+    disk: D,
     gate: G,
-) -> Result<Caller<G>, ServeFault> {
-    let file = FileDisk::of(rt, image).map_err(ServeFault::File)?;
+) -> Result<Caller<Served<D, G>, G>, ServeFault> {
     let Ok(gate) = Arc::new(alloc, gate) else {
         return Err(ServeFault::Memory);
     };
     let gate = SharedGate::new(gate);
-    let disk: ServedDisk<G> = Gated::new(file, gate.another()?);
+    let disk = Gated::new(disk, gate.another()?);
     let store = match Store::open(alloc, disk) {
         Ok(store) => store,
         Err(refused) => return Err(ServeFault::from(refused.cause)),
@@ -49,13 +51,13 @@ fn power_on<R: Files<File = File>, G: Gate + Drop>(
 
 // What accepts connections.
 #[derive(Drop)]
-struct Acceptor<G: Gate> {
+struct Acceptor<D: Disk, G: Gate> {
     server: Arc<Server>,
     silent: Arc<Mutex<Silent>>,
-    caller: Caller<G>,
+    caller: Caller<D, G>,
 }
 
-impl<G: Gate + Drop + Send + Sync + 'static> Acceptor<G> {
+impl<D: Disk + Drop + Send + 'static, G: Gate + Drop + Send + Sync + 'static> Acceptor<D, G> {
     // Gives a connection a thread of its own.
     fn accept<R>(&mut self, rt: R, stream: TcpStream) -> io::Result<()>
     where
@@ -85,9 +87,10 @@ impl<G: Gate + Drop + Send + Sync + 'static> Acceptor<G> {
     }
 
     // The flusher, in a thread of its own.
-    fn start_flusher<R>(&mut self, rt: R) -> io::Result<()>
+    fn start_flusher<R, E>(&mut self, rt: R, errors: E) -> io::Result<()>
     where
-        R: Threads + Wait + Clock + Eprint + Copy + Send + 'static,
+        R: Threads + Wait + Clock + Copy + Send + 'static,
+        E: Eprint + Drop + Send + 'static,
     {
         let server = Arc::try_clone(&self.server)?;
         let caller = self.caller.split()?;
@@ -95,7 +98,8 @@ impl<G: Gate + Drop + Send + Sync + 'static> Acceptor<G> {
             let mut flusher = Flusher {
                 server: &server,
                 caller,
-                is_broken: false,
+                errors,
+                told: Condition::Works,
             };
             flusher.flush(&rt)
         })?;
@@ -118,11 +122,39 @@ where
         + 'static,
     G: Gate + Drop + Send + Sync + 'static,
 {
-    let caller = match power_on(&rt, alloc, image, gate) {
+    match FileDisk::of(&rt, alloc, image) {
+        Ok(disk) => serve_disk(rt, alloc, disk, port, gate, rt),
+        Err(fault) => ServeFault::File(fault),
+    }
+}
+
+/// Serves what a disk holds, as `serve` does an image; what an operator is told of the store goes to `errors`, a line each.
+pub fn serve_disk<R, D, G, E>(
+    rt: R,
+    alloc: Global,
+    disk: D,
+    port: u16,
+    gate: G,
+    errors: E,
+) -> ServeFault
+where
+    R: Net<Listener = TcpListener, Stream = TcpStream>
+        + Threads
+        + Wait
+        + Clock
+        + Print
+        + Copy
+        + Send
+        + 'static,
+    D: Disk + Drop + Send + 'static,
+    G: Gate + Drop + Send + Sync + 'static,
+    E: Eprint + Drop + Send + 'static,
+{
+    let caller = match power_on(alloc, disk, gate) {
         Ok(caller) => caller,
         Err(fault) => return fault,
     };
-    match accept_all(rt, alloc, port, caller) {
+    match accept_all(rt, alloc, port, caller, errors) {
         Ok(()) => ServeFault::Network,
         Err(error) => match error.kind() {
             io::ErrorKind::OutOfMemory => ServeFault::Memory,
@@ -132,18 +164,25 @@ where
 }
 
 // Accepts connections for ever.
-fn accept_all<R, G>(rt: R, alloc: Global, port: u16, caller: Caller<G>) -> io::Result<()>
+fn accept_all<R, D, G, E>(
+    rt: R,
+    alloc: Global,
+    port: u16,
+    caller: Caller<D, G>,
+    errors: E,
+) -> io::Result<()>
 where
     R: Net<Listener = TcpListener, Stream = TcpStream>
         + Threads
         + Wait
         + Clock
         + Print
-        + Eprint
         + Copy
         + Send
         + 'static,
+    D: Disk + Drop + Send + 'static,
     G: Gate + Drop + Send + Sync + 'static,
+    E: Eprint + Drop + Send + 'static,
 {
     let listener = TcpListener::bind(&rt, ("127.0.0.1", port))?;
     let server = Arc::new(alloc, Server::new(alloc, Instant::now(&rt)?))?;
@@ -153,7 +192,7 @@ where
         silent,
         caller,
     };
-    acceptor.start_flusher(rt)?;
+    acceptor.start_flusher(rt, errors)?;
     // Who started the server without an output to read is served all the same.
     let _ = println!(rt; "listening on 127.0.0.1:{port}");
     for _ in rt.forever() {

@@ -1,11 +1,16 @@
 // What a worker sleeps on while its unit waits. None of it takes memory.
 use std::sync::{Condvar, Mutex, Wait};
 
+/// How many units are tried at most after a session's end: as many as a transmission has bytes, so that one without macros is done.
+const LAST: u32 = 65_536;
+
 #[derive(Clone, Copy, Debug, PartialEq, Eq)]
 struct State {
     woken: bool,
     late: bool,
     ended: bool,
+    // How many units may be tried after the end.
+    left: u32,
 }
 
 /// What a worker sleeps on while its unit waits.
@@ -22,6 +27,7 @@ impl Alarm {
                 woken: false,
                 late: false,
                 ended: false,
+                left: LAST,
             }),
             rung: Condvar::new(),
         }
@@ -59,6 +65,17 @@ impl Alarm {
     pub fn is_ended<R: Wait>(&self, rt: &R) -> bool {
         let state = self.state.lock(rt);
         state.ended
+    }
+
+    /// Whether a unit is tried: also after the session's end, as what was sent before it is executed where that takes no longer.
+    pub fn goes_on<R: Wait>(&self, rt: &R) -> bool {
+        let mut state = self.state.lock(rt);
+        if !state.ended {
+            return true;
+        }
+        let is_left = state.left > 0;
+        state.left = state.left.saturating_sub(1);
+        is_left
     }
 
     /// A unit waits for room from now on. Whether it did so already: if not, there may have been room meanwhile.

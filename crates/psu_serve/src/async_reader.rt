@@ -1,10 +1,11 @@
 // The reader of a session's asynchronous connection.
 use crate::caller::Caller;
+use crate::heard::Heard;
 use crate::link::Link;
 use crate::member::Member;
 use crate::server::Server;
-use crate::work::Work;
 use psu_bench::Gate;
+use psu_disk::Disk;
 use psu_exec::{Grant, LockRefusal};
 use psu_hislip::{
     Action, Channel, Header, Message, MessageType, Side, lock_info_response, lock_response,
@@ -16,14 +17,22 @@ use std::sync::Wait;
 
 /// The reader of a session's asynchronous connection.
 #[derive(Drop)]
-pub struct AsyncReader<'a, G: Gate> {
+pub struct AsyncReader<'a, D: Disk, G: Gate> {
     pub server: &'a Server,
     pub member: &'a Member,
     pub link: &'a Link,
-    pub caller: Caller<G>,
+    pub caller: Caller<D, G>,
 }
 
-impl<'a, G: Gate + Drop> AsyncReader<'a, G> {
+// The parameter of a message.
+fn parameter(message: &Message<Global>) -> u32 {
+    match message {
+        Message::Frame(header, _) | Message::Oversize(header) => header.parameter,
+        Message::BadHeader => 0,
+    }
+}
+
+impl<'a, D: Disk + Drop, G: Gate + Drop> AsyncReader<'a, D, G> {
     fn send<R: Wait>(&self, rt: &R, header: Header) -> bool {
         self.link.send(rt, &header.bytes()).is_ok()
     }
@@ -81,22 +90,23 @@ impl<'a, G: Gate + Drop> AsyncReader<'a, G> {
         }
     }
 
-    // A lock is given up, by the worker and behind what came before. Whether the session goes on.
-    fn release<R: Wait>(&self, rt: &R) -> bool {
-        if !self.member.owed.take(rt, 0) || !self.member.hand(rt, Work::Release) {
+    // A lock is given up, by the worker and behind the message of this number, which the client sent last. Whether the session goes on.
+    fn release<R: Wait + Clock>(&self, rt: &R, number: u32) -> bool {
+        if !self.member.owed.take(rt, 0) {
             return false;
         }
+        let asked = self.member.release(rt, number, self.server.now(rt));
         self.member.owed.wait(rt);
-        true
+        asked
     }
 
-    // Does what a message asks for; whether the session goes on.
-    fn act<R: Wait + Clock>(&mut self, rt: &R, action: Action<Global>) -> bool {
+    // Does what a message of this parameter asks for; whether the session goes on.
+    fn act<R: Wait + Clock>(&mut self, rt: &R, parameter: u32, action: Action<Global>) -> bool {
         match action {
             Action::Send(_, frame) => self.link.send(rt, frame.as_slice()).is_ok(),
             Action::Status(is_delivered) => self.status(rt, is_delivered),
             Action::Lock(timeout, string) => self.lock(rt, timeout, string.as_slice()),
-            Action::Release => self.release(rt),
+            Action::Release => self.release(rt, parameter),
             Action::Info => {
                 let info = self.caller.info(rt);
                 self.send(rt, lock_info_response(info))
@@ -118,6 +128,9 @@ impl<'a, G: Gate + Drop> AsyncReader<'a, G> {
         if actions.iter().any(|action| matches!(action, Action::Clear)) {
             self.caller.clear(rt, self.member.session);
             self.member.alarm.wake(rt);
+            if !self.member.release_all(rt) {
+                return None;
+            }
         }
         drop(core);
         Some(actions)
@@ -130,7 +143,7 @@ impl<'a, G: Gate + Drop> AsyncReader<'a, G> {
                 return false;
             };
             for action in actions {
-                if !self.act(rt, action) {
+                if !self.act(rt, parameter(&message), action) {
                     return false;
                 }
             }
@@ -147,8 +160,9 @@ impl<'a, G: Gate + Drop> AsyncReader<'a, G> {
     ) {
         for _ in rt.forever() {
             let count = match self.link.read(piece) {
-                Ok(0) | Err(_) => return,
-                Ok(count) => count,
+                Heard::Bytes(count) => count,
+                Heard::Nothing => continue,
+                Heard::End => return,
             };
             let Ok(messages) = channel.feed(&piece[..count]) else {
                 return;

@@ -4,8 +4,8 @@ ghost use Rattle.std.specs.Arc.{arc_value};
 
 use crate::news::News;
 use crate::shared_gate::SharedGate;
-use psu_bench::{Bench, Gate, Gated, Open, Point, Seat, session_worker};
-use psu_disk::FileDisk;
+use psu_bench::{Bench, Gate, Open, Point, Seat, session_worker};
+use psu_disk::Disk;
 use psu_exec::{
     Crowded, Exec, Finished, Freed, Grant, Info, Job, Kind, LockRefusal, NoJob, Outcome, Request,
     Session, Sessions,
@@ -13,17 +13,11 @@ use psu_exec::{
 use std::alloc::{AllocError, Global};
 use std::sync::{Arc, Mutex, Wait};
 
-/// The disk of the server: a file, with a gate before each write.
-pub type ServedDisk<G> = Gated<FileDisk, SharedGate<G>>;
-
-/// The device of the server.
-type Device<G> = Bench<ServedDisk<G>, Global>;
-
 /// A thread's way to the device: the bench, a seat of its own there, and the gate. Threads wait asleep at the door, so that the turn is free for
 /// who has come in: many that wait for a turn itself would take the processor from each other.
 #[derive(Drop)]
-pub struct Caller<G: Gate> {
-    bench: Arc<Device<G>>,
+pub struct Caller<D: Disk, G: Gate> {
+    bench: Arc<Bench<D, Global>>,
     door: Arc<Mutex<()>>,
     seat: Seat<Global>,
     gate: SharedGate<G>,
@@ -31,13 +25,13 @@ pub struct Caller<G: Gate> {
     ghost here: { is_some seat.opening ≡ true },
 }
 
-impl<G: Gate + Drop> Caller<G> {
+impl<D: Disk + Drop, G: Gate + Drop> Caller<D, G> {
     /// The first way to a device.
     pub fn new(
         alloc: Global,
-        exec: Exec<ServedDisk<G>, Global>,
+        exec: Exec<D, Global>,
         gate: SharedGate<G>,
-    ) -> Result<Caller<G>, AllocError> {
+    ) -> Result<Caller<D, G>, AllocError> {
         let Ok((bench, seat)) = Bench::new(alloc, exec) else {
             return Err(AllocError);
         };
@@ -53,7 +47,7 @@ impl<G: Gate + Drop> Caller<G> {
 
     /// A way for another thread.
     #[tactic(auto, using(crate::proofs::Seats::is_of))]
-    pub fn split(&mut self) -> Result<Caller<G>, AllocError> {
+    pub fn split(&mut self) -> Result<Caller<D, G>, AllocError> {
         let bench = Arc::try_clone(&self.bench)?;
         let door = Arc::try_clone(&self.door)?;
         let gate = self.gate.another()?;
@@ -97,7 +91,7 @@ impl<G: Gate + Drop> Caller<G> {
 
     /// A job.
     #[tactic(auto, using(crate::proofs::Seats::is_of))]
-    pub fn take<R: Wait>(&mut self, rt: &R) -> Result<Job<ServedDisk<G>, Global>, NoJob> {
+    pub fn take<R: Wait>(&mut self, rt: &R) -> Result<Job<D, Global>, NoJob> {
         let _place = self.door.lock(rt);
         self.bench.take(rt, &mut self.seat)
     }
@@ -107,7 +101,7 @@ impl<G: Gate + Drop> Caller<G> {
     pub fn give_back<R: Wait>(
         &mut self,
         rt: &R,
-        finished: Finished<ServedDisk<G>, Global>,
+        finished: Finished<D, Global>,
     ) -> (Sessions, News) {
         let _place = self.door.lock(rt);
         let over = self.bench.give_back(rt, &mut self.seat, finished);

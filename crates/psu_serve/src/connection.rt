@@ -10,6 +10,7 @@ use crate::silent::Silent;
 use crate::sync_reader::SyncReader;
 use crate::worker::Worker;
 use psu_bench::Gate;
+use psu_disk::Disk;
 use psu_exec::Session;
 use psu_hislip::{Channel, FatalCode, First, Message};
 use std::alloc::Global;
@@ -27,12 +28,12 @@ const PIECE: usize = 65_536;
 
 /// A connection.
 #[derive(Drop)]
-pub struct Connection<G: Gate> {
+pub struct Connection<D: Disk, G: Gate> {
     pub server: Arc<Server>,
     pub silent: Arc<Mutex<Silent>>,
     pub number: u64,
     pub link: Arc<Link>,
-    pub caller: Caller<G>,
+    pub caller: Caller<D, G>,
 }
 
 // A piece of memory to read into.
@@ -53,14 +54,15 @@ fn behind_first(alloc: Global, messages: Vec<Message<Global>>) -> io::Result<Vec
     Ok(rest)
 }
 
-fn start_worker<R, G>(
+fn start_worker<R, D, G>(
     rt: R,
     server: &Arc<Server>,
     member: &Arc<Member>,
-    caller: Caller<G>,
+    caller: Caller<D, G>,
 ) -> Option<JoinHandle<()>>
 where
     R: Threads + Wait + Clock + Copy + Send + 'static,
+    D: Disk + Drop + Send + 'static,
     G: Gate + Drop + Send + Sync + 'static,
 {
     let server = Arc::try_clone(server).ok()?;
@@ -76,14 +78,15 @@ where
     .ok()
 }
 
-fn start_notifier<R, G>(
+fn start_notifier<R, D, G>(
     rt: R,
     member: &Arc<Member>,
     link: &Arc<Link>,
-    mut caller: Caller<G>,
+    mut caller: Caller<D, G>,
 ) -> Option<JoinHandle<()>>
 where
     R: Threads + Wait + Copy + Send + 'static,
+    D: Disk + Drop + Send + 'static,
     G: Gate + Drop + Send + Sync + 'static,
 {
     let member = Arc::try_clone(member).ok()?;
@@ -91,7 +94,7 @@ where
     thread::spawn(&rt, move || notify(&rt, &member, &link, &mut caller)).ok()
 }
 
-impl<G: Gate + Drop> Connection<G> {
+impl<D: Disk + Drop, G: Gate + Drop> Connection<D, G> {
     // A session, over its synchronous connection.
     fn hold<R: Wait + Clock>(
         &mut self,
@@ -128,7 +131,7 @@ impl<G: Gate + Drop> Connection<G> {
     }
 }
 
-impl<G: Gate + Drop + Send + Sync + 'static> Connection<G> {
+impl<D: Disk + Drop + Send + 'static, G: Gate + Drop + Send + Sync + 'static> Connection<D, G> {
     // The second connection of a session: its worker and its notifier live as long as this.
     fn join<R>(
         &mut self,

@@ -1,17 +1,19 @@
 // The flusher: it puts changes on the disk, and fails lock requests whose time is over.
-use crate::caller::{Caller, ServedDisk};
-use crate::event::Event;
+ghost use Rattle.std.specs.Prelude.{◌≡◌};
+
+use crate::caller::Caller;
+use crate::condition::Condition;
 use crate::server::Server;
 use psu_bench::Gate;
-use psu_exec::{Finished, Grant, NoJob};
+use psu_disk::Disk;
+use psu_exec::{Finished, Grant, Job, NoJob};
 use psu_hislip::lock_response;
-use psu_items::UnstartedCause;
 use std::alloc::Global;
 use std::io::Eprint;
 use std::rt::Clock;
 use std::sync::Wait;
 
-/// How long the flusher waits after a job that did not go well, in milliseconds, unless something is to be flushed before.
+/// How long the flusher waits after a job that did not go well, in milliseconds, unless others have something to be flushed before.
 const PAUSE: u64 = 1000;
 
 /// What a round came to.
@@ -27,59 +29,66 @@ enum Round {
 
 /// The flusher.
 #[derive(Drop)]
-pub struct Flusher<'a, G: Gate> {
+pub struct Flusher<'a, D: Disk, G: Gate, E: Eprint> {
     pub server: &'a Server,
-    pub caller: Caller<G>,
-    /// Whether the store broke and was not opened again.
-    pub is_broken: bool,
+    pub caller: Caller<D, G>,
+    /// Where an operator is told of the store.
+    pub errors: E,
+    /// What was told last; that it works where nothing was.
+    pub told: Condition,
 }
 
-impl<'a, G: Gate + Drop> Flusher<'a, G> {
-    // What a finished job tells of the store, where it tells news.
-    fn event(&mut self, finished: &Finished<ServedDisk<G>, Global>) -> Option<Event> {
-        match finished {
-            Finished::Stored(_) | Finished::Unstarted(_, _, UnstartedCause::Memory) => None,
-            Finished::Unstarted(_, _, UnstartedCause::Worn) => Some(Event::Worn),
-            Finished::Broken(_) if self.is_broken => None,
-            Finished::Broken(_) => {
-                self.is_broken = true;
-                Some(Event::Broke)
-            }
-            Finished::Reopened(_) => {
-                self.is_broken = false;
-                Some(Event::Reopened)
-            }
+impl<'a, D: Disk + Drop, G: Gate + Drop, E: Eprint> Flusher<'a, D, G, E> {
+    // Tells how the store is, where that has changed.
+    fn tell(&mut self, condition: Condition)
+        ensures { self.new.told ≡ condition }
+    {
+        let is_news = condition != self.told;
+        self.told = condition;
+        if is_news {
+            let _ = eprintln!(self.errors; "psu: {condition}");
         }
     }
 
-    // Gives a job's end back, and wakes those whose waits are over and those that wait for room.
-    fn give_back<R: Wait>(&mut self, rt: &R, finished: Finished<ServedDisk<G>, Global>) {
+    // Gives a job's end back, wakes those whose waits are over and those that wait for room, and tells who asks for service. The work that is left
+    // the flusher knows of: it does not ring its own bell, which would end its pause.
+    fn give_back<R: Wait>(&mut self, rt: &R, finished: Finished<D, Global>) {
         let (over, news) = self.caller.give_back(rt, finished);
         let registry = self.server.registry.lock(rt);
         registry.wake(rt, &over);
         registry.wake_late(rt);
         drop(registry);
-        self.server.tell(rt, &news);
+        self.server.call(rt, &news.asking);
     }
 
-    // One round: a job is taken, run outside the device's turn, and given back.
-    fn round<R: Wait + Eprint>(&mut self, rt: &R) -> Round {
-        let job = match self.caller.take(rt) {
-            Ok(job) => job,
-            Err(NoJob::Memory) => return Round::Failed,
-            Err(NoJob::Nothing | NoJob::Out) => return Round::Idle,
-        };
+    // Runs a job outside the device's turn, and gives it back.
+    fn run<R: Wait>(&mut self, rt: &R, job: Job<D, Global>) -> Round {
         self.caller.before_run();
         let finished = job.run();
         let went_well = matches!(finished, Finished::Stored(_) | Finished::Reopened(_));
-        if let Some(event) = self.event(&finished) {
-            let _ = eprintln!(rt; "psu: {event}");
+        if let Some(condition) = Condition::shown_by(&finished) {
+            self.tell(condition);
         }
         self.give_back(rt, finished);
         if went_well {
             Round::Worked
         } else {
             Round::Failed
+        }
+    }
+
+    // One round: a job is taken and run. Where there is none after the store broke, a reopening has found all stored.
+    fn round<R: Wait>(&mut self, rt: &R) -> Round {
+        match self.caller.take(rt) {
+            Ok(job) => self.run(rt, job),
+            Err(NoJob::Memory) => Round::Failed,
+            Err(NoJob::Out) => Round::Idle,
+            Err(NoJob::Nothing) => {
+                if self.told == Condition::Broken {
+                    self.tell(Condition::Works);
+                }
+                Round::Idle
+            }
         }
     }
 
@@ -107,7 +116,7 @@ impl<'a, G: Gate + Drop> Flusher<'a, G> {
     }
 
     /// Flushes and ticks for ever.
-    pub fn flush<R: Wait + Clock + Eprint>(&mut self, rt: &R) {
+    pub fn flush<R: Wait + Clock>(&mut self, rt: &R) {
         for _ in rt.forever() {
             let round = self.round(rt);
             let left = self.tick(rt);

@@ -1,6 +1,8 @@
 // A connection: one thread reads it, several write whole frames.
-ghost use Rattle.std.specs.Prelude.{◌≡◌, ◌≤◌, length, IfOk};
+ghost use Rattle.std.specs.Prelude.{◌≡◌, ◌≤◌, ℕ, length};
+ghost use Rattle.psu_serve.specs.declared.heard.Heard.TheVariants.{Bytes};
 
+use crate::heard::Heard;
 use std::io::{self, Read, Write};
 use std::net::{Shutdown, TcpStream};
 use std::sync::{Mutex, MutexGuard, Wait};
@@ -38,12 +40,13 @@ impl Link {
         self.write(frames)
     }
 
-    /// Reads what has come, at least one byte unless the connection has ended.
-    pub fn read(&self, into: &mut [u8]) -> io::Result<usize>
-        ensures most { IfOk result (λ count. count ≤ length into.old) }
+    /// Reads what has come, or waits for it.
+    pub fn read(&self, into: &mut [u8]) -> Heard
+        ensures most { (count : ℕ) → result ≡ Bytes count → count ≤ length into.old }
         ensures same { length into.new ≡ length into.old }
     {
-        (&self.stream).read(into)
+        let read = (&self.stream).read(into);
+        Heard::of(&read)
     }
 
     /// How long a read waits at most.

@@ -4,15 +4,16 @@ use crate::link::Link;
 use crate::member::Member;
 use crate::notices::Notice;
 use psu_bench::Gate;
+use psu_disk::Disk;
 use psu_hislip::{Header, MessageType};
 use std::sync::Wait;
 
 /// Writes until the session ends.
-pub fn notify<R: Wait, G: Gate + Drop>(
+pub fn notify<R: Wait, D: Disk + Drop, G: Gate + Drop>(
     rt: &R,
     member: &Member,
     link: &Link,
-    caller: &mut Caller<G>,
+    caller: &mut Caller<D, G>,
 ) {
     for _ in rt.forever() {
         let written = match member.notices.next(rt) {

@@ -1,10 +1,12 @@
 // A connection up to its first message, and sessions that open and close.
 use crate::caller::Caller;
+use crate::heard::Heard;
 use crate::link::Link;
 use crate::member::Member;
 use crate::server::Server;
 use crossbeam_channel::unbounded;
 use psu_bench::Gate;
+use psu_disk::Disk;
 use psu_exec::{Grant, Session};
 use psu_hislip::{Channel, FatalCode, Header, Message, MessageType, lock_response};
 use std::alloc::Global;
@@ -35,10 +37,11 @@ pub fn first_messages<R: Clock>(
             return Ok(None);
         }
         link.wait_at_most(Some(left))?;
-        let count = link.read(piece)?;
-        if count == 0 {
-            return Ok(None);
-        }
+        let count = match link.read(piece) {
+            Heard::Bytes(count) => count,
+            Heard::Nothing => continue,
+            Heard::End => return Ok(None),
+        };
         let messages = channel.feed(&piece[..count])?;
         if !messages.is_empty() {
             return Ok(Some(messages));
@@ -48,10 +51,10 @@ pub fn first_messages<R: Clock>(
 }
 
 /// Opens a session over its synchronous connection; none where there are too many. Its number is given back where memory for it is refused.
-pub fn open<R: Wait, G: Gate + Drop>(
+pub fn open<R: Wait, D: Disk + Drop, G: Gate + Drop>(
     rt: &R,
     server: &Server,
-    caller: &mut Caller<G>,
+    caller: &mut Caller<D, G>,
     link: &Arc<Link>,
 ) -> io::Result<Option<Arc<Member>>> {
     let work = unbounded(server.alloc)?;
@@ -73,10 +76,10 @@ pub fn open<R: Wait, G: Gate + Drop>(
 }
 
 /// Closes a session and gives its number back: nothing of it is left.
-pub fn close<R: Wait, G: Gate + Drop>(
+pub fn close<R: Wait, D: Disk + Drop, G: Gate + Drop>(
     rt: &R,
     server: &Server,
-    caller: &mut Caller<G>,
+    caller: &mut Caller<D, G>,
     session: Session,
 ) {
     let mut registry = server.registry.lock(rt);

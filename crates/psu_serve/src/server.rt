@@ -2,6 +2,7 @@
 use crate::bell::Bell;
 use crate::news::News;
 use crate::registry::Registry;
+use psu_exec::Sessions;
 use std::alloc::Global;
 use std::rt::Clock;
 use std::sync::{Mutex, Wait};
@@ -34,11 +35,16 @@ impl Server {
         }
     }
 
+    /// Tells sessions that they ask for service.
+    pub fn call<R: Wait>(&self, rt: &R, asking: &Sessions) {
+        if !asking.is_empty() {
+            self.registry.lock(rt).look(rt, asking);
+        }
+    }
+
     /// Tells what a step caused: sessions that ask for service, and the flusher that there is work.
     pub fn tell<R: Wait>(&self, rt: &R, news: &News) {
-        if !news.asking.is_empty() {
-            self.registry.lock(rt).look(rt, &news.asking);
-        }
+        self.call(rt, &news.asking);
         if news.work {
             self.bell.ring(rt);
         }

@@ -1,43 +1,63 @@
 // The reader of a session's synchronous connection: it executes at once what need not wait.
+use crate::begun::Begun;
 use crate::caller::Caller;
+use crate::execution::Execution;
+use crate::heard::Heard;
 use crate::link::Link;
 use crate::member::Member;
 use crate::opening::SILENCE;
+use crate::releases::BEFORE_FIRST;
 use crate::server::Server;
-use crate::stop::{Patience, Stop};
-use crate::trying::Execution;
+use crate::stop::Stop;
 use crate::work::Work;
 use psu_bench::Gate;
+use psu_disk::Disk;
 use psu_exec::ScpiError;
-use psu_hislip::{Action, Channel, Message, Origin, Side};
-use psu_sessions::{Begun, Input};
+use psu_hislip::{Action, Channel, Message, MessageType, Origin, Side};
+use psu_sessions::Input;
 use std::alloc::Global;
-use std::io::{self, ErrorKind};
+use std::io;
 use std::rt::Clock;
 use std::sync::Wait;
 use std::time::{Duration, Instant};
 
 /// The reader of a session's synchronous connection.
 #[derive(Drop)]
-pub struct SyncReader<'a, G: Gate> {
+pub struct SyncReader<'a, 'c, D: Disk, G: Gate> {
     pub server: &'a Server,
     pub member: &'a Member,
     pub link: &'a Link,
-    pub caller: &'a mut Caller<G>,
+    pub caller: &'c mut Caller<D, G>,
 }
 
-// Whether a read that failed only took long.
-fn is_late(error: &io::Error) -> bool {
-    matches!(error.kind(), ErrorKind::WouldBlock | ErrorKind::TimedOut)
+// Whether something is executed.
+fn is_execution(action: &Action<Global>) -> bool {
+    matches!(
+        action,
+        Action::Execute(_, _) | Action::TooMuch(_) | Action::Trigger(_)
+    )
 }
 
-impl<'a, G: Gate + Drop> SyncReader<'a, G> {
+// The number that counts as received once a message has come, if it has one. A device clear begins the numbers anew.
+fn number(message: &Message<Global>) -> Option<u32> {
+    let (Message::Frame(header, _) | Message::Oversize(header)) = message else {
+        return None;
+    };
+    match header.message_type()? {
+        MessageType::Data | MessageType::DataEnd | MessageType::Trigger => Some(header.parameter),
+        MessageType::DeviceClearComplete => Some(BEFORE_FIRST),
+        _ => None,
+    }
+}
+
+impl<'a, 'c, D: Disk + Drop, G: Gate + Drop> SyncReader<'a, 'c, D, G> {
     // Hands the worker what stands behind something, and waits while the session holds too much. Whether the session goes on.
-    fn hand<R: Wait>(&self, rt: &R, begun: Begun<Global>) -> bool {
-        if !self.member.held.take(rt, begun.size()) {
+    fn hand<R: Wait>(&self, rt: &R, begun: Begun) -> bool {
+        if !self.member.held.take(rt, begun.input.size()) {
             return false;
         }
-        let handed = self.member.hand(rt, Work::Begun(begun));
+        let number = begun.origin.id;
+        let handed = self.member.hand(rt, Work::Begun(begun)) && self.member.receive(rt, number);
         self.member.held.wait(rt);
         handed
     }
@@ -50,18 +70,23 @@ impl<'a, G: Gate + Drop> SyncReader<'a, G> {
             drop(desk);
             return self.hand(rt, begun);
         }
+        // A release that has waited for this comes behind it: the worker comes to the desk first.
+        if !self.member.receive(rt, origin.id) {
+            return false;
+        }
         let mut execution = Execution {
+            rt,
             server: self.server,
             member: self.member,
             caller: &mut *self.caller,
             origin,
-            patience: Patience::HandsOver,
         };
-        match execution.proceed(rt, &mut begun) {
-            Ok(()) | Err(Stop::Cleared) => true,
+        match execution.advance(&mut begun) {
+            Ok(None) | Err(Stop::Cleared) => true,
             Err(Stop::Ended) => false,
-            Err(Stop::Waits) => {
-                self.member.held.take(rt, begun.size()) && self.member.leave(rt, &mut desk, begun)
+            Ok(Some(_)) => {
+                self.member.held.take(rt, begun.input.size())
+                    && self.member.leave(rt, &mut desk, begun)
             }
         }
     }
@@ -91,6 +116,22 @@ impl<'a, G: Gate + Drop> SyncReader<'a, G> {
         }
     }
 
+    // Counts a message as received; one that is executed is counted where it has its place in the order. Whether the session goes on.
+    fn count<R: Wait>(
+        &self,
+        rt: &R,
+        message: &Message<Global>,
+        actions: &[Action<Global>],
+    ) -> bool {
+        if actions.iter().any(is_execution) {
+            return true;
+        }
+        match number(message) {
+            Some(number) => self.member.receive(rt, number),
+            None => true,
+        }
+    }
+
     /// Does what messages ask for; whether the session goes on.
     pub fn receive<R: Wait + Clock>(&mut self, rt: &R, messages: Vec<Message<Global>>) -> bool {
         for message in messages {
@@ -100,6 +141,9 @@ impl<'a, G: Gate + Drop> SyncReader<'a, G> {
             let Ok(actions) = asked else {
                 return false;
             };
+            if !self.count(rt, &message, actions.as_slice()) {
+                return false;
+            }
             for action in actions {
                 if !self.act(rt, action) {
                     return false;
@@ -109,23 +153,10 @@ impl<'a, G: Gate + Drop> SyncReader<'a, G> {
         true
     }
 
-    // How long a read may wait: without end once the session is joined, else for what is left of the time for that.
-    fn limit<R: Wait + Clock>(&self, rt: &R, opened: Instant) -> io::Result<Option<Duration>> {
-        if self.member.is_joined(rt) {
-            return Ok(None);
-        }
-        let left = Duration::from_secs(SILENCE).saturating_sub(opened.elapsed(rt)?);
-        if left < Duration::from_millis(1) {
-            return Err(io::Error::from(ErrorKind::TimedOut));
-        }
-        Ok(Some(left))
-    }
-
-    // Sets how long the next read may wait. Whether that is limited.
+    // Sets how long the next read may wait: for what is left of the time to be joined in. Whether that is limited.
     fn set_limit<R: Wait + Clock>(&self, rt: &R, opened: Instant) -> io::Result<bool> {
-        let limit = self.limit(rt, opened)?;
-        self.link.wait_at_most(limit)?;
-        Ok(limit.is_some())
+        let left = Duration::from_secs(SILENCE).saturating_sub(opened.elapsed(rt)?);
+        self.member.limit(rt, left)
     }
 
     /// Reads until the session ends; one that is not joined in time ends then, whatever comes.
@@ -145,10 +176,9 @@ impl<'a, G: Gate + Drop> SyncReader<'a, G> {
                 limited = still;
             }
             let count = match self.link.read(piece) {
-                Ok(0) => return,
-                Ok(count) => count,
-                Err(error) if limited && is_late(&error) => continue,
-                Err(_) => return,
+                Heard::Bytes(count) => count,
+                Heard::Nothing => continue,
+                Heard::End => return,
             };
             let Ok(messages) = channel.feed(&piece[..count]) else {
                 return;

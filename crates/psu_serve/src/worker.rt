@@ -1,44 +1,76 @@
 // The worker of a session: what can't be executed at once waits here, and what comes after it stands behind it.
+use crate::begun::Begun;
 use crate::caller::Caller;
+use crate::execution::Execution;
 use crate::member::Member;
 use crate::server::Server;
-use crate::stop::{Patience, Stop};
-use crate::trying::Execution;
+use crate::stop::Stop;
 use crate::work::Work;
 use psu_bench::Gate;
+use psu_disk::Disk;
 use psu_exec::Grant;
 use psu_hislip::{lock_response, release_response};
-use psu_sessions::Begun;
-use std::alloc::Global;
-use std::mem;
+use psu_messages::Need;
 use std::rt::Clock;
 use std::sync::Wait;
+use std::time::Duration;
+use std::{mem, thread};
+
+/// How long a wait whose end found no memory sleeps until it is looked at again, in milliseconds.
+const PAUSE: u64 = 20;
 
 /// The worker of a session.
 #[derive(Drop)]
-pub struct Worker<'a, G: Gate> {
+pub struct Worker<'a, D: Disk, G: Gate> {
     pub server: &'a Server,
     pub member: &'a Member,
-    pub caller: Caller<G>,
+    pub caller: Caller<D, G>,
 }
 
-impl<'a, G: Gate + Drop> Worker<'a, G> {
-    // Executes what has begun to its end, waiting as long as it has to. Whether the session goes on.
-    fn finish<R: Wait + Clock>(&mut self, rt: &R, begun: &mut Begun<Global>) -> bool {
-        let mut execution = Execution {
-            server: self.server,
-            member: self.member,
-            caller: &mut self.caller,
-            origin: begun.origin,
-            patience: Patience::Sleeps,
-        };
-        let ended = execution.proceed(rt, begun);
-        self.member.held.give(rt, begun.size());
-        self.member.is_done();
-        match ended {
-            Ok(()) | Err(Stop::Cleared) => true,
-            Err(Stop::Waits | Stop::Ended) => false,
+impl<'a, D: Disk + Drop, G: Gate + Drop> Worker<'a, D, G> {
+    // Sleeps until what a unit waits for may have come. Whether the session goes on.
+    fn wait<R: Wait + Clock>(&self, rt: &R, need: Need) -> bool {
+        match need {
+            Need::Flush | Need::Lock | Need::Room => self.member.alarm.sleep(rt),
+            Need::Memory => {
+                let goes_on = !self.member.alarm.is_ended(rt);
+                if goes_on {
+                    thread::sleep(rt, Duration::from_millis(PAUSE));
+                }
+                goes_on
+            }
         }
+    }
+
+    // Executes what has begun to its end, waiting as long as it has to. Whether the session goes on.
+    fn execute<R: Wait + Clock>(&mut self, rt: &R, begun: &mut Begun) -> bool {
+        for _ in rt.forever() {
+            let mut execution = Execution {
+                rt,
+                server: self.server,
+                member: self.member,
+                caller: &mut self.caller,
+                origin: begun.origin,
+            };
+            match execution.advance(begun) {
+                Ok(None) | Err(Stop::Cleared) => return true,
+                Err(Stop::Ended) => return false,
+                Ok(Some(need)) => {
+                    if !self.wait(rt, need) {
+                        return false;
+                    }
+                }
+            }
+        }
+        unreachable!()
+    }
+
+    // The same, and what it took of the session's memory and of the worker's work is given back.
+    fn finish<R: Wait + Clock>(&mut self, rt: &R, begun: &mut Begun) -> bool {
+        let goes_on = self.execute(rt, begun);
+        self.member.held.give(rt, begun.input.size());
+        self.member.is_done();
+        goes_on
     }
 
     // Goes on with what the reader has begun, where it left anything at the desk.
@@ -73,7 +105,7 @@ impl<'a, G: Gate + Drop> Worker<'a, G> {
 
     fn act<R: Wait + Clock>(&mut self, rt: &R, work: Work) -> bool {
         match work {
-            Work::AtDesk => {
+            Work::AtDesk | Work::Look => {
                 self.member.is_done();
                 true
             }
@@ -88,7 +120,7 @@ impl<'a, G: Gate + Drop> Worker<'a, G> {
     /// Works until the session ends.
     pub fn work<R: Wait + Clock>(&mut self, rt: &R) {
         for _ in rt.forever() {
-            let Some(work) = self.member.next(rt) else {
+            let Some(work) = self.member.next(rt, self.server) else {
                 break;
             };
             if !self.clear_desk(rt) || !self.act(rt, work) {

@@ -6,23 +6,35 @@ use std::net::TcpStream;
 /// The MessageID of what a client sends.
 const MESSAGE: u32 = 0xffff_ff00;
 
+/// The number that stands for the last message of a client that has sent none.
+pub const NO_MESSAGE: u32 = 0xffff_fefe;
+
 /// A client with a session.
 #[derive(Drop)]
 pub struct Client {
     pub number: u8,
     pub sync: TcpStream,
     pub other: TcpStream,
+    /// The MessageID of the last message that was sent.
+    pub last: u32,
 }
 
 impl Client {
     /// Sends a transmission in one DataEnd.
     pub fn say(&mut self, text: &[u8]) -> Result<(), Missed> {
-        send(&mut self.sync, &header(7, 0, MESSAGE, text.len() as u64))?;
+        self.say_as(MESSAGE, text)
+    }
+
+    /// Sends a transmission of a MessageID.
+    pub fn say_as(&mut self, number: u32, text: &[u8]) -> Result<(), Missed> {
+        self.last = number;
+        send(&mut self.sync, &header(7, 0, number, text.len() as u64))?;
         send(&mut self.sync, text)
     }
 
     /// Sends a transmission, and tells that what came before is delivered.
     pub fn say_on(&mut self, text: &[u8]) -> Result<(), Missed> {
+        self.last = MESSAGE;
         send(&mut self.sync, &header(7, 1, MESSAGE, text.len() as u64))?;
         send(&mut self.sync, text)
     }
@@ -111,9 +123,15 @@ impl Client {
         self.is_told_of_lock(1)
     }
 
+    /// Asks to give up a lock, behind the message of this number.
+    pub fn let_lock_go(&mut self, number: u32) -> Result<(), Missed> {
+        send(&mut self.other, &header(4, 0, number, 0))
+    }
+
     /// Gives up a lock: 1 exclusive, 2 shared, 3 none was held.
     pub fn release(&mut self, control: u8) -> Result<(), Missed> {
-        self.exchange(bare(4, 0), bare(5, control))
+        self.let_lock_go(self.last)?;
+        self.is_told_of_lock(control)
     }
 
     /// What is told of the locks: whether exclusive is held, and how many hold one.

@@ -3,7 +3,7 @@ use crate::client::Client;
 use crate::joining::{begun, connected, joined_again, joined_as, joined_soon};
 use crate::missed::Missed;
 use crate::server::new_served;
-use crate::wire::{bare, comes, header, is_ended, send};
+use crate::wire::{bare, comes, header, is_ended, is_silent, send};
 use psu_serve::Open;
 use std::alloc::Global;
 use std::net::{Net, TcpStream};
@@ -39,6 +39,26 @@ fn silent_connections_shut_nobody_out(rt: HostRuntime) -> Result<(), Fail> {
     one.works()?;
     drop(streams);
     drop(more);
+    Ok(())
+}
+
+// Of one silent connection too many the first ends, and the second does not, long before their time is over.
+fn first_ends(streams: &mut [TcpStream]) -> Result<(), Missed> {
+    let Some(first) = streams.get_mut(0) else {
+        return Err(Missed::Ground("a connection"));
+    };
+    is_ended(first)?;
+    let Some(second) = streams.get_mut(1) else {
+        return Err(Missed::Ground("a connection"));
+    };
+    is_silent(second)
+}
+
+#[test]
+fn the_oldest_silent_connection_ends(rt: HostRuntime) -> Result<(), Fail> {
+    let port = new_served(rt, rt.alloc(), "oldest_silent.image", 48_923, Open)?;
+    let mut streams = silent(&rt, rt.alloc(), port, 65)?;
+    first_ends(streams.as_mut_slice())?;
     Ok(())
 }
 

@@ -1,11 +1,13 @@
 // Sessions that end, and connections that begin too slowly.
 use crate::client::Client;
 use crate::hold::Hold;
-use crate::joining::{begun, connected, joined_again, joined_as};
+use crate::joining::{begun, connected, joined_again, joined_as, settle};
+use crate::long_answer::repeated;
 use crate::missed::Missed;
 use crate::server::new_served;
 use crate::wire::{is_ended, is_silent, send};
 use psu_serve::{Open, Point};
+use std::alloc::Global;
 use std::net::{Net, TcpStream};
 use std::test::Fail;
 use std::thread;
@@ -108,5 +110,60 @@ fn what_does_not_begin_ends(rt: HostRuntime) -> Result<(), Fail> {
     one.is_served()?;
     let mut two = joined_again(&rt, port, 2)?;
     two.is_served()?;
+    Ok(())
+}
+
+// A client says something and goes away at once, on both connections.
+fn says_and_goes(mut client: Client, text: &[u8]) -> Result<u8, Missed> {
+    client.say(text)?;
+    Ok(client.number)
+}
+
+// What was sent before the end is executed.
+#[test]
+fn what_was_said_before_the_end_is_done(rt: HostRuntime) -> Result<(), Fail> {
+    let alloc = rt.alloc();
+    let port = new_served(rt, alloc, "last_words.image", 48_935, Open)?;
+    let mut one = joined_as(&rt, port, 1)?;
+    for volts in 1..=30u32 {
+        let client = joined_again(&rt, port, 2)?;
+        let text = format!(in alloc; "VOLT 1;VOLT 2;VOLT {volts}")?;
+        says_and_goes(client, text.as_bytes())?;
+        drop(joined_again(&rt, port, 2)?);
+        let answer = format!(in alloc; "{volts}.000\n")?;
+        one.ask(b"VOLT?", answer.as_bytes())?;
+    }
+    Ok(())
+}
+
+// A transmission of 32,700 calls of a macro of 204 units.
+fn says_much(client: &mut Client, alloc: Global) -> Result<(), Missed> {
+    let Ok(mut body) = b"*DMC \"M\",#41020".to_vec(alloc) else {
+        return Err(Missed::Ground("memory"));
+    };
+    let (Ok(units), Ok(calls)) = (
+        repeated(alloc, b"*WAI;", 204),
+        repeated(alloc, b"M;", 32_700),
+    ) else {
+        return Err(Missed::Ground("memory"));
+    };
+    if body.extend_from_slice(units.as_slice()).is_err() {
+        return Err(Missed::Ground("memory"));
+    }
+    client.say(body.as_slice())?;
+    client.ask(b"*EMC 1;*OPC?", b"1\n")?;
+    client.say(calls.as_slice())
+}
+
+// Millions of units end with their session: its number is free soon.
+#[test]
+fn a_long_transmission_ends_with_its_session(rt: HostRuntime) -> Result<(), Fail> {
+    let port = new_served(rt, rt.alloc(), "millions_of_units.image", 48_937, Open)?;
+    let mut one = joined_as(&rt, port, 1)?;
+    says_much(&mut one, rt.alloc())?;
+    settle(&rt);
+    drop(one);
+    let mut one = joined_again(&rt, port, 1)?;
+    one.is_served()?;
     Ok(())
 }

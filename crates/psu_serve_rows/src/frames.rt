@@ -181,3 +181,23 @@ fn a_fatal_error_ends_its_session(rt: HostRuntime) -> Result<(), Fail> {
     one.is_served()?;
     Ok(())
 }
+
+// Initialize and a question in one piece: the session begins, and ends for what came before its second connection.
+fn asks_too_early(stream: &mut TcpStream) -> Result<(), Missed> {
+    send(
+        stream,
+        b"HS\x00\x00\x01\x00\x00\x00\x00\x00\x00\x00\x00\x00\x00\x00\
+HS\x07\x00\xff\xff\xff\x00\x00\x00\x00\x00\x00\x00\x00\x05*IDN?",
+    )?;
+    comes(stream, header(1, 0, 0x0100_0001, 0))?;
+    comes(stream, bare(2, 2))?;
+    is_ended(stream)
+}
+
+#[test]
+fn nothing_is_asked_before_the_second_connection(rt: HostRuntime) -> Result<(), Fail> {
+    let port = new_served(rt, rt.alloc(), "asked_too_early.image", 48_933, Open)?;
+    let mut stream = connected(&rt, port)?;
+    asks_too_early(&mut stream)?;
+    Ok(())
+}

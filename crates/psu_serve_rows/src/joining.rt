@@ -1,5 +1,5 @@
 // How clients come by their sessions.
-use crate::client::Client;
+use crate::client::{Client, NO_MESSAGE};
 use crate::missed::Missed;
 use crate::wire::{bare, comes, header, next, send, wait};
 use std::net::{Net, TcpStream};
@@ -49,6 +49,7 @@ pub fn joined<R: Net<Stream = TcpStream> + Clock>(rt: &R, port: u16) -> Result<C
         number,
         sync,
         other,
+        last: NO_MESSAGE,
     })
 }
 

@@ -8,11 +8,15 @@ mod clears;
 #[cfg(test)]
 mod client;
 #[cfg(test)]
+mod credits;
+#[cfg(test)]
 mod crowds;
 #[cfg(test)]
 mod day;
 #[cfg(test)]
 mod ends;
+#[cfg(test)]
+mod expansions;
 #[cfg(test)]
 mod floods;
 #[cfg(test)]
@@ -30,11 +34,23 @@ mod long_answer;
 #[cfg(test)]
 mod missed;
 #[cfg(test)]
+mod reads;
+#[cfg(test)]
+mod releases;
+#[cfg(test)]
+mod room;
+#[cfg(test)]
 mod rows;
+#[cfg(test)]
+mod screen;
 #[cfg(test)]
 mod server;
 #[cfg(test)]
 mod service;
+#[cfg(test)]
+mod sick_disk;
+#[cfg(test)]
+mod stores;
 #[cfg(test)]
 mod transmissions;
 #[cfg(test)]

@@ -4,7 +4,7 @@ use crate::hold::Hold;
 use crate::joining::{joined_again, joined_as};
 use crate::missed::Missed;
 use crate::server::new_served;
-use crate::wire::{bare, is_silent, send};
+use crate::wire::is_silent;
 use psu_serve::{Open, Point};
 use std::test::Fail;
 
@@ -45,6 +45,19 @@ fn a_lock_ends_with_its_session(rt: HostRuntime) -> Result<(), Fail> {
     Ok(())
 }
 
+// The same where it has asked for no lock.
+#[test]
+fn an_end_frees_what_its_lock_held_back(rt: HostRuntime) -> Result<(), Fail> {
+    let port = new_served(rt, rt.alloc(), "lock_of_a_holder.image", 48_919, Open)?;
+    let mut one = joined_as(&rt, port, 1)?;
+    one.lock()?;
+    let mut two = joined_as(&rt, port, 2)?;
+    two.is_denied()?;
+    drop(one);
+    two.hear(b"EXAMPLE,PSU4,0,1.0\n")?;
+    Ok(())
+}
+
 // Three ask; each has the lock in the order in which they asked, by a release or an end.
 #[test]
 fn a_lock_is_had_in_turn(rt: HostRuntime) -> Result<(), Fail> {
@@ -67,7 +80,7 @@ fn a_lock_is_had_in_turn(rt: HostRuntime) -> Result<(), Fail> {
 fn releases_late(client: &mut Client) -> Result<(), Missed> {
     client.say(b"*SAV 1;*OPC?")?;
     is_silent(&mut client.sync)?;
-    send(&mut client.other, &bare(4, 0))?;
+    client.let_lock_go(client.last)?;
     is_silent(&mut client.other)?;
     client.status(0, 0)?;
     client.locks_are(1, 1)

@@ -3,7 +3,7 @@ use crate::joining::connected;
 use crate::missed::Missed;
 use psu_disk::{Disk, FileDisk, MemDisk};
 use psu_items::Store;
-use psu_serve::{Gate, serve};
+use psu_serve::{Gate, Open, serve, serve_disk};
 use psu_server::run;
 use std::alloc::Global;
 use std::fs::{self, File};
@@ -61,7 +61,8 @@ where
     }
 }
 
-/// Serves a new image, at this port or where it is taken at another; at which. The file has no name any more once it is served.
+/// Serves a new image, at this port or where it is taken at another; at which. The file stays: a store whose file has no
+/// name any more is broken.
 pub fn new_served<R, G>(
     rt: R,
     alloc: Global,
@@ -87,8 +88,50 @@ where
     let port = served(rt, alloc, image, first, gate)?;
     let stream = connected(&rt, port)?;
     drop(stream);
-    removed(&rt, image);
     Ok(port)
+}
+
+/// A formatted disk in memory.
+pub fn new_disk(alloc: Global) -> Result<MemDisk<Global>, Missed> {
+    let Ok(disk) = MemDisk::new(alloc, SIZE) else {
+        return Err(Missed::Ground("memory"));
+    };
+    match Store::format(alloc, disk, 256) {
+        Ok(store) => Ok(store.into_disk()),
+        Err(_) => Err(Missed::Ground("a formatted disk")),
+    }
+}
+
+/// Serves a disk, at this port or where it is taken at another; at which.
+pub fn served_disk<R, D, E>(
+    rt: R,
+    alloc: Global,
+    disk: D,
+    first: u16,
+    errors: E,
+) -> Result<u16, Missed>
+where
+    R: Net<Listener = TcpListener, Stream = TcpStream>
+        + Threads
+        + Wait
+        + Clock
+        + Print
+        + Copy
+        + Send
+        + 'static,
+    D: Disk + Drop + Send + 'static,
+    E: Eprint + Drop + Send + 'static,
+{
+    let port = free_port(&rt, first)?;
+    let begun = thread::spawn(&rt, move || {
+        let _fault = serve_disk(rt, alloc, disk, port, Open, errors);
+    })
+    .is_ok();
+    if begun {
+        Ok(port)
+    } else {
+        Err(Missed::Ground("a thread"))
+    }
 }
 
 /// An image has no file any more.
@@ -99,7 +142,7 @@ pub fn removed<R: Files>(rt: &R, image: &str) {
 /// A new image.
 pub fn formatted<R: Files<File = File>>(rt: &R, alloc: Global, image: &str) -> Result<(), Missed> {
     removed(rt, image);
-    let Ok(disk) = FileDisk::make(rt, image, SIZE) else {
+    let Ok(disk) = FileDisk::make(rt, alloc, image, SIZE) else {
         return Err(Missed::Ground("a file"));
     };
     match Store::format(alloc, disk, 256) {
@@ -115,7 +158,7 @@ pub fn executed<R: Files<File = File>>(
     image: &str,
     lines: &[u8],
 ) -> Result<(), Missed> {
-    let Ok(disk) = FileDisk::of(rt, image) else {
+    let Ok(disk) = FileDisk::of(rt, alloc, image) else {
         return Err(Missed::Ground("an image"));
     };
     let mut reader = lines;

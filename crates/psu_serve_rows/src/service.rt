@@ -79,3 +79,23 @@ fn a_flush_calls_all_clients(rt: HostRuntime) -> Result<(), Fail> {
     is_called(&mut three)?;
     Ok(())
 }
+
+// An error calls by its bit of the status byte, and by its class. Nothing is flushed meanwhile, which would make others look.
+fn is_called_by_errors(client: &mut Client) -> Result<(), Missed> {
+    client.ask(b"*CLS;*SRE 4;*OPC?", b"1\n")?;
+    client.say_on(b"FOO")?;
+    client.is_requested(0x44)?;
+    client.status(0, 0x44)?;
+    client.ask(b"*CLS;*ESE 32;*SRE 32;*OPC?", b"1\n")?;
+    client.say_on(b"FOO")?;
+    client.is_requested(0x64)?;
+    client.status(0, 0x64)
+}
+
+#[test]
+fn errors_call_a_client(rt: HostRuntime) -> Result<(), Fail> {
+    let port = new_served(rt, rt.alloc(), "called_by_errors.image", 48_921, Open)?;
+    let mut one = joined_as(&rt, port, 1)?;
+    is_called_by_errors(&mut one)?;
+    Ok(())
+}

@@ -12,6 +12,7 @@ use Rattle.psu_nv.proofs.Telling.{same_contents}
 use Rattle.psu_lex.specs.declared.scpi_error.ScpiError.{ScpiError}
 use Rattle.psu_instrument.specs.Macros.{CallGives, ExpandsAt, written}
 use Rattle.psu_tree.specs.declared.unit_request.Request.{Request}
+use Rattle.psu_answers.specs.Response.{response}
 use Rattle.psu_exec.specs.declared.condition.Condition.TheVariants.{Whole}
 use Rattle.psu_exec.specs.Device.{Reply, Done, Answer, Error, Expand, Parked, Held, Later, State, Flush, AnswersBeside, AnswersCalled, AnswersNow, MayAnswer, answer_call, after_unit, called, count_held, is_broken, is_denied, is_later as comes_later, target, wait_of}
 use Rattle.psu_exec.specs.Calls.{JobData, JobEnd, JobKind, Commit, Stored, Unstarted, Failed, Reopened, Job, Executed, Settled, Took, GaveBack, HasNone, HasWork, MaySettle, ends_wait, job_out, kind_for, opened, stored, with_stored, settle_answer, after_settle, settled, unparked, wait_less}
@@ -19,7 +20,7 @@ use Rattle.psu_exec.specs.World.{World}
 use Rattle.psu_exec.proofs.Denied.{later_leaves}
 use Rattle.psu_server.specs.Lines.{Message, Asks, messages}
 use Rattle.psu_server.specs.Lives.{Calls, PowersOn}
-use Rattle.psu_server.specs.Script.{at_start, Rest, Went, Told, Replies, RepliesCalled, RepliesNow, Goes, GoesFrom, TellsInside, TellsReply, Tells, TellsMessage, flushed_by, flushed, waited, after_reply, restarted, Scripted, with_answer, line_text}
+use Rattle.psu_server.specs.Script.{at_start, Rest, Went, Spoken, Told, Replies, RepliesCalled, RepliesNow, Goes, GoesFrom, SpeaksInside, SpeaksReply, Speaks, TellsMessage, flushed_by, flushed, waited, after_reply, restarted, Scripted, with_answer}
 use Rattle.psu_server.specs.Runs.{none, JobDone, Jobs, Flushes, IsMeant, IsSound, EndsJob, Reopens, is_later, is_out_of_memory, ScriptAlone, Acts, UnitRuns, UnitsRun, ReplyRuns, LineRuns, MessageRuns, Runs, is_final}
 use Rattle.psu_server.proofs.JobEnds.{no_wait_after}
 use Rattle.psu_server.proofs.Scripts.{AllHold, Holds, asked_hold, message_holds}
@@ -319,37 +320,38 @@ unit_alone r w new c o q holds (inr (late, over, call, f, acts)) =
 
 -- ---- messages
 
-pub record SameTold (t : Told) (all : List ℕ) (new : World) : Type 0 where
-  pub text : t.text ≡ all
-  pub quiet : Quiet t.rest new
+-- the device and the answers so far are those of the script
+pub record SameSpoken (spoken : Spoken) (all : List (List ℕ)) (new : World) : Type 0 where
+  pub answers : spoken.answers ≡ all
+  pub quiet : Quiet spoken.rest new
 
-inside_alone : (cs : List Request) (r : Rest) (w new : World) (text all : List ℕ) → Quiet r w → AllHold cs → UnitsRun none w text cs all new → (told : Told) × TellsInside r text cs told × SameTold told all new
-inside_alone [] r w new text all q hold u = (record { rest = r; text = text }, refl, record { text = sym u.1; quiet = subst (λ (z : World). Quiet r z) (sym u.0) q })
-inside_alone (c ∷ cs) r w new text all q (holds, hold) (o, mid, u, more) =
+inside_alone : (cs : List Request) (r : Rest) (w new : World) (answers all : List (List ℕ)) → Quiet r w → AllHold cs → UnitsRun none w answers cs all new → (spoken : Spoken) × SpeaksInside r answers cs spoken × SameSpoken spoken all new
+inside_alone [] r w new answers all q hold u = (record { rest = r; answers = answers }, refl, record { answers = sym u.1; quiet = subst (λ (z : World). Quiet r z) (sym u.0) q })
+inside_alone (c ∷ cs) r w new answers all q (holds, hold) (o, mid, u, more) =
     let one = unit_alone r w mid c o q holds u in
-    let rest = inside_alone cs one.0.rest mid new (with_answer text one.0.reply) all one.2.quiet hold
-    (subst (λ (x : Reply). UnitsRun none mid (with_answer text x) cs all new) (sym one.2.reply) more) in
+    let rest = inside_alone cs one.0.rest mid new (with_answer answers one.0.reply) all one.2.quiet hold
+    (subst (λ (x : Reply). UnitsRun none mid (with_answer answers x) cs all new) (sym one.2.reply) more) in
     (rest.0, (one.0, one.1, rest.1), rest.2)
 
-told_here : (r : Rest) (w new : World) (text all : List ℕ) (o : Reply) → Quiet r w → (new ≡ w) × (all ≡ with_answer text o) → SameTold (record { rest = r; text = with_answer text o }) all new
-told_here r w new text all o q u = record { text = sym u.1; quiet = subst (λ (z : World). Quiet r z) (sym u.0) q }
+spoken_here : (r : Rest) (w new : World) (answers all : List (List ℕ)) (o : Reply) → Quiet r w → (new ≡ w) × (all ≡ with_answer answers o) → SameSpoken (record { rest = r; answers = with_answer answers o }) all new
+spoken_here r w new answers all o q u = record { answers = sym u.1; quiet = subst (λ (z : World). Quiet r z) (sym u.0) q }
 
-reply_alone : (o : Reply) (r : Rest) (w new : World) (text all : List ℕ) → Quiet r w → ReplyRuns none w text o all new → (told : Told) × TellsReply r text o told × SameTold told all new
-reply_alone (Expand bytes) r w new text all q (requests, asks, u) =
-    let t = inside_alone requests r w new text all q (asked_hold true bytes requests asks) u in (t.0, (requests, asks, t.1), t.2)
-reply_alone Done r w new text all q u = (record { rest = r; text = with_answer text Done }, refl, told_here r w new text all Done q u)
-reply_alone (Answer a) r w new text all q u = (record { rest = r; text = with_answer text (Answer a) }, refl, told_here r w new text all (Answer a) q u)
-reply_alone (Error e) r w new text all q u = (record { rest = r; text = with_answer text (Error e) }, refl, told_here r w new text all (Error e) q u)
-reply_alone Parked r w new text all q u = (record { rest = r; text = with_answer text Parked }, refl, told_here r w new text all Parked q u)
-reply_alone Held r w new text all q u = (record { rest = r; text = with_answer text Held }, refl, told_here r w new text all Held q u)
-reply_alone Later r w new text all q u = (record { rest = r; text = with_answer text Later }, refl, told_here r w new text all Later q u)
+reply_alone : (o : Reply) (r : Rest) (w new : World) (answers all : List (List ℕ)) → Quiet r w → ReplyRuns none w answers o all new → (spoken : Spoken) × SpeaksReply r answers o spoken × SameSpoken spoken all new
+reply_alone (Expand bytes) r w new answers all q (requests, asks, u) =
+    let t = inside_alone requests r w new answers all q (asked_hold true bytes requests asks) u in (t.0, (requests, asks, t.1), t.2)
+reply_alone Done r w new answers all q u = (record { rest = r; answers = with_answer answers Done }, refl, spoken_here r w new answers all Done q u)
+reply_alone (Answer a) r w new answers all q u = (record { rest = r; answers = with_answer answers (Answer a) }, refl, spoken_here r w new answers all (Answer a) q u)
+reply_alone (Error e) r w new answers all q u = (record { rest = r; answers = with_answer answers (Error e) }, refl, spoken_here r w new answers all (Error e) q u)
+reply_alone Parked r w new answers all q u = (record { rest = r; answers = with_answer answers Parked }, refl, spoken_here r w new answers all Parked q u)
+reply_alone Held r w new answers all q u = (record { rest = r; answers = with_answer answers Held }, refl, spoken_here r w new answers all Held q u)
+reply_alone Later r w new answers all q u = (record { rest = r; answers = with_answer answers Later }, refl, spoken_here r w new answers all Later q u)
 
-line_alone : (cs : List Request) (r : Rest) (w new : World) (text all : List ℕ) → Quiet r w → AllHold cs → LineRuns none w text cs all new → (told : Told) × Tells r text cs told × SameTold told all new
-line_alone [] r w new text all q hold u = (record { rest = r; text = text }, refl, record { text = sym u.1; quiet = subst (λ (z : World). Quiet r z) (sym u.0) q })
-line_alone (c ∷ cs) r w new text all q (holds, hold) (o, mid, some, after, u, told, more) =
+line_alone : (cs : List Request) (r : Rest) (w new : World) (answers all : List (List ℕ)) → Quiet r w → AllHold cs → LineRuns none w answers cs all new → (spoken : Spoken) × Speaks r answers cs spoken × SameSpoken spoken all new
+line_alone [] r w new answers all q hold u = (record { rest = r; answers = answers }, refl, record { answers = sym u.1; quiet = subst (λ (z : World). Quiet r z) (sym u.0) q })
+line_alone (c ∷ cs) r w new answers all q (holds, hold) (o, mid, some, after, u, told, more) =
     let one = unit_alone r w mid c o q holds u in
-    let put = reply_alone one.0.reply one.0.rest mid after text some one.2.quiet (subst (λ (x : Reply). ReplyRuns none mid text x some after) (sym one.2.reply) told) in
-    let rest = line_alone cs put.0.rest after new put.0.text all put.2.quiet hold (subst (λ (z : List ℕ). LineRuns none after z cs all new) (sym put.2.text) more) in
+    let put = reply_alone one.0.reply one.0.rest mid after answers some one.2.quiet (subst (λ (x : Reply). ReplyRuns none mid answers x some after) (sym one.2.reply) told) in
+    let rest = line_alone cs put.0.rest after new put.0.answers all put.2.quiet hold (subst (λ (z : List (List ℕ)). LineRuns none after z cs all new) (sym put.2.answers) more) in
     (rest.0, (one.0, put.0, one.1, put.1, rest.1), rest.2)
 
 -- a device that has just been powered on
@@ -365,6 +367,11 @@ start_quiet image new p = record {
   };
   wait = refl;
 }
+
+-- a message, and the device behind it, are told as the script has them
+pub record SameTold (told : Told) (all : List ℕ) (new : World) : Type 0 where
+  pub text : told.text ≡ all
+  pub quiet : Quiet told.rest new
 
 restart_alone : (r : Rest) (w new : World) → Quiet r w → PowersOn w.disk.bytes new → SameTold (record { rest = restarted r; text = [] }) [] new
 restart_alone r w new q p =
@@ -382,12 +389,12 @@ pub record SameMessage (r : Rest) (m : Message) (text : List ℕ) (new : World) 
   pub tells : TellsMessage r m requests told
   pub same : SameTold told text new
 
--- what the units of a message told, with the end of its line
-line_told : (r : Rest) (w new : World) (requests : List Request) (all text : List ℕ) → Quiet r w → AllHold requests → LineRuns none w [] requests all new → text ≡ line_text all
-    → (told : Told) × ((every : Told) × Tells r [] requests every × (told ≡ record { rest = every.rest; text = line_text every.text })) × SameTold told text new
+-- the answers of a message, with the end of its line
+line_told : (r : Rest) (w new : World) (requests : List Request) (all : List (List ℕ)) (text : List ℕ) → Quiet r w → AllHold requests → LineRuns none w [] requests all new → text ≡ response all
+    → (told : Told) × ((every : Spoken) × Speaks r [] requests every × (told ≡ record { rest = every.rest; text = response every.answers })) × SameTold told text new
 line_told r w new requests all text q hold u is =
     let t = line_alone requests r w new [] all q hold u in
-    (record { rest = t.0.rest; text = line_text t.0.text }, (t.0, t.1, refl), record { text = ap line_text t.2.text ∙ sym is; quiet = t.2.quiet })
+    (record { rest = t.0.rest; text = response t.0.answers }, (t.0, t.1, refl), record { text = ap response t.2.answers ∙ sym is; quiet = t.2.quiet })
 
 reopened_same : (r : Rest) (w over : World) → Quiet r w → Reopens none w over → over ≡ w
 reopened_same r w over q (inl e) = e.1

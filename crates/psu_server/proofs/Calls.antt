@@ -119,59 +119,59 @@ made_then w mid new requests e m = (requests ++ m.0, executes_join w mid new req
 made_join : (w mid new : World) → Made w mid → Made mid new → Made w new
 made_join w mid new m n = made_then w mid new m.0 m.1 n
 
-units_made : (requests : List Request) (can : Mishaps) (w new : World) (text all : List ℕ) → UnitsRun can w text requests all new → Made w new
-units_made [] can w new text all u = made_none w new u.0
-units_made (request ∷ requests) can w new text all (reply, mid, u, more) =
+units_made : (requests : List Request) (can : Mishaps) (w new : World) (answers all : List (List ℕ)) → UnitsRun can w answers requests all new → Made w new
+units_made [] can w new answers all u = made_none w new u.0
+units_made (request ∷ requests) can w new answers all (reply, mid, u, more) =
     made_then w mid new (request ∷ []) (unit_calls can w mid request reply u) (units_made requests can mid new _ all more)
 
-reply_made : (reply : Reply) (can : Mishaps) (w new : World) (text all : List ℕ) → ReplyRuns can w text reply all new → Made w new
-reply_made (Expand bytes) can w new text all (requests, asks, u) = units_made requests can w new text all u
-reply_made Done can w new text all u = made_none w new u.0
-reply_made (Answer a) can w new text all u = made_none w new u.0
-reply_made (Error e) can w new text all u = made_none w new u.0
-reply_made Parked can w new text all u = made_none w new u.0
-reply_made Held can w new text all u = made_none w new u.0
-reply_made Later can w new text all u = made_none w new u.0
+reply_made : (reply : Reply) (can : Mishaps) (w new : World) (answers all : List (List ℕ)) → ReplyRuns can w answers reply all new → Made w new
+reply_made (Expand bytes) can w new answers all (requests, asks, u) = units_made requests can w new answers all u
+reply_made Done can w new answers all u = made_none w new u.0
+reply_made (Answer a) can w new answers all u = made_none w new u.0
+reply_made (Error e) can w new answers all u = made_none w new u.0
+reply_made Parked can w new answers all u = made_none w new u.0
+reply_made Held can w new answers all u = made_none w new u.0
+reply_made Later can w new answers all u = made_none w new u.0
 
-line_made : (requests : List Request) (can : Mishaps) (w new : World) (text all : List ℕ) → LineRuns can w text requests all new → Made w new
-line_made [] can w new text all u = made_none w new u.0
-line_made (request ∷ requests) can w new text all (reply, mid, some, after, u, told, more) =
+line_made : (requests : List Request) (can : Mishaps) (w new : World) (answers all : List (List ℕ)) → LineRuns can w answers requests all new → Made w new
+line_made [] can w new answers all u = made_none w new u.0
+line_made (request ∷ requests) can w new answers all (reply, mid, some, after, u, told, more) =
     made_then w mid new (request ∷ []) (unit_calls can w mid request reply u)
-    (made_join mid after new (reply_made reply can mid after text some told) (line_made requests can after new some all more))
+    (made_join mid after new (reply_made reply can mid after answers some told) (line_made requests can after new some all more))
 
 -- ---- what has begun, as calls
 
 begins_made : (requests : List Request) (w new : World) → Begins w requests new → Made w new
 begins_made requests w new b = (units_in b.0, record { entries = b.0; calls = b.1; are = refl })
 
-units_begun : (requests : List Request) (can : Mishaps) (w new : World) (text all : List ℕ) → UnitsBegin can w text requests all new → Made w new
-units_begun [] can w new text all u = made_none w new u.0
-units_begun (request ∷ requests) can w new text all (inl (b, is)) = begins_made (request ∷ []) w new b
-units_begun (request ∷ requests) can w new text all (inr (reply, mid, u, more)) =
+units_begun : (requests : List Request) (can : Mishaps) (w new : World) (answers all : List (List ℕ)) → UnitsBegin can w answers requests all new → Made w new
+units_begun [] can w new answers all u = made_none w new u.0
+units_begun (request ∷ requests) can w new answers all (inl (b, is)) = begins_made (request ∷ []) w new b
+units_begun (request ∷ requests) can w new answers all (inr (reply, mid, u, more)) =
     made_then w mid new (request ∷ []) (unit_calls can w mid request reply u) (units_begun requests can mid new _ all more)
 
-reply_begun : (reply : Reply) (can : Mishaps) (w new : World) (text all : List ℕ) → ReplyBegins can w text reply all new → Made w new
-reply_begun (Expand bytes) can w new text all (requests, asks, u) = units_begun requests can w new text all u
-reply_begun Done can w new text all u = made_none w new u.0
-reply_begun (Answer a) can w new text all u = made_none w new u.0
-reply_begun (Error e) can w new text all u = made_none w new u.0
-reply_begun Parked can w new text all u = made_none w new u.0
-reply_begun Held can w new text all u = made_none w new u.0
-reply_begun Later can w new text all u = made_none w new u.0
+reply_begun : (reply : Reply) (can : Mishaps) (w new : World) (answers all : List (List ℕ)) → ReplyBegins can w answers reply all new → Made w new
+reply_begun (Expand bytes) can w new answers all (requests, asks, u) = units_begun requests can w new answers all u
+reply_begun Done can w new answers all u = made_none w new u.0
+reply_begun (Answer a) can w new answers all u = made_none w new u.0
+reply_begun (Error e) can w new answers all u = made_none w new u.0
+reply_begun Parked can w new answers all u = made_none w new u.0
+reply_begun Held can w new answers all u = made_none w new u.0
+reply_begun Later can w new answers all u = made_none w new u.0
 
-line_begun : (requests : List Request) (can : Mishaps) (w new : World) (text all : List ℕ) → LineBegins can w text requests all new → Made w new
-line_begun [] can w new text all u = made_none w new u.0
-line_begun (request ∷ requests) can w new text all (inl (b, is)) = begins_made (request ∷ []) w new b
-line_begun (request ∷ requests) can w new text all (inr (inl (reply, mid, u, r))) =
-    made_then w mid new (request ∷ []) (unit_calls can w mid request reply u) (reply_begun reply can mid new text all r)
-line_begun (request ∷ requests) can w new text all (inr (inr (reply, mid, some, after, u, told, more))) =
+line_begun : (requests : List Request) (can : Mishaps) (w new : World) (answers all : List (List ℕ)) → LineBegins can w answers requests all new → Made w new
+line_begun [] can w new answers all u = made_none w new u.0
+line_begun (request ∷ requests) can w new answers all (inl (b, is)) = begins_made (request ∷ []) w new b
+line_begun (request ∷ requests) can w new answers all (inr (inl (reply, mid, u, r))) =
+    made_then w mid new (request ∷ []) (unit_calls can w mid request reply u) (reply_begun reply can mid new answers all r)
+line_begun (request ∷ requests) can w new answers all (inr (inr (reply, mid, some, after, u, told, more))) =
     made_then w mid new (request ∷ []) (unit_calls can w mid request reply u)
-    (made_join mid after new (reply_made reply can mid after text some told) (line_begun requests can after new some all more))
+    (made_join mid after new (reply_made reply can mid after answers some told) (line_begun requests can after new some all more))
 
 next_begun : (ms : List Message) (can : Mishaps) (w new : World) (text : List ℕ) → NextBegins can w ms text new → Made w new
 next_begun [] can w new text n = begins_made [] w new n.0
 next_begun (m ∷ ms) can w new text (inl n) = begins_made [] w new n.0
-next_begun (m ∷ ms) can w new text (inr n) = line_begun n.0 can w new [] text n.2
+next_begun (m ∷ ms) can w new text (inr n) = line_begun n.0 can w new [] n.2 n.3
 
 -- ---- some first requests
 

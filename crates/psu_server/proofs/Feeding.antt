@@ -1,5 +1,5 @@
 -- The lines of a piece, one after another.
-use Rattle.std.proofs.Common.{◌≡◌, ℕ, ◌+◌, ◌-◌, ◌≤◌, Bool, true, false, if◌then◌else◌, List, [], ◌∷◌, ◌++◌, length, take, drop, refl, sym, ap, ◌∙◌, subst, inl, inr, append_assoc, Some}
+use Rattle.std.proofs.Common.{◌≡◌, ℕ, ◌+◌, ◌-◌, ◌≤◌, Bool, true, false, List, [], ◌∷◌, ◌++◌, length, take, drop, refl, sym, ap, ◌∙◌, subst, inl, inr, append_assoc, Option, Some}
 use Rattle.std.proofs.lemmas.List.{append-nil}
 use Rattle.std.specs.Str.{bytes_eq}
 use Rattle.memchr.specs.Find.{IsFirstByte, is_byte}
@@ -7,6 +7,8 @@ use Rattle.psu_disk.specs.Disk.{DiskState, Left}
 use Rattle.psu_disk.specs.declared.disk.Disk.{Ghosts}
 use Rattle.psu_items.specs.Image.{EachStands}
 use Rattle.psu_items.specs.Map.{Item}
+use Rattle.psu_answers.specs.Gathered.{Text, closed}
+use Rattle.psu_answers.specs.Response.{are_some, end_of, joined, response}
 use Rattle.psu_exec.specs.World.{World}
 use Rattle.psu_exec.specs.declared.exec.Exec.{Exec}
 use Rattle.psu_tree.specs.declared.unit_request.Request.{Request}
@@ -14,10 +16,9 @@ use Rattle.psu_server.specs.Failures.{failures_of}
 use Rattle.psu_server.specs.Jobs.{IsExplained}
 use Rattle.psu_server.specs.Lines.{Message, Asks, message_now, message_of, coming, too_much, has, is_power, power_line}
 use Rattle.psu_server.specs.Lives.{born, disk_at, world_of, IsLeftBy, PowersOn}
-use Rattle.psu_server.specs.Output.{Says, SaysUntil, Telling, has_answer}
+use Rattle.psu_server.specs.Output.{Says, SaysUntil, Telling, telling}
 use Rattle.psu_server.specs.Progress.{Breaks, BreaksOff, Continues, Fed, GoesOn, Halts, Stopped, Stops, StopsHere}
 use Rattle.psu_server.specs.Runs.{Mishaps, none, Begins, Flushes, LineBegins, LineRuns, MessageBegins, MessageRuns, NextBegins, Reopens, Runs}
-use Rattle.psu_server.specs.Script.{line_text}
 use Rattle.psu_server.specs.Within.{IsLater}
 use Rattle.psu_server.specs.declared.run_cause.RunCause.{RunCause}
 use Rattle.psu_server.specs.declared.run_cause.RunCause.TheVariants.{Memory as RunMemory}
@@ -25,7 +26,7 @@ use Rattle.psu_server.specs.declared.run_fault.RunFault.{RunFault}
 use Rattle.psu_server.proofs.Calls.{Executes, begins_all, executes_none, flush_calls, job_calls}
 use Rattle.psu_server.proofs.Cuts.{plain_message, power_message, coming_end, found_parts, whole_tail}
 use Rattle.psu_server.proofs.MessageEnds.{line_over}
-use Rattle.psu_server.proofs.Telling.{line_end, says_gathered, says_join, says_none, says_still, until_after, until_said}
+use Rattle.psu_server.proofs.Telling.{says_gathered, says_join, says_none, says_still, until_after, until_said}
 use Rattle.psu_server.proofs.UnitEnds.{goes_as, goes_then}
 use Rattle.psu_server.proofs.Within.{later_same, within_as, within_at, within_here, within_later, within_then}
 
@@ -35,20 +36,20 @@ abbrev pub ToldLine : {D A : Type 0} {G : Ghosts D} → Message → Exec D A G �
 ToldLine m old new told now = (text : List ℕ) × Says told now text × GoesOn old new (λ can w v. MessageRuns can w m text v)
 
 -- its units told these answers, and a line feed ends them
-pub told_line : {D A : Type 0} {G : Ghosts D} (m : Message) (requests : List Request) (old new : Exec D A G) (a b c : Telling) → Asks m requests → is_power m ≡ false → a.begun ≡ false
-    → Continues old new a b (λ text all can w v. LineRuns can w text requests all v) → c.written ≡ b.written → c.gathered ≡ b.gathered ++ (if b.begun then 10 ∷ [] else []) → ToldLine m old new a c
-told_line m requests old new a b c asks plain none p written ended =
+pub told_line : {D A : Type 0} {G : Ghosts D} (m : Message) (requests : List Request) (old new : Exec D A G) (a : Telling) (was_written written : Option (List ℕ)) (before after : Text) → Asks m requests → is_power m ≡ false → a.begun ≡ false
+    → Continues old new a (telling was_written before) (λ answers all can w v. LineRuns can w answers requests all v) → written ≡ was_written → after ≡ closed before → ToldLine m old new a (telling written after)
+told_line m requests old new a was_written written before after asks plain none p same ended =
     let f = p [] none in (
-      line_text f.0,
-      until_end f.0 (says_join a b c f.0 (if has_answer f.0 then 10 ∷ [] else []) f.1
-          (says_gathered b c (if has_answer f.0 then 10 ∷ [] else []) written (ended ∙ ap (λ (z : Bool). (let l : List ℕ = if z then 10 ∷ [] else [] in b.gathered ++ l)) f.2))),
-      goes_as old new (λ can w v. LineRuns can w [] requests f.0 v) (λ can w v. MessageRuns can w m (line_text f.0) v) f.3 (λ can w v u. by m plain asks f.0 can w v u),
+      response f.0,
+      subst (λ (z : List ℕ). Says a (telling written after) z) (whole f.0 f.1.0 f.1.1) (says_join a (telling was_written before) (telling written after) f.1.0 (end_of (are_some f.0)) f.1.2
+          (says_gathered (telling was_written before) (telling written after) (end_of (are_some f.0)) same (ap (λ (t : Text). t.rest) ended ∙ ap (λ (z : Bool). before.rest ++ end_of z) f.1.3))),
+      goes_as old new (λ can w v. LineRuns can w [] requests f.0 v) (λ can w v. MessageRuns can w m (response f.0) v) f.2 (λ can w v u. by m plain asks f.0 can w v u),
     )
   where
-    until_end : (all : List ℕ) → Says a c (all ++ (if has_answer all then 10 ∷ [] else [])) → Says a c (line_text all)
-    until_end all s = subst (λ (z : List ℕ). Says a c z) (line_end all) s
+    whole : (all : List (List ℕ)) (more : List ℕ) → joined all ≡ more → more ++ end_of (are_some all) ≡ response all
+    whole all more is = ap (λ (z : List ℕ). z ++ end_of (are_some all)) (sym is)
 
-    by : (m : Message) → is_power m ≡ false → Asks m requests → (all : List ℕ) (can : Mishaps) (w v : World) → LineRuns can w [] requests all v → MessageRuns can w m (line_text all) v
+    by : (m : Message) → is_power m ≡ false → Asks m requests → (all : List (List ℕ)) (can : Mishaps) (w v : World) → LineRuns can w [] requests all v → MessageRuns can w m (response all) v
     by Message.Power p asks all can w v u = cc
     by Message.Overlong p asks all can w v u = (requests, asks, all, u, refl)
     by (Message.Units bytes) p asks all can w v u = (requests, asks, all, u, refl)
@@ -58,26 +59,26 @@ BrokenLine m old new told now cause = (part : List ℕ) × SaysUntil cause told 
 
 -- a stop among its units
 pub broken_line : {D A : Type 0} {G : Ghosts D} (m : Message) (requests : List Request) (old new : Exec D A G) (a b : Telling) (cause : RunCause) → Asks m requests → a.begun ≡ false
-    → BreaksOff old new a b (λ text all can w v. LineBegins can w text requests all v) cause → BrokenLine m old new a b cause
+    → BreaksOff old new a b (λ answers all can w v. LineBegins can w answers requests all v) cause → BrokenLine m old new a b cause
 broken_line m requests old new a b cause asks none p =
     let f = p [] none in (
-      f.0,
-      f.1,
+      f.1.0,
+      f.1.2,
       record {
-        goes = goes_as old new (λ can w v. LineBegins can w [] requests f.0 v) (λ can w v. MessageBegins can w m f.0 v) f.2.goes (λ can w v u. (requests, asks, u));
+        goes = goes_as old new (λ can w v. LineBegins can w [] requests f.0 v) (λ can w v. MessageBegins can w m f.1.0 v) f.2.goes (λ can w v u. (requests, asks, f.0, u, sym f.1.1));
         why = f.2.why;
       },
     )
 
 -- its line feed is refused memory
 pub line_unended : {D A : Type 0} {G : Ghosts D} (m : Message) (requests : List Request) (old new : Exec D A G) (a b c : Telling) → Asks m requests → a.begun ≡ false
-    → Continues old new a b (λ text all can w v. LineRuns can w text requests all v) → c.written ≡ b.written → c.gathered ≡ b.gathered → BrokenLine m old new a c RunMemory
+    → Continues old new a b (λ answers all can w v. LineRuns can w answers requests all v) → c.written ≡ b.written → c.gathered ≡ b.gathered → BrokenLine m old new a c RunMemory
 line_unended m requests old new a b c asks none p written same =
     let f = p [] none in (
-      f.0,
-      until_said RunMemory a c f.0 (λ e. cc) (subst (λ (z : List ℕ). Says a c z) (append-nil f.0) (says_join a b c f.0 [] f.1 (says_still b c written same))),
+      f.1.0,
+      until_said RunMemory a c f.1.0 (λ e. cc) (subst (λ (z : List ℕ). Says a c z) (append-nil f.1.0) (says_join a b c f.1.0 [] f.1.2 (says_still b c written same))),
       record {
-        goes = goes_as old new (λ can w v. LineRuns can w [] requests f.0 v) (λ can w v. MessageBegins can w m f.0 v) f.3 (λ can w v u. (requests, asks, line_over can w v [] f.0 requests u));
+        goes = goes_as old new (λ can w v. LineRuns can w [] requests f.0 v) (λ can w v. MessageBegins can w m f.1.0 v) f.2 (λ can w v u. (requests, asks, f.0, line_over can w v [] f.0 requests u, sym f.1.1));
         why = λ h since e. tt;
       },
     )

@@ -6,9 +6,10 @@ use Rattle.psu_lex.specs.declared.scpi_error.ScpiError.{ScpiError}
 use Rattle.psu_tree.specs.declared.command.Command.{Command}
 use Rattle.psu_tree.specs.declared.unit_request.Request.{Request}
 use Rattle.psu_instrument.specs.Macros.{ExpandsAt, body_called, written}
+use Rattle.psu_answers.specs.Response.{response}
 use Rattle.psu_exec.specs.Device.{Reply, Done, Answer, Error, Expand, Parked, Held, Later, State, answer_call, answer_meant, called, here, is_late, is_later, meant, reads_nonvolatile, wait_of}
 use Rattle.psu_server.specs.Lines.{Message}
-use Rattle.psu_server.specs.Script.{Rest, Went, Told, Expands, RepliesCalled, RepliesNow, Replies, GoesFrom, Goes, TellsInside, TellsReply, Tells, TellsMessage, Scripted, after_reply, flushed, line_text, with_answer}
+use Rattle.psu_server.specs.Script.{Rest, Went, Spoken, Told, Expands, RepliesCalled, RepliesNow, Replies, GoesFrom, Goes, SpeaksInside, SpeaksReply, Speaks, TellsMessage, Scripted, after_reply, flushed, with_answer}
 use Rattle.psu_server.proofs.Scripts.{Alike, Ones, Same, one_asked, one_asking}
 
 -- no body has two expansions
@@ -82,39 +83,39 @@ one_unit one r a b same x y (p, replies, goes) (q, replies_too, goes_too) =
     turned : (a b : Request) → Same a b → Same b a
     turned a b same = record { reading = sym same.reading; place = sym same.place; label = sym same.label; parameters = λ list others l k. sym (same.parameters others list k l) }
 
-one_inside : OneExpansion → (requests others : List Request) (r : Rest) (text : List ℕ) (x y : Told) → Alike requests others → TellsInside r text requests x → TellsInside r text others y → x ≡ y
-one_inside one [] others r text x y none p q = p ∙ sym (subst (λ (z : List Request). TellsInside r text z y) none q)
-one_inside one (a ∷ more) others r text x y (b, rest, is, same, alike) (went, goes, tells) q =
-    let there = subst (λ (z : List Request). TellsInside r text z y) is q in
+one_inside : OneExpansion → (requests others : List Request) (r : Rest) (answers : List (List ℕ)) (x y : Spoken) → Alike requests others → SpeaksInside r answers requests x → SpeaksInside r answers others y → x ≡ y
+one_inside one [] others r answers x y none p q = p ∙ sym (subst (λ (z : List Request). SpeaksInside r answers z y) none q)
+one_inside one (a ∷ more) others r answers x y (b, rest, is, same, alike) (went, goes, tells) q =
+    let there = subst (λ (z : List Request). SpeaksInside r answers z y) is q in
     let one_went : there.0 ≡ went = sym (one_unit one r a b same went there.0 goes there.1) in
-    one_inside one more rest went.rest (with_answer text went.reply) x y alike tells (subst (λ (z : Went). TellsInside z.rest (with_answer text z.reply) rest y) one_went there.2)
+    one_inside one more rest went.rest (with_answer answers went.reply) x y alike tells (subst (λ (z : Went). SpeaksInside z.rest (with_answer answers z.reply) rest y) one_went there.2)
 
-one_told : Ones → OneExpansion → (reply : Reply) (r : Rest) (text : List ℕ) (x y : Told) → TellsReply r text reply x → TellsReply r text reply y → x ≡ y
-one_told o one (Expand bytes) r text x y (requests, asks, tells) (others, asks_too, tells_too) =
-    one_inside one requests others r text x y (one_asked o true bytes requests others asks asks_too) tells tells_too
-one_told o one Done r text x y p q = p ∙ sym q
-one_told o one (Answer a) r text x y p q = p ∙ sym q
-one_told o one (Error e) r text x y p q = p ∙ sym q
-one_told o one Parked r text x y p q = p ∙ sym q
-one_told o one Held r text x y p q = p ∙ sym q
-one_told o one Later r text x y p q = p ∙ sym q
+one_told : Ones → OneExpansion → (reply : Reply) (r : Rest) (answers : List (List ℕ)) (x y : Spoken) → SpeaksReply r answers reply x → SpeaksReply r answers reply y → x ≡ y
+one_told o one (Expand bytes) r answers x y (requests, asks, tells) (others, asks_too, tells_too) =
+    one_inside one requests others r answers x y (one_asked o true bytes requests others asks asks_too) tells tells_too
+one_told o one Done r answers x y p q = p ∙ sym q
+one_told o one (Answer a) r answers x y p q = p ∙ sym q
+one_told o one (Error e) r answers x y p q = p ∙ sym q
+one_told o one Parked r answers x y p q = p ∙ sym q
+one_told o one Held r answers x y p q = p ∙ sym q
+one_told o one Later r answers x y p q = p ∙ sym q
 
-one_line : Ones → OneExpansion → (requests others : List Request) (r : Rest) (text : List ℕ) (x y : Told) → Alike requests others → Tells r text requests x → Tells r text others y → x ≡ y
-one_line o one [] others r text x y none p q = p ∙ sym (subst (λ (z : List Request). Tells r text z y) none q)
-one_line o one (a ∷ more) others r text x y (b, rest, is, same, alike) (went, some, goes, told, tells) q =
-    let there = subst (λ (z : List Request). Tells r text z y) is q in
+one_line : Ones → OneExpansion → (requests others : List Request) (r : Rest) (answers : List (List ℕ)) (x y : Spoken) → Alike requests others → Speaks r answers requests x → Speaks r answers others y → x ≡ y
+one_line o one [] others r answers x y none p q = p ∙ sym (subst (λ (z : List Request). Speaks r answers z y) none q)
+one_line o one (a ∷ more) others r answers x y (b, rest, is, same, alike) (went, some, goes, told, tells) q =
+    let there = subst (λ (z : List Request). Speaks r answers z y) is q in
     let one_went : there.0 ≡ went = sym (one_unit one r a b same went there.0 goes there.2) in
-    let told_too : TellsReply went.rest text went.reply there.1 = subst (λ (z : Went). TellsReply z.rest text z.reply there.1) one_went there.3 in
-    let one_some : there.1 ≡ some = one_told o one went.reply went.rest text there.1 some told_too told in
-    one_line o one more rest some.rest some.text x y alike tells (subst (λ (z : Told). Tells z.rest z.text rest y) one_some there.4)
+    let told_too : SpeaksReply went.rest answers went.reply there.1 = subst (λ (z : Went). SpeaksReply z.rest answers z.reply there.1) one_went there.3 in
+    let one_some : there.1 ≡ some = one_told o one went.reply went.rest answers there.1 some told_too told in
+    one_line o one more rest some.rest some.answers x y alike tells (subst (λ (z : Spoken). Speaks z.rest z.answers rest y) one_some there.4)
 
 -- ---- messages
 
 one_units : Ones → OneExpansion → (requests others : List Request) (r : Rest) (x y : Told) → Alike requests others
-    → (all : Told) × Tells r [] requests all × (x ≡ record { rest = all.rest; text = line_text all.text }) → (all : Told) × Tells r [] others all × (y ≡ record { rest = all.rest; text = line_text all.text })
+    → (all : Spoken) × Speaks r [] requests all × (x ≡ record { rest = all.rest; text = response all.answers }) → (all : Spoken) × Speaks r [] others all × (y ≡ record { rest = all.rest; text = response all.answers })
     → x ≡ y
 one_units o one requests others r x y alike (all, tells, is) (every, tells_too, is_too) =
-    is ∙ ap (λ (t : Told). (let z : Told = record { rest = t.rest; text = line_text t.text } in z)) (one_line o one requests others r [] all every alike tells tells_too) ∙ sym is_too
+    is ∙ ap (λ (t : Spoken). (let z : Told = record { rest = t.rest; text = response t.answers } in z)) (one_line o one requests others r [] all every alike tells tells_too) ∙ sym is_too
 
 one_message : Ones → OneExpansion → (m : Message) (requests others : List Request) (r : Rest) (x y : Told) → Alike requests others → TellsMessage r m requests x → TellsMessage r m others y → x ≡ y
 one_message o one Message.Power requests others r x y alike p q = p ∙ sym q

@@ -1,12 +1,12 @@
 -- One reading of a unit, one path behind it, and some call that it may be.
 use Rattle.std.proofs.Common.{◌≡◌, ℕ, Bool, true, false, List, [], ◌∷◌, refl, sym, ap, ◌∙◌, subst, inl, inr, Option, Some, None, Result, Ok, Err, is_ok}
 use Rattle.psu_lex.specs.Message.{Part}
+use Rattle.psu_lex.specs.Names.{is_label}
 use Rattle.psu_lex.specs.Shown.{HoldsData, TailLists}
 use Rattle.psu_lex.specs.Syntax.{Datum, Header, IsBefore, IsHeader, Lists, Syntax, SyntaxGives, FaultGives, TextGives, UnitReads, has_high, header_text}
 use Rattle.psu_lex.specs.declared.data.Data.{Data}
 use Rattle.psu_lex.specs.declared.unit_fault.UnitFault.{UnitFault}
 use Rattle.psu_lex.specs.declared.scpi_error.ScpiError.{ScpiError}
-use Rattle.psu_tree.specs.Parameters.{is_label}
 use Rattle.psu_tree.specs.Path.{path_behind}
 use Rattle.psu_tree.specs.Reading.{Reads, Moves, Calls, SyntaxReads, SyntaxMoves, SyntaxCalls}
 use Rattle.psu_tree.specs.declared.command.Command.{Command}

@@ -2,12 +2,12 @@
 use Rattle.std.proofs.Common.{◌≡◌, ℕ, Bool, true, false, List, [], ◌∷◌, refl, sym, ap, ◌∙◌, subst, Option, None, Some, Result, Ok, Err}
 use Rattle.std.specs.Prelude.{⊤}
 use Rattle.psu_lex.specs.Message.{Part, IsMessage}
+use Rattle.psu_lex.specs.Names.{is_label}
 use Rattle.psu_lex.specs.Shown.{HoldsFound, TailLists}
 use Rattle.psu_lex.specs.Syntax.{Datum, Lists, Syntax, datum_of}
 use Rattle.psu_lex.specs.declared.found.Found.{Found}
 use Rattle.psu_lex.specs.declared.scpi_error.ScpiError.{ScpiError}
 use Rattle.psu_lex.proofs.DataLists.{one_list}
-use Rattle.psu_tree.specs.Parameters.{is_label}
 use Rattle.psu_tree.specs.Reading.{Moves, SyntaxCalls}
 use Rattle.psu_tree.specs.declared.command.Command.{Command}
 use Rattle.psu_tree.specs.declared.macro_call.MacroCall.{MacroCall}

@@ -5,9 +5,10 @@ use Rattle.psu_lex.specs.declared.scpi_error.ScpiError.{ScpiError}
 use Rattle.psu_lex.specs.declared.scpi_error.ScpiError.TheVariants.{MacroRecursionError}
 use Rattle.psu_tree.specs.declared.unit_request.Request.{Request}
 use Rattle.psu_instrument.specs.Macros.{ExpandsAt, written}
+use Rattle.psu_answers.specs.Response.{response}
 use Rattle.psu_exec.specs.Device.{Reply, Done, Answer, Error, Expand, Parked, Held, Later, State, answer_call, answer_meant, called, here, is_later, meant}
 use Rattle.psu_server.specs.Lines.{Message}
-use Rattle.psu_server.specs.Script.{Rest, Went, Told, RepliesCalled, RepliesNow, Replies, GoesFrom, Goes, TellsInside, TellsReply, Tells, TellsMessage, Scripted, after_reply, flushed, line_text, restarted, with_answer}
+use Rattle.psu_server.specs.Script.{Rest, Went, Spoken, Told, RepliesCalled, RepliesNow, Replies, GoesFrom, Goes, SpeaksInside, SpeaksReply, Speaks, TellsMessage, Scripted, after_reply, flushed, restarted, with_answer}
 use Rattle.psu_server.proofs.Readings.{SomeReading}
 use Rattle.psu_server.proofs.Scripts.{AllHold, Holds, SomeUnits, asked_hold, message_holds, some_asked, some_asking}
 
@@ -54,39 +55,39 @@ some_unit some r request holds =
     let went = some_from some r request holds reply.0 in
     (went.0, (reply.0, reply.1, went.1))
 
-some_inside : Somes → (requests : List Request) (r : Rest) (text : List ℕ) → AllHold requests → (told : Told) × TellsInside r text requests told
-some_inside some [] r text hold = (record { rest = r; text = text }, refl)
-some_inside some (request ∷ requests) r text (holds, hold) =
+some_inside : Somes → (requests : List Request) (r : Rest) (answers : List (List ℕ)) → AllHold requests → (spoken : Spoken) × SpeaksInside r answers requests spoken
+some_inside some [] r answers hold = (record { rest = r; answers = answers }, refl)
+some_inside some (request ∷ requests) r answers (holds, hold) =
     let went = some_unit some r request holds in
-    let told = some_inside some requests went.0.rest (with_answer text went.0.reply) hold in
+    let told = some_inside some requests went.0.rest (with_answer answers went.0.reply) hold in
     (told.0, (went.0, went.1, told.1))
 
-some_told : Somes → (reply : Reply) (r : Rest) (text : List ℕ) → (told : Told) × TellsReply r text reply told
-some_told some (Expand bytes) r text =
+some_told : Somes → (reply : Reply) (r : Rest) (answers : List (List ℕ)) → (spoken : Spoken) × SpeaksReply r answers reply spoken
+some_told some (Expand bytes) r answers =
     let asked = some_asked some.units some.reading true bytes in
-    let told = some_inside some asked.0 r text (asked_hold true bytes asked.0 asked.1) in
+    let told = some_inside some asked.0 r answers (asked_hold true bytes asked.0 asked.1) in
     (told.0, (asked.0, asked.1, told.1))
-some_told some Done r text = (record { rest = r; text = with_answer text Done }, refl)
-some_told some (Answer a) r text = (record { rest = r; text = with_answer text (Answer a) }, refl)
-some_told some (Error e) r text = (record { rest = r; text = with_answer text (Error e) }, refl)
-some_told some Parked r text = (record { rest = r; text = with_answer text Parked }, refl)
-some_told some Held r text = (record { rest = r; text = with_answer text Held }, refl)
-some_told some Later r text = (record { rest = r; text = with_answer text Later }, refl)
+some_told some Done r answers = (record { rest = r; answers = with_answer answers Done }, refl)
+some_told some (Answer a) r answers = (record { rest = r; answers = with_answer answers (Answer a) }, refl)
+some_told some (Error e) r answers = (record { rest = r; answers = with_answer answers (Error e) }, refl)
+some_told some Parked r answers = (record { rest = r; answers = with_answer answers Parked }, refl)
+some_told some Held r answers = (record { rest = r; answers = with_answer answers Held }, refl)
+some_told some Later r answers = (record { rest = r; answers = with_answer answers Later }, refl)
 
-some_line : Somes → (requests : List Request) (r : Rest) (text : List ℕ) → AllHold requests → (told : Told) × Tells r text requests told
-some_line some [] r text hold = (record { rest = r; text = text }, refl)
-some_line some (request ∷ requests) r text (holds, hold) =
+some_line : Somes → (requests : List Request) (r : Rest) (answers : List (List ℕ)) → AllHold requests → (spoken : Spoken) × Speaks r answers requests spoken
+some_line some [] r answers hold = (record { rest = r; answers = answers }, refl)
+some_line some (request ∷ requests) r answers (holds, hold) =
     let went = some_unit some r request holds in
-    let one = some_told some went.0.reply went.0.rest text in
-    let told = some_line some requests one.0.rest one.0.text hold in
+    let one = some_told some went.0.reply went.0.rest answers in
+    let told = some_line some requests one.0.rest one.0.answers hold in
     (told.0, (went.0, one.0, went.1, one.1, told.1))
 
 some_message : Somes → (m : Message) (requests : List Request) (r : Rest) → AllHold requests → (told : Told) × TellsMessage r m requests told
 some_message some Message.Power requests r hold = (record { rest = restarted r; text = [] }, refl)
 some_message some Message.Overlong requests r hold =
-    let all = some_line some requests r [] hold in (record { rest = all.0.rest; text = line_text all.0.text }, (all.0, all.1, refl))
+    let all = some_line some requests r [] hold in (record { rest = all.0.rest; text = response all.0.answers }, (all.0, all.1, refl))
 some_message some (Message.Units bytes) requests r hold =
-    let all = some_line some requests r [] hold in (record { rest = all.0.rest; text = line_text all.0.text }, (all.0, all.1, refl))
+    let all = some_line some requests r [] hold in (record { rest = all.0.rest; text = response all.0.answers }, (all.0, all.1, refl))
 
 pub some_script : Somes → (ms : List Message) (r : Rest) → (text : List ℕ) × Scripted r ms text
 some_script some [] r = ([], refl)

@@ -1,11 +1,11 @@
 -- How a device powers on, and why one doesn't.
-use Rattle.std.proofs.Common.{◌≡◌, ◌≢◌, ◌⊎◌, ℕ, ◌≤◌, ◌^◌, ◌+◌, ◌*◌, true, false, Option, Some, None, List, [], refl, sym, ap, ◌∙◌, subst, inl, inr, arith, ⊎_elim, length, nat_le}
+use Rattle.std.proofs.Common.{◌≡◌, ◌≢◌, ◌⊎◌, ℕ, ◌≤◌, ◌^◌, ◌+◌, true, false, Option, Some, None, List, [], refl, sym, ap, ◌∙◌, subst, inl, inr, arith, ⊎_elim, length, nat_le}
 use Rattle.std.proofs.lemmas.Bool.Decides.{nat_tests}
 use Rattle.psu_disk.specs.Disk.{DiskState, HasFailed}
 use Rattle.psu_disk.specs.Ranges.{reads_left}
 use Rattle.psu_disk.specs.declared.disk.Disk.{Ghosts}
 use Rattle.psu_items.specs.Map.{Item}
-use Rattle.psu_items.specs.Image.{HasNoRoot, HasReadableRoot, Stands, EachStands, IsRefusal}
+use Rattle.psu_items.specs.Image.{HasReadableRoot, Stands, EachStands, IsRefusal}
 use Rattle.psu_items.specs.declared.open_cause.OpenCause.{OpenCause}
 use Rattle.psu_items.specs.declared.open_cause.OpenCause.TheVariants as refused
 use Rattle.psu_items.specs.Standing.{MapOn}

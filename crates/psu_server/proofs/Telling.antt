@@ -1,16 +1,18 @@
 -- What is told, one part after another.
-use Rattle.std.proofs.Common.{◌≡◌, ◌≢◌, ℕ, ◌<◌, ◌||◌, Bool, if◌then◌else◌, List, [], ◌∷◌, ◌++◌, length, Option, refl, sym, ap, ◌∙◌, subst, append_assoc, append-nil, arith}
+use Rattle.std.proofs.Common.{◌≡◌, ◌≢◌, ℕ, ◌<◌, Bool, List, [], ◌++◌, length, Option, refl, sym, ap, ◌∙◌, subst, append_assoc, append-nil, arith}
 use Rattle.std.proofs.lemmas.Grind.{common_steps}
 use Rattle.std.proofs.KnownBytes.{Appends-trans, Appends-nil}
 use Rattle.std.specs.Io.KnownBytes.{Appends}
 use Rattle.std.specs.Io.{StartsWith}
 use Rattle.psu_lex.specs.declared.bytes.Bytes.{Bytes}
+use Rattle.psu_answers.specs.Gathered.{Text, addition, told}
+use Rattle.psu_answers.specs.Response.{are_some, joined}
+use Rattle.psu_answers.proofs.Joining.{joined_more, some_more}
 use Rattle.psu_exec.specs.Device.{Answer}
 use Rattle.psu_exec.specs.Shown.{outcome_of}
 use Rattle.psu_exec.specs.declared.outcome.Outcome.{Outcome}
 use Rattle.psu_exec.specs.declared.outcome.Outcome.TheVariants as outcome
-use Rattle.psu_server.specs.Output.{Says, SaysReply, SaysUntil, Telling, WritesShort, addition, has_answer}
-use Rattle.psu_server.specs.Script.{line_text, with_answer}
+use Rattle.psu_server.specs.Output.{Says, SaysOn, SaysOnUntil, SaysReply, SaysUntil, Telling, WritesShort, telling}
 use Rattle.psu_server.specs.declared.run_cause.RunCause.{RunCause}
 use Rattle.psu_server.specs.declared.run_cause.RunCause.TheVariants.{Memory, Write}
 use Rattle.psu_server.proofs.Fronts.{starts_after}
@@ -67,41 +69,45 @@ until_for told cause a b m is p = subst (λ (z : RunCause). SaysUntil z a b m) (
 
 -- ---- answers of a line
 
-has_added : (text answer : List ℕ) → has_answer (text ++ addition (has_answer text) answer) ≡ (has_answer text || has_answer answer)
-has_added [] answer = refl
-has_added (x ∷ text) answer = refl
-
-with_added : (text answer : List ℕ) → with_answer text (Answer answer) ≡ text ++ addition (has_answer text) answer
-with_added [] answer = refl
-with_added (x ∷ text) answer = refl
-
-pub line_end : (all : List ℕ) → all ++ (if has_answer all then 10 ∷ [] else []) ≡ line_text all
-line_end [] = refl
-line_end (x ∷ all) = refl
+-- no answer more
+pub says_on_none : (t : Telling) (answers : List (List ℕ)) → t.begun ≡ are_some answers → SaysOn t t answers answers
+says_on_none t answers begun = ([], sym (append-nil (joined answers)), says_none t, begun)
 
 -- an answer is told
-pub says_answer : (a b c : Telling) (answer : List ℕ) → Says a b [] → b.begun ≡ a.begun → c.written ≡ b.written → c.gathered ≡ b.gathered ++ addition b.begun answer
-    → c.begun ≡ (b.begun || has_answer answer) → SaysReply a c (Answer answer)
-says_answer a b c answer says still written grown begun text is =
-    let before : b.begun ≡ has_answer text = still ∙ is in (
-      addition b.begun answer,
-      with_added text answer ∙ ap (λ (z : Bool). text ++ addition z answer) (sym before),
-      says_join a b c [] (addition b.begun answer) says (says_gathered b c (addition b.begun answer) written grown),
-      begun ∙ ap (λ (z : Bool). z || has_answer answer) before ∙ sym (has_added text answer) ∙ ap (λ (z : Bool). has_answer (text ++ addition z answer)) (sym before),
+pub says_answer : (written was_written : Option (List ℕ)) (old mid new : Text) (answer : List ℕ) → Says (telling was_written old) (telling written mid) [] → mid.answered ≡ old.answered → new ≡ told mid answer
+    → SaysReply (telling was_written old) (telling written new) (Answer answer)
+says_answer written was_written old mid new answer says still is answers begun =
+    let before : mid.answered ≡ are_some answers = still ∙ begun in (
+      addition mid.answered answer,
+      sym (ap (λ (z : Bool). joined answers ++ addition z answer) before ∙ joined_more answers answer),
+      says_join (telling was_written old) (telling written mid) (telling written new) [] (addition mid.answered answer) says
+          (says_gathered (telling written mid) (telling written new) (addition mid.answered answer) refl (ap (λ (t : Text). t.rest) is)),
+      ap (λ (t : Text). t.answered) is ∙ some_more answers answer,
     )
-
-nothing_told : (t : Telling) (text : List ℕ) → t.begun ≡ has_answer text → (more : List ℕ) × (text ≡ text ++ more) × Says t t more × (t.begun ≡ has_answer (text ++ more))
-nothing_told t text is = ([], sym (append-nil text), says_none t, is ∙ ap has_answer (sym (append-nil text)))
 
 -- any other reply tells nothing
 pub says_nothing : {A : Type 0} (t : Telling) (o : Outcome A) → ((answer : Bytes A) → o ≡ outcome.Answer answer → ⊥) → SaysReply t t (outcome_of o)
 says_nothing t (outcome.Answer answer) other = absurd (other answer refl)
-says_nothing t outcome.Done other = nothing_told t
-says_nothing t (outcome.Error e) other = nothing_told t
-says_nothing t (outcome.Expand bytes) other = nothing_told t
-says_nothing t outcome.Parked other = nothing_told t
-says_nothing t outcome.Held other = nothing_told t
-says_nothing t outcome.Later other = nothing_told t
+says_nothing t outcome.Done other = says_on_none t
+says_nothing t (outcome.Error e) other = says_on_none t
+says_nothing t (outcome.Expand bytes) other = says_on_none t
+says_nothing t outcome.Parked other = says_on_none t
+says_nothing t outcome.Held other = says_on_none t
+says_nothing t outcome.Later other = says_on_none t
+
+-- what came, one part after another
+grown : (answers some all : List (List ℕ)) (m n : List ℕ) → joined some ≡ joined answers ++ m → joined all ≡ joined some ++ n → joined all ≡ joined answers ++ (m ++ n)
+grown answers some all m n first second = second ∙ ap (λ (z : List ℕ). z ++ n) first ∙ append_assoc (joined answers) m n
+
+pub says_on_join : (a b c : Telling) (answers some all : List (List ℕ)) → SaysOn a b answers some → SaysOn b c some all → SaysOn a c answers all
+says_on_join a b c answers some all p q = (p.0 ++ q.0, grown answers some all p.0 q.0 p.1 q.1, says_join a b c p.0 q.0 p.2 q.2, q.3)
+
+pub until_on_join : (cause : RunCause) (a b c : Telling) (answers some all : List (List ℕ)) → SaysOn a b answers some → SaysOnUntil cause b c some all → SaysOnUntil cause a c answers all
+until_on_join cause a b c answers some all p q = (p.0 ++ q.0, grown answers some all p.0 q.0 p.1 q.1, until_after cause a b c p.0 q.0 p.2 q.2)
+
+-- no answer more until a fault
+pub until_on_none : (cause : RunCause) (a b : Telling) (answers : List (List ℕ)) → SaysUntil cause a b [] → SaysOnUntil cause a b answers answers
+until_on_none cause a b answers until = ([], sym (append-nil (joined answers)), until)
 
 pub not_write : (cause : RunCause) → cause ≡ Memory → cause ≢ Write
 not_write cause is e = let bad = sym is ∙ e in cc

@@ -4,6 +4,7 @@ use Rattle.std.specs.Io.KnownBytes.{Appends}
 use Rattle.std.specs.Io.{StartsWith}
 use Rattle.psu_disk.specs.declared.disk.Disk.{Ghosts}
 use Rattle.psu_tree.specs.declared.unit_request.Request.{Request}
+use Rattle.psu_answers.specs.Response.{are_some}
 use Rattle.psu_exec.specs.Device.{Reply, Later}
 use Rattle.psu_exec.specs.Calls.{Executed, Settled}
 use Rattle.psu_exec.specs.World.{World}
@@ -12,7 +13,7 @@ use Rattle.psu_server.specs.Failures.{failures_of}
 use Rattle.psu_server.specs.Jobs.{IsExplained}
 use Rattle.psu_server.specs.Lines.{Message}
 use Rattle.psu_server.specs.Lives.{Life, world_of, Calls, IsLeftBy}
-use Rattle.psu_server.specs.Output.{Telling, Says, SaysUntil, has_answer}
+use Rattle.psu_server.specs.Output.{Telling, Says, SaysOn, SaysOnUntil, SaysUntil}
 use Rattle.psu_server.specs.Reasons.{IsHaltedBy}
 use Rattle.psu_server.specs.Runs.{Mishaps, Acts, Begins, Flushes, NextBegins, Runs}
 use Rattle.psu_server.specs.Within.{IsLater, Within}
@@ -48,12 +49,12 @@ Acted request reply can w new = ((reply ≡ Later) × Calls w (Executed 1 reques
 
 -- what may happen between some answers of a line and these and more
 abbrev pub Way : Type 1
-Way = List ℕ → List ℕ → Mishaps → World → World → Type 0
+Way = List (List ℕ) → List (List ℕ) → Mishaps → World → World → Type 0
 
 -- Behind the answers of its line so far, which are any that there may be, the device went on and told more.
 abbrev pub Continues : {D A : Type 0} {G : Ghosts D} → Exec D A G → Exec D A G → Telling → Telling → Way → Type 0
-Continues old new told now P = (text : List ℕ) → told.begun ≡ has_answer text
-    → (more : List ℕ) × Says told now more × (now.begun ≡ has_answer (text ++ more)) × GoesOn old new (P text (text ++ more))
+Continues old new told now P = (answers : List (List ℕ)) → told.begun ≡ are_some answers
+    → (all : List (List ℕ)) × SaysOn told now answers all × GoesOn old new (P answers all)
 
 -- The device went on until a fault.
 pub record Breaks {D A : Type 0} {G : Ghosts D} (old new : Exec D A G) (P : Mishaps → World → World → Type 0) (cause : RunCause) : Type 0 where
@@ -62,8 +63,8 @@ pub record Breaks {D A : Type 0} {G : Ghosts D} (old new : Exec D A G) (P : Mish
 
 -- Behind the answers of its line so far the device went on, and more was to be told, until a fault.
 abbrev pub BreaksOff : {D A : Type 0} {G : Ghosts D} → Exec D A G → Exec D A G → Telling → Telling → Way → RunCause → Type 0
-BreaksOff old new told now P cause = (text : List ℕ) → told.begun ≡ has_answer text
-    → (more : List ℕ) × SaysUntil cause told now more × Breaks old new (P text (text ++ more)) cause
+BreaksOff old new told now P cause = (answers : List (List ℕ)) → told.begun ≡ are_some answers
+    → (all : List (List ℕ)) × SaysOnUntil cause told now answers all × Breaks old new (P answers all) cause
 
 -- ---- messages
 

@@ -4,13 +4,14 @@ use Rattle.psu_items.specs.declared.commit.UnstartedCause.TheVariants.{Memory}
 use Rattle.psu_items.specs.declared.broken.BrokenCause.TheVariants as broken_cause
 use Rattle.psu_tree.specs.declared.unit_request.Request.{Request}
 use Rattle.psu_lex.specs.declared.scpi_error.ScpiError.TheVariants.{OutOfMemory}
+use Rattle.psu_answers.specs.Response.{joined, response}
 use Rattle.psu_exec.specs.Device.{Reply, Error, Expand, Parked, Held, Later, is_broken}
 use Rattle.psu_exec.specs.Calls.{Entry, JobKind, Commit, Reopen, JobData, JobEnd, Stored, Unstarted, Failed, Reopened, Job, Nothing, Executed, Settled, Took, GaveBack}
 use Rattle.psu_exec.specs.World.{World}
 use Rattle.psu_server.specs.Lines.{Message, Asks, AsksInside, messages}
 use Rattle.psu_server.specs.Causes.{IsWornOut}
 use Rattle.psu_server.specs.Lives.{Calls, CallsAll, PowersOn, units_in}
-use Rattle.psu_server.specs.Script.{with_answer, line_text, IsScript}
+use Rattle.psu_server.specs.Script.{with_answer, IsScript}
 
 -- what may go wrong: memory refused inside a unit, a failed disk call, a store whose root number is the last
 pub record Mishaps : Type 0 where
@@ -105,22 +106,22 @@ UnitRuns can w request reply new =
     ⊎ ((late : World) × (over : World) × Calls w (Executed 1 request Later) late × Flushes can late over × Acts can over request reply new)
 
 -- the units of an expansion, from the answers so far to all of them; none of them is replaced by another expansion
-abbrev pub UnitsRun : Mishaps → World → List ℕ → List Request → List ℕ → World → Type 0
-UnitsRun can w text [] all new = (new ≡ w) × (all ≡ text)
-UnitsRun can w text (request ∷ more) all new =
-    (reply : Reply) × (mid : World) × UnitRuns can w request reply mid × UnitsRun can mid (with_answer text reply) more all new
+abbrev pub UnitsRun : Mishaps → World → List (List ℕ) → List Request → List (List ℕ) → World → Type 0
+UnitsRun can w answers [] all new = (new ≡ w) × (all ≡ answers)
+UnitsRun can w answers (request ∷ more) all new =
+    (reply : Reply) × (mid : World) × UnitRuns can w request reply mid × UnitsRun can mid (with_answer answers reply) more all new
 
 -- what comes of a unit's reply: it is told, or the expansion that it is is executed in the unit's place
-abbrev pub ReplyRuns : Mishaps → World → List ℕ → Reply → List ℕ → World → Type 0
-ReplyRuns can w text (Expand bytes) all new = (requests : List Request) × AsksInside bytes requests × UnitsRun can w text requests all new
-ReplyRuns can w text reply all new = (new ≡ w) × (all ≡ with_answer text reply)
+abbrev pub ReplyRuns : Mishaps → World → List (List ℕ) → Reply → List (List ℕ) → World → Type 0
+ReplyRuns can w answers (Expand bytes) all new = (requests : List Request) × AsksInside bytes requests × UnitsRun can w answers requests all new
+ReplyRuns can w answers reply all new = (new ≡ w) × (all ≡ with_answer answers reply)
 
 -- the units of a message, from the answers so far to all of them
-abbrev pub LineRuns : Mishaps → World → List ℕ → List Request → List ℕ → World → Type 0
-LineRuns can w text [] all new = (new ≡ w) × (all ≡ text)
-LineRuns can w text (request ∷ more) all new =
-    (reply : Reply) × (mid : World) × (some : List ℕ) × (after : World)
-    × UnitRuns can w request reply mid × ReplyRuns can mid text reply some after × LineRuns can after some more all new
+abbrev pub LineRuns : Mishaps → World → List (List ℕ) → List Request → List (List ℕ) → World → Type 0
+LineRuns can w answers [] all new = (new ≡ w) × (all ≡ answers)
+LineRuns can w answers (request ∷ more) all new =
+    (reply : Reply) × (mid : World) × (some : List (List ℕ)) × (after : World)
+    × UnitRuns can w request reply mid × ReplyRuns can mid answers reply some after × LineRuns can after some more all new
 
 -- a broken store is opened again, and any other stays as it is
 abbrev pub Reopens : Mishaps → World → World → Type 0
@@ -130,7 +131,7 @@ Reopens can w new = ((is_broken w.state.flush.store ≡ false) × (new ≡ w))
 -- a message with its text; a power loss at rest leaves what a read gives
 abbrev pub MessageRuns : Mishaps → World → Message → List ℕ → World → Type 0
 MessageRuns can w Message.Power text new = (text ≡ []) × (over : World) × Reopens can w over × PowersOn over.disk.bytes new
-MessageRuns can w m text new = (requests : List Request) × Asks m requests × (all : List ℕ) × LineRuns can w [] requests all new × (text ≡ line_text all)
+MessageRuns can w m text new = (requests : List Request) × Asks m requests × (all : List (List ℕ)) × LineRuns can w [] requests all new × (text ≡ response all)
 
 -- the messages of an input with their text
 abbrev pub Runs : Mishaps → World → List Message → List ℕ → World → Type 0
@@ -145,30 +146,30 @@ abbrev pub Begins : World → List Request → World → Type 0
 Begins w requests new = (entries : List Entry) × CallsAll w entries new × (more : List Request) × (requests ≡ units_in entries ++ more)
 
 -- some first units of an expansion, from the answers so far to all of them, and of the next one all but its answer
-abbrev pub UnitsBegin : Mishaps → World → List ℕ → List Request → List ℕ → World → Type 0
-UnitsBegin can w text [] all new = (new ≡ w) × (all ≡ text)
-UnitsBegin can w text (request ∷ more) all new =
-    (Begins w (request ∷ []) new × (all ≡ text))
-    ⊎ ((reply : Reply) × (mid : World) × UnitRuns can w request reply mid × UnitsBegin can mid (with_answer text reply) more all new)
+abbrev pub UnitsBegin : Mishaps → World → List (List ℕ) → List Request → List (List ℕ) → World → Type 0
+UnitsBegin can w answers [] all new = (new ≡ w) × (all ≡ answers)
+UnitsBegin can w answers (request ∷ more) all new =
+    (Begins w (request ∷ []) new × (all ≡ answers))
+    ⊎ ((reply : Reply) × (mid : World) × UnitRuns can w request reply mid × UnitsBegin can mid (with_answer answers reply) more all new)
 
 -- of the expansion that a unit is replaced by some first units
-abbrev pub ReplyBegins : Mishaps → World → List ℕ → Reply → List ℕ → World → Type 0
-ReplyBegins can w text (Expand bytes) all new = (requests : List Request) × AsksInside bytes requests × UnitsBegin can w text requests all new
-ReplyBegins can w text reply all new = (new ≡ w) × (all ≡ text)
+abbrev pub ReplyBegins : Mishaps → World → List (List ℕ) → Reply → List (List ℕ) → World → Type 0
+ReplyBegins can w answers (Expand bytes) all new = (requests : List Request) × AsksInside bytes requests × UnitsBegin can w answers requests all new
+ReplyBegins can w answers reply all new = (new ≡ w) × (all ≡ answers)
 
 -- some first units of a message, from the answers so far to all of them, and of the next one all but its answer, or some first
 -- units of its expansion
-abbrev pub LineBegins : Mishaps → World → List ℕ → List Request → List ℕ → World → Type 0
-LineBegins can w text [] all new = (new ≡ w) × (all ≡ text)
-LineBegins can w text (request ∷ more) all new =
-    (Begins w (request ∷ []) new × (all ≡ text))
-    ⊎ ((reply : Reply) × (mid : World) × UnitRuns can w request reply mid × ReplyBegins can mid text reply all new)
-    ⊎ ((reply : Reply) × (mid : World) × (some : List ℕ) × (after : World)
-    × UnitRuns can w request reply mid × ReplyRuns can mid text reply some after × LineBegins can after some more all new)
+abbrev pub LineBegins : Mishaps → World → List (List ℕ) → List Request → List (List ℕ) → World → Type 0
+LineBegins can w answers [] all new = (new ≡ w) × (all ≡ answers)
+LineBegins can w answers (request ∷ more) all new =
+    (Begins w (request ∷ []) new × (all ≡ answers))
+    ⊎ ((reply : Reply) × (mid : World) × UnitRuns can w request reply mid × ReplyBegins can mid answers reply all new)
+    ⊎ ((reply : Reply) × (mid : World) × (some : List (List ℕ)) × (after : World)
+    × UnitRuns can w request reply mid × ReplyRuns can mid answers reply some after × LineBegins can after some more all new)
 
 -- a message that has begun, with what is told of it
 abbrev pub MessageBegins : Mishaps → World → Message → List ℕ → World → Type 0
-MessageBegins can w m text new = (requests : List Request) × Asks m requests × LineBegins can w [] requests text new
+MessageBegins can w m text new = (requests : List Request) × Asks m requests × (all : List (List ℕ)) × LineBegins can w [] requests all new × (text ≡ joined all)
 
 -- the first of these messages has begun, or none: then no unit was executed
 abbrev pub NextBegins : Mishaps → World → List Message → List ℕ → World → Type 0

@@ -6,22 +6,14 @@ use Rattle.psu_nv.specs.Contents.{Contents}
 use Rattle.psu_tree.specs.declared.unit_request.Request.{Request}
 use Rattle.psu_instrument.specs.Macros.{ExpandsAt, HoldsParameters, written}
 use Rattle.psu_exec.specs.Device.{Reply, Answer, Expand, Parked, Later, State, after_unit, answer_call, answer_meant, called, here, is_later, meant, power_on, wait_of}
+use Rattle.psu_answers.specs.Response.{response}
 use Rattle.psu_exec.specs.Calls.{job_out, with_stored, with_flush, settle_answer, after_settle, opened}
 use Rattle.psu_server.specs.Lines.{Message, Asks, AsksInside, messages}
 
--- the answers of a message so far, with one more; `;` joins them
-abbrev pub joined : List ℕ → List ℕ → List ℕ
-joined [] text = text
-joined (x ∷ xs) text = (x ∷ xs) ++ 59 ∷ text
-
-abbrev pub with_answer : List ℕ → Reply → List ℕ
-with_answer text (Answer answer) = joined text answer
-with_answer text reply = text
-
--- what is written for a message with these answers: a line feed ends them; without an answer nothing is written
-abbrev pub line_text : List ℕ → List ℕ
-line_text [] = []
-line_text (x ∷ xs) = (x ∷ xs) ++ 10 ∷ []
+-- the answers of a message so far, and those that this reply gives
+abbrev pub with_answer : List (List ℕ) → Reply → List (List ℕ)
+with_answer answers (Answer answer) = answers ++ answer ∷ []
+with_answer answers reply = answers
 
 -- the device after power-on, with its one session, 1, open
 abbrev pub started : ℕ → Contents → State
@@ -90,36 +82,41 @@ GoesFrom r request reply went = went ≡ after_reply r request reply
 abbrev pub Goes : Rest → Request → Went → Type 0
 Goes r request went = (reply : Reply) × Replies r.state request reply × GoesFrom r request reply went
 
--- what was told of a message so far
-pub record Told : Type 0 where
+-- how far a message has come: the device, and the answers so far
+pub record Spoken : Type 0 where
   pub rest : Rest
-  pub text : List ℕ
+  pub answers : List (List ℕ)
 
--- the units of an expansion tell this behind the answers so far
-abbrev pub TellsInside : Rest → List ℕ → List Request → Told → Type 0
-TellsInside r text [] told = told ≡ record { rest = r; text = text }
-TellsInside r text (request ∷ more) told =
-    (went : Went) × Goes r request went × TellsInside went.rest (with_answer text went.reply) more told
+-- the units of an expansion answer so, behind the answers so far
+abbrev pub SpeaksInside : Rest → List (List ℕ) → List Request → Spoken → Type 0
+SpeaksInside r answers [] spoken = spoken ≡ record { rest = r; answers = answers }
+SpeaksInside r answers (request ∷ more) spoken =
+    (went : Went) × Goes r request went × SpeaksInside went.rest (with_answer answers went.reply) more spoken
 
--- a reply is told, or the expansion that it is is executed in the unit's place
-abbrev pub TellsReply : Rest → List ℕ → Reply → Told → Type 0
-TellsReply r text (Expand bytes) told = (requests : List Request) × AsksInside bytes requests × TellsInside r text requests told
-TellsReply r text reply told = told ≡ record { rest = r; text = with_answer text reply }
+-- a reply is an answer or none, or the expansion that it is is executed in the unit's place
+abbrev pub SpeaksReply : Rest → List (List ℕ) → Reply → Spoken → Type 0
+SpeaksReply r answers (Expand bytes) spoken = (requests : List Request) × AsksInside bytes requests × SpeaksInside r answers requests spoken
+SpeaksReply r answers reply spoken = spoken ≡ record { rest = r; answers = with_answer answers reply }
 
--- the units of a message tell this behind the answers so far
-abbrev pub Tells : Rest → List ℕ → List Request → Told → Type 0
-Tells r text [] told = told ≡ record { rest = r; text = text }
-Tells r text (request ∷ more) told =
-    (went : Went) × (some : Told) × Goes r request went × TellsReply went.rest text went.reply some × Tells some.rest some.text more told
+-- the units of a message answer so, behind the answers so far
+abbrev pub Speaks : Rest → List (List ℕ) → List Request → Spoken → Type 0
+Speaks r answers [] spoken = spoken ≡ record { rest = r; answers = answers }
+Speaks r answers (request ∷ more) spoken =
+    (went : Went) × (some : Spoken) × Goes r request went × SpeaksReply went.rest answers went.reply some × Speaks some.rest some.answers more spoken
 
 -- a power loss at rest, and a restart
 abbrev pub restarted : Rest → Rest
 restarted r = at_start r.state.flush.limit r.stored
 
+-- what is told of a message, and the device behind it
+pub record Told : Type 0 where
+  pub rest : Rest
+  pub text : List ℕ
+
 -- a message with these requests tells this
 abbrev pub TellsMessage : Rest → Message → List Request → Told → Type 0
 TellsMessage r Message.Power requests told = told ≡ record { rest = restarted r; text = [] }
-TellsMessage r m requests told = (all : Told) × Tells r [] requests all × (told ≡ record { rest = all.rest; text = line_text all.text })
+TellsMessage r m requests told = (all : Spoken) × Speaks r [] requests all × (told ≡ record { rest = all.rest; text = response all.answers })
 
 -- the text of messages, one after another
 abbrev pub Scripted : Rest → List Message → List ℕ → Type 0

@@ -8,13 +8,13 @@ ghost use Rattle.psu_server.specs.Progress.{Breaks, BreaksOff, Continues, Fed, G
 ghost use Rattle.psu_server.specs.Reasons.{StopsFor};
 ghost use Rattle.psu_server.specs.Runs.{LineBegins, LineRuns, MessageBegins, MessageRuns};
 
-use crate::gathered::Gathered;
 use crate::jobs::reopen;
 use crate::lines::Lines;
 use crate::powered::Powered;
 use crate::units::{message, perform};
 use crate::{RunCause, RunFault};
 use memchr::memchr;
+use psu_answers::Gathered;
 use psu_disk::Disk;
 use psu_exec::{Request, ScpiError};
 use std::alloc::Allocator;
@@ -49,17 +49,17 @@ pub fn answer_line<W: Write, D: Disk, A: Allocator + Copy>(
     writer: &mut W,
 ) -> Result<(), RunCause>
     requires power { is_power (message_now lines.old.is_over lines.old.line.items) ≡ false }
-    requires begun { gathered.old.begun ≡ false }
+    requires answered { gathered.old.answered ≡ false }
     ensures runs { OnOk result ((text : List ℕ) × Says (telling (W.contents writer.old) gathered.old) (telling (W.contents writer.new) gathered.new) text
         × GoesOn powered.old.exec powered.new.exec (λ can w v. MessageRuns can w (message_now lines.old.is_over lines.old.line.items) text v)) }
-    ensures begun { OnOk result (gathered.new.begun ≡ false) }
+    ensures answered { OnOk result (gathered.new.answered ≡ false) }
     ensures over { OnOk result (lines.new.is_over ≡ false) }
     ensures empty { OnOk result (lines.new.line.items ≡ []) }
     ensures breaks { IfErr result (λ cause. (part : List ℕ) × SaysUntil cause (telling (W.contents writer.old) gathered.old) (telling (W.contents writer.new) gathered.new) part
         × Breaks powered.old.exec powered.new.exec (λ can w v. MessageBegins can w (message_now lines.old.is_over lines.old.line.items) part v) cause) }
 {
     execute_line(alloc, powered, lines, gathered, writer)?;
-    let Ok(()) = gathered.end_line() else {
+    let Ok(()) = gathered.close() else {
         return Err(RunCause::Memory);
     };
     lines.clear();
@@ -77,10 +77,10 @@ fn execute_line<W: Write, D: Disk, A: Allocator + Copy>(
     requires { is_power (message_now lines.now.is_over lines.now.line.items) ≡ false }
     ensures runs { OnOk result ((requests : List RequestData) × Asks (message_now lines.now.is_over lines.now.line.items) requests
         × Continues powered.old.exec powered.new.exec (telling (W.contents writer.old) gathered.old) (telling (W.contents writer.new) gathered.new)
-        (λ text all can w v. LineRuns can w text requests all v)) }
+        (λ answers all can w v. LineRuns can w answers requests all v)) }
     ensures breaks { IfErr result (λ cause. (requests : List RequestData) × Asks (message_now lines.now.is_over lines.now.line.items) requests
         × BreaksOff powered.old.exec powered.new.exec (telling (W.contents writer.old) gathered.old) (telling (W.contents writer.new) gathered.new)
-        (λ text all can w v. LineBegins can w text requests all v) cause) }
+        (λ answers all can w v. LineBegins can w answers requests all v) cause) }
 {
     if lines.is_over {
         let too_much = Request {
@@ -104,7 +104,7 @@ pub fn feed<W: Write, D: Disk, A: Allocator + Copy>(
     gathered: &mut Gathered<A>,
     writer: &mut W,
 ) -> Result<Powered<D, A>, RunFault<D>>
-    requires { gathered.old.begun ≡ false }
+    requires { gathered.old.answered ≡ false }
     ensures fed { IfOk result (λ p. Fed (coming lines.old.is_over lines.old.line.items) piece.now (coming lines.new.is_over lines.new.line.items)
         powered.exec p.exec (telling (W.contents writer.old) gathered.old) (telling (W.contents writer.new) gathered.new)) }
     ensures stopped { D.honest → IfErr result (λ f. Stopped (coming lines.old.is_over lines.old.line.items) piece.now

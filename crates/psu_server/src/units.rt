@@ -10,9 +10,10 @@ ghost use Rattle.psu_server.specs.Progress.{Acted, BreaksOff, Continues, GoesOn,
 ghost use Rattle.psu_server.specs.Runs.{is_expansion, is_final, is_later, is_out_of_memory, is_parked, LineBegins, LineRuns, UnitRuns, UnitsBegin, UnitsRun};
 
 use crate::RunCause;
-use crate::gathered::Gathered;
 use crate::jobs::flush;
 use crate::powered::Powered;
+use crate::writing::tell;
+use psu_answers::Gathered;
 use psu_disk::Disk;
 use psu_exec::{Exec, Outcome, ScpiError, Session};
 use psu_lex::laws::every_list_has_units;
@@ -165,12 +166,12 @@ fn perform_inside<W: Write, D: Disk, A: Allocator + Copy>(
     writer: &mut W,
 ) -> Result<(), RunCause>
     ensures runs { OnOk result (Continues powered.old.exec powered.new.exec (telling (W.contents writer.old) gathered.old) (telling (W.contents writer.new) gathered.new)
-        (λ text all can w v. UnitsRun can w text (request.now ∷ []) all v)) }
+        (λ answers all can w v. UnitsRun can w answers (request.now ∷ []) all v)) }
     ensures breaks { IfErr result (BreaksOff powered.old.exec powered.new.exec (telling (W.contents writer.old) gathered.old) (telling (W.contents writer.new) gathered.new)
-        (λ text all can w v. UnitsBegin can w text (request.now ∷ []) all v)) }
+        (λ answers all can w v. UnitsBegin can w answers (request.now ∷ []) all v)) }
 {
     let outcome = unit(powered, request)?;
-    gathered.tell(&outcome, writer)?;
+    tell(gathered, &outcome, writer)?;
     Ok(())
 }
 
@@ -184,10 +185,10 @@ fn expansion<W: Write, D: Disk, A: Allocator + Copy>(
 ) -> Result<(), RunCause>
     ensures runs { OnOk result ((requests : List Request) × AsksInside bytes.now requests
         × Continues powered.old.exec powered.new.exec (telling (W.contents writer.old) gathered.old) (telling (W.contents writer.new) gathered.new)
-        (λ text all can w v. UnitsRun can w text requests all v)) }
+        (λ answers all can w v. UnitsRun can w answers requests all v)) }
     ensures breaks { IfErr result (λ cause. (requests : List Request) × AsksInside bytes.now requests
         × BreaksOff powered.old.exec powered.new.exec (telling (W.contents writer.old) gathered.old) (telling (W.contents writer.new) gathered.new)
-        (λ text all can w v. UnitsBegin can w text requests all v) cause) }
+        (λ answers all can w v. UnitsBegin can w answers requests all v) cause) }
 {
     every_list_has_units();
     every_unit_reads();
@@ -216,16 +217,16 @@ pub fn perform<W: Write, D: Disk, A: Allocator + Copy>(
     writer: &mut W,
 ) -> Result<(), RunCause>
     ensures runs { OnOk result (Continues powered.old.exec powered.new.exec (telling (W.contents writer.old) gathered.old) (telling (W.contents writer.new) gathered.new)
-        (λ text all can w v. LineRuns can w text (request.now ∷ []) all v)) }
+        (λ answers all can w v. LineRuns can w answers (request.now ∷ []) all v)) }
     ensures breaks { IfErr result (BreaksOff powered.old.exec powered.new.exec (telling (W.contents writer.old) gathered.old) (telling (W.contents writer.new) gathered.new)
-        (λ text all can w v. LineBegins can w text (request.now ∷ []) all v)) }
+        (λ answers all can w v. LineBegins can w answers (request.now ∷ []) all v)) }
 {
     let outcome = unit(powered, request)?;
     if let Some(bytes) = expansion_of(&outcome) {
         expansion(alloc, powered, bytes, gathered, writer)?;
         return Ok(());
     }
-    gathered.tell(&outcome, writer)?;
+    tell(gathered, &outcome, writer)?;
     Ok(())
 }
 
@@ -239,10 +240,10 @@ pub fn message<W: Write, D: Disk, A: Allocator + Copy>(
 ) -> Result<(), RunCause>
     ensures runs { OnOk result ((requests : List Request) × Asks (Message.Units bytes.now) requests
         × Continues powered.old.exec powered.new.exec (telling (W.contents writer.old) gathered.old) (telling (W.contents writer.new) gathered.new)
-        (λ text all can w v. LineRuns can w text requests all v)) }
+        (λ answers all can w v. LineRuns can w answers requests all v)) }
     ensures breaks { IfErr result (λ cause. (requests : List Request) × Asks (Message.Units bytes.now) requests
         × BreaksOff powered.old.exec powered.new.exec (telling (W.contents writer.old) gathered.old) (telling (W.contents writer.new) gathered.new)
-        (λ text all can w v. LineBegins can w text requests all v) cause) }
+        (λ answers all can w v. LineBegins can w answers requests all v) cause) }
 {
     every_list_has_units();
     every_unit_reads();

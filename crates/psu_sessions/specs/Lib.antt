@@ -1,5 +1,4 @@
-pub mod Begun
 pub mod Credit
-pub mod Gathered
+pub mod Input
 pub mod Locking
-pub mod Standing
+pub mod Order

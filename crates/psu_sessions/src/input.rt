@@ -1,4 +1,7 @@
 // What is to be executed.
+ghost use Rattle.std.specs.Prelude.{◌≡◌};
+ghost use Rattle.psu_sessions.specs.Input.{size_of};
+
 use psu_exec::ScpiError;
 use std::alloc::Allocator;
 
@@ -9,4 +12,16 @@ pub enum Input<A: Allocator + Copy> {
     Text(Vec<u8, A>),
     /// What the instrument reports in place of one.
     Fault(ScpiError),
+}
+
+impl<A: Allocator + Copy> Input<A> {
+    /// How many bytes it has.
+    pub fn size(&self) -> usize
+        ensures { result ≡ size_of self.now }
+    {
+        match self {
+            Input::Text(text) => text.len(),
+            Input::Fault(_) => 0,
+        }
+    }
 }

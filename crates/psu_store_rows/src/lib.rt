@@ -23,3 +23,5 @@ mod pools;
 mod spelled;
 #[cfg(test)]
 mod stores;
+#[cfg(test)]
+mod strange;

@@ -1,9 +1,10 @@
 -- Parameters of commands: which data they take, and what those stand for.
 -- Sources: IEEE 488.2, 7.7 (data); SCPI-1999 volume 1, 7.2 (numbers, MINimum and MAXimum), 7.3 (Boolean).
-use Rattle.std.specs.Prelude.{◌≡◌, ℕ, ◌==◌, ◌||◌, ◌&&◌, nat_lt, Bool, true, false, not, List, [], ◌∷◌, length, codes, Option, Some, None, Result, Ok, Err, ℤ, pos, nat_abs, int_lt, if◌then◌else◌}
+use Rattle.std.specs.Prelude.{◌≡◌, ℕ, ◌==◌, ◌||◌, nat_lt, Bool, true, false, not, List, [], ◌∷◌, length, codes, Option, Some, None, Result, Ok, Err, ℤ, pos, nat_abs, int_lt, if◌then◌else◌}
 use Rattle.psu_lex.specs.Data.{IsStringOf, IsDatumOf}
+use Rattle.psu_lex.specs.Names.{is_label, is_name}
 use Rattle.psu_lex.specs.Number.{Number, IsNumber, number_text, reading_of, valued}
-use Rattle.psu_lex.specs.Syntax.{Datum, is_node, is_name_byte}
+use Rattle.psu_lex.specs.Syntax.{Datum}
 use Rattle.psu_lex.specs.declared.datum_class.DatumClass.{DatumClass}
 use Rattle.psu_lex.specs.declared.datum_class.DatumClass.TheVariants.{Numeric, Character, String, Block}
 use Rattle.psu_lex.specs.declared.scpi_error.ScpiError.{ScpiError}
@@ -129,22 +130,6 @@ leveled most (Word text) = mapped (end_of most) (extreme_of text)
 abbrev pub at_most : ℕ → List ℕ → Result (List ℕ) ScpiError
 at_most most bytes = if nat_lt most (length bytes) then Err TooMuchData else Ok bytes
 
--- a label: a letter, and then letters, digits or `_`, 1 to 12 bytes
-abbrev pub is_label : List ℕ → Bool
-is_label text = is_node text && nat_lt (length text) 13
-
--- letters, digits, `_`, `-` and `.`
-abbrev pub is_file_byte : ℕ → Bool
-is_file_byte b = is_name_byte b || b == 45 || b == 46
-
-abbrev pub all_file : List ℕ → Bool
-all_file [] = true
-all_file (x ∷ xs) = is_file_byte x && all_file xs
-
--- the name of a file: 1 to 64 of these
-abbrev pub is_file_name : List ℕ → Bool
-is_file_name text = nat_lt 0 (length text) && nat_lt (length text) 65 && all_file text
-
 abbrev pub some_if : (List ℕ → Bool) → List ℕ → Option (List ℕ)
 some_if test text = if test text then Some text else None
 
@@ -152,7 +137,7 @@ abbrev pub label_of : List ℕ → Option (List ℕ)
 label_of text = some_if is_label text
 
 abbrev pub name_of : List ℕ → Option (List ℕ)
-name_of text = some_if is_file_name text
+name_of text = some_if is_name text
 
 -- no fault of a range, whatever the string says: the command keeps that it is no label or no name
 abbrev pub labeled : List ℕ → Result (Option (List ℕ)) ScpiError

@@ -1,5 +1,5 @@
 -- The nodes of a header at a path, and how the path moves. Source: SCPI-1999 volume 1, 6.2.4 (traversal of the header tree).
-use Rattle.std.specs.Prelude.{ℕ, ◌-◌, ◌==◌, Bool, true, false, if◌then◌else◌, List, [], ◌∷◌, ◌++◌, length, take}
+use Rattle.std.specs.Prelude.{ℕ, ◌-◌, Bool, true, false, List, [], ◌∷◌, ◌++◌, length, take}
 use Rattle.psu_lex.specs.Syntax.{Header}
 use Rattle.psu_lex.specs.declared.mark.Mark.{Mark}
 use Rattle.psu_lex.specs.declared.mark.Mark.TheVariants.{Star, Colon, Bare}
@@ -16,10 +16,11 @@ words_of path h = words_at h.mark path (h.node ∷ h.nodes)
 abbrev pub all_but_last : List (List ℕ) → List (List ℕ)
 all_but_last words = take (length words - 1) words
 
--- where the path stands behind a header that read well: at its nodes without the last; a header of one node leaves it, and so does a common one
+-- where the path stands behind a header that read well: at its nodes without the last, which for a single node is the root
+-- behind a leading `:`, and the path itself without one; a common header leaves it
 abbrev pub moved : Mark → List (List ℕ) → List (List ℕ) → List (List ℕ)
 moved Star path words = path
-moved Colon path words = if length words == 1 then path else all_but_last words
+moved Colon path words = all_but_last words
 moved Bare path words = all_but_last words
 
 -- the same, where it read well or not: a fault leaves the path

@@ -3,13 +3,13 @@
 use Rattle.std.specs.Prelude.{◌≡◌, ℕ, ◌==◌, Bool, true, false, List, [], ◌∷◌, length, drop, Option, Some, None, Result, Ok, Err, is_ok, if◌then◌else◌}
 use Rattle.psu_lex.specs.Bytes.{value_after}
 use Rattle.psu_lex.specs.Message.{Part}
+use Rattle.psu_lex.specs.Names.{is_label}
 use Rattle.psu_lex.specs.Shown.{HoldsData}
 use Rattle.psu_lex.specs.Syntax.{Datum, Syntax, SyntaxGives, Header, IsHeader, header_text}
 use Rattle.psu_lex.specs.declared.scpi_error.ScpiError.{ScpiError}
 use Rattle.psu_lex.specs.declared.scpi_error.ScpiError.TheVariants.{UndefinedHeader, HeaderSuffixOutOfRange}
 use Rattle.psu_tree.specs.Commands.{CommandReads}
 use Rattle.psu_tree.specs.Headers.{asked, stem}
-use Rattle.psu_tree.specs.Parameters.{is_label}
 use Rattle.psu_tree.specs.Path.{words_of, path_behind}
 use Rattle.psu_tree.specs.Table.{table}
 use Rattle.psu_tree.specs.declared.command.Command.{Command}

@@ -9,11 +9,10 @@ ghost use Rattle.psu_tree.specs.Reading.{Calls, FormReads, Moves, Reads, SyntaxC
 use crate::commands::command_of;
 use crate::lookups::form_of;
 use crate::suffixes::header_output;
-use crate::texts::is_label;
 use crate::words::{Words, add_words};
 use crate::{Command, Form, MacroCall, Output, Path, Request};
 use arrayvec::ArrayVec;
-use psu_lex::{Data, Mark, ScpiError, Syntax, Unit, syntax};
+use psu_lex::{Data, Mark, ScpiError, Syntax, Unit, is_label, syntax};
 
 // A form at an output; or the fault of its header.
 fn at_output(
@@ -97,13 +96,12 @@ fn call_of<'a>(parts: &Syntax<'a>) -> Option<MacroCall<'a>>
     }
 }
 
-// Moves the path to a header's nodes without the last; a common header leaves it, and so does one of a single node.
+// Moves the path to a header's nodes without the last; a common header leaves it.
 fn move_path<'a>(path: &mut Path<'a>, mut words: Words<'a>, mark: Mark)
     ensures { path.new ≡ moved mark path.old (map (λ word. word.now) words.entry.items) }
 {
     match mark {
         Mark::Star => {}
-        Mark::Colon if words.len() == 1 => {}
         Mark::Colon | Mark::Bare => {
             let _last = words.pop();
             path.words = words;
@@ -112,7 +110,8 @@ fn move_path<'a>(path: &mut Path<'a>, mut words: Words<'a>, mark: Mark)
 }
 
 /// A unit as it reads at a path, which moves behind it: to the nodes of its header without the last, unless
-/// the header is common or has one node, or the reading is a fault. A macro's call is given where the header has the form of a
+/// the header is common or the reading is a fault. So a single node behind a leading `:` leads to the root, and one without leaves
+/// the path (SCPI-1999 volume 1, 6.2.4). A macro's call is given where the header has the form of a
 /// label, whatever the reading. `inside` says whether the unit stands in an expansion.
 pub fn request<'a>(path: &mut Path<'a>, unit: &Unit<'a>, inside: bool) -> Request<'a>
     ensures reading { Reads path.old (part unit.now) result.reading }

@@ -1,76 +1,12 @@
 // Strings and blocks as data.
 ghost use Rattle.std.specs.Prelude.{◌≡◌};
 ghost use Rattle.psu_lex.specs.Shown.{IsSomeDatum};
-ghost use Rattle.psu_lex.specs.Syntax.{all_name, datum_of, is_name_byte};
-ghost use Rattle.psu_tree.specs.Parameters.{TakesBlock, TakesString, all_file, at_most, is_file_byte, is_file_name, is_label, label_of, labeled, name_of, named};
+ghost use Rattle.psu_lex.specs.Syntax.{datum_of};
+ghost use Rattle.psu_tree.specs.Parameters.{TakesBlock, TakesString, at_most, label_of, labeled, name_of, named};
 ghost use Rattle.psu_tree.specs.Taken.{Gives};
 
 use crate::Text;
-use psu_lex::{Datum, DatumClass, ScpiError};
-
-// Whether the byte is a letter, a digit or `_`.
-fn is_name_byte(byte: u8) -> bool
-    ensures { result ≡ is_name_byte byte }
-{
-    byte.is_ascii_alphabetic() || byte.is_ascii_digit() || byte == b'_'
-}
-
-// Whether all bytes are such.
-fn all_name(text: &[u8]) -> bool
-    ensures { result ≡ all_name text.now }
-{
-    for byte in text {
-        if !is_name_byte(*byte) {
-            return false;
-        }
-    }
-    true
-}
-
-/// Whether the text is a label.
-pub fn is_label(text: &[u8]) -> bool
-    ensures { result ≡ is_label text.now }
-{
-    let Some((first, others)) = text.split_first() else {
-        return false;
-    };
-    if text.len() > 12 {
-        return false;
-    }
-    first.is_ascii_alphabetic() && all_name(others)
-}
-
-// Whether the byte may stand in the name of a file.
-fn is_file_byte(byte: u8) -> bool
-    ensures { result ≡ is_file_byte byte }
-{
-    is_name_byte(byte) || byte == b'-' || byte == b'.'
-}
-
-// Whether all bytes are such.
-fn all_file(text: &[u8]) -> bool
-    ensures { result ≡ all_file text.now }
-{
-    for byte in text {
-        if !is_file_byte(*byte) {
-            return false;
-        }
-    }
-    true
-}
-
-// Whether the text is the name of a file.
-fn is_file_name(text: &[u8]) -> bool
-    ensures { result ≡ is_file_name text.now }
-{
-    if text.is_empty() {
-        return false;
-    }
-    if text.len() > 64 {
-        return false;
-    }
-    all_file(text)
-}
+use psu_lex::{Datum, DatumClass, ScpiError, is_label, is_name};
 
 // The label that a text is, or none.
 fn label_of(text: &[u8]) -> Option<Text<'_>>
@@ -87,7 +23,7 @@ fn label_of(text: &[u8]) -> Option<Text<'_>>
 fn name_of(text: &[u8]) -> Option<Text<'_>>
     ensures { result ≡ name_of text.now }
 {
-    if is_file_name(text) {
+    if is_name(text) {
         Some(Text { bytes: text })
     } else {
         None

@@ -30,5 +30,5 @@ pub use numbered::Numbered;
 pub use seat::Seat;
 pub use stage::Stage;
 pub use taken::Taken;
-pub use turn::{TURNS, Turn};
+pub use turn::{Turn, has_turn};
 pub use view::View;

@@ -1,5 +1,5 @@
 // The turn: three words, and a slot that has the object while nobody has taken it.
-ghost use Rattle.std.specs.Prelude.{◌≡◌, ◌+◌, ◌^◌, ◌<◌, ◌≤◌, [], ◌∷◌, Option, Some, None, IfOk, IfErr, length};
+ghost use Rattle.std.specs.Prelude.{◌≡◌, ◌+◌, ◌^◌, ◌<◌, ◌≤◌, nat_lt, [], ◌∷◌, Option, Some, None, IfOk, IfErr, length};
 ghost use Rattle.psu_turn.specs.Rule.{at_stage};
 ghost use Rattle.psu_turn.specs.Seats.{Begins, IsOf, Calls, Sees, Splits, Joins, Closes};
 ghost use Rattle.psu_turn.specs.Sights.{IsReady, number_of};
@@ -17,8 +17,15 @@ use std::marker::Model;
 use std::snapshot::Snapshot;
 use std::sync::Wait;
 
-/// So many turns there are. A call that finds none left waits for good.
-pub const TURNS: u64 = 1 << 62;
+// So many turns there are.
+const TURNS: u64 = 1 << 62;
+
+/// Whether there is a turn for a ticket: there are 2^62, counted from 0. A call that finds them used up waits for good.
+pub fn has_turn(ticket: u64) -> bool
+    ensures { result ≡ nat_lt ticket (2 ^ 62) }
+{
+    ticket < TURNS
+}
 
 // The words of the table: the number of calls, the next ticket, and the ticket that is served.
 const COUNT: usize = 0;
@@ -194,7 +201,7 @@ impl<T: Machine, A: Allocator + Copy> Turn<T, A> {
         let mut patience = Patience::new();
         for _ in rt.forever() {
             let next = self.table.shared.peek(NEXT);
-            if next < TURNS {
+            if has_turn(next) {
                 let found = self
                     .table
                     .shared

@@ -19,7 +19,11 @@ mod hislip;
 #[cfg(test)]
 mod locks;
 #[cfg(test)]
+mod names;
+#[cfg(test)]
 mod outputs;
+#[cfg(test)]
+mod paths;
 #[cfg(test)]
 mod readings;
 #[cfg(test)]

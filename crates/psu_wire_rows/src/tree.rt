@@ -1,4 +1,4 @@
-// The command tree: headers of the table, faults in their order, and the paths of worked rows.
+// The command tree: headers of the table, and faults in their order.
 // 0 stands for a command, another number for the fault of the reading.
 use psu_lex::{Unit, split};
 use psu_tree::{Path, read_unit, request};
@@ -35,7 +35,8 @@ fn faults(alloc: Global, text: &[u8], into: &mut Vec<u16>) -> Result<(), Fail> {
     Ok(())
 }
 
-fn reads(rt: &impl Abort, alloc: Global, text: &str, wanted: &[u16]) -> Result<(), Fail> {
+/// A message's units read as wanted.
+pub fn reads(rt: &impl Abort, alloc: Global, text: &str, wanted: &[u16]) -> Result<(), Fail> {
     let mut given = Vec::new(alloc);
     faults(alloc, text.as_bytes(), &mut given)?;
     assert_eq!(rt; given.as_slice(), wanted, "{text}");
@@ -307,72 +308,5 @@ fn parameters_by_their_kinds(rt: HostRuntime) -> Result<(), Fail> {
         rt.alloc(),
         "MMEM:DATA \"a/b\",#10;:MMEM:DATA \"A\",5;:MMEM:COPY \"A\"",
         &[0, 104, 109],
-    )
-}
-
-#[test]
-fn paths_of_worked_rows(rt: HostRuntime) -> Result<(), Fail> {
-    reads(
-        &rt,
-        rt.alloc(),
-        "*PSC 0;*SRE 32;*ESE 128;*OPC?",
-        &[0, 0, 0, 0],
-    )?;
-    reads(
-        &rt,
-        rt.alloc(),
-        "SYST:ERR?;COUN?\nSYST:ERR:COUN?",
-        &[0, 113, 0],
-    )?;
-    reads(
-        &rt,
-        rt.alloc(),
-        "SOUR2:VOLT 3;CURR 0.5;:SOUR2:CURR?;:CURR?",
-        &[0, 0, 0, 0],
-    )?;
-    reads(
-        &rt,
-        rt.alloc(),
-        "SOUR2:VOLT 3;SOUR2:CURR 1;*CLS;CURR 1",
-        &[0, 113, 0, 0],
-    )?;
-    // A header of one node leaves the path, with a colon too.
-    reads(&rt, rt.alloc(), "SYST:ERR?;:OUTP?;ERR?", &[0, 0, 0])?;
-    // A fault leaves the path, and so does a common header.
-    reads(
-        &rt,
-        rt.alloc(),
-        "SYST:ERR?;:STAT:FOO;VERS?;*IDN?;VERS?",
-        &[0, 113, 0, 0, 0],
-    )?;
-    reads(
-        &rt,
-        rt.alloc(),
-        "volt 5250.5 mv;VOLT?;:VOLTA?;:SYST:ERR?",
-        &[0, 0, 113, 0],
-    )?;
-    reads(
-        &rt,
-        rt.alloc(),
-        "VOLT 60.0004;VOLT?;VOLT 60.0005;VOLT 1E32001",
-        &[0, 0, 222, 123],
-    )?;
-    reads(
-        &rt,
-        rt.alloc(),
-        "MMEM:LOAD:MACR \"M\",\"S\";LOAD:STAT 2,\"S\";:MMEM:DATA \"a/b\",#10;:SYST:ERR?",
-        &[0, 113, 0, 0],
-    )?;
-    reads(
-        &rt,
-        rt.alloc(),
-        "VOLT:PROT 5;:VOLT:PROT:STAT ON;:VOLT:PROT:TRIP?;CLE",
-        &[0, 0, 0, 0],
-    )?;
-    reads(
-        &rt,
-        rt.alloc(),
-        "VOLT:LEV:IMM:AMPL 1;AMPL 2;:VOLT:LEV:LEV 1;:STAT:PRES;OPER?",
-        &[0, 0, 113, 0, 0],
     )
 }

@@ -1,7 +1,8 @@
-use Rattle.std.proofs.Common.{◌≡◌, ◌≤◌, ℕ, List, length, map, sym, ◌∙◌, ap, arith, subst, Err}
+use Rattle.std.proofs.Common.{◌≡◌, ◌≤◌, ℕ, List, length, map, sym, ◌∙◌, ap, arith, subst}
+use Rattle.std.specs.Prelude.{is_some}
 use Rattle.psu_disk.specs.Disk.{Range}
 use Rattle.psu_pages.specs.Image.{head_at, words, Head, AreApart, AreShort, keys, taken}
-use Rattle.psu_pages.specs.Finding.{AreRoots, IsChosen, CanStand}
+use Rattle.psu_pages.specs.Finding.{AreRoots, AreFit, IsChosen, CanStand}
 use Rattle.psu_pages.proofs.Numbers.{length_words}
 use Rattle.psu_pages.proofs.Quiet.{quiet_runs}
 use Rattle.psu_pages.proofs.Opening.{scan_refused, roster_of, gates, readable, bad_root, can_stand, short, within, distinct, bears}
@@ -26,7 +27,10 @@ returns-in-Err-scan-clause-memory g c = λ h memory.
     readable image are.size c.in-Ok.chosen is
 
 pub returns-in-Err-scan-clause-refused : goal.returns-in-Err-scan-clause-refused
-returns-in-Err-scan-clause-refused g c = λ h.
+returns-in-Err-scan-clause-refused g c = λ h. scan_refused (g.D.Disk.state c.args.disk.now).bytes c.in-Err-scan.cause c.in-Err-scan.ensures.cause
+
+pub returns-in-Ok-None-clause-refused : goal.returns-in-Ok-None-clause-refused
+returns-in-Ok-None-clause-refused g c = λ h.
     let d = g.D.Disk in
     let image = (d.state c.args.disk.now).bytes in
     let are : AreRoots c.in_ok-roots.roots image = c.in_ok-roots.ensures.found h in
@@ -35,8 +39,8 @@ returns-in-Err-scan-clause-refused g c = λ h.
     let names : c.deref.result.now ≡ words c.in-Ok.chosen.count (Range 18 480 c.page.result.now) = c.deref.ensures.value ∙ c.in-Ok-read_words.ensures in
     let page = c.page.ensures.value image are in
     let seen = c.read_roots.ensures.seen h in
-    scan_refused image c.in-Err-scan.cause c.in-Err-scan.ensures.cause (λ bad. bad_root image are.size c.in-Ok.chosen is (λ shows.
-    c.in-Err-scan.ensures.none h (ap Err bad) (subst (λ (x : List ℕ). CanStand c.in-Ok.chosen.limit (map (head_at x) c.deref.result.now)) (sym seen) (can_stand image are.size c.in-Ok.chosen is c.page.result.now c.deref.result.now page names shows))))
+    bad_root image are.size c.in-Ok.chosen is (λ shows.
+    c.in-Ok-None.ensures.none h (ap is_some c.in-Ok-None.field-0-is) (subst (λ (x : List ℕ). CanStand c.in-Ok.chosen.limit (map (head_at x) c.deref.result.now)) (sym seen) (can_stand image are.size c.in-Ok.chosen is c.page.result.now c.deref.result.now page names shows)))
 
 pub returns-then-not-stand_together-clause-refused : goal.returns-then-not-stand_together-clause-refused
 returns-then-not-stand_together-clause-refused g c = λ h.
@@ -48,8 +52,9 @@ returns-then-not-stand_together-clause-refused g c = λ h.
     let names : c.deref.result.now ≡ words c.in-Ok.chosen.count (Range 18 480 c.page.result.now) = c.deref.ensures.value ∙ c.in-Ok-read_words.ensures in
     let page = c.page.ensures.value image are in
     let seen = c.read_roots.ensures.seen h in
-    let heads : c.in-Ok-scan.found.heads.items ≡ map (head_at image) c.deref.result.now = c.in-Ok-scan.ensures.found h ∙ ap (λ (x : List ℕ). map (head_at x) c.deref.result.now) seen in
-    let hs = c.in-Ok-scan.found.heads.items in
+    let read : c.in-Ok-Some.found.heads.items ≡ map (head_at (d.state c.read_roots.new.disk).bytes) c.deref.result.now = rw c.in-Ok-Some.field-0-is at (c.in-Ok-Some.ensures.found h) in
+    let heads : c.in-Ok-Some.found.heads.items ≡ map (head_at image) c.deref.result.now = read ∙ ap (λ (x : List ℕ). map (head_at x) c.deref.result.now) seen in
+    let hs = c.in-Ok-Some.found.heads.items in
     let value = c.deref-2.ensures.value in
     bad_root image are.size c.in-Ok.chosen is (λ shows.
     c.stand_together.ensures.no c.if-not-stand_together.true
@@ -64,10 +69,12 @@ returns-then-not-stand_together-clause-time g c = λ h t.
 
 pub returns-clause-roster : goal.returns-clause-roster
 returns-clause-roster g c =
-    let hs = c.in-Ok-scan.found.heads.items in
-    let fit = c.in-Ok-scan.ensures.fit in
+    let hs = c.in-Ok-Some.found.heads.items in
+    let found = c.in-Ok-Some.found in
+    let fit : AreFit c.in-Ok.chosen.limit hs found.free = rw c.in-Ok-Some.field-0-is at c.in-Ok-Some.ensures.fit in
+    let many : length hs ≡ length c.deref.result.now = rw c.in-Ok-Some.field-0-is at c.in-Ok-Some.ensures.many in
     let yes = c.if-not-stand_together.false in
-    roster_of c.in-Ok.chosen.limit hs fit.can_stand (omega (arith, c.in-Ok-scan.ensures.many, ap (λ (l : List ℕ). length l) (c.deref.ensures.value ∙ c.in-Ok-read_words.ensures), length_words c.in-Ok.chosen.count (Range 18 480 c.page.result.now), c.in-Ok.ensures.limit.3))
+    roster_of c.in-Ok.chosen.limit hs fit.can_stand (omega (arith, many, ap (λ (l : List ℕ). length l) (c.deref.ensures.value ∙ c.in-Ok-read_words.ensures), length_words c.in-Ok.chosen.count (Range 18 480 c.page.result.now), c.in-Ok.ensures.limit.3))
     (subst (λ (l : List Head). length (taken l) ≤ c.in-Ok.chosen.limit) c.deref-2.ensures.value (c.stand_together.ensures.within yes))
     (subst (λ (l : List Head). AreApart (keys l)) c.deref-2.ensures.value (c.stand_together.ensures.distinct yes))
 
@@ -81,8 +88,9 @@ returns-clause-found g c = λ h.
     let names : c.deref.result.now ≡ words c.in-Ok.chosen.count (Range 18 480 c.page.result.now) = c.deref.ensures.value ∙ c.in-Ok-read_words.ensures in
     let page = c.page.ensures.value image are in
     let seen = c.read_roots.ensures.seen h in
-    let heads : c.in-Ok-scan.found.heads.items ≡ map (head_at image) c.deref.result.now = c.in-Ok-scan.ensures.found h ∙ ap (λ (x : List ℕ). map (head_at x) c.deref.result.now) seen in
-    bears image are.size c.in-Ok.chosen is c.page.result.now c.deref.result.now page names c.in-Ok-scan.found.heads.items heads (returns-clause-roster g c)
+    let read : c.in-Ok-Some.found.heads.items ≡ map (head_at (d.state c.read_roots.new.disk).bytes) c.deref.result.now = rw c.in-Ok-Some.field-0-is at (c.in-Ok-Some.ensures.found h) in
+    let heads : c.in-Ok-Some.found.heads.items ≡ map (head_at image) c.deref.result.now = read ∙ ap (λ (x : List ℕ). map (head_at x) c.deref.result.now) seen in
+    bears image are.size c.in-Ok.chosen is c.page.result.now c.deref.result.now page names c.in-Ok-Some.found.heads.items heads (returns-clause-roster g c)
     (subst (AreShort c.in-Ok.chosen.version) c.deref-2.ensures.value (c.stand_together.ensures.short c.if-not-stand_together.false))
 
 pub returns-clause-gates : goal.returns-clause-gates

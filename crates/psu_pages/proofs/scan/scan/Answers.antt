@@ -1,7 +1,9 @@
-use Rattle.std.proofs.Common.{◌≡◌, ◌++◌, ◌∷◌, [], ℕ, List, length, get_or, take, map, refl, sym, ◌∙◌, ap, subst, arith, Err, length-append}
+use Rattle.std.proofs.Common.{◌≡◌, ◌++◌, ◌∷◌, [], ℕ, List, false, length, get_or, take, map, refl, sym, ◌∙◌, ap, subst, arith, Err, length-append}
 use Rattle.psu_disk.specs.Disk.{HasFailed}
-use Rattle.psu_pages.specs.Image.{Head, head_at}
-use Rattle.psu_pages.specs.declared.open_cause.OpenCause.TheVariants.{Device, BadRoot}
+use Rattle.std.specs.Prelude.{is_some}
+use Rattle.psu_pages.specs.Free.{Marks}
+use Rattle.psu_pages.specs.Image.{Head, head_at, pages_of}
+use Rattle.psu_pages.specs.declared.open_cause.OpenCause.TheVariants.{Device}
 use Rattle.psu_pages.specs.Finding.{AreFit, IsFit}
 use Rattle.psu_pages.proofs.Filling.{take_all}
 use Rattle.psu_pages.proofs.Quiet.{quiet_none, quiet_runs}
@@ -22,8 +24,8 @@ loop-name-init g c =
       time = λ h t. quiet_none d.state d.moment d.left_since c.args.disk.now (g.met.D.Disk.only_now t c.args.disk.now);
     }
 
-pub returns-in-Err-clause-none : goal.returns-in-Err-clause-none
-returns-in-Err-clause-none g c = λ h bad can.
+pub returns-in-Ok-None-clause-none : goal.returns-in-Ok-None-clause-none
+returns-in-Ok-None-clause-none g c = λ h none can.
     let d = g.D.Disk in
     let l = c.loop-name in
     let image = (d.state c.args.disk.now).bytes in
@@ -33,8 +35,13 @@ returns-in-Err-clause-none g c = λ h bad can.
     let so : AreFit c.args.limit (take i all) l.free = subst (λ (hs : List Head). AreFit c.args.limit hs l.free) (l.invariant.found h ∙ map_take (head_at image) i names) l.invariant.fit in
     let fit = fit_next c.args.limit all i (head_at image 0) l.free (omega (arith, c.loop-name-test.true, map_length (head_at image) names)) can so in
     let is : get_or all i (head_at image 0) ≡ head_at (d.state l.disk).bytes (get_or names i 0) = map_at (head_at image) names i 0 (head_at image 0) c.loop-name-test.true ∙ ap (λ (x : List ℕ). head_at x (get_or names i 0)) (sym (l.invariant.seen h)) in
-    let same : c.in-Err.cause ≡ BadRoot = cc bad in
-    c.in-Err.ensures.none h (ap Err same) (subst (IsFit l.free) is fit)
+    c.in-Ok-None.ensures.none h (ap is_some c.in-Ok-None.field-0-is) (subst (IsFit l.free) is fit)
+
+pub returns-in-Ok-None-clause-time : goal.returns-in-Ok-None-clause-time
+returns-in-Ok-None-clause-time g c = λ h t.
+    let d = g.D.Disk in
+    let l = c.loop-name in
+    quiet_runs d.state d.moment d.left_since c.args.disk.now l.disk c.read_head.new.disk (l.invariant.time h t) (l.invariant.left h) (c.read_head.ensures.time h t)
 
 pub loop-name-preserved : goal.loop-name-preserved
 loop-name-preserved g c =
@@ -43,16 +50,19 @@ loop-name-preserved g c =
     let image = (d.state c.args.disk.now).bytes in
     let names = c.args.names.now in
     let i = l.name-index in
-    let head = c.in-Ok.head in
+    let head = c.in-Ok-Some.head in
+    let fit : IsFit l.free head = rw c.in-Ok-Some.field-0-is at c.in-Ok-Some.ensures.fit in
+    let claimed : Marks false (pages_of head) l.free c.read_head.new.free = rw c.in-Ok-Some.field-0-is at c.in-Ok-Some.ensures.claimed in
     record {
       extent = c.read_head.ensures.extent ∙ l.invariant.extent;
-      works = c.in-Ok.ensures.works ∙ l.invariant.works;
+      works = c.in-Ok-Some.ensures.works ∙ l.invariant.works;
       many = omega (arith, ap (λ (hs : List Head). length hs) c.in_ok-add.ensures, length-append l.heads.items (head ∷ []), l.invariant.many);
-      fit = subst (λ (hs : List Head). AreFit c.args.limit hs c.read_head.new.free) (sym c.in_ok-add.ensures) (fit_more c.args.limit l.heads.items head l.free c.read_head.new.free l.invariant.fit c.in-Ok.ensures.fit c.in-Ok.ensures.claimed);
+      fit = subst (λ (hs : List Head). AreFit c.args.limit hs c.read_head.new.free) (sym c.in_ok-add.ensures) (fit_more c.args.limit l.heads.items head l.free c.read_head.new.free l.invariant.fit fit claimed);
       found = λ h.
+          let found : head ≡ head_at (d.state l.disk).bytes (get_or names i 0) = rw c.in-Ok-Some.field-0-is at (c.in-Ok-Some.ensures.found h) in
           c.in_ok-add.ensures
           ∙ ap (λ (hs : List Head). hs ++ head ∷ []) (l.invariant.found h)
-          ∙ ap (λ (one : Head). map (head_at image) (take i names) ++ one ∷ []) (c.in-Ok.ensures.found h ∙ ap (λ (x : List ℕ). head_at x (get_or names i 0)) (l.invariant.seen h))
+          ∙ ap (λ (one : Head). map (head_at image) (take i names) ++ one ∷ []) (found ∙ ap (λ (x : List ℕ). head_at x (get_or names i 0)) (l.invariant.seen h))
           ∙ sym (map_more (head_at image) names i 0 c.loop-name-test.true);
       seen = λ h. c.read_head.ensures.seen h ∙ l.invariant.seen h;
       left = λ h x i. l.invariant.left h x (c.read_head.ensures.left h x i);

@@ -1,3 +1,5 @@
+use Rattle.std.proofs.Common.{arith}
+use Rattle.psu_pages.proofs.Places.{page_gated}
 use Rattle.psu_pages.proofs.Switching.{touched_said, touched_opened, run_touched, run_touched_opened, left_said, run_said, left_opened, run_opened, borne, lower}
 use Rattle.psu_pages.proofs.switch.switch.Goals as goal
 
@@ -43,6 +45,11 @@ pub returns-in_err-set_gate-clause-touched_time : goal.returns-in_err-set_gate-c
 returns-in_err-set_gate-clause-touched_time g c = λ h t.
     let d = g.D.Disk in
     run_touched_opened d.state d.moment d.left_since c.args.next c.args.disk.now c.say.new.disk c.set_gate.new.disk (c.say.ensures.left h) (c.say.ensures.time h t) (c.set_gate.ensures.time h t)
+
+pub returns-clause-spelled : goal.returns-clause-spelled
+returns-clause-spelled g c = λ h.
+    let d = g.D.Disk in
+    page_gated c.args.next 165 c.args.told.now (d.state c.say.new.disk).bytes (d.state c.set_gate.new.disk).bytes (omega (arith, c.requires.roots, c.say.ensures.extent, g.met.D.Disk.sized h c.say.new.disk)) (c.in_ok-say.ensures.says h) (c.set_gate.ensures.seen h) (c.in_ok-set_gate.ensures.done h)
 
 pub returns-clause-borne : goal.returns-clause-borne
 returns-clause-borne g c = λ h version limit n before heads items bears shut told.

@@ -7,8 +7,8 @@ use Rattle.psu_pages.proofs.Making.{item_written}
 use Rattle.psu_pages.proofs.Steps.{misses_first, misses_rest, page_stays, follows_both, follows_weaker, run_both, run_weaker}
 use Rattle.psu_pages.proofs.writing.write_item.Goals as goal
 
-pub returns-clause-written : goal.returns-clause-written
-returns-clause-written g c = λ h.
+pub returns-clause-spelled : goal.returns-clause-spelled
+returns-clause-spelled g c = λ h.
     let d = g.D.Disk in
     let head = c.args.head.now in
     let mid = (d.state c.write_page.new.disk).bytes in
@@ -18,8 +18,12 @@ returns-clause-written g c = λ h.
     let first : page_in head.at mid ≡ filled 512 c.spell.result = ap (λ (p : ℕ). page_in p mid) (sym at_is) ∙ c.in_ok-write_page.ensures.written h in
     let misses = subst (λ (ps : List ℕ). Misses ps mid new) c.pages.ensures (c.write_value.ensures.seen h) in
     let stays : page_in head.at new ≡ page_in head.at mid = page_stays head.pages head.at mid new (omega (arith, sized, c.requires.room.0)) c.requires.apart.0 misses in
-    item_written new head c.args.value.now c.requires.is_head c.requires.low (sym c.requires.size)
     (stays ∙ first ∙ ap (filled 512) c.spell.ensures, subst (λ (ps : List ℕ). AreWritten (value_drafts ps c.args.value.now) new) c.pages.ensures (c.in_ok-write_value.ensures.written h))
+
+pub returns-clause-written : goal.returns-clause-written
+returns-clause-written g c = λ h.
+    let d = g.D.Disk in
+    item_written (d.state c.write_value.new.disk).bytes c.args.head.now c.args.value.now c.requires.is_head c.requires.low (sym c.requires.size) (returns-clause-spelled g c h)
 
 pub returns-in_err-write_value-clause-time : goal.returns-in_err-write_value-clause-time
 returns-in_err-write_value-clause-time g c = λ h t.

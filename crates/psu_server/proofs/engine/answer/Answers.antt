@@ -1,4 +1,4 @@
-use Rattle.std.proofs.Common.{◌≡◌, ◌∙◌, Bool, false, refl, sym, true}
+use Rattle.std.proofs.Common.{◌≡◌, ◌∙◌, Bool, ap, false, refl, sym, true}
 use Rattle.psu_server.specs.Lines.{coming}
 use Rattle.psu_server.specs.Output.{telling}
 use Rattle.psu_server.proofs.Causes.{is_write}
@@ -11,8 +11,8 @@ not_both shut e = let bad = sym shut ∙ e in cc
 pub returns-in_default-clause-early : goal.returns-in_default-clause-early
 returns-in_default-clause-early g c = λ h.
     fed_front (coming c.args.lines.now.is_over c.args.lines.now.line.items) (coming c.feed.new.lines.is_over c.feed.new.lines.line.items) c.args.piece.now c.args.powered.exec c.in-Ok.powered.exec
-    c.fault.result (telling (g.W.Write.contents c.args.writer.now) c.new-gathered.result) (telling (g.W.Write.contents c.feed.new.writer) c.feed.new.gathered) c.deref.result.now _ h c.in-Ok.ensures.fed
-    c.new-gathered.ensures.text c.deref.ensures.value c.in_default.ensures.short
+    c.fault.result (telling (g.W.Write.contents c.args.writer.now) c.new-gathered.result) (telling (g.W.Write.contents c.feed.new.writer) c.feed.new.gathered) c.text.result.now _ h c.in-Ok.ensures.fed
+    (ap (λ t. t.rest) c.new-gathered.ensures) c.text.ensures c.in_default.ensures.short
     c.fault.ensures.cause c.fault.ensures.failures c.fault.ensures.state
 
 pub returns-in_default-clause-caused : goal.returns-in_default-clause-caused
@@ -22,23 +22,23 @@ returns-in_default-clause-caused g c = λ h since why.
 pub returns-in-Ok-clause-whole : goal.returns-in-Ok-clause-whole
 returns-in-Ok-clause-whole g c =
     fed_written (coming c.args.lines.now.is_over c.args.lines.now.line.items) (coming c.feed.new.lines.is_over c.feed.new.lines.line.items) c.args.piece.now c.args.powered.exec c.in-Ok.powered.exec
-    (telling (g.W.Write.contents c.args.writer.now) c.new-gathered.result) (telling (g.W.Write.contents c.feed.new.writer) c.feed.new.gathered) c.deref.result.now _ c.in-Ok.ensures.fed
-    c.new-gathered.ensures.text c.deref.ensures.value c.in-Ok-put.ensures.whole
+    (telling (g.W.Write.contents c.args.writer.now) c.new-gathered.result) (telling (g.W.Write.contents c.feed.new.writer) c.feed.new.gathered) c.text.result.now _ c.in-Ok.ensures.fed
+    (ap (λ t. t.rest) c.new-gathered.ensures) c.text.ensures c.in-Ok-put.ensures.whole
 
 pub returns-then-is_write-clause-early : goal.returns-then-is_write-clause-early
 returns-then-is_write-clause-early g c = λ h.
     stopped_short (coming c.args.lines.now.is_over c.args.lines.now.line.items) c.args.piece.now c.args.powered.exec c.in-Err.stopped
-    (telling (g.W.Write.contents c.args.writer.now) c.new-gathered.result) (telling (g.W.Write.contents c.feed.new.writer) c.feed.new.gathered) (c.in-Err.ensures.stopped h) c.new-gathered.ensures.text
+    (telling (g.W.Write.contents c.args.writer.now) c.new-gathered.result) (telling (g.W.Write.contents c.feed.new.writer) c.feed.new.gathered) (c.in-Err.ensures.stopped h) (ap (λ t. t.rest) c.new-gathered.ensures)
     (c.is_write.ensures.0 c.if-is_write.true)
 
 pub returns-in_default-put-clause-early : goal.returns-in_default-put-clause-early
 returns-in_default-put-clause-early g c = λ h.
     stopped_front (coming c.args.lines.now.is_over c.args.lines.now.line.items) c.args.piece.now c.args.powered.exec c.in-Err.stopped _
-    (telling (g.W.Write.contents c.args.writer.now) c.new-gathered.result) (telling (g.W.Write.contents c.feed.new.writer) c.feed.new.gathered) c.deref-in-Err.result.now _ (c.in-Err.ensures.stopped h)
-    c.new-gathered.ensures.text (λ e. not_both c.if-is_write.false (c.is_write.ensures.1 e)) c.deref-in-Err.ensures.value c.in_default-put.ensures.short refl refl
+    (telling (g.W.Write.contents c.args.writer.now) c.new-gathered.result) (telling (g.W.Write.contents c.feed.new.writer) c.feed.new.gathered) c.text-in-Err.result.now _ (c.in-Err.ensures.stopped h)
+    (ap (λ t. t.rest) c.new-gathered.ensures) (λ e. not_both c.if-is_write.false (c.is_write.ensures.1 e)) c.text-in-Err.ensures c.in_default-put.ensures.short refl refl
 
 pub returns-clause-early : goal.returns-clause-early
 returns-clause-early g c = λ h.
     stopped_whole (coming c.args.lines.now.is_over c.args.lines.now.line.items) c.args.piece.now c.args.powered.exec c.in-Err.stopped
-    (telling (g.W.Write.contents c.args.writer.now) c.new-gathered.result) (telling (g.W.Write.contents c.feed.new.writer) c.feed.new.gathered) c.deref-in-Err.result.now _ (c.in-Err.ensures.stopped h)
-    c.new-gathered.ensures.text (λ e. not_both c.if-is_write.false (c.is_write.ensures.1 e)) c.deref-in-Err.ensures.value c.in-Ok-put-2.ensures.whole
+    (telling (g.W.Write.contents c.args.writer.now) c.new-gathered.result) (telling (g.W.Write.contents c.feed.new.writer) c.feed.new.gathered) c.text-in-Err.result.now _ (c.in-Err.ensures.stopped h)
+    (ap (λ t. t.rest) c.new-gathered.ensures) (λ e. not_both c.if-is_write.false (c.is_write.ensures.1 e)) c.text-in-Err.ensures c.in-Ok-put-2.ensures.whole

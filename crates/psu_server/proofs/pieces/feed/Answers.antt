@@ -12,7 +12,7 @@ use Rattle.psu_server.proofs.pieces.feed.Goals as goal
 pub loop-at-init : goal.loop-at-init
 loop-at-init g c = record {
   within = omega arith;
-  begun = c.requires;
+  answered = c.requires;
   fed = ([], refl, fed_none _ c.args.powered.exec (telling (g.W.Write.contents c.args.writer.now) c.args.gathered.now));
 }
 
@@ -89,7 +89,7 @@ returns-clause-fed g c =
 pub loop-at-preserved-then-is_power : goal.loop-at-preserved-then-is_power
 loop-at-preserved-then-is_power g c = record {
   within = grind arith;
-  begun = c.loop-at.invariant.begun;
+  answered = c.loop-at.invariant.answered;
   fed = feed_step (coming c.args.lines.now.is_over c.args.lines.now.line.items) (coming c.loop-at.lines.is_over c.loop-at.lines.line.items)
       c.args.piece.now c.loop-at.rest.now c.in-Some.at c.extend.new.self.is_over c.clear.new.self.is_over c.extend.new.self.line.items c.clear.new.self.line.items
       c.args.powered.exec c.loop-at.powered.exec c.in_ok-powered.powered.exec
@@ -102,7 +102,7 @@ loop-at-preserved-then-is_power g c = record {
 pub loop-at-preserved : goal.loop-at-preserved
 loop-at-preserved g c = record {
   within = grind arith;
-  begun = c.in-Ok-answer_line.ensures.begun;
+  answered = c.in-Ok-answer_line.ensures.answered;
   fed = feed_step (coming c.args.lines.now.is_over c.args.lines.now.line.items) (coming c.loop-at.lines.is_over c.loop-at.lines.line.items)
       c.args.piece.now c.loop-at.rest.now c.in-Some.at c.extend.new.self.is_over c.answer_line.new.lines.is_over c.extend.new.self.line.items c.answer_line.new.lines.line.items
       c.args.powered.exec c.loop-at.powered.exec c.answer_line.new.powered.exec

@@ -7,7 +7,7 @@ use Rattle.psu_server.proofs.pieces.feed.Given as goal
 abbrev pub invariant-loop-at : goal.invariant-loop-at
 invariant-loop-at g l = record {
   within : length l.rest ≤ length l.piece;
-  begun : l.gathered.begun ≡ false;
+  answered : l.gathered.answered ≡ false;
   fed : FedSo (coming l.initial.lines.is_over l.initial.lines.line.items) l.piece l.rest (coming l.lines.is_over l.lines.line.items)
       l.initial.powered.exec l.powered.exec (telling (g.W.Write.contents l.initial.writer) l.initial.gathered) (telling (g.W.Write.contents l.writer) l.gathered);
 }

@@ -11,17 +11,17 @@ use Rattle.psu_server.proofs.units.message.Goals as goal
 
 pub returns-in_default-clause-breaks : goal.returns-in_default-clause-breaks
 returns-in_default-clause-breaks g c =
-    let all = some_asking c.every_list_has_units.ensures c.every_unit_reads.ensures (Message.Units c.args.bytes.now) in (
-      all.0,
-      all.1,
-      breaks_at_once c.args.powered.now.exec (telling (g.W.Write.contents c.args.writer.now) c.args.gathered.now) (λ text told can w v. LineBegins can w text all.0 told v) (line_idle all.0),
+    let asked = some_asking c.every_list_has_units.ensures c.every_unit_reads.ensures (Message.Units c.args.bytes.now) in (
+      asked.0,
+      asked.1,
+      breaks_at_once c.args.powered.now.exec (telling (g.W.Write.contents c.args.writer.now) c.args.gathered.now) (λ answers all can w v. LineBegins can w answers asked.0 all v) (line_idle asked.0),
     )
 
 pub loop-unit-init : goal.loop-unit-init
 loop-unit-init g c = record {
   done = [];
   asked = λ more asks. subst (λ z. AreRequests false z (parts c.as_slice-list.result.now) more) c.root-path.ensures asks;
-  runs = continues_none c.args.powered.now.exec (telling (g.W.Write.contents c.args.writer.now) c.args.gathered.now) (λ text all can w v. LineRuns can w text [] all v) (λ text can w. (refl, refl));
+  runs = continues_none c.args.powered.now.exec (telling (g.W.Write.contents c.args.writer.now) c.args.gathered.now) (λ answers all can w v. LineRuns can w answers [] all v) (λ answers can w. (refl, refl));
 }
 
 pub loop-unit-preserved : goal.loop-unit-preserved

@@ -10,12 +10,12 @@ pub returns-in_err-outcome-clause-breaks : goal.returns-in_err-outcome-clause-br
 returns-in_err-outcome-clause-breaks g c =
     passed c.from_residual.result c.in_err-outcome.field-0.0 _ c.from_residual.ensures.1
     (unit_stops c.args.powered.now.exec c.unit.new.powered.exec (telling (g.W.Write.contents c.args.writer.now) c.args.gathered.now) c.args.request.now
-    (λ text all can w v. UnitsBegin can w text (c.args.request.now ∷ []) all v) c.in_err-outcome.field-0.0 c.in_err-outcome.ensures.halts (units_turn c.args.request.now))
+    (λ answers all can w v. UnitsBegin can w answers (c.args.request.now ∷ []) all v) c.in_err-outcome.field-0.0 c.in_err-outcome.ensures.halts (units_turn c.args.request.now))
 
 pub returns-in_err-tell-clause-breaks : goal.returns-in_err-tell-clause-breaks
 returns-in_err-tell-clause-breaks g c =
     passed c.from_residual-in_err-tell.result c.in_err-tell.field-0.0 _ c.from_residual-in_err-tell.ensures.1
-    (unit_untold c.args.powered.now.exec c.unit.new.powered.exec _ _ c.args.request.now (outcome_of c.in_ok-outcome.outcome) (λ text all can w v. UnitsBegin can w text (c.args.request.now ∷ []) all v)
+    (unit_untold c.args.powered.now.exec c.unit.new.powered.exec _ _ c.args.request.now (outcome_of c.in_ok-outcome.outcome) (λ answers all can w v. UnitsBegin can w answers (c.args.request.now ∷ []) all v)
     c.in_err-tell.field-0.0 c.in_ok-outcome.ensures.runs c.in_err-tell.ensures.until c.in_err-tell.ensures.own (units_turn c.args.request.now))
 
 pub returns-clause-runs : goal.returns-clause-runs

@@ -1,4 +1,5 @@
 use Rattle.psu_exec.specs.Shown.{outcome_of}
+use Rattle.psu_exec.proofs.Answered.{unit_has_text}
 use Rattle.psu_exec.proofs.Denied.{denied_is_held, held_is_denied, held_leaves, later_leaves}
 use Rattle.psu_exec.proofs.exec.Exec.execute.Goals as goal
 
@@ -13,3 +14,6 @@ returns-clause-held g c = (
 
 pub returns-clause-same : goal.returns-clause-same
 returns-clause-same g c = held_leaves c.args.self.now.device c.execute.new.self c.args.session c.args.request.now (outcome_of c.execute.result) c.execute.ensures.1
+
+pub returns-clause-text : goal.returns-clause-text
+returns-clause-text g c = unit_has_text c.args.self.now.device c.args.session c.args.request.now (outcome_of c.execute.result) c.execute.ensures.1.may

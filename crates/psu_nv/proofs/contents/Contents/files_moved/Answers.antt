@@ -1,7 +1,7 @@
 use Rattle.std.proofs.Common.{◌≡◌, ◌∙◌, sym, ap, subst}
 use Rattle.psu_items.specs.Map.{cost, get, IsSorted}
 use Rattle.psu_nv.specs.Contents.{Contents}
-use Rattle.psu_nv.specs.Names.{is_name}
+use Rattle.psu_lex.specs.Names.{is_name}
 use Rattle.psu_nv.specs.Commands.{has_file}
 use Rattle.psu_nv.proofs.Finding.{copy_found, found_value, free_value}
 use Rattle.psu_nv.proofs.Totals.{cost-moved}

@@ -1,6 +1,6 @@
-use Rattle.std.proofs.Common.{◌≡◌, ◌≤◌, ℕ, zero, suc, List, [], length, replicate, refl, sym, ap, subst, arith}
+use Rattle.std.proofs.Common.{ℕ, zero, suc, List, length, replicate, refl, sym, ap, subst, arith}
 use Rattle.std.specs.List.{AllByRecursion}
-use Rattle.psu_items.specs.Map.{Item, IsSorted}
+use Rattle.psu_items.specs.Map.{IsSorted}
 use Rattle.psu_outputs.specs.declared.output_settings.OutputSettings.{OutputSettings}
 use Rattle.psu_outputs.specs.Settings.{AreSettings, reset}
 use Rattle.psu_nv.specs.Contents.{Macro, IsMacro, HasDistinct, IsFile}
@@ -15,9 +15,9 @@ invariant_of-result g c = record {
   count = refl;
   settings = subst (λ (settings : List OutputSettings). AllByRecursion AreSettings (replicate 100 settings)) (sym c.reset.ensures) (each_reset 100);
   user = omega (arith, ap (λ (l : List ℕ). length l) c.none.ensures);
-  macros = subst (AllByRecursion IsMacro) (sym c.new.ensures.items) tt;
-  distinct = subst HasDistinct (sym c.new.ensures.items) tt;
-  most_macros = omega (arith, ap (λ (l : List Macro). length l) c.new.ensures.items);
+  macros = subst (AllByRecursion IsMacro) (sym c.new.ensures) tt;
+  distinct = subst HasDistinct (sym c.new.ensures) tt;
+  most_macros = omega (arith, ap (λ (l : List Macro). length l) c.new.ensures);
   mss = λ e same. absurd cc;
   files = subst (AllByRecursion IsFile) (sym c.new-2.ensures) tt;
   sorted = subst IsSorted (sym c.new-2.ensures) tt;

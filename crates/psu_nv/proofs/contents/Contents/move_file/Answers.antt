@@ -1,5 +1,5 @@
 use Rattle.std.proofs.Common.{◌∙◌, ap}
-use Rattle.psu_nv.specs.Names.{is_name}
+use Rattle.psu_lex.specs.Names.{is_name}
 use Rattle.psu_nv.specs.Contents.{begins_with_kind}
 use Rattle.psu_nv.specs.Commands.{has_file}
 use Rattle.psu_nv.proofs.Finding.{copy_found}

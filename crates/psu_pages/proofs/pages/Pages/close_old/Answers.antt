@@ -23,6 +23,11 @@ both One sure is = let no : false ≡ true = is in absurd (cc)
 both Both sure is = refl
 both Unsure sure is = absurd (sure refl)
 
+not_both : (s : Standing) → true ≡ sameb the_type s One → s ≡ Both → ⊥
+not_both One is two = let no : One ≡ Both = two in absurd (cc)
+not_both Both is two = let no : true ≡ false = is in absurd (cc)
+not_both Unsure is two = let no : true ≡ false = is in absurd (cc)
+
 pub returns-then-eq-clause-time : goal.returns-then-eq-clause-time
 returns-then-eq-clause-time g c = λ h t.
     let d = g.D.Disk in
@@ -34,6 +39,12 @@ hand_over-requires-clause-there g c = let p = c.args.self.now in subst (λ (hs :
 
 pub hand_over-requires-clause-heads_there : goal.hand_over-requires-clause-heads_there
 hand_over-requires-clause-heads_there g c = let p = c.args.self.now in subst (λ (hs : List Head). AllByRecursion (λ (page : ℕ). page < length p.free) (taken hs)) (sym c.deref-in-Ok.ensures.value) (pool_within p.limit (length p.free) (taken p.heads.items) p.sized p.roster.pool)
+
+pub returns-then-eq-clause-zero : goal.returns-then-eq-clause-zero
+returns-then-eq-clause-zero g c = λ h two. let p = c.args.self.now in absurd (not_both p.standing c.if-eq.ensures two)
+
+pub returns-in-Ok-clause-zero : goal.returns-in-Ok-clause-zero
+returns-in-Ok-clause-zero g c = λ h two. subst (λ (r : Root). gate r (g.D.Disk.state c.set_gate.new.disk).bytes ≡ 0) c.other.ensures (c.in-Ok.ensures.done h)
 
 pub returns-in-Ok-clause-shown : goal.returns-in-Ok-clause-shown
 returns-in-Ok-clause-shown g c = λ h.

@@ -56,6 +56,10 @@ invariant_of-result-clause-shut g c = λ h one. c.in-Ok-lay_out.ensures.shut h
 pub invariant_of-result-clause-lower : goal.invariant_of-result-clause-lower
 invariant_of-result-clause-lower g c = λ h same. let no : One ≡ Both = same in absurd (cc)
 
+pub returns-in-Ok-lay_out-clause-spelled : goal.returns-in-Ok-lay_out-clause-spelled
+returns-in-Ok-lay_out-clause-spelled g c = λ h.
+    c.in-Ok-lay_out.ensures.spelled h ∙ ap (λ (told : List ℕ). 165 ∷ told) (c.after_gate.ensures.value ∙ ap (λ (b : List ℕ). drop 1 (filled 512 b)) (c.spell_root-page.ensures ∙ ap (λ (hs : List Head). 0 ∷ said c.args.limit 1 (names hs)) (c.deref.ensures.value ∙ c.new-heads.ensures.items)) ∙ told_filled (said c.args.limit 1 []))
+
 pub returns-in-Ok-lay_out-clause-empty : goal.returns-in-Ok-lay_out-clause-empty
 returns-in-Ok-lay_out-clause-empty g c = λ h.
     let d = g.D.Disk in

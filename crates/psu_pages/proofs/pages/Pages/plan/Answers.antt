@@ -1,9 +1,9 @@
-use Rattle.std.proofs.Common.{◌≡◌, ◌+◌, ◌/◌, ℕ, List, ◌∷◌, true, false, length, take, refl, sym, ◌∙◌, ap, subst, arith, rules}
+use Rattle.std.proofs.Common.{◌≡◌, ◌+◌, ◌/◌, ℕ, List, ◌∷◌, true, false, length, take, length-take-le, refl, sym, ◌∙◌, ap, subst, arith, rules}
 use Rattle.std.specs.List.{AllByRecursion}
 use Rattle.psu_pages.specs.Image.{AreApart, AreClear, IsInPool, taken, pages_of}
 use Rattle.psu_pages.specs.Free.{is_free, free_pages, Marks, AreClaimed}
 use Rattle.psu_pages.proofs.Lists.{clear_by}
-use Rattle.psu_pages.proofs.Planning.{were_free, are_apart, in_pool, first_and_rest, at_most, kept_one, kept_claimed}
+use Rattle.psu_pages.proofs.Planning.{were_free, are_apart, in_pool, first_and_rest, kept_one, kept_claimed}
 use Rattle.psu_pages.proofs.pages.Pages.plan.Goals as goal
 
 pub claim_all-requires-clause-free : goal.claim_all-requires-clause-free
@@ -51,8 +51,7 @@ returns-clause-planned g c =
     let free = were_free p.limit p.free p.sized p.first_kept p.second_kept _ claimed is in
     let pool = in_pool p.limit p.free p.sized p.first_kept p.second_kept _ claimed is in
     let apart = are_apart p.limit p.free p.sized p.first_kept p.second_kept _ claimed is in
-    let most = at_most (1 + (c.args.size + 511) / 512) (free_pages p.free) in
-    let long : length claimed ≡ 1 + (c.args.size + 511) / 512 = omega (arith, ap length is, most, ap length c.deref.ensures.value, c.if-len-count.false, c.len.ensures) in
+    let long : length claimed ≡ 1 + (c.args.size + 511) / 512 = omega (arith, ap length is, length-take-le (1 + (c.args.size + 511) / 512) (free_pages p.free) (omega (arith, c.if-count.false, c.count.ensures))) in
     let whole : c.remove-at.result ∷ c.remove-at.new.self.items ≡ claimed =
     first_and_rest c.in_ok-pages.pages.items c.remove-at.new.self.items c.remove-at.result (omega (arith, long, ap length c.deref.ensures.value)) c.remove-at.ensures.value c.remove-at.ensures.items ∙ sym c.deref.ensures.value in
     let key : c.in_ok-key.key.items ≡ c.args.key.now = search rules in

@@ -85,6 +85,11 @@ invariant_of-self-in-Err-clause-lower g c = λ h same. let no : Unsure ≡ Both 
 pub invariant_of-self-in-Err-clause-none_older : goal.invariant_of-self-in-Err-clause-none_older
 invariant_of-self-in-Err-clause-none_older g c = λ same. let no : Unsure ≡ One = same in absurd (cc)
 
+pub returns-in-Ok-clause-spelled : goal.returns-in-Ok-clause-spelled
+returns-in-Ok-clause-spelled g c = λ h.
+    let p = c.args.self.now in
+    c.in-Ok.ensures.spelled h ∙ ap (λ (told : List ℕ). 165 ∷ told) (c.after_gate.ensures.value ∙ ap (λ (b : List ℕ). drop 1 (filled 512 b)) (c.spell_root-page.ensures ∙ ap (λ (hs : List Head). 0 ∷ said p.limit (p.number + 1) (names hs)) c.deref.ensures.value) ∙ told_filled (said p.limit (p.number + 1) (names c.args.heads.items)))
+
 pub returns-in-Ok-clause-shown : goal.returns-in-Ok-clause-shown
 returns-in-Ok-clause-shown g c = λ h.
     let d = g.D.Disk in

@@ -3,7 +3,6 @@ use Rattle.psu_disk.specs.Ranges.{reads_left}
 use Rattle.psu_items.specs.Map.{Item}
 use Rattle.psu_items.specs.Image.{Stands}
 use Rattle.psu_exec.specs.Device.{is_broken}
-use Rattle.psu_server.specs.Causes.{IsWornOut}
 use Rattle.psu_server.proofs.Starting.{worn_number}
 use Rattle.psu_server.proofs.powered.Powered.into_disk.Goals as goal
 

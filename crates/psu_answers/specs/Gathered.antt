@@ -1,0 +1,42 @@
+-- The answers of a message, gathered one after another and sent in parts.
+use Rattle.std.specs.Prelude.{◌≡◌, ℕ, Bool, true, false, List, [], ◌∷◌, ◌++◌}
+use Rattle.psu_answers.specs.Response.{end_of, joined, response}
+
+-- whether a unit of the message has answered, and the text that is not sent
+pub record Text : Type 0 where
+  pub answered : Bool
+  pub rest : List ℕ
+
+-- what an answer adds behind others, or as the first of its message
+abbrev pub addition : Bool → List ℕ → List ℕ
+addition true answer = 59 ∷ answer
+addition false answer = answer
+
+abbrev pub told : Text → List ℕ → Text
+told text answer = record { answered = true; rest = text.rest ++ addition text.answered answer }
+
+abbrev pub nothing : Text
+nothing = record { answered = false; rest = [] }
+
+-- all of it was sent, and its message goes on
+abbrev pub emptied : Text → Text
+emptied text = record { answered = text.answered; rest = [] }
+
+-- the message ends; the next one begins behind it
+abbrev pub closed : Text → Text
+closed text = record { answered = false; rest = text.rest ++ end_of text.answered }
+
+-- What the pieces of a message's text come to, where each answer is told and parts are sent between them: the answers so far, the text that was
+-- sent, and what is gathered behind it.
+pub data Makes : List (List ℕ) → List ℕ → Text → Type 0 where
+  Begin : Makes [] [] nothing
+  Tell : {answers : List (List ℕ)} {sent : List ℕ} {text : Text} → Makes answers sent text → (answer : List ℕ) → Makes (answers ++ answer ∷ []) sent (told text answer)
+  Send : {answers : List (List ℕ)} {sent : List ℕ} {text : Text} → Makes answers sent text → Makes answers (sent ++ text.rest) (emptied text)
+
+-- However parts are sent, what is sent and what is left are the answers joined.
+abbrev pub PartsAreTheAnswers : Type 0
+PartsAreTheAnswers = (answers : List (List ℕ)) (sent : List ℕ) (text : Text) → Makes answers sent text → sent ++ text.rest ≡ joined answers
+
+-- And with its end they are the response.
+abbrev pub PartsAreTheResponse : Type 0
+PartsAreTheResponse = (answers : List (List ℕ)) (sent : List ℕ) (text : Text) → Makes answers sent text → sent ++ (closed text).rest ≡ response answers

@@ -1,0 +1,8 @@
+//! The text of a message's answers: they are joined by `;` and ended by NL, and may be sent in parts.
+#![tactic(auto)]
+
+mod gathered;
+mod laws;
+
+pub use gathered::Gathered;
+pub use laws::{parts_are_the_answers, parts_are_the_response};

@@ -1,0 +1,40 @@
+// The turns of a bench are not soon used up.
+ghost use Rattle.std.specs.Prelude.{◌≡◌};
+ghost use Rattle.psu_turn.specs.Seats.{IsOf};
+
+use crate::benches::{formatted, powered_on};
+use psu_bench::{Bench, Seat};
+use psu_disk::MemDisk;
+use psu_exec::Session;
+use std::alloc::Global;
+use std::sync::Wait;
+
+// One more than 2^20.
+const CALLS: u64 = 1_048_577;
+
+// So many calls, which change nothing.
+fn calls<R: Wait>(
+    rt: &R,
+    bench: &Bench<MemDisk<Global>, Global>,
+    mut seat: Seat<Global>,
+) -> Seat<Global>
+    requires { IsOf bench.now seat }
+    ensures { IsOf bench.now result }
+{
+    for _ in 0..CALLS {
+        let _none = bench.next_deadline(rt, &mut seat);
+    }
+    seat
+}
+
+// One thread draws more than 2^20 tickets, and each call is counted.
+#[test]
+fn one_thread_makes_more_than_a_million_calls(rt: HostRuntime) {
+    let exec = powered_on(&rt, rt.alloc(), formatted(&rt, rt.alloc()));
+    let Ok((bench, seat)) = Bench::new(rt.alloc(), exec) else {
+        panic!(rt; "no memory")
+    };
+    let mut seat = calls(&rt, &bench, seat);
+    assert_eq!(rt; bench.progress(&mut seat), CALLS);
+    assert!(rt; !bench.close(&rt, seat).is_open(Session::at(0)));
+}

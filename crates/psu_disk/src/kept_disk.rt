@@ -1,0 +1,213 @@
+// A disk over a medium that forgets at a failed sync. It keeps the ranges written since the last sync that worked, and after one that
+// failed writes them again, as they read, before the next.
+ghost use Rattle.std.specs.Prelude.{◌≡◌, ℕ, ◌+◌, ◌^◌, ◌<◌, ◌≤◌, List, length, true, false, IfOk, OnOk, OnErr};
+ghost use Rattle.psu_disk.specs.Disk.{Left, IsFlagged, IsSynced, Only, Elapses, HasCause, is_unsynced};
+ghost use Rattle.psu_disk.specs.Medium.{NoneMore, IsKnown, IsKept};
+ghost use Rattle.psu_disk.specs.Touched.{is_in, is_covered};
+ghost use Rattle.std.proofs.Props.{props};
+
+use crate::touched::Span;
+use crate::written::Written;
+use crate::{Disk, DiskFault, Medium};
+use std::alloc::{AllocError, Allocator};
+
+// How many bytes are written again at a time.
+const PIECE: usize = 512;
+
+/// A disk over a medium. Its room is taken when it is made: no call takes memory.
+#[derive(Drop)]
+pub struct KeptDisk<M: Medium, A: Allocator> {
+    medium: M,
+    written: Written<A>,
+    failed: bool,
+    faults: u64,
+    ghost kept: { M.honest → IsKept (M.state medium) (M.forgotten medium) (written.spans.items) written.full failed } by { Prim.hlevel props },
+    ghost within: { (k : ℕ) → is_covered (written.spans.items) k ≡ true → k < M.extent medium },
+    ghost small: { M.extent medium < 2 ^ 64 },
+}
+
+impl<M: Medium + Drop, A: Allocator + Drop> KeptDisk<M, A> {
+    /// The disk over a medium of which nothing is forgotten. What is unsynced then lies in no range that is known, so that a sync that
+    /// fails before one has worked is final.
+    pub fn new(alloc: A, medium: M) -> Result<KeptDisk<M, A>, AllocError>
+        requires { M.honest → (k : ℕ) → M.forgotten medium k ≡ false }
+        ensures medium { IfOk result (λ disk. disk.medium ≡ medium) }
+        ensures faults { IfOk result (λ disk. disk.faults ≡ 0) }
+    {
+        // Its number of bytes is one of the language's.
+        let _size = medium.size();
+        let written = Written::full(alloc)?;
+        Ok(KeptDisk {
+            medium,
+            written,
+            failed: false,
+            faults: 0,
+        })
+    }
+
+    /// The medium below it.
+    pub fn into_inner(self) -> M
+        ensures { result ≡ self.medium }
+    {
+        let KeptDisk {
+            medium,
+            written: _,
+            failed: _,
+            faults: _,
+        } = self;
+        medium
+    }
+}
+
+impl<M: Medium, A: Allocator> KeptDisk<M, A> {
+    // Where a sync has failed, what it may have forgotten is written again.
+    fn recover(&mut self) -> Result<(), DiskFault>
+        ensures extent { M.extent self.new.medium ≡ M.extent self.old.medium }
+        ensures faults { self.new.faults ≡ self.old.faults }
+        ensures state { M.honest → M.state self.new.medium ≡ M.state self.old.medium }
+        ensures known { M.honest → OnOk result ((k : ℕ) → M.forgotten self.new.medium k ≡ false) }
+        ensures time { M.honest → M.tells → Elapses (M.moment self.old.medium) (M.moment self.new.medium) (M.left_since self.old.medium) (M.left_since self.new.medium) (Left (M.state self.old.medium)) }
+    {
+        if !self.failed {
+            return Ok(());
+        }
+        if self.written.full {
+            return Err(DiskFault);
+        }
+        write_again(&mut self.medium, &self.written.spans)?;
+        Ok(())
+    }
+
+    // A sync of the medium, once nothing is forgotten. What is kept of the ranges goes only where it works.
+    #[tactic(auto, using(crate::proofs::Images::synced_only, crate::proofs::Rewriting::left_synced))]
+    fn settle(&mut self) -> Result<(), DiskFault>
+        ensures extent { M.extent self.new.medium ≡ M.extent self.old.medium }
+        ensures faults { self.new.faults ≡ self.old.faults }
+        ensures synced { M.honest → OnOk result (IsSynced (M.state self.new.medium)) }
+        ensures seen { M.honest → (M.state self.new.medium).bytes ≡ (M.state self.old.medium).bytes }
+        ensures err { M.honest → OnErr result (M.state self.new.medium ≡ M.state self.old.medium) }
+        ensures only { M.honest → OnOk result (Only (M.state self.new.medium)) }
+        ensures left { M.honest → (x : List ℕ) → Left (M.state self.new.medium) x → Left (M.state self.old.medium) x }
+        ensures time { M.honest → M.tells → Elapses (M.moment self.old.medium) (M.moment self.new.medium) (M.left_since self.old.medium) (M.left_since self.new.medium) (Left (M.state self.new.medium)) }
+    {
+        self.recover()?;
+        if self.medium.sync().is_err() {
+            self.failed = true;
+            return Err(DiskFault);
+        }
+        self.written.clear();
+        self.failed = false;
+        Ok(())
+    }
+}
+
+// The answer of a call. One that failed is counted, up to the last value of the count.
+fn counted(faults: &mut u64, answer: Result<(), DiskFault>) -> Result<(), DiskFault>
+    ensures same { result ≡ answer }
+    ensures cause { HasCause faults.old faults.new answer }
+{
+    if answer.is_err() {
+        *faults = faults.saturating_add(1);
+    }
+    answer
+}
+
+// Writes the bytes of the spans again, as they read.
+fn write_again<M: Medium>(medium: &mut M, spans: &[Span]) -> Result<(), DiskFault>
+    requires within { (k : ℕ) → is_covered spans.now k ≡ true → k < M.extent medium.old }
+    requires flagged { M.honest → (k : ℕ) → is_covered spans.now k ≡ true → is_unsynced (M.state medium.old) k ≡ true }
+    ensures extent { M.extent medium.new ≡ M.extent medium.old }
+    ensures state { M.honest → M.state medium.new ≡ M.state medium.old }
+    ensures none_more { M.honest → NoneMore (M.forgotten medium.old) (M.forgotten medium.new) }
+    ensures known { M.honest → OnOk result ((k : ℕ) → is_covered spans.now k ≡ true → M.forgotten medium.new k ≡ false) }
+    ensures time { M.honest → M.tells → Elapses (M.moment medium.old) (M.moment medium.new) (M.left_since medium.old) (M.left_since medium.new) (Left (M.state medium.old)) }
+{
+    for span in spans {
+        write_span(medium, *span)?;
+    }
+    Ok(())
+}
+
+// Writes the bytes of one span again.
+fn write_span<M: Medium>(medium: &mut M, span: Span) -> Result<(), DiskFault>
+    requires within { span.low < span.high → span.high ≤ M.extent medium.old }
+    requires flagged { M.honest → (k : ℕ) → is_in span k ≡ true → is_unsynced (M.state medium.old) k ≡ true }
+    ensures extent { M.extent medium.new ≡ M.extent medium.old }
+    ensures state { M.honest → M.state medium.new ≡ M.state medium.old }
+    ensures none_more { M.honest → NoneMore (M.forgotten medium.old) (M.forgotten medium.new) }
+    ensures known { M.honest → OnOk result ((k : ℕ) → is_in span k ≡ true → M.forgotten medium.new k ≡ false) }
+    ensures time { M.honest → M.tells → Elapses (M.moment medium.old) (M.moment medium.new) (M.left_since medium.old) (M.left_since medium.new) (Left (M.state medium.old)) }
+{
+    let mut at = span.low;
+    while at < span.high {
+        let n = (span.high - at).min(PIECE);
+        let mut piece = [0; PIECE];
+        write_piece(medium, at as u64, &mut piece[..n])?;
+        at += n;
+    }
+    Ok(())
+}
+
+// Writes as many bytes from `at` on again as the piece has.
+fn write_piece<M: Medium>(medium: &mut M, at: u64, piece: &mut [u8]) -> Result<(), DiskFault>
+    requires within { at + length piece.old ≤ M.extent medium.old }
+    requires flagged { M.honest → IsFlagged at (length piece.old) (M.state medium.old) }
+    ensures extent { M.extent medium.new ≡ M.extent medium.old }
+    ensures state { M.honest → M.state medium.new ≡ M.state medium.old }
+    ensures none_more { M.honest → NoneMore (M.forgotten medium.old) (M.forgotten medium.new) }
+    ensures known { M.honest → OnOk result (IsKnown at (length piece.old) (M.forgotten medium.new)) }
+    ensures time { M.honest → M.tells → Elapses (M.moment medium.old) (M.moment medium.new) (M.left_since medium.old) (M.left_since medium.new) (Left (M.state medium.old)) }
+{
+    medium.read(at, piece)?;
+    medium.write(at, piece)
+}
+
+impl<M: Medium, A: Allocator> Disk for KeptDisk<M, A> {
+    ghost honest = { M.honest };
+
+    ghost tells = { M.honest × M.tells };
+
+    ghost extent = { λ d. M.extent d.medium };
+
+    ghost state = { λ d. M.state d.medium };
+
+    ghost moment = { λ d. M.moment d.medium };
+
+    ghost left_since = { λ d. M.left_since d.medium };
+
+    ghost failures = { λ d. d.faults };
+
+    ghost sized = { λ h d. M.sized h d.medium };
+
+    ghost counts_now = { λ h d. M.counts_now h.1 d.medium };
+
+    ghost only_now = { λ h d. M.only_now h.1 d.medium };
+
+    fn size(&self) -> u64 {
+        self.medium.size()
+    }
+
+    fn faults(&self) -> u64 {
+        self.faults
+    }
+
+    fn read(&mut self, at: u64, into: &mut [u8]) -> Result<(), DiskFault> {
+        let answer = self.medium.read(at, into);
+        counted(&mut self.faults, answer)
+    }
+
+    fn write(&mut self, at: u64, bytes: &[u8]) -> Result<(), DiskFault> {
+        let span = Span {
+            low: at as usize,
+            high: at as usize + bytes.len(),
+        };
+        self.written.add(span);
+        let answer = self.medium.write(at, bytes);
+        counted(&mut self.faults, answer)
+    }
+
+    fn sync(&mut self) -> Result<(), DiskFault> {
+        let answer = self.settle();
+        counted(&mut self.faults, answer)
+    }
+}

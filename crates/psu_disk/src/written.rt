@@ -1,0 +1,47 @@
+// The ranges written since the last sync that worked, in room for so many of them.
+ghost use Rattle.std.specs.Prelude.{◌≡◌, [], false, true, IfOk};
+ghost use Rattle.psu_disk.specs.Medium.{KeepsRange};
+
+use crate::touched::Span;
+use std::alloc::{AllocError, Allocator};
+
+// How many ranges are kept apart: more than a commit writes.
+const ROOM: usize = 1024;
+
+// The spans. Where it is full, there were others.
+#[derive(Drop)]
+pub(crate) struct Written<A: Allocator> {
+    pub(crate) spans: Vec<Span, A>,
+    pub(crate) full: bool,
+}
+
+impl<A: Allocator> Written<A> {
+    // Ranges of which none is known. All the room is taken now, so that none is wanted later.
+    pub(crate) fn full(alloc: A) -> Result<Written<A>, AllocError>
+        ensures spans { IfOk result (λ written. written.spans.items ≡ []) }
+        ensures full { IfOk result (λ written. written.full ≡ true) }
+    {
+        Ok(Written {
+            spans: Vec::with_capacity(alloc, ROOM)?,
+            full: true,
+        })
+    }
+
+    // A range is written: it finds room, or they are full.
+    pub(crate) fn add(&mut self, span: Span)
+        ensures { KeepsRange span self.old.spans.items self.new.spans.items self.old.full self.new.full }
+    {
+        if self.spans.len() >= ROOM || self.spans.push(span).is_err() {
+            self.full = true;
+        }
+    }
+
+    // Nothing is written.
+    pub(crate) fn clear(&mut self)
+        ensures spans { self.new.spans.items ≡ [] }
+        ensures full { self.new.full ≡ false }
+    {
+        self.spans.clear();
+        self.full = false;
+    }
+}

@@ -1,0 +1,82 @@
+-- No unit, and no wait's end, is answered by nothing.
+use Rattle.std.proofs.Common.{◌≡◌, ◌≢◌, ◌⊎◌, inl, inr, ℕ, Bool, true, false, ◌==◌, ◌&&◌, not, if◌then◌else◌, Option, Some, None, Result, Ok, Err, List, [], decimal, refl, sym, ◌∙◌, subst}
+use Rattle.psu_lex.specs.declared.scpi_error.ScpiError.{ScpiError}
+use Rattle.psu_lex.specs.declared.scpi_error.ScpiError.TheVariants.{StorageFault}
+use Rattle.psu_nv.specs.Commands as nv
+use Rattle.psu_nv.specs.Contents.{fits}
+use Rattle.psu_tree.specs.declared.command.Command.{Command}
+use Rattle.psu_tree.specs.declared.unit_request.Request.{Request}
+use Rattle.psu_instrument.specs.Instrument.{Instrument}
+use Rattle.psu_instrument.specs.Meaning.{Situation, Meaning, Refuses, Does, Keeps, Completes}
+use Rattle.psu_instrument.specs.declared.completion.Completion.{Completion}
+use Rattle.psu_instrument.specs.declared.completion.Completion.TheVariants as completion
+use Rattle.psu_instrument.proofs.Speaking.{each_answer_has_text, some_digit}
+use Rattle.psu_exec.specs.Calls.{MaySettle, settle_answer}
+use Rattle.psu_exec.specs.Device.{Reply, Answer, Error, Parked, Flush, State, MayAnswer, MayMean, answer_complete, answer_meant, here, is_later, is_whole, kept_unless, meant, parks, wait_of}
+use Rattle.psu_exec.specs.declared.wait.Wait.{Wait}
+use Rattle.psu_exec.specs.declared.wait.Wait.TheVariants.{Until, CutOff}
+use Rattle.psu_exec.proofs.Answering.{IsCall, IsPutOff, answer_is_no_call, ways}
+
+abbrev HasText : Reply → Type 0
+HasText reply = (text : List ℕ) → reply ≡ Answer text → text ≢ []
+
+-- ---- what is meant
+
+complete_told : (c : Completion) → HasText (answer_complete c)
+complete_told completion.Query text is = subst (λ (z : List ℕ). z ≢ []) (let same : decimal 1 ≡ text = cc in same) (some_digit 1)
+complete_told completion.Wait text is = cc
+complete_told completion.Event text is = cc
+
+completing_told : (broken waits : Bool) (c : Completion) → HasText (if broken then Error StorageFault else (if waits then Parked else answer_complete c))
+completing_told true waits c text is = cc
+completing_told false true c text is = cc
+completing_told false false c text is = complete_told c text is
+
+kept_silent : (found : Option ScpiError) (whole fitting : Bool) → HasText (kept_unless found whole fitting)
+kept_silent (Some e) whole fitting text is = cc
+kept_silent None false fitting text is = cc
+kept_silent None true false text is = cc
+kept_silent None true true text is = cc
+
+-- what a meaning says
+abbrev Says : Meaning → Type 0
+Says m = (text : List ℕ) (new : Instrument) → m ≡ Does (Some text) new → text ≢ []
+
+meaning_told : (f : Flush) (m : Meaning) → Says m → HasText (answer_meant f m)
+meaning_told f (Refuses e) some text is = cc
+meaning_told f (Does None new) some text is = cc
+meaning_told f (Does (Some given) new) some text is = subst (λ (z : List ℕ). z ≢ []) (let same : given ≡ text = cc in same) (some given new refl)
+meaning_told f (Keeps change) some text is = kept_silent (nv.refused f.contents change) (is_whole f.store) (fits f.limit (nv.apply f.contents change)) text is
+meaning_told f (Completes c) some text is = completing_told (not (is_whole f.store)) (parks c && not (f.unflushed == 0)) c text is
+
+meant_says : (s : Situation) (reading : Result Command ScpiError) → Says (meant s reading)
+meant_says s (Err e) text new is = cc
+meant_says s (Ok command) text new is = each_answer_has_text s command text new is
+
+may_told : (s : State) (session : ℕ) (request : Request) (reply : Reply) → MayMean s.flush (meant (here s session) request.reading) reply → HasText reply
+may_told s session request reply (inl e) text is = meaning_told s.flush (meant (here s session) request.reading) (meant_says (here s session) request.reading) text (sym e ∙ is)
+may_told s session request reply (inr (e, wanted)) text is = let bad = sym e ∙ is in cc
+
+-- ---- units, and the ends of waits
+
+told_now : (s : State) (session : ℕ) (request : Request) (reply : Reply)
+    → IsPutOff reply ⊎ ((is_later s session request ≡ false) × (IsCall reply ⊎ MayMean s.flush (meant (here s session) request.reading) reply)) → HasText reply
+told_now s session request reply (inl off) text is = absurd (subst IsPutOff is off)
+told_now s session request reply (inr (now, inl call)) text is = absurd (answer_is_no_call text (subst IsCall is call))
+told_now s session request reply (inr (now, inr may)) text is = may_told s session request reply may text is
+
+pub unit_has_text : (s : State) (session : ℕ) (request : Request) (reply : Reply) → MayAnswer s session request reply → HasText reply
+unit_has_text s session request reply may = told_now s session request reply (ways s session request reply may)
+
+until_told : (flushed : Bool) (c : Completion) → HasText (if flushed then answer_complete c else Parked)
+until_told true c text is = complete_told c text is
+until_told false c text is = cc
+
+wait_told : (w : Option Wait) → HasText (settle_answer w)
+wait_told None text is = cc
+wait_told (Some CutOff) text is = cc
+wait_told (Some (Until c n)) text is = until_told (n == 0) c text is
+
+pub settle_has_text : (s : State) (session : ℕ) (reply : Reply) → MaySettle s session reply → HasText reply
+settle_has_text s session reply (inl e) text is = wait_told (wait_of s.flush session) text (sym e ∙ is)
+settle_has_text s session reply (inr (e, wanted)) text is = let bad = sym e ∙ is in cc

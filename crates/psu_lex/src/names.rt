@@ -1,0 +1,54 @@
+// What the label of a macro and the name of a file may be.
+ghost use Rattle.std.specs.Prelude.{◌≡◌};
+ghost use Rattle.std.specs.List.{list_all};
+ghost use Rattle.psu_lex.specs.Names.{begins_with_letter, is_file_byte, is_label, is_name};
+ghost use Rattle.psu_lex.specs.Syntax.{is_name_byte};
+
+use crate::headers::is_name_byte;
+
+/// Whether the bytes are the label of a macro: a letter followed by letters, digits or `_`, 1 to 12 bytes
+/// (this project's own rule).
+pub fn is_label(bytes: &[u8]) -> bool
+    ensures { result ≡ is_label bytes.now }
+{
+    begins_with_letter(bytes) && are_name_bytes(bytes) && bytes.len() <= 12
+}
+
+/// Whether the bytes are the name of a file: 1 to 64 of letters, digits, `_`, `-` and `.` (this project's own
+/// rule).
+pub fn is_name(bytes: &[u8]) -> bool
+    ensures { result ≡ is_name bytes.now }
+{
+    are_file_bytes(bytes) && !bytes.is_empty() && bytes.len() <= 64
+}
+
+// Whether the first byte is a letter.
+fn begins_with_letter(bytes: &[u8]) -> bool
+    ensures { result ≡ begins_with_letter bytes.now }
+{
+    match bytes {
+        [] => false,
+        [first, ..] => first.is_ascii_alphabetic(),
+    }
+}
+
+// Whether all bytes are letters, digits or `_`.
+fn are_name_bytes(bytes: &[u8]) -> bool
+    ensures { result ≡ list_all is_name_byte bytes.now }
+{
+    bytes.iter().all(|byte| is_name_byte(*byte))
+}
+
+// Whether the byte may stand in the name of a file.
+fn is_file_byte(byte: u8) -> bool
+    ensures { result ≡ is_file_byte byte }
+{
+    is_name_byte(byte) || byte == b'-' || byte == b'.'
+}
+
+// Whether all bytes may.
+fn are_file_bytes(bytes: &[u8]) -> bool
+    ensures { result ≡ list_all is_file_byte bytes.now }
+{
+    bytes.iter().all(|byte| is_file_byte(*byte))
+}

@@ -1,0 +1,40 @@
+-- How far a transmission has come, and what an outcome of its next unit makes of that.
+use Rattle.std.specs.Prelude.{ℕ, ◌+◌, Bool, true, false, Option, Some, None}
+use Rattle.psu_exec.specs.Device.{Reply, Done, Answer, Error, Expand, Parked, Held, Later}
+
+-- How many of its units are done; how many of the expansion in the next one's place, where there is one; whether the next was accepted and waits.
+pub record Standing : Type 0 where
+  pub units : ℕ
+  pub inside : Option ℕ
+  pub parked : Bool
+
+abbrev pub start : Standing
+start = record { units = 0; inside = None; parked = false }
+
+-- the next unit is done, in the expansion where there is one
+abbrev pub passed : Standing → Standing
+passed s = next s s.inside where
+  next : Standing → Option ℕ → Standing
+  next s None = record { units = s.units + 1; inside = None; parked = false }
+  next s (Some n) = record { units = s.units; inside = Some (n + 1); parked = false }
+
+-- an expansion stands in the next unit's place; inside one there is no other
+abbrev pub expanded : Standing → Standing
+expanded s = next s s.inside where
+  next : Standing → Option ℕ → Standing
+  next s None = record { units = s.units; inside = Some 0; parked = false }
+  next s (Some n) = record { units = s.units; inside = Some (n + 1); parked = false }
+
+-- Parked: the unit was accepted, and waits; Held and Later: nothing was executed, and it is tried again
+abbrev pub after : Standing → Reply → Standing
+after s Parked = record { units = s.units; inside = s.inside; parked = true }
+after s Held = s
+after s Later = s
+after s (Expand text) = expanded s
+after s Done = passed s
+after s (Answer text) = passed s
+after s (Error error) = passed s
+
+-- the expansion is done, and with it the unit that it stood for
+abbrev pub left : Standing → Standing
+left s = record { units = s.units + 1; inside = None; parked = false }

@@ -1,0 +1,22 @@
+//! Messages executed: the units of a transmission, one after another, each to its end, and what they answer. Nothing here waits, and what the
+//! units are executed on is known by what was asked of it alone.
+#![tactic(auto)]
+
+mod course;
+mod expansions;
+mod front;
+mod laws;
+mod messages;
+mod need;
+mod reading;
+mod standing;
+mod steps;
+mod telling;
+mod tries;
+
+pub use course::Course;
+pub use front::Front;
+pub use laws::{calls_are_one_course, over_is_done, over_is_sent};
+pub use messages::proceed;
+pub use need::Need;
+pub use standing::Standing;

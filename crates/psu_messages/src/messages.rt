@@ -1,0 +1,198 @@
+// A transmission, executed unit by unit and answered message by message.
+ghost use Rattle.std.specs.Prelude.{◌≡◌, ◌+◌, ◌<◌, ◌^◌, true, false, None, is_some, IfOk, IfSome, OnOk, OnErr};
+ghost use Rattle.psu_messages.specs.Deeds.{Awaits, Halts};
+ghost use Rattle.psu_messages.specs.Courses.{Goes, IsOver, NextUnit, Stops};
+ghost use Rattle.psu_messages.specs.Shown.{course_of};
+ghost use Rattle.psu_messages.specs.Units.{Asks, EndsMessage, Fault, Source, Text, source_of};
+
+use crate::expansions::{expand, place_of};
+use crate::reading::{path_behind, request_at};
+use crate::steps::{Step, take_step};
+use crate::telling::close;
+use crate::{Course, Front, Need};
+use psu_exec::{Request, ScpiError};
+use psu_lex::split;
+use psu_sessions::Input;
+use std::alloc::Allocator;
+
+// Goes on with the expansion that stands in a unit's place.
+fn resume<A: Allocator + Copy, F: Front<A>>(
+    front: &mut F,
+    alloc: A,
+    course: &mut Course<A>,
+) -> Result<Option<Need>, F::Stop>
+    requires some { is_some course.old.standing.inside ≡ true }
+    requires units { course.old.standing.units + 1 < 2 ^ 64 }
+    ensures goes { IfOk result (λ _. (source : Source) → Goes F.does source front.old (course_of course.old) front.new (course_of course.new)) }
+    ensures units { IfOk result (λ need. need ≡ None → course.new.standing.units ≡ course.old.standing.units + 1) }
+    ensures waits { IfOk result (λ some. IfSome some (Awaits F.does front.new)) }
+    ensures stops { OnErr result ((source : Source) → Stops F.does F.stops source front.old (course_of course.old) front.new) }
+{
+    let Some(body) = &course.expansion else {
+        return Err(front.short());
+    };
+    let need = expand(
+        front,
+        alloc,
+        body.as_slice(),
+        &mut course.standing,
+        &mut course.gathered,
+    )?;
+    Ok(need)
+}
+
+// Executes a unit of a message, or goes on with the expansion in its place.
+fn perform<A: Allocator + Copy, F: Front<A>>(
+    front: &mut F,
+    alloc: A,
+    request: &Request<'_>,
+    course: &mut Course<A>,
+) -> Result<Option<Need>, F::Stop>
+    requires { course.old.standing.units + 1 < 2 ^ 64 }
+    ensures goes { IfOk result (λ _. (source : Source) → NextUnit source (course_of course.old) request.now
+        → Goes F.does source front.old (course_of course.old) front.new (course_of course.new)) }
+    ensures units { IfOk result (λ need. need ≡ None → course.new.standing.units ≡ course.old.standing.units + 1) }
+    ensures waits { IfOk result (λ some. IfSome some (Awaits F.does front.new)) }
+    ensures stops { OnErr result ((source : Source) → NextUnit source (course_of course.old) request.now
+        → Stops F.does F.stops source front.old (course_of course.old) front.new) }
+{
+    if course.standing.inside().is_some() {
+        let need = resume(front, alloc, course)?;
+        return Ok(need);
+    }
+    let step = take_step(front, request, &mut course.standing, &mut course.gathered)?;
+    match step {
+        Step::Done => Ok(None),
+        Step::Waits(need) => Ok(Some(need)),
+        Step::Expands(body) => {
+            course.expansion = Some(body);
+            let need = resume(front, alloc, course)?;
+            Ok(need)
+        }
+    }
+}
+
+// Sends what is left of a message's answers before the first unit of the next.
+fn close_before<A: Allocator + Copy, F: Front<A>>(
+    front: &mut F,
+    first: bool,
+    course: &mut Course<A>,
+) -> Result<(), F::Stop>
+    ensures goes { OnOk result ((source : Source) → (first ≡ true → course.old.standing.inside ≡ None → EndsMessage source course.old.standing.units course.old.standing.inside)
+        → Goes F.does source front.old (course_of course.old) front.new (course_of course.new)) }
+    ensures clear { OnOk result (first ≡ true → course.new.standing.inside ≡ None → course.new.gathered.answered ≡ false) }
+    ensures standing { course.new.standing ≡ course.old.standing }
+    ensures stopped { OnErr result (Halts F.stops front.old front.new) }
+{
+    if !first || course.standing.inside().is_some() {
+        return Ok(());
+    }
+    close(front, &mut course.gathered)?;
+    Ok(())
+}
+
+// Takes the turn of a unit.
+fn take_turn<A: Allocator + Copy, F: Front<A>>(
+    front: &mut F,
+    alloc: A,
+    first: bool,
+    request: &Request<'_>,
+    course: &mut Course<A>,
+) -> Result<Option<Need>, F::Stop>
+    requires { course.old.standing.units + 1 < 2 ^ 64 }
+    ensures goes { IfOk result (λ _. (source : Source) → Asks source course.old.standing.units request.now first
+        → Goes F.does source front.old (course_of course.old) front.new (course_of course.new)) }
+    ensures units { IfOk result (λ need. need ≡ None → course.new.standing.units ≡ course.old.standing.units + 1) }
+    ensures waits { IfOk result (λ some. IfSome some (Awaits F.does front.new)) }
+    ensures stops { OnErr result ((source : Source) → Asks source course.old.standing.units request.now first
+        → Stops F.does F.stops source front.old (course_of course.old) front.new) }
+{
+    close_before(front, first, course)?;
+    let need = perform(front, alloc, request, course)?;
+    Ok(need)
+}
+
+// Executes what is left of a text; what has to be waited for, where it isn't done then.
+fn execute_text<A: Allocator + Copy, F: Front<A>>(
+    front: &mut F,
+    alloc: A,
+    bytes: &[u8],
+    course: &mut Course<A>,
+) -> Result<Option<Need>, F::Stop>
+    ensures goes { IfOk result (λ _. Goes F.does (Text bytes.now) front.old (course_of course.old) front.new (course_of course.new)) }
+    ensures over { IfOk result (λ need. need ≡ None → IsOver (Text bytes.now) (course_of course.new)) }
+    ensures waits { IfOk result (λ some. IfSome some (Awaits F.does front.new)) }
+    ensures stops { OnErr result (Stops F.does F.stops (Text bytes.now) front.old (course_of course.old) front.new) }
+{
+    let Ok(units) = split(alloc, bytes) else {
+        return Err(front.short());
+    };
+    let list = units.as_slice();
+    let done = course.standing.units();
+    let at = place_of(done, list.len());
+    let (before, rest) = list.split_at(at);
+    let mut path = path_behind(before, false);
+    for unit in rest {
+        let request = request_at(&mut path, unit, false);
+        let turn = take_turn(front, alloc, unit.first, &request, course)?;
+        if let Some(need) = turn {
+            return Ok(Some(need));
+        }
+    }
+    close(front, &mut course.gathered)?;
+    Ok(None)
+}
+
+// Executes what reports an error in place of a transmission.
+fn execute_fault<A: Allocator + Copy, F: Front<A>>(
+    front: &mut F,
+    alloc: A,
+    error: ScpiError,
+    course: &mut Course<A>,
+) -> Result<Option<Need>, F::Stop>
+    ensures goes { IfOk result (λ _. Goes F.does (Fault error) front.old (course_of course.old) front.new (course_of course.new)) }
+    ensures over { IfOk result (λ need. need ≡ None → IsOver (Fault error) (course_of course.new)) }
+    ensures waits { IfOk result (λ some. IfSome some (Awaits F.does front.new)) }
+    ensures stops { OnErr result (Stops F.does F.stops (Fault error) front.old (course_of course.old) front.new) }
+{
+    if course.standing.units() > 0 {
+        close(front, &mut course.gathered)?;
+        return Ok(None);
+    }
+    let request = Request {
+        call: None,
+        reading: Err(error),
+        inside: false,
+    };
+    let turn = take_turn(front, alloc, true, &request, course)?;
+    if let Some(need) = turn {
+        return Ok(Some(need));
+    }
+    close(front, &mut course.gathered)?;
+    Ok(None)
+}
+
+/// Executes what is left of a transmission, up to a unit that has to wait: what that waits for, or none where the transmission is over. It is
+/// taken up by another call, here or elsewhere. Where the front stops, it stops for good.
+pub fn proceed<A: Allocator + Copy, F: Front<A>>(
+    front: &mut F,
+    alloc: A,
+    input: &Input<A>,
+    course: &mut Course<A>,
+) -> Result<Option<Need>, F::Stop>
+    ensures goes { IfOk result (λ _. Goes F.does (source_of input.now) front.old (course_of course.old) front.new (course_of course.new)) }
+    ensures over { IfOk result (λ need. need ≡ None → IsOver (source_of input.now) (course_of course.new)) }
+    ensures waits { IfOk result (λ some. IfSome some (Awaits F.does front.new)) }
+    ensures stops { OnErr result (Stops F.does F.stops (source_of input.now) front.old (course_of course.old) front.new) }
+{
+    match input {
+        Input::Text(text) => {
+            let need = execute_text(front, alloc, text.as_slice(), course)?;
+            Ok(need)
+        }
+        Input::Fault(error) => {
+            let need = execute_fault(front, alloc, *error, course)?;
+            Ok(need)
+        }
+    }
+}

@@ -1,0 +1,27 @@
+// Units as they read, one after another.
+ghost use Rattle.psu_lex.specs.Message.{part, parts};
+ghost use Rattle.psu_messages.specs.Units.{IsRequest, Leads, path_at};
+
+use psu_lex::Unit;
+use psu_tree::{Path, Request, request};
+
+/// A unit as it reads at a path; the first of a message is read from the root.
+pub(crate) fn request_at<'a>(path: &mut Path<'a>, unit: &Unit<'a>, inside: bool) -> Request<'a>
+    ensures { IsRequest inside (path_at path.old (part unit.now)) (part unit.now) result path.new }
+{
+    if unit.first {
+        *path = Path::root();
+    }
+    request(path, unit, inside)
+}
+
+/// Where the path stands behind units that are not executed again.
+pub(crate) fn path_behind<'a>(units: &[Unit<'a>], inside: bool) -> Path<'a>
+    ensures { Leads inside (parts units.now) result }
+{
+    let mut path = Path::root();
+    for unit in units {
+        request_at(&mut path, unit, inside);
+    }
+    path
+}

@@ -1,0 +1,73 @@
+// One try of a unit.
+ghost use Rattle.std.specs.Prelude.{◌≡◌, ◌+◌, ◌<◌, ◌^◌, IfOk, IfSome, OnErr};
+ghost use Rattle.psu_exec.specs.Shown.{outcome_of};
+ghost use Rattle.psu_messages.specs.Deeds.{Deed, Halts, IsTry, needs};
+ghost use Rattle.psu_messages.specs.Shown.{IsTried};
+
+use crate::{Front, Need, Standing};
+use psu_exec::{Outcome, Request, ScpiError};
+use std::alloc::Allocator;
+
+/// What a try of a unit comes to.
+#[derive(Drop)]
+pub(crate) enum Tried<A: Allocator + Copy> {
+    /// The unit has come to its end.
+    Ended(Outcome<A>),
+    /// It is to be tried again once this has come.
+    Waits(Need),
+}
+
+// What a unit waits for, accepted or not, where it is to be tried again.
+fn need_of<A: Allocator + Copy>(parked: bool, outcome: &Outcome<A>) -> Option<Need>
+    ensures { result ≡ needs parked (outcome_of outcome.now) }
+{
+    match outcome {
+        Outcome::Parked => Some(Need::Flush),
+        Outcome::Held => Some(Need::Lock),
+        Outcome::Later => Some(Need::Room),
+        Outcome::Error(ScpiError::OutOfMemory) if parked => Some(Need::Memory),
+        _ => None,
+    }
+}
+
+// Executes a unit, or settles one that was accepted.
+fn once<A: Allocator + Copy, F: Front<A>>(
+    front: &mut F,
+    parked: bool,
+    request: &Request<'_>,
+) -> Result<Outcome<A>, F::Stop>
+    ensures done { IfOk result (λ o. (deed : Deed) × F.does front.old deed front.new × IsTry parked request.now deed (outcome_of o)) }
+    ensures stopped { OnErr result (Halts F.stops front.old front.new) }
+{
+    if parked {
+        front.settle()
+    } else {
+        front.execute(request)
+    }
+}
+
+/// Tries a unit once.
+pub(crate) fn attempt<A: Allocator + Copy, F: Front<A>>(
+    front: &mut F,
+    standing: &mut Standing,
+    request: &Request<'_>,
+) -> Result<Tried<A>, F::Stop>
+    requires units { standing.old.units + 1 < 2 ^ 64 }
+    requires inside { IfSome standing.old.inside (λ done. done + 1 < 2 ^ 64) }
+    ensures tried { IfOk result (IsTried F.does front.old standing.old request.now front.new standing.new) }
+    ensures stopped { OnErr result (Halts F.stops front.old front.new) }
+{
+    let parked = standing.is_parked();
+    let outcome = once(front, parked, request)?;
+    match need_of(parked, &outcome) {
+        Some(Need::Memory) => Ok(Tried::Waits(Need::Memory)),
+        Some(need) => {
+            standing.take(&outcome);
+            Ok(Tried::Waits(need))
+        }
+        None => {
+            standing.take(&outcome);
+            Ok(Tried::Ended(outcome))
+        }
+    }
+}

@@ -1,0 +1,24 @@
+// A transmission between two tries.
+use psu_hislip::Origin;
+use psu_messages::Course;
+use psu_sessions::Input;
+use std::alloc::Global;
+
+/// A transmission between two tries: where it came from, what is to be executed, and how far that has come.
+#[derive(Drop)]
+pub struct Begun {
+    pub origin: Origin,
+    pub input: Input<Global>,
+    pub course: Course<Global>,
+}
+
+impl Begun {
+    /// Nothing of it is done.
+    pub fn new(alloc: Global, origin: Origin, input: Input<Global>) -> Begun {
+        Begun {
+            origin,
+            input,
+            course: Course::new(alloc),
+        }
+    }
+}

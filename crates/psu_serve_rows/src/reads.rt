@@ -1,0 +1,28 @@
+// What a read of a connection comes to.
+use psu_serve::Heard;
+use std::io::{Error, ErrorKind};
+use std::test::Fail;
+
+// A read that was interrupted, as where the server is stopped and goes on, or that took its time is no end.
+#[test]
+fn an_interrupted_read_is_no_end(rt: HostRuntime) -> Result<(), Fail> {
+    for kind in [
+        ErrorKind::Interrupted,
+        ErrorKind::WouldBlock,
+        ErrorKind::TimedOut,
+    ] {
+        assert_eq!(rt; Heard::of(&Err(Error::from(kind))), Heard::Nothing);
+    }
+    Ok(())
+}
+
+#[test]
+fn a_read_of_nothing_is_the_end(rt: HostRuntime) -> Result<(), Fail> {
+    assert_eq!(rt; Heard::of(&Ok(0)), Heard::End);
+    assert_eq!(rt;
+        Heard::of(&Err(Error::from(ErrorKind::ConnectionReset))),
+        Heard::End
+    );
+    assert_eq!(rt; Heard::of(&Ok(16)), Heard::Bytes(16));
+    Ok(())
+}

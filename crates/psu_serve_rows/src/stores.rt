@@ -1,0 +1,64 @@
+// Stores that break, are opened again, or are worn: how often the disk is tried, and what is told on standard error.
+use crate::client::Client;
+use crate::joining::joined_as;
+use crate::missed::{Missed, holds};
+use crate::screen::Screen;
+use crate::server::{new_disk, served_disk};
+use crate::sick_disk::{Health, SickDisk};
+use psu_disk::Disk;
+use std::test::Fail;
+use std::thread;
+use std::time::Duration;
+
+// Where the number of the first root stands in an image.
+const NUMBER: u64 = 8;
+
+fn saves(client: &mut Client) -> Result<(), Missed> {
+    client.say(b"VOLT 7;*SAV 1")?;
+    client.ask(b"VOLT?", b"7.000\n")
+}
+
+fn is_kept(client: &mut Client) -> Result<(), Missed> {
+    client.ask(b"*OPC?", b"1\n")
+}
+
+// A disk that takes nothing is tried once a second and no more, and that it broke is told once. Once it takes something again that is kept, with
+// nobody asking for it, and told.
+#[test]
+fn a_full_disk_is_tried_each_second(rt: HostRuntime) -> Result<(), Fail> {
+    let alloc = rt.alloc();
+    let health = Health::new(alloc)?;
+    let screen = Screen::new(rt, alloc)?;
+    let disk = SickDisk::new(new_disk(alloc)?, health.another()?);
+    let port = served_disk(rt, alloc, disk, 48_915, screen.another()?)?;
+    let mut one = joined_as(&rt, port, 1)?;
+    health.be_sick(true);
+    saves(&mut one)?;
+    thread::sleep(&rt, Duration::from_millis(3_000));
+    let tries = health.refused();
+    screen.shows("psu: store broken\n")?;
+    holds(tries >= 1 && tries <= 4, "a try each second")?;
+    health.be_sick(false);
+    screen.comes_to_show("psu: store broken\npsu: store reopened\n")?;
+    is_kept(&mut one)?;
+    Ok(())
+}
+
+// The numbers of a store are used up: that is told once.
+#[test]
+fn a_worn_store_is_told_of_once(rt: HostRuntime) -> Result<(), Fail> {
+    let alloc = rt.alloc();
+    let screen = Screen::new(rt, alloc)?;
+    let mut disk = new_disk(alloc)?;
+    if disk.size() < NUMBER + 8 || disk.write(NUMBER, &[0xff; 8]).is_err() {
+        return Err(Fail::from("a number"));
+    }
+    let port = served_disk(rt, alloc, disk, 48_917, screen.another()?)?;
+    let mut one = joined_as(&rt, port, 1)?;
+    saves(&mut one)?;
+    screen.comes_to_show("psu: store worn\n")?;
+    thread::sleep(&rt, Duration::from_millis(2_500));
+    screen.shows("psu: store worn\n")?;
+    one.is_served()?;
+    Ok(())
+}
