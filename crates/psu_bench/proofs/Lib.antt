@@ -1,3 +1,4 @@
+pub mod Ending
 pub mod Rounds
 pub mod Tries
 pub mod Lives

@@ -6,13 +6,13 @@ use Rattle.psu_exec.specs.Device.{State}
 use Rattle.psu_exec.specs.Calls.{Entry}
 use Rattle.psu_exec.specs.Calls.Entry.{Executed, Settled, Took, GaveBack, Opened, Closed, Cleared, Sent, Delivered, Queried, Fetched, Told, Locked, Released, Ticked, Informed, Due}
 use Rattle.psu_exec.specs.Lives.{broken_life}
-use Rattle.psu_exec.specs.World.{World, Running, Event, Call, DiskCall, Loss, Restart, DiskAfter, Happens, Run, recorded}
+use Rattle.psu_exec.specs.World.{World, Running, Event, Call, DiskCall, Loss, Stop, Restart, DiskAfter, Happens, Run, recorded}
 use Rattle.psu_exec.proofs.BrokenLife.{breaks_and_mends}
 use Rattle.psu_exec.proofs.Events.{prefix_is_left}
 use Rattle.psu_turn.specs.History.{Leads}
 use Rattle.psu_turn.specs.declared.numbered.Numbered.{Numbered}
-use Rattle.psu_bench.specs.Calls.{Admits, HasNoSession}
-use Rattle.psu_bench.specs.Lives.{Happening, Called, Moved, HasDisk, HistoriesHappen, LeadsOverDisks, Lives, LivesAreEvents, SomeHistoryHappens, ThreadsLeavePrefix, by_one, calls_in}
+use Rattle.psu_bench.specs.Calls.{Admits, AdmitsOn, HasDisk, HasNoSession}
+use Rattle.psu_bench.specs.Lives.{Happening, Called, Moved, HistoriesHappen, LeadsOverDisks, Lives, LivesAreEvents, SeenHistoriesHappen, SomeHistoryHappens, ThreadsLeavePrefix, by_one, calls_in}
 
 -- ---- what happens are events
 
@@ -146,6 +146,36 @@ pub histories_happen : HistoriesHappen
 unfolding Happened
 histories_happen w history last running = (happen history w last running, led_to w history last)
 
+-- ---- what a seat has seen happens
+
+on_disk : (honest : Type 0) (s next : State) (entry : Entry) → honest → AdmitsOn honest s entry next → Admits s entry next × HasDisk s entry
+on_disk honest s next (GaveBack finished over) h (admits, has) = (admits, has h)
+on_disk honest s next (Executed session request reply) h admits = (admits, tt)
+on_disk honest s next (Settled session reply) h admits = (admits, tt)
+on_disk honest s next (Took taken) h admits = (admits, tt)
+on_disk honest s next (Opened session) h admits = (admits, tt)
+on_disk honest s next (Closed session granted) h admits = (admits, tt)
+on_disk honest s next (Cleared session) h admits = (admits, tt)
+on_disk honest s next (Sent session) h admits = (admits, tt)
+on_disk honest s next (Delivered session) h admits = (admits, tt)
+on_disk honest s next (Queried session byte) h admits = (admits, tt)
+on_disk honest s next (Fetched session byte) h admits = (admits, tt)
+on_disk honest s next (Told sessions work) h admits = (admits, tt)
+on_disk honest s next (Locked session kind now timeout result) h admits = (admits, tt)
+on_disk honest s next (Released session result) h admits = (admits, tt)
+on_disk honest s next (Ticked now failed) h admits = (admits, tt)
+on_disk honest s next (Informed info) h admits = (admits, tt)
+on_disk honest s next (Due deadline) h admits = (admits, tt)
+
+over_disks : (honest : Type 0) (history : List (Numbered Entry)) (first last : State) → honest → Leads (AdmitsOn honest) first history last → LeadsOverDisks first history last
+over_disks honest [] first last h leads = leads
+over_disks honest (call ∷ history) first last h (next, admits, rest) =
+    let on = on_disk honest first next call.entry h admits in (next, on.0, on.1, over_disks honest history next last h rest)
+
+pub seen_histories_happen : SeenHistoriesHappen
+unfolding Happened
+seen_histories_happen honest w history last h running leads = happen history w last running (over_disks honest history w.state last h leads)
+
 -- ---- one that does
 
 -- no power is lost
@@ -154,6 +184,7 @@ Goes [] = ⊤
 Goes (Call entry disk ∷ more) = Goes more
 Goes (DiskCall disk ∷ more) = Goes more
 Goes (Loss image ∷ more) = ⊥
+Goes (Stop ∷ more) = ⊥
 Goes (Restart limit contents ∷ more) = ⊥
 
 lives_of : (events : List Event) (w new : World) → Goes events → Run w events new → Lives w (by_one events) new
@@ -162,6 +193,7 @@ lives_of [] w new goes same = same
 lives_of (Call entry disk ∷ more) w new goes (mid, happens, rest) = inl (mid, happens, lives_of more mid new goes rest)
 lives_of (DiskCall disk ∷ more) w new goes (mid, happens, rest) = (mid, happens, lives_of more mid new goes rest)
 lives_of (Loss image ∷ more) w new goes run = absurd goes
+lives_of (Stop ∷ more) w new goes run = absurd goes
 lives_of (Restart limit contents ∷ more) w new goes run = absurd goes
 
 pub some_history_happens : SomeHistoryHappens

@@ -1,8 +1,10 @@
 -- The calls of the bench, each with its reply: those of the device, and those with a session that isn't open.
-use Rattle.std.specs.Prelude.{◌≡◌, ◌⊎◌, ℕ, false, Option, Some, None, Result, Ok, Err, []}
-use Rattle.psu_exec.specs.Device.{State, is_open, Later}
+use Rattle.std.specs.Prelude.{◌≡◌, ◌⊎◌, ℕ, false, Option, Some, None, Result, Ok, Err, [], ⊤}
+use Rattle.psu_disk.specs.Disk.{DiskState}
+use Rattle.psu_exec.specs.Device.{State, is_open, target, Later}
 use Rattle.psu_exec.specs.Calls.{Entry, Allows}
 use Rattle.psu_exec.specs.Calls.Entry.{Executed, Settled, Took, GaveBack, Opened, Closed, Cleared, Sent, Delivered, Queried, Fetched, Told, Locked, Released, Ticked, Informed, Due}
+use Rattle.psu_exec.specs.World.{IsTrueOf}
 use Rattle.psu_locks.specs.declared.grant.Grant.TheVariants.{Failed}
 use Rattle.psu_locks.specs.declared.lock_refusal.LockRefusal.TheVariants.{NotHeld}
 
@@ -29,6 +31,16 @@ HasNoSession s (Due deadline) = ⊥
 -- From old, the call may be answered so and leave new.
 abbrev pub Admits : State → Entry → State → Type 0
 Admits s e t = Allows s e t ⊎ (HasNoSession s e × (t ≡ s))
+
+-- where the call gives back an end that is accepted, that end is true of some disk
+abbrev pub HasDisk : State → Entry → Type 0
+HasDisk s (GaveBack finished (Some over)) = (disk : DiskState) × IsTrueOf (target s.flush) finished disk
+HasDisk s _ = ⊤
+
+-- so it is; and an end that is accepted is true of some disk, where the disks of its kind are honest
+abbrev pub AdmitsOn : Type 0 → State → Entry → State → Type 0
+AdmitsOn honest s (GaveBack finished over) t = Admits s (GaveBack finished over) t × (honest → HasDisk s (GaveBack finished over))
+AdmitsOn honest s e t = Admits s e t
 
 -- the session that opened, or none
 abbrev pub session_of : {E : Type 0} → Result ℕ E → Option ℕ

@@ -1,16 +1,17 @@
 -- The histories of the bench as events of the theorem on power loss.
-use Rattle.std.specs.Prelude.{◌≡◌, ◌⊎◌, ◌↔◌, ℕ, Some, List, [], ◌∷◌, ⊤}
+use Rattle.std.specs.Prelude.{◌≡◌, ◌⊎◌, ◌↔◌, ℕ, List, [], ◌∷◌}
 use Rattle.psu_disk.specs.Disk.{DiskState, Left}
 use Rattle.psu_items.specs.Image.{Stands, EachStands, EachIsEither}
 use Rattle.psu_nv.specs.Contents.{items_of}
-use Rattle.psu_exec.specs.Device.{State, target}
-use Rattle.psu_exec.specs.Calls.{Entry, GaveBack}
+use Rattle.psu_exec.specs.Consistent.{MayBeKept}
+use Rattle.psu_exec.specs.Device.{State}
+use Rattle.psu_exec.specs.Calls.{Entry}
 use Rattle.psu_exec.specs.Headline.{IsPrefix}
 use Rattle.psu_exec.specs.Lives.{cleared, broken_life}
-use Rattle.psu_exec.specs.World.{World, Running, Event, Call, DiskCall, Loss, Restart, Happens, IsStart, IsTrueOf, Moves, Run, after, answered}
+use Rattle.psu_exec.specs.World.{World, Running, Event, Call, DiskCall, Loss, Stop, Restart, Happens, IsStart, Moves, Run, after, answered}
 use Rattle.psu_turn.specs.History.{Leads, numbered}
 use Rattle.psu_turn.specs.declared.numbered.Numbered.{Numbered}
-use Rattle.psu_bench.specs.Calls.{Admits, HasNoSession}
+use Rattle.psu_bench.specs.Calls.{Admits, AdmitsOn, HasDisk, HasNoSession}
 
 -- What happens while threads run: a call, with the disk after it, or a disk call of the job that is out.
 pub data Happening : Type 0 where
@@ -37,11 +38,6 @@ abbrev pub LivesAreEvents : Type 0
 LivesAreEvents = (w new : World) (happenings : List Happening) → Lives w happenings new
     → ((events : List Event) × Run w events new) × Leads Admits w.state (calls_in happenings) new.state
 
--- where the call gives back an end that is accepted, that end is true of some disk
-abbrev pub HasDisk : State → Entry → Type 0
-HasDisk s (GaveBack finished (Some over)) = (disk : DiskState) × IsTrueOf (target s.flush) finished disk
-HasDisk s _ = ⊤
-
 -- a legal history whose accepted ends are each true of some disk
 abbrev pub LeadsOverDisks : State → List (Numbered Entry) → State → Type 0
 LeadsOverDisks first [] last = first ≡ last
@@ -52,12 +48,18 @@ abbrev pub HistoriesHappen : Type 0
 HistoriesHappen = (w : World) (history : List (Numbered Entry)) (last : State) → w.mode ≡ Running
     → LeadsOverDisks w.state history last ↔ ((happenings : List Happening) × (new : World) × (calls_in happenings ≡ history) × Lives w happenings new × (new.state ≡ last))
 
--- what one thread does where these events happen, up to a power loss
+-- So what a seat has seen happens, where the disks of the bench's kind are honest.
+abbrev pub SeenHistoriesHappen : Type 0
+SeenHistoriesHappen = (honest : Type 0) (w : World) (history : List (Numbered Entry)) (last : State) → honest → w.mode ≡ Running → Leads (AdmitsOn honest) w.state history last
+    → (happenings : List Happening) × (new : World) × (calls_in happenings ≡ history) × Lives w happenings new × (new.state ≡ last)
+
+-- what one thread does where these events happen, up to a power loss or the process's end
 abbrev pub by_one : List Event → List Happening
 by_one [] = []
 by_one (Call entry disk ∷ more) = Called (numbered 1 entry) disk ∷ by_one more
 by_one (DiskCall disk ∷ more) = Moved disk ∷ by_one more
 by_one (Loss image ∷ more) = []
+by_one (Stop ∷ more) = []
 by_one (Restart limit contents ∷ more) = []
 
 -- There are such histories: one with a job whose disk fails, a reopening of the store, and a 1 that is answered for what it then holds.
@@ -67,8 +69,8 @@ SomeHistoryHappens = (first : World) (torn disk : DiskState)
     → (last : World) × Lives first (by_one (broken_life first torn disk)) last × (answered last.history ≡ 3)
 
 -- Whatever threads do, what a power loss may leave stands for the contents after a front of the executed units that holds every unit before an
--- answered `*OPC?`.
+-- answered `*OPC?`; they may be kept.
 abbrev pub ThreadsLeavePrefix : Type 0
 ThreadsLeavePrefix = (first now : World) (happenings : List Happening) (image : List ℕ)
     → IsStart first → Lives first happenings now → Left now.disk image
-    → (k : ℕ) × IsPrefix now k × Stands image now.limit (items_of (after now k))
+    → (k : ℕ) × IsPrefix now k × MayBeKept now.limit (after now k) × Stands image now.limit (items_of (after now k))

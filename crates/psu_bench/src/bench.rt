@@ -3,7 +3,7 @@ ghost use Rattle.std.specs.Prelude.{◌≡◌, IfOk, IfErr, length};
 ghost use Rattle.psu_turn.specs.Seats.{Begins, IsOf, Calls, Sees, Splits, Joins, Closes};
 ghost use Rattle.psu_exec.specs.Calls.Entry.{Executed, Settled, Took, GaveBack, Opened, Closed, Cleared, Sent, Delivered, Queried, Fetched, Told, Locked, Released, Ticked, Informed, Due};
 ghost use Rattle.psu_exec.specs.Shown.{outcome_of, over_of};
-ghost use Rattle.psu_bench.specs.Calls.{Admits, session_of};
+ghost use Rattle.psu_bench.specs.Calls.{AdmitsOn, session_of};
 
 use crate::Call;
 use crate::guarded::Guarded;
@@ -72,7 +72,7 @@ impl<D: Disk, A: Allocator + Copy> Bench<D, A> {
         request: &Request<'_>,
     ) -> Outcome<A>
         requires own { IsOf self.now seat.old }
-        ensures call { Calls Admits seat.old (Executed session request.now (outcome_of result)) seat.new }
+        ensures call { Calls (AdmitsOn D.honest) seat.old (Executed session request.now (outcome_of result)) seat.new }
         ensures own { IsOf self.now seat.new }
     {
         let mut taken = self.turn.enter(rt, seat);
@@ -85,7 +85,7 @@ impl<D: Disk, A: Allocator + Copy> Bench<D, A> {
     /// What the wait of a session came to, in a turn. Later where the session isn't open.
     pub fn settle<R: Wait>(&self, rt: &R, seat: &mut Seat<A>, session: Session) -> Outcome<A>
         requires own { IsOf self.now seat.old }
-        ensures call { Calls Admits seat.old (Settled session (outcome_of result)) seat.new }
+        ensures call { Calls (AdmitsOn D.honest) seat.old (Settled session (outcome_of result)) seat.new }
         ensures own { IsOf self.now seat.new }
     {
         let mut taken = self.turn.enter(rt, seat);
@@ -98,7 +98,7 @@ impl<D: Disk, A: Allocator + Copy> Bench<D, A> {
     /// A job, in a turn.
     pub fn take<R: Wait>(&self, rt: &R, seat: &mut Seat<A>) -> Result<Job<D, A>, NoJob>
         requires own { IsOf self.now seat.old }
-        ensures call { Calls Admits seat.old (Took (taken_of result)) seat.new }
+        ensures call { Calls (AdmitsOn D.honest) seat.old (Took (taken_of result)) seat.new }
         ensures own { IsOf self.now seat.new }
     {
         let mut taken = self.turn.enter(rt, seat);
@@ -115,7 +115,7 @@ impl<D: Disk, A: Allocator + Copy> Bench<D, A> {
         finished: Finished<D, A>,
     ) -> Result<Sessions, Stranger<D, A>>
         requires own { IsOf self.now seat.old }
-        ensures call { Calls Admits seat.old (GaveBack (finished_of finished) (over_of result)) seat.new }
+        ensures call { Calls (AdmitsOn D.honest) seat.old (GaveBack (finished_of finished) (over_of result)) seat.new }
         ensures own { IsOf self.now seat.new }
     {
         let call = Snapshot::of(&finished);
@@ -128,7 +128,7 @@ impl<D: Disk, A: Allocator + Copy> Bench<D, A> {
     /// Opens the session of the least free number, in a turn.
     pub fn open_session<R: Wait>(&self, rt: &R, seat: &mut Seat<A>) -> Result<Session, Crowded>
         requires own { IsOf self.now seat.old }
-        ensures call { Calls Admits seat.old (Opened (session_of result)) seat.new }
+        ensures call { Calls (AdmitsOn D.honest) seat.old (Opened (session_of result)) seat.new }
         ensures own { IsOf self.now seat.new }
     {
         let mut taken = self.turn.enter(rt, seat);
@@ -140,7 +140,7 @@ impl<D: Disk, A: Allocator + Copy> Bench<D, A> {
     /// Closes a session, in a turn, where it is open. Answers the sessions whose requests for a lock were then granted.
     pub fn close_session<R: Wait>(&self, rt: &R, seat: &mut Seat<A>, session: Session) -> Sessions
         requires own { IsOf self.now seat.old }
-        ensures call { Calls Admits seat.old (Closed session result) seat.new }
+        ensures call { Calls (AdmitsOn D.honest) seat.old (Closed session result) seat.new }
         ensures own { IsOf self.now seat.new }
     {
         let mut taken = self.turn.enter(rt, seat);
@@ -153,7 +153,7 @@ impl<D: Disk, A: Allocator + Copy> Bench<D, A> {
     /// Drops the wait of a session, in a turn, where it is open.
     pub fn clear<R: Wait>(&self, rt: &R, seat: &mut Seat<A>, session: Session)
         requires own { IsOf self.now seat.old }
-        ensures call { Calls Admits seat.old (Cleared session) seat.new }
+        ensures call { Calls (AdmitsOn D.honest) seat.old (Cleared session) seat.new }
         ensures own { IsOf self.now seat.new }
     {
         let mut taken = self.turn.enter(rt, seat);
@@ -164,7 +164,7 @@ impl<D: Disk, A: Allocator + Copy> Bench<D, A> {
     /// An answer is sent to a session, in a turn, where it is open.
     pub fn sent<R: Wait>(&self, rt: &R, seat: &mut Seat<A>, session: Session)
         requires own { IsOf self.now seat.old }
-        ensures call { Calls Admits seat.old (Sent session) seat.new }
+        ensures call { Calls (AdmitsOn D.honest) seat.old (Sent session) seat.new }
         ensures own { IsOf self.now seat.new }
     {
         let mut taken = self.turn.enter(rt, seat);
@@ -175,7 +175,7 @@ impl<D: Disk, A: Allocator + Copy> Bench<D, A> {
     /// What was sent to a session is delivered, in a turn, where it is open.
     pub fn delivered<R: Wait>(&self, rt: &R, seat: &mut Seat<A>, session: Session)
         requires own { IsOf self.now seat.old }
-        ensures call { Calls Admits seat.old (Delivered session) seat.new }
+        ensures call { Calls (AdmitsOn D.honest) seat.old (Delivered session) seat.new }
         ensures own { IsOf self.now seat.new }
     {
         let mut taken = self.turn.enter(rt, seat);
@@ -186,7 +186,7 @@ impl<D: Disk, A: Allocator + Copy> Bench<D, A> {
     /// The answer to a status query of a session, in a turn. 0 where the session isn't open.
     pub fn status<R: Wait>(&self, rt: &R, seat: &mut Seat<A>, session: Session) -> u8
         requires own { IsOf self.now seat.old }
-        ensures call { Calls Admits seat.old (Queried session result) seat.new }
+        ensures call { Calls (AdmitsOn D.honest) seat.old (Queried session result) seat.new }
         ensures own { IsOf self.now seat.new }
     {
         let mut taken = self.turn.enter(rt, seat);
@@ -199,7 +199,7 @@ impl<D: Disk, A: Allocator + Copy> Bench<D, A> {
     /// The service request of a session, in a turn. None where the session isn't open.
     pub fn requests<R: Wait>(&self, rt: &R, seat: &mut Seat<A>, session: Session) -> Option<u8>
         requires own { IsOf self.now seat.old }
-        ensures call { Calls Admits seat.old (Fetched session result) seat.new }
+        ensures call { Calls (AdmitsOn D.honest) seat.old (Fetched session result) seat.new }
         ensures own { IsOf self.now seat.new }
     {
         let mut taken = self.turn.enter(rt, seat);
@@ -212,7 +212,7 @@ impl<D: Disk, A: Allocator + Copy> Bench<D, A> {
     /// The sessions that asked for service since this was asked last, and whether a take would give a job, in a turn.
     pub fn news<R: Wait>(&self, rt: &R, seat: &mut Seat<A>) -> (Sessions, bool)
         requires own { IsOf self.now seat.old }
-        ensures call { Calls Admits seat.old (Told result.0 result.1) seat.new }
+        ensures call { Calls (AdmitsOn D.honest) seat.old (Told result.0 result.1) seat.new }
         ensures own { IsOf self.now seat.new }
     {
         let mut taken = self.turn.enter(rt, seat);
@@ -232,7 +232,7 @@ impl<D: Disk, A: Allocator + Copy> Bench<D, A> {
         timeout: u32,
     ) -> Result<Grant, LockRefusal>
         requires own { IsOf self.now seat.old }
-        ensures call { Calls Admits seat.old (Locked session kind now timeout result) seat.new }
+        ensures call { Calls (AdmitsOn D.honest) seat.old (Locked session kind now timeout result) seat.new }
         ensures own { IsOf self.now seat.new }
     {
         let call = (session, Snapshot::of(&kind), now, timeout);
@@ -250,7 +250,7 @@ impl<D: Disk, A: Allocator + Copy> Bench<D, A> {
         session: Session,
     ) -> Result<(Freed, Sessions), LockRefusal>
         requires own { IsOf self.now seat.old }
-        ensures call { Calls Admits seat.old (Released session result) seat.new }
+        ensures call { Calls (AdmitsOn D.honest) seat.old (Released session result) seat.new }
         ensures own { IsOf self.now seat.new }
     {
         let mut taken = self.turn.enter(rt, seat);
@@ -263,7 +263,7 @@ impl<D: Disk, A: Allocator + Copy> Bench<D, A> {
     /// Fails the requests for locks whose time is over, in a turn.
     pub fn tick<R: Wait>(&self, rt: &R, seat: &mut Seat<A>, now: u64) -> Sessions
         requires own { IsOf self.now seat.old }
-        ensures call { Calls Admits seat.old (Ticked now result) seat.new }
+        ensures call { Calls (AdmitsOn D.honest) seat.old (Ticked now result) seat.new }
         ensures own { IsOf self.now seat.new }
     {
         let mut taken = self.turn.enter(rt, seat);
@@ -275,7 +275,7 @@ impl<D: Disk, A: Allocator + Copy> Bench<D, A> {
     /// What is told of the locks, in a turn.
     pub fn info<R: Wait>(&self, rt: &R, seat: &mut Seat<A>) -> Info
         requires own { IsOf self.now seat.old }
-        ensures call { Calls Admits seat.old (Informed result) seat.new }
+        ensures call { Calls (AdmitsOn D.honest) seat.old (Informed result) seat.new }
         ensures own { IsOf self.now seat.new }
     {
         let taken = self.turn.enter(rt, seat);
@@ -287,7 +287,7 @@ impl<D: Disk, A: Allocator + Copy> Bench<D, A> {
     /// The moment at which a request for a lock fails next, in a turn.
     pub fn next_deadline<R: Wait>(&self, rt: &R, seat: &mut Seat<A>) -> Option<u128>
         requires own { IsOf self.now seat.old }
-        ensures call { Calls Admits seat.old (Due result) seat.new }
+        ensures call { Calls (AdmitsOn D.honest) seat.old (Due result) seat.new }
         ensures own { IsOf self.now seat.new }
     {
         let taken = self.turn.enter(rt, seat);
@@ -299,7 +299,7 @@ impl<D: Disk, A: Allocator + Copy> Bench<D, A> {
     /// The number of calls so far. It waits for nobody.
     pub fn progress(&self, seat: &mut Seat<A>) -> u64
         requires own { IsOf self.now seat.old }
-        ensures look { Sees Admits seat.old seat.new }
+        ensures look { Sees (AdmitsOn D.honest) seat.old seat.new }
         ensures length { result ≡ length seat.new.seen }
         ensures own { IsOf self.now seat.new }
     {
@@ -319,7 +319,7 @@ impl<D: Disk, A: Allocator + Copy> Bench<D, A> {
     /// Gives a seat up, and has seen its calls. It waits for nobody.
     pub fn join(&self, seat: &mut Seat<A>, other: Seat<A>)
         requires own { IsOf self.now seat.old × IsOf self.now other }
-        ensures join { Joins Admits seat.old other seat.new }
+        ensures join { Joins (AdmitsOn D.honest) seat.old other seat.new }
         ensures own { IsOf self.now seat.new }
     {
         self.turn.join(seat, other);
@@ -328,7 +328,7 @@ impl<D: Disk, A: Allocator + Copy> Bench<D, A> {
     /// Waits for the last turn, and hands the state out.
     pub fn close<R: Wait>(self, rt: &R, seat: Seat<A>) -> Exec<D, A>
         requires own { IsOf self seat }
-        ensures close { Closes Admits seat result.device }
+        ensures close { Closes (AdmitsOn D.honest) seat result.device }
     {
         let Bench { turn } = self;
         let Guarded { exec } = turn.close(rt, seat);

@@ -2,7 +2,7 @@
 ghost use Rattle.std.specs.Prelude.{◌≡◌};
 ghost use Rattle.psu_exec.specs.Calls.Entry.{Executed, Settled, Took, GaveBack, Opened, Closed, Cleared, Sent, Delivered, Queried, Fetched, Told, Locked, Released, Ticked, Informed, Due};
 ghost use Rattle.psu_exec.specs.Shown.{outcome_of, over_of};
-ghost use Rattle.psu_bench.specs.Calls.{Admits, session_of};
+ghost use Rattle.psu_bench.specs.Calls.{Admits, AdmitsOn, session_of};
 
 use crate::Call;
 use psu_disk::Disk;
@@ -27,7 +27,7 @@ impl<D: Disk, A: Allocator + Copy> Machine for Guarded<D, A> {
 
     ghost state = { λ g. g.exec.value.device };
 
-    ghost allows = { Admits };
+    ghost allows = { AdmitsOn D.honest };
 }
 
 impl<D: Disk, A: Allocator + Copy> Guarded<D, A> {
@@ -62,7 +62,7 @@ impl<D: Disk, A: Allocator + Copy> Guarded<D, A> {
 
     /// A job's end, as `Exec::give_back` takes it.
     pub fn give_back(&mut self, finished: Finished<D, A>) -> Result<Sessions, Stranger<D, A>>
-        ensures call { Admits self.old.exec.value.device (GaveBack (finished_of finished) (over_of result)) self.new.exec.value.device }
+        ensures call { AdmitsOn D.honest self.old.exec.value.device (GaveBack (finished_of finished) (over_of result)) self.new.exec.value.device }
     {
         self.exec.give_back(finished)
     }

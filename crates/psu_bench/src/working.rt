@@ -3,7 +3,7 @@ ghost use Rattle.std.specs.Prelude.{◌≡◌, ◌++◌, ◌<◌, List, Some};
 ghost use Rattle.psu_turn.specs.Seats.{Calls, IsOf, IsSame};
 ghost use Rattle.psu_exec.specs.Calls.{Entry};
 ghost use Rattle.psu_exec.specs.Shown.{outcome_of};
-ghost use Rattle.psu_bench.specs.Calls.{Admits};
+ghost use Rattle.psu_bench.specs.Calls.{AdmitsOn};
 ghost use Rattle.psu_bench.specs.Tries.{AreTries, is_put_off, try_after};
 
 use crate::{Bench, Gate, Point, Seat};
@@ -56,7 +56,7 @@ fn next_try<D: Disk, A: Allocator + Copy, R: Wait>(
     before: &Outcome<A>,
 ) -> Outcome<A>
     requires own { IsOf bench.now seat.old }
-    ensures call { Calls Admits seat.old (try_after session request.now (Some (outcome_of before.now)) (outcome_of result)) seat.new }
+    ensures call { Calls (AdmitsOn D.honest) seat.old (try_after session request.now (Some (outcome_of before.now)) (outcome_of result)) seat.new }
     ensures own { IsOf bench.now seat.new }
 {
     match before {

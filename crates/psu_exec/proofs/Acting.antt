@@ -25,7 +25,7 @@ abbrev pub seen : {s t : State} → s ≡ t → State
 seen {s} {t} e = s
 
 pub kept_sound : (f : Flush) → IsConsistent f → IsContents f.contents
-kept_sound f k = subst IsContents (sym k.made) (sound_after k.first k.rest k.sound)
+kept_sound f k = subst IsContents (sym k.made) (sound_after f.limit k.first k.rest k.sound).sound
 
 pub held_step : (s : State) (session : ℕ) (request : Request) → is_denied s session ≡ true → IsConsistent s.flush → Step s session request Held s
 held_step s session request denied k = record { may = is_held s session request denied; is = sym (followed_same s); sound = kept_sound s.flush k; fitting = k.fitting }

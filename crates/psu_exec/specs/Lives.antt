@@ -1,5 +1,5 @@
 -- Two lives of a device, event by event, from its power-on: what the rules allow, beside what they forbid.
-use Rattle.std.specs.Prelude.{Bool, true, false, Some, None, Ok, List, [], ◌∷◌, decimal}
+use Rattle.std.specs.Prelude.{ℕ, Bool, true, false, Some, None, Ok, List, [], ◌∷◌, decimal}
 use Rattle.psu_disk.specs.Disk.{DiskState}
 use Rattle.psu_items.specs.declared.broken.BrokenCause.TheVariants.{Device}
 use Rattle.psu_lex.specs.declared.scpi_error.ScpiError.TheVariants.{StorageFault}
@@ -14,7 +14,7 @@ use Rattle.psu_tree.specs.declared.unit_request.Request.{Request}
 use Rattle.psu_exec.specs.Batch.{batch}
 use Rattle.psu_exec.specs.Device.{Done, Answer, Error, Parked}
 use Rattle.psu_exec.specs.Calls.{JobKind, JobData, Commit, Reopen, Executed, Settled, Took, GaveBack, Opened, Job, Stored, Failed, Reopened}
-use Rattle.psu_exec.specs.World.{World, Event, Call, DiskCall}
+use Rattle.psu_exec.specs.World.{World, Event, Call, DiskCall, Loss, Stop, Restart}
 
 abbrev pub unit : Command → Request
 unit command = record { call = None; reading = Ok command; inside = false }
@@ -51,3 +51,8 @@ broken_life w torn disk = Call (Opened (Some 1)) w.disk ∷ Call (Executed 1 (un
     ∷ DiskCall torn ∷ DiskCall torn ∷ Call (GaveBack (Failed w.limit (items_of w.start) (batch (items_of w.start) (items_of (cleared w))) Device) (Some (1 ∷ []))) torn ∷ Call (Settled 1 (Error StorageFault)) torn
     ∷ Call (Executed 1 (unit asks) (Error StorageFault)) torn ∷ Call (Took (Job (job w Reopen w.start (cleared w)))) torn ∷ DiskCall disk
     ∷ Call (GaveBack (Reopened w.limit (items_of (cleared w))) (Some [])) disk ∷ Call (Executed 1 (unit asks) (Answer (decimal 1))) disk ∷ []
+
+-- The process ends, and is started again. In the restart a disk call leaves this disk, and then power is lost; in the next one a disk call
+-- leaves that disk, and it finds what was kept after `*PSC 1`.
+abbrev pub restarts : World → DiskState → List ℕ → DiskState → List Event
+restarts w swept image shut = Stop ∷ DiskCall swept ∷ Loss image ∷ DiskCall shut ∷ Restart w.limit (cleared w) ∷ []

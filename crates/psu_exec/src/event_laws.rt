@@ -1,21 +1,23 @@
 // The events of the theorem on power loss are the calls of the program.
 ghost use Rattle.std.specs.Prelude.{◌≡◌, ◌+◌, ◌≤◌, length, OnOk};
 ghost use Rattle.psu_disk.specs.Disk.{HasCause, Holds, IsSynced, Range};
-ghost use Rattle.psu_exec.specs.Events.{CallsHappen, DiskCallsHappen, MomentsAreEither, RestartsHappen};
+ghost use Rattle.psu_exec.specs.Events.{CallsHappen, DiskCallsHappen, MomentsAreEither, MomentsKeepMaps, RestartCallsHappen, RestartsHappen};
 ghost use Rattle.psu_exec.specs.World.{Moves};
 
 use psu_disk::{Disk, DiskFault};
 
-/// What a call of the device ensures makes it an event; so does what a job ensures of each of its disk calls, and a power-on.
+/// What a call of the device ensures makes it an event; so does what a job or an opening ensures of each of its disk calls, and a power-on.
 pub fn calls_are_events()
     ensures calls { CallsHappen }
     ensures disk_calls { DiskCallsHappen }
+    ensures restart_calls { RestartCallsHappen }
     ensures restarts { RestartsHappen }
 {}
 
-/// What a job ensures of every moment since it began holds after each of its disk calls.
+/// What a job, and an opening, ensure of every moment since they began holds after each of their disk calls.
 pub fn moments_are_events<D: Disk>()
-    ensures { D.tells → MomentsAreEither D.moment D.left_since D.state }
+    ensures jobs { D.tells → MomentsAreEither D.moment D.left_since D.state }
+    ensures openings { D.tells → MomentsKeepMaps D.moment D.left_since D.state }
 {}
 
 /// A read, whether it works or fails, moves the disk as an event may.

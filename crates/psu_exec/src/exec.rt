@@ -10,6 +10,7 @@ ghost use Rattle.psu_exec.specs.Calls.{Allows};
 ghost use Rattle.psu_exec.specs.Calls.Entry.{Executed, Settled, Took, GaveBack, Opened, Closed, Cleared, Sent, Delivered, Queried, Fetched, Told, Locked, Released, Ticked, Informed, Due};
 ghost use Rattle.psu_locks.specs.Table.{FailsFirst, IsSettled};
 ghost use Rattle.psu_exec.specs.Consistent.{IsConsistent};
+ghost use Rattle.psu_exec.specs.Headline.{AreBad};
 ghost use Rattle.psu_exec.specs.Shown.{cause_of, outcome_of, over_of};
 ghost use Rattle.psu_exec.specs.Jobs.{home_edits, home_goal, home_map, home_limit, home_of, is_home_whole};
 ghost use Rattle.psu_lex.specs.declared.scpi_error.ScpiError.{ScpiError as AnyError};
@@ -62,7 +63,7 @@ impl<D: Disk, A: Allocator + Copy> Exec<D, A> {
         ensures home { IfOk result (λ e. e.home ≡ Some (at_home.Whole store)) }
 
         ensures back { IfErr result (λ f. f.store ≡ store) }
-        ensures bad { IfErr result (λ f. f.cause ≡ PowerCause.BadItems → (c : Kept) → IsContents c → fits store.limit c ≡ true → items_of c ≡ store.items → ⊥) }
+        ensures bad { IfErr result (λ f. f.cause ≡ PowerCause.BadItems → AreBad store.limit store.items) }
         ensures memory { IfErr result (λ f. f.cause ≡ PowerCause.Memory → (c : Kept) × IsContents c × (items_of c ≡ store.items)) }
     {
         let contents = match Contents::decode_items(alloc, store.items()) {

@@ -1,1 +1,2 @@
 pub mod Condition
+pub mod Seen

@@ -1,5 +1,8 @@
 // The flusher: it puts changes on the disk, and fails lock requests whose time is over.
 ghost use Rattle.std.specs.Prelude.{◌≡◌};
+ghost use Rattle.psu_exec.specs.Calls.{JobEnd, Taken};
+ghost use Rattle.psu_bench.specs.Rounds.{IsEndOf};
+ghost use Rattle.psu_serve.specs.Seen.{GivesBack, IsRound};
 
 use crate::caller::Caller;
 use crate::condition::Condition;
@@ -39,9 +42,12 @@ pub struct Flusher<'a, D: Disk, G: Gate, E: Eprint> {
 }
 
 impl<'a, D: Disk + Drop, G: Gate + Drop, E: Eprint> Flusher<'a, D, G, E> {
+    ghost use Rattle.psu_exec.specs.Jobs.{finished_of, job_data};
+
     // Tells how the store is, where that has changed.
     fn tell(&mut self, condition: Condition)
-        ensures { self.new.told ≡ condition }
+        ensures told { self.new.told ≡ condition }
+        ensures same { self.new.caller ≡ self.old.caller }
     {
         let is_news = condition != self.told;
         self.told = condition;
@@ -52,7 +58,9 @@ impl<'a, D: Disk + Drop, G: Gate + Drop, E: Eprint> Flusher<'a, D, G, E> {
 
     // Gives a job's end back, wakes those whose waits are over and those that wait for room, and tells who asks for service. The work that is left
     // the flusher knows of: it does not ring its own bell, which would end its pause.
-    fn give_back<R: Wait>(&mut self, rt: &R, finished: Finished<D, Global>) {
+    fn give_back<R: Wait>(&mut self, rt: &R, finished: Finished<D, Global>)
+        ensures call { GivesBack D.honest (finished_of finished) self.old.caller.seat self.new.caller.seat }
+    {
         let (over, news) = self.caller.give_back(rt, finished);
         let registry = self.server.registry.lock(rt);
         registry.wake(rt, &over);
@@ -62,7 +70,9 @@ impl<'a, D: Disk + Drop, G: Gate + Drop, E: Eprint> Flusher<'a, D, G, E> {
     }
 
     // Runs a job outside the device's turn, and gives it back.
-    fn run<R: Wait>(&mut self, rt: &R, job: Job<D, Global>) -> Round {
+    fn run<R: Wait>(&mut self, rt: &R, job: Job<D, Global>) -> Round
+        ensures call { (end : JobEnd) × IsEndOf (job_data job) end × GivesBack D.honest end self.old.caller.seat self.new.caller.seat }
+    {
         self.caller.before_run();
         let finished = job.run();
         let went_well = matches!(finished, Finished::Stored(_) | Finished::Reopened(_));
@@ -78,7 +88,9 @@ impl<'a, D: Disk + Drop, G: Gate + Drop, E: Eprint> Flusher<'a, D, G, E> {
     }
 
     // One round: a job is taken and run. Where there is none after the store broke, a reopening has found all stored.
-    fn round<R: Wait>(&mut self, rt: &R) -> Round {
+    fn round<R: Wait>(&mut self, rt: &R) -> Round
+        ensures calls { (taken : Taken) × IsRound D.honest taken self.old.caller.seat self.new.caller.seat }
+    {
         match self.caller.take(rt) {
             Ok(job) => self.run(rt, job),
             Err(NoJob::Memory) => Round::Failed,

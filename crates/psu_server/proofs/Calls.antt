@@ -9,6 +9,7 @@ use Rattle.psu_items.proofs.Standing.{one_stands}
 use Rattle.psu_nv.specs.Contents.{items_of}
 use Rattle.psu_exec.specs.Device.{Reply, Done, Answer, Error, Expand, Parked, Held, Later, count_held, target}
 use Rattle.psu_exec.specs.Calls.{Entry, Executed, Settled, Took, GaveBack, Opened, Job, Allows}
+use Rattle.psu_exec.specs.Consistent.{MayBeKept}
 use Rattle.psu_exec.specs.Headline.{IsPrefix}
 use Rattle.psu_exec.specs.World.{World, Running, Event, Call, Happens, Run, IsStart, DiskAfter, after}
 use Rattle.psu_exec.specs.declared.exec.Exec.{Exec}
@@ -247,15 +248,15 @@ reached_runs (m ∷ ms) can w new text q r = reached_runs ms can q.2 new q.1 q.4
 pub reached_next : (ms : List Message) (can : Mishaps) (w new : World) (text : List ℕ) → NextBegins can w ms text new → Reached w → Reached new
 reached_next ms can w new text n r = reached_made w new (next_begun ms can w new text n) r
 
-pub prefix_of_reached : (w : World) (image : List ℕ) → Reached w → Left w.disk image → (k : ℕ) × IsPrefix w k × Stands image w.limit (items_of (after w k))
+pub prefix_of_reached : (w : World) (image : List ℕ) → Reached w → Left w.disk image → (k : ℕ) × IsPrefix w k × MayBeKept w.limit (after w k) × Stands image w.limit (items_of (after w k))
 prefix_of_reached w image r left = prefix_is_left r.first w r.events image r.start r.run left
 
 -- where each image stands for one map, and did so in a world that was reached
 same_prefix : (w : World) (disk : DiskState) (limit : ℕ) (map : List Item) → Reached w → EachStands w.disk limit map → EachStands disk limit map → LeavesPrefix w disk
 same_prefix w disk limit map r was is image left =
     let p = prefix_of_reached w w.disk.bytes r (reads_left w.disk) in
-    let one = one_stands limit w.limit map (items_of (after w p.0)) w.disk.bytes (was w.disk.bytes (reads_left w.disk)) p.2 in
-    (p.0, p.1, subst (λ (m : List Item). Stands image w.limit m) one.1 (subst (λ (n : ℕ). Stands image n map) one.0 (is image left)))
+    let one = one_stands limit w.limit map (items_of (after w p.0)) w.disk.bytes (was w.disk.bytes (reads_left w.disk)) p.3 in
+    (p.0, p.1, p.2, subst (λ (m : List Item). Stands image w.limit m) one.1 (subst (λ (n : ℕ). Stands image n map) one.0 (is image left)))
 
 pub leaves_prefix : (w : World) (disk : DiskState) → Reached w → IsLeftBy w disk → LeavesPrefix w disk
 leaves_prefix w disk r (inl same) = λ image left. prefix_of_reached w image r (same image left)

@@ -1,7 +1,5 @@
 -- What a whole run came to, said of the image that it began on.
-use Rattle.std.proofs.Common.{◌≡◌, ◌≢◌, ◌⊎◌, ℕ, List, [], Option, Some, None, IfSome, subst, inl, inr}
-use Rattle.std.proofs.KnownBytes.{Appends-nil}
-use Rattle.std.specs.Io.KnownBytes.{Appends}
+use Rattle.std.proofs.Common.{◌≡◌, ◌≢◌, ◌⊎◌, ℕ, List, Option, Some, None, IfSome, subst, inr}
 use Rattle.psu_disk.specs.Disk.{DiskState}
 use Rattle.psu_disk.specs.declared.disk.Disk.{Ghosts}
 use Rattle.psu_items.specs.Image.{EachStands}
@@ -22,11 +20,6 @@ use Rattle.psu_server.proofs.Calls.{Reached, flush_calls, flush_running, flushed
 use Rattle.psu_server.proofs.Reading.{early_here}
 use Rattle.psu_server.proofs.Within.{covers_itself}
 
--- the disk didn't power on, and nothing was written
-pub run_refused : (from w : Option (List ℕ)) (Q : Type 0) (P : List ℕ → Type 0) → Q → IfSome from (λ input. (Q × Appends w w []) ⊎ P input)
-run_refused None w Q P q = tt
-run_refused (Some input) w Q P q = inl (q, Appends-nil w)
-
 -- nothing is read, and nothing is written
 pub early_none : {D A : Type 0} {G : Ghosts D} (from old : Option (List ℕ)) (s : Exec D A G) (fault : RunFault D) → Ghosts.honest G → fault.cause ≢ Write → Ghosts.failures G fault.disk ≡ failures_of s
     → Ghosts.state G fault.disk ≡ disk_at s.home → IfSome from (λ input. EndsEarly s fault (messages input) old old)
@@ -36,8 +29,8 @@ early_none (Some x) old s fault h other same at = early_here s fault (messages x
 -- the run ended early
 pub run_early : {D A : Type 0} {G : Ghosts D} (from u v : Option (List ℕ)) (image : List ℕ) (s : Exec D A G) (fault : RunFault D) (before : ℕ) (Q : Type 0) → PowersOn image (world_of (born s) s)
     → failures_of s ≡ before → IfSome from (λ input. EndsEarly s fault (messages input) u v)
-    → IfSome from (λ input. Q ⊎ WritesFirst fault.cause image input before (Ghosts.failures G fault.disk) u v (Ghosts.state G fault.disk))
-run_early None u v image s fault before Q starts same p = tt
+    → Q ⊎ IfSome from (λ input. WritesFirst fault.cause image input before (Ghosts.failures G fault.disk) u v (Ghosts.state G fault.disk))
+run_early None u v image s fault before Q starts same p = inr tt
 run_early {D} {A} {G} (Some input) u v image s fault before Q starts same p =
     let e = p.stops (born s) in
     let went : Within before (Ghosts.failures G fault.disk) (λ can. Runs can (world_of (born s) s) p.done p.text e.0 × NextBegins can e.0 p.rest p.part e.1)

@@ -174,7 +174,7 @@ pub restart_stops : (since before now : ℕ) (disk : DiskState) (left : List ℕ
     → EachStands disk f.limit f.before → NotStarted disk.bytes before now cause → StopsFor since now left cause
 restart_stops since before now disk left cause f later c stands why =
     stops_since since before now left cause later
-    (stands_stops before now disk.bytes left f.limit c.first cause (sound_first c.first c.rest c.sound) (subst (λ (m : List Item). Stands disk.bytes f.limit m) c.first_map (stands disk.bytes (reads_left disk))) why)
+    (stands_stops before now disk.bytes left f.limit c.first cause (sound_first f.limit c.first c.rest c.sound).sound (subst (λ (m : List Item). Stands disk.bytes f.limit m) c.first_map (stands disk.bytes (reads_left disk))) why)
 
 -- ---- a fault of the device, by what its disk is
 

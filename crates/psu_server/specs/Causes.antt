@@ -1,11 +1,11 @@
 -- The cause of a run's end where the disk does not power on, and why a store can't take a commit.
-use Rattle.std.specs.Prelude.{◌≡◌, ℕ, ◌+◌, ◌≤◌, ◌^◌, List, true}
+use Rattle.std.specs.Prelude.{◌≡◌, ℕ, ◌+◌, ◌≤◌, ◌^◌, List}
 use Rattle.psu_disk.specs.Disk.{HasFailed}
 use Rattle.psu_items.specs.Map.{Item}
 use Rattle.psu_items.specs.Image.{counting, number_in, Stands, HasNoRoot, HasBadRoot, HasOtherVersion, HasReadableRoot}
-use Rattle.psu_nv.specs.Contents.{items_of, IsContents, Contents, fits}
 use Rattle.psu_items.specs.declared.open_cause.OpenCause.{OpenCause}
 use Rattle.psu_items.specs.declared.open_cause.OpenCause.TheVariants as refused
+use Rattle.psu_exec.specs.Headline.{AreBad}
 use Rattle.psu_exec.specs.declared.power_fault.PowerCause.{PowerCause}
 use Rattle.psu_exec.specs.declared.power_fault.PowerCause.TheVariants as power
 use Rattle.psu_server.specs.declared.start_cause.StartCause.TheVariants as start
@@ -28,7 +28,7 @@ pub record HasBadItems (image : List ℕ) : Type 0 where
   pub limit : ℕ
   pub map : List Item
   pub stands : Stands image limit map
-  pub none : (contents : Contents) → IsContents contents → fits limit contents ≡ true → items_of contents ≡ map → ⊥
+  pub none : AreBad limit map
 
 -- A disk with this image does not power on for this cause. A failed call says nothing of the image. Memory is wanted only where
 -- no call failed and a root can be read.

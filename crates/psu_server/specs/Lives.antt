@@ -8,6 +8,7 @@ use Rattle.psu_nv.specs.Contents.{items_of, Contents}
 use Rattle.psu_exec.specs.Device.{State}
 use Rattle.psu_exec.specs.Calls.{Entry, Executed, Opened}
 use Rattle.psu_exec.specs.Jobs.{home_disk}
+use Rattle.psu_exec.specs.Consistent.{MayBeKept}
 use Rattle.psu_exec.specs.Headline.{IsPrefix}
 use Rattle.psu_exec.specs.World.{World, Running, Call, PastUnit, Happens, IsStart, after, is_executed, recorded}
 use Rattle.psu_exec.specs.declared.exec.Exec.{Exec}
@@ -71,4 +72,4 @@ IsLeftBy w disk = ((image : List ℕ) → Left disk image → Left w.disk image)
 -- Each image that may be left of a disk stands for the contents after a front of the units executed since power-on, which holds
 -- every unit before a `*OPC?` that was answered.
 abbrev pub LeavesPrefix : World → DiskState → Type 0
-LeavesPrefix w disk = (image : List ℕ) → Left disk image → (k : ℕ) × IsPrefix w k × Stands image w.limit (items_of (after w k))
+LeavesPrefix w disk = (image : List ℕ) → Left disk image → (k : ℕ) × IsPrefix w k × MayBeKept w.limit (after w k) × Stands image w.limit (items_of (after w k))

@@ -1,10 +1,10 @@
 -- What `recover` says of an image.
-use Rattle.std.specs.Prelude.{◌≡◌, ℕ, ◌==◌, if◌then◌else◌, List, [], ◌∷◌, length, map, ⊤}
+use Rattle.std.specs.Prelude.{◌≡◌, ℕ, ◌==◌, true, if◌then◌else◌, List, [], ◌∷◌, length, map, ⊤}
 use Rattle.psu_items.specs.Map.{Item, cost}
 use Rattle.psu_items.specs.Image.{counting, number_in, version_in, HasReadableRoot, Stands, IsRefusal}
 use Rattle.psu_items.specs.declared.open_cause.OpenCause.{OpenCause}
 use Rattle.psu_items.specs.declared.open_cause.OpenCause.TheVariants as opening
-use Rattle.psu_nv.specs.Contents.{items_of, IsContents, Contents}
+use Rattle.psu_nv.specs.Contents.{items_of, fits, IsContents, Contents}
 use Rattle.psu_nv.specs.declared.file_kind.FileKind.{FileKind}
 use Rattle.psu_nv.specs.declared.file_kind.FileKind.TheVariants as kind
 use Rattle.psu_status.specs.Status.{first_request, prescribed}
@@ -63,6 +63,7 @@ told file = entry_with file.name (file.kind, file.size)
 pub record IsReported {A : Type 0} (image : List ℕ) (report : Report A) : Type 0 where
   pub contents : Contents
   pub sound : IsContents contents
+  pub fitting : fits report.limit contents ≡ true
   pub stands : Stands image report.limit (items_of contents)
   pub version : report.version ≡ version_in (counting image) image
   pub root : report.root ≡ number_in (counting image) image

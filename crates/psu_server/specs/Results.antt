@@ -1,11 +1,13 @@
 -- What a run came to, where it ends well and where it ends early.
-use Rattle.std.specs.Prelude.{◌≡◌, ◌≢◌, ℕ, ◌<◌, true, List, ◌++◌, length, Option}
+use Rattle.std.specs.Prelude.{◌≡◌, ◌≢◌, ℕ, ◌<◌, ◌≤◌, true, List, [], ◌++◌, length, Option}
 use Rattle.std.specs.Io.KnownBytes.{Appends}
 use Rattle.std.specs.Io.{StartsWith}
 use Rattle.psu_disk.specs.Disk.{DiskState, HasFailed}
+use Rattle.psu_items.specs.Map.{Item}
 use Rattle.psu_items.specs.Image.{EachStands}
 use Rattle.psu_nv.specs.Contents.{items_of}
 use Rattle.psu_exec.specs.World.{World}
+use Rattle.psu_server.specs.Causes.{NotStarted}
 use Rattle.psu_server.specs.Lines.{Message, messages}
 use Rattle.psu_server.specs.Lives.{PowersOn, LeavesPrefix}
 use Rattle.psu_server.specs.Runs.{Mishaps, none, Flushes, NextBegins, Runs}
@@ -30,6 +32,15 @@ pub record WritesRun (image input : List ℕ) (old_count new_count : ℕ) (old_w
   pub ends : Flushes gone last over
   pub flushed : over.state.flush.unflushed ≡ 0
   pub kept : EachStands disk over.limit (items_of over.state.flush.contents)
+
+-- A run that did not start: the disk does not power on, for this cause. Nothing was read and nothing written; no failure is forgotten; and what
+-- each image that may be left of the disk stood for each stands for.
+pub record DoesNotStart (cause : RunCause) (old_count new_count : ℕ) (old_rest new_rest old_written new_written : Option (List ℕ)) (old new : DiskState) : Type 0 where
+  pub reason : NotStarted old.bytes old_count new_count cause
+  pub unread : new_rest ≡ old_rest
+  pub unwritten : Appends old_written new_written []
+  pub later : old_count ≤ new_count
+  pub kept : (limit : ℕ) (map : List Item) → EachStands old limit map → EachStands new limit map
 
 -- A run that ended early: some first lines of the input were executed, and of the next line some first units. The text of the
 -- lines and what was told of the next one are written, but where the writer failed: then some of that is missing. Each image that

@@ -16,13 +16,14 @@ use std::alloc::{AllocError, Allocator};
 
 /// Opens the image of a disk as a restart does, and so may close an older gate that stands open, and reports the contents that
 /// it finds. The report is of the contents that the image stands for, with the first service request that IEEE 488.2
-/// prescribes for them.
+/// prescribes for them. A device fault is told only where a call of the disk failed.
 pub fn recover<D: Disk + Drop, A: Allocator + Copy>(
     alloc: A,
     disk: D,
 ) -> Result<Report<A>, RecoverFault>
     ensures found { D.honest → IfOk result (IsReported (D.state disk).bytes) }
     ensures refused { D.honest → IfErr result (IsRecoverRefusal (D.state disk).bytes) }
+    ensures device { IfErr result (λ e. e ≡ RecoverFault.Device → (left : D) × HasFailed (D.failures disk) (D.failures left)) }
 {
     let Examined { found, .. } = examine(alloc, disk);
     found

@@ -1,13 +1,20 @@
-use Rattle.std.proofs.Common.{sym, ◌∙◌}
+use Rattle.std.proofs.Common.{inl, refl, sym, ◌∙◌}
+use Rattle.std.proofs.KnownBytes.{Appends-nil}
 use Rattle.psu_server.proofs.Causes.{ends_at_once, ends_late, ends_unread}
 use Rattle.psu_server.proofs.Fronts.{passed}
-use Rattle.psu_server.proofs.Outcomes.{early_none, run_early, run_refused, run_whole}
+use Rattle.psu_server.proofs.Outcomes.{early_none, run_early, run_whole}
 use Rattle.psu_items.proofs.Fitting.{stands_readable}
 use Rattle.psu_server.proofs.Within.{later_same}
 use Rattle.psu_server.proofs.engine.run.Goals as goal
 
 pub returns-in-Err-clause-early : goal.returns-in-Err-clause-early
-returns-in-Err-clause-early g c = λ h. run_refused _ _ _ _ (c.in-Err.ensures.refused h)
+returns-in-Err-clause-early g c = λ h. inl (record {
+  reason = c.in-Err.ensures.refused h;
+  unread = refl;
+  unwritten = Appends-nil (g.W.Write.contents c.args.writer.now);
+  later = c.in-Err.ensures.later;
+  kept = c.in-Err.ensures.left h;
+})
 
 pub returns-in-Err-clause-cause : goal.returns-in-Err-clause-cause
 returns-in-Err-clause-cause g c = λ h. ends_at_once (g.D.Disk.state c.args.disk).bytes (g.D.Disk.failures c.args.disk) (g.D.Disk.failures c.in-Err.fault.disk)

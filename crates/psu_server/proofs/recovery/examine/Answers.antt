@@ -1,10 +1,10 @@
-use Rattle.std.proofs.Common.{◌≡◌, ◌∙◌, ℕ, List, refl, sym, ap, subst, Result, Ok, Err, IfOk, IfErr}
+use Rattle.std.proofs.Common.{◌≡◌, ◌∙◌, ℕ, true, List, refl, sym, ap, subst, Result, Ok, Err, IfOk, IfErr}
 use Rattle.psu_items.specs.Map.{Item, cost}
 use Rattle.psu_items.specs.Image.{EachStands, HasReadableRoot, IsRefusal, Stands}
 use Rattle.psu_items.specs.declared.open_cause.OpenCause.{OpenCause}
 use Rattle.psu_items.specs.declared.open_cause.OpenCause.TheVariants as opening
 use Rattle.psu_items.proofs.Fitting.{stands_readable}
-use Rattle.psu_nv.specs.Contents.{items_of, Contents}
+use Rattle.psu_nv.specs.Contents.{items_of, fits, Contents}
 use Rattle.psu_exec.specs.declared.power_fault.PowerCause.{PowerCause}
 use Rattle.psu_exec.specs.declared.power_fault.PowerCause.TheVariants as power
 use Rattle.psu_exec.specs.declared.home.Home.TheVariants as home
@@ -36,6 +36,7 @@ returns-in-Ok-power_on-clause-found g c = λ h.
     found_of c.report_of.result bytes (λ r. Reports c.in-Ok-power_on.exec.device c.version-version.result c.number-root.result c.limit-limit.result c.cost-pages.result r) c.report_of.ensures.reports (λ r is. record {
       contents = contents;
       sound = c.in-Ok-power_on.ensures.sound;
+      fitting = subst (λ (l : ℕ). fits l contents ≡ true) (sym (is.limit_is ∙ limit)) c.in-Ok-power_on.ensures.fitting;
       stands = subst (λ (l : ℕ). Stands bytes l (items_of contents)) (sym (is.limit_is ∙ limit)) (subst (λ (m : List Item). Stands bytes c.in-Ok.store.limit m) (sym found) stood);
       version = is.version_is ∙ c.version-version.ensures.value ∙ c.in-Ok.ensures.version h;
       root = is.root_is ∙ c.number-root.ensures.value ∙ c.in-Ok.ensures.number h;
