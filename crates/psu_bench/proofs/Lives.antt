@@ -172,7 +172,7 @@ over_disks honest [] first last h leads = leads
 over_disks honest (call ∷ history) first last h (next, admits, rest) =
     let on = on_disk honest first next call.entry h admits in (next, on.0, on.1, over_disks honest history next last h rest)
 
-pub seen_histories_happen : SeenHistoriesHappen
+pub seen_histories_happen : (honest : Type 0) → SeenHistoriesHappen honest
 unfolding Happened
 seen_histories_happen honest w history last h running leads = happen history w last running (over_disks honest history w.state last h leads)
 

@@ -49,8 +49,8 @@ HistoriesHappen = (w : World) (history : List (Numbered Entry)) (last : State) �
     → LeadsOverDisks w.state history last ↔ ((happenings : List Happening) × (new : World) × (calls_in happenings ≡ history) × Lives w happenings new × (new.state ≡ last))
 
 -- So what a seat has seen happens, where the disks of the bench's kind are honest.
-abbrev pub SeenHistoriesHappen : Type 0
-SeenHistoriesHappen = (honest : Type 0) (w : World) (history : List (Numbered Entry)) (last : State) → honest → w.mode ≡ Running → Leads (AdmitsOn honest) w.state history last
+abbrev pub SeenHistoriesHappen : Type 0 → Type 0
+SeenHistoriesHappen honest = (w : World) (history : List (Numbered Entry)) (last : State) → honest → w.mode ≡ Running → Leads (AdmitsOn honest) w.state history last
     → (happenings : List Happening) × (new : World) × (calls_in happenings ≡ history) × Lives w happenings new × (new.state ≡ last)
 
 -- what one thread does where these events happen, up to a power loss or the process's end

@@ -1,4 +1,4 @@
-use Rattle.psu_bench.proofs.Lives.{histories_happen, lives_are_events, seen_histories_happen, some_history_happens, threads_leave_prefix}
+use Rattle.psu_bench.proofs.Lives.{histories_happen, lives_are_events, some_history_happens, threads_leave_prefix}
 use Rattle.psu_bench.proofs.laws.histories_are_lives.Goals as goal
 
 pub returns-clause-events : goal.returns-clause-events
@@ -6,9 +6,6 @@ returns-clause-events c = lives_are_events
 
 pub returns-clause-each : goal.returns-clause-each
 returns-clause-each c = histories_happen
-
-pub returns-clause-seen : goal.returns-clause-seen
-returns-clause-seen c = seen_histories_happen
 
 pub returns-clause-some : goal.returns-clause-some
 returns-clause-some c = some_history_happens
