@@ -7,4 +7,4 @@ some_disk (Ok x) cause left P told = tt
 some_disk (Err e) cause left P told = λ is. (left, told is)
 
 pub returns-clause-device : goal.returns-clause-device
-returns-clause-device g c = some_disk c.examine.result.found _ c.examine.result.disk _ c.examine.ensures.device
+returns-clause-device g c = some_disk c.examine-found.result.found _ c.examine-found.result.disk _ c.examine-found.ensures.device
