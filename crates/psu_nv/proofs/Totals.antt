@@ -216,3 +216,13 @@ module _ (files : List Item) (name : List ℕ) (sorted : IsSorted files) (short 
       let put_is : after ≡ put files name value = is ∙ ap (λ (k : List ℕ). put files k value) same in
       let found : left ≡ cost (put files name value) = omega (arith, cost-put files name value sorted, had_is, total_is, page_is, left_is) in
       (found ∙ ap cost (sym put_is), subst (AllByRecursion IsShort) (sym put_is) (all_put IsShort files name value short fits))
+
+-- # Registers with their total
+
+two_most : (b : Bool) → cond b 0 2 ≤ 2
+two_most true = omega arith
+two_most false = omega arith
+
+pub few_registers : (registers : List (List OutputSettings)) → registers_cost registers ≤ 2 * length registers
+few_registers [] = omega arith
+few_registers (s ∷ registers) = omega (arith, few_registers registers, two_most (is_reset s), sum_by-cons (λ (t : List OutputSettings). cond (is_reset t) 0 2) s registers)

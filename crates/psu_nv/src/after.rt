@@ -8,7 +8,7 @@ ghost use Rattle.psu_nv.specs.Commands.{refused, apply};
 ghost use Rattle.psu_nv.specs.Costs.{macros_cost, registers_cost};
 ghost use Rattle.psu_nv.specs.Views.{command_of};
 
-use crate::pages::{Pages, enables_pages, register_pages, registers_pages, user_pages};
+use crate::pages::{Pages, enables_pages, user_pages};
 use crate::recall::recall_pages;
 use crate::state::state_in;
 use crate::{Contents, NvCommand, Register};
@@ -60,9 +60,7 @@ impl<A: Allocator + Copy> Contents<A> {
     {
         // Settings that a call gives out lie within their ranges.
         let _ = settings.outputs();
-        let mut registers = self.registers;
-        registers[register.number() as usize] = settings;
-        registers_pages(&registers)
+        self.registers.pages_with(register, settings)
     }
 
     #[tactic(auto, unfolding(crate::specs::Commands::apply))]
@@ -77,7 +75,7 @@ impl<A: Allocator + Copy> Contents<A> {
                 *register,
                 self.state_of(name),
             ),
-            _ => registers_pages(&self.registers),
+            _ => self.registers.pages(),
         }
     }
 
@@ -146,7 +144,7 @@ impl<A: Allocator + Copy> Contents<A> {
     {
         let pages = Pages {
             enables: enables_pages(self.enables),
-            registers: registers_pages(&self.registers),
+            registers: self.registers.pages(),
             user: user_pages(self.user.bytes()),
             macros: self.macros_now(),
             files: self.files.cost(),

@@ -6,6 +6,7 @@ ghost use Rattle.psu_nv.specs.Commands.{settings_at};
 
 use crate::files::Files;
 use crate::macros::Macros;
+use crate::registers::Registers;
 use crate::{File, FileKind, Label, Register, UserData};
 use psu_items::Pair;
 use psu_outputs::Settings;
@@ -17,7 +18,7 @@ use std::marker::Model;
 #[derive(Drop)]
 pub struct Contents<A: Allocator + Copy> {
     pub(crate) alloc: A,
-    pub(crate) registers: [Settings; 100],
+    pub(crate) registers: Registers,
     pub(crate) user: UserData,
     pub(crate) macros: Macros<A>,
     pub(crate) enables: Option<(u8, u8)>,
@@ -42,7 +43,7 @@ impl<A: Allocator + Copy> Contents<A> {
     {
         Contents {
             alloc,
-            registers: [Settings::reset(); 100],
+            registers: Registers::reset(),
             user: UserData::none(),
             macros: Macros::new(alloc),
             enables: None,
@@ -55,7 +56,7 @@ impl<A: Allocator + Copy> Contents<A> {
     pub fn register(&self, register: Register) -> Settings
         ensures { result ≡ settings_at self.now.registers register.number }
     {
-        self.registers[register.number() as usize]
+        self.registers.get(register)
     }
 
     /// The user data.

@@ -11,7 +11,7 @@ impl<A: Allocator + Copy> Contents<A> {
     {
         Ok(Contents {
             alloc,
-            registers: self.registers,
+            registers: self.registers.copy(),
             user: self.user.copy(),
             macros: self.macros.copy(alloc)?,
             enables: self.enables,

@@ -14,6 +14,7 @@ use crate::files::Files;
 use crate::keys::{files_of, fit_files, has_keys};
 use crate::macros::Macros;
 use crate::recall::recall_in;
+use crate::registers::Registers;
 use crate::written::{WrittenMacros, macros_of};
 use crate::{Contents, DecodeFault, UserData};
 use arrayvec::ArrayVec;
@@ -87,7 +88,7 @@ fn build<A: Allocator + Copy>(
     }
     Ok(Contents {
         alloc,
-        registers: read.registers,
+        registers: Registers::of(read.registers),
         user: read.user.copy(),
         macros,
         enables: read.enables,

@@ -26,6 +26,7 @@ mod part;
 mod recall;
 mod refusal;
 mod register;
+mod registers;
 mod room;
 mod state;
 mod steps;

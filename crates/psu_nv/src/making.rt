@@ -17,7 +17,7 @@ impl<A: Allocator + Copy> Contents<A> {
     {
         // Settings that a call gives out lie within their ranges.
         let _ = settings.outputs();
-        self.registers[register.number() as usize] = settings;
+        self.registers.set(register, settings);
     }
 
     pub(crate) fn set_user(&mut self, user: &UserData)

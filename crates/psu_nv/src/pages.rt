@@ -1,11 +1,8 @@
 // The pages that the parts of contents cost.
-ghost use Rattle.std.specs.Prelude.{◌≡◌, ◌+◌, ◌^◌, ◌<◌, ◌≤◌, length, if◌then◌else◌, ◌==◌};
+ghost use Rattle.std.specs.Prelude.{◌≡◌, ◌+◌, ◌^◌, ◌<◌, ◌≤◌, length};
 ghost use Rattle.psu_items.specs.Map.{cost};
 ghost use Rattle.psu_nv.specs.Contents.{enables_items, user_items};
-ghost use Rattle.psu_outputs.specs.Settings.{is_reset};
-ghost use Rattle.psu_nv.specs.Costs.{page_count, registers_cost};
-
-use psu_outputs::Settings;
+ghost use Rattle.psu_nv.specs.Costs.{page_count};
 
 // The pages of each part.
 #[derive(Clone, Copy)]
@@ -46,25 +43,6 @@ pub(crate) fn enables_pages(enables: Option<(u8, u8)>) -> u8
         Some(_) => 2,
         None => 0,
     }
-}
-
-// The same of a register, whatever its number.
-pub(crate) fn register_pages(settings: Settings) -> u8
-    ensures value { result ≡ (if is_reset settings then 0 else 2) }
-    ensures most { result ≤ 2 }
-{
-    if settings.is_reset() { 0 } else { 2 }
-}
-
-pub(crate) fn registers_pages(registers: &[Settings]) -> u8
-    requires { length registers.now ≤ 100 }
-    ensures { result ≡ registers_cost registers.now }
-{
-    let mut pages = 0;
-    for settings in registers {
-        pages += register_pages(*settings);
-    }
-    pages
 }
 
 pub(crate) fn user_pages(user: &[u8]) -> u8

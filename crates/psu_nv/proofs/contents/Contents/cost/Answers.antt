@@ -13,7 +13,7 @@ returns-clause-value g c =
     parts_total c.args.self.now _ _ _ _ _ _ c.total.result
     (subst (λ (k : Contents). AllByRecursion AreSettings k.registers) is c.self.invariant.settings)
     (c.enables_pages.ensures ∙ ap (λ (k : Contents). cost (enables_items k.enables)) is)
-    (c.registers_pages.ensures ∙ ap (λ (k : Contents). registers_cost k.registers) is)
+    (c.pages.ensures ∙ ap (λ (k : Contents). registers_cost k.registers) is)
     (c.user_pages.ensures ∙ ap (λ k. cost (user_items k)) c.bytes.ensures.value ∙ ap (λ (k : Contents). cost (user_items k.user)) is)
     c.macros_now.ensures.value
     (c.cost.ensures.value ∙ ap (λ (k : Contents). cost k.files) is)

@@ -12,8 +12,8 @@ each_reset (suc n) = ((refl, refl), each_reset n)
 
 pub invariant_of-result : goal.invariant_of-result
 invariant_of-result g c = record {
-  count = refl;
-  settings = subst (λ (settings : List OutputSettings). AllByRecursion AreSettings (replicate 100 settings)) (sym c.reset.ensures) (each_reset 100);
+  count = ap (λ (l : List (List OutputSettings)). length l) c.reset.ensures;
+  settings = subst (AllByRecursion AreSettings) (sym c.reset.ensures) (each_reset 100);
   user = omega (arith, ap (λ (l : List ℕ). length l) c.none.ensures);
   macros = subst (AllByRecursion IsMacro) (sym c.new.ensures) tt;
   distinct = subst HasDistinct (sym c.new.ensures) tt;

@@ -1,6 +1,6 @@
 use Rattle.std.proofs.Common.{◌≡◌, ◌≤◌, ◌*◌, take}
 use Rattle.psu_nv.specs.Costs.{registers_cost}
-use Rattle.psu_nv.proofs.pages.registers_pages.Given as goal
+use Rattle.psu_nv.proofs.registers.registers_pages.Given as goal
 
 abbrev pub invariant-loop-settings : goal.invariant-loop-settings
 invariant-loop-settings l = record {
