@@ -81,9 +81,7 @@ impl<D: Disk + Drop, G: Gate + Drop> Caller<D, G> {
         ensures call { Makes D.honest self.old.seat (Executed session request.now (outcome_of result.0)) self.new.seat }
     {
         let place = self.door.lock(rt);
-        let outcome = self
-            .bench
-            .execute(rt, &mut self.seat, session, request);
+        let outcome = self.bench.execute(rt, &mut self.seat, session, request);
         let news = self.news_of(rt, &outcome);
         drop(place);
         self.gate.at(Point::AfterAnswer);
@@ -124,11 +122,7 @@ impl<D: Disk + Drop, G: Gate + Drop> Caller<D, G> {
 
     /// A job's end: the sessions whose waits are over, and what it caused. The end of another device's job is let go.
     #[tactic(auto, using(crate::proofs::Seats::is_of))]
-    pub fn give_back<R: Wait>(
-        &mut self,
-        rt: &R,
-        finished: Finished<D, Global>,
-    ) -> (Sessions, News)
+    pub fn give_back<R: Wait>(&mut self, rt: &R, finished: Finished<D, Global>) -> (Sessions, News)
         ensures call { GivesBack D.honest (finished_of finished) self.old.seat self.new.seat }
     {
         let _place = self.door.lock(rt);

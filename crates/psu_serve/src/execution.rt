@@ -4,6 +4,7 @@ ghost use Rattle.psu_messages.specs.Courses.{Goes, IsOver};
 ghost use Rattle.psu_messages.specs.Shown.{course_of};
 ghost use Rattle.psu_messages.specs.Units.{source_of};
 ghost use Rattle.psu_serve.specs.Seen.{HasMade};
+
 use crate::begun::Begun;
 use crate::caller::Caller;
 use crate::member::Member;
@@ -87,9 +88,7 @@ impl<'a, 'c, 'r, R: Wait, D: Disk + Drop, G: Gate + Drop> Front<Global>
 
     fn execute(&mut self, request: &Request<'_>) -> Result<Outcome<Global>, Stop> {
         let core = current(self.rt, self.member, self.origin)?;
-        let (outcome, news) = self
-            .caller
-            .execute(self.rt, self.member.session, request);
+        let (outcome, news) = self.caller.execute(self.rt, self.member.session, request);
         drop(core);
         self.server.tell(self.rt, &news);
         Ok(outcome)
