@@ -1,4 +1,9 @@
-"""Asks a server on 127.0.0.1 for its name, over plain sockets: python3 examples/idn.py [PORT]"""
+"""Asks a server for its name, over plain sockets.
+
+Needs Python 3, no package, and a server on 127.0.0.1 (`./psu serve IMAGE`): python3 examples/idn.py [PORT], by default 4880.
+Prints the name: EXAMPLE,PSU4,0,1.0
+The other examples take `connect`, `tell` and `ask` from here.
+"""
 import socket
 import struct
 import sys

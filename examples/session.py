@@ -1,4 +1,8 @@
-"""A session of a supply on 127.0.0.1, typed and answered: python3 examples/session.py [PORT]"""
+"""A session, sent and answered, over plain sockets: sets, measures, saves and confirms, and asks for an error.
+
+Needs Python 3, no package, and a server on 127.0.0.1 (`./psu serve IMAGE`): python3 examples/session.py [PORT], by default 4880.
+Prints each message, and behind `->` what is answered: 5.000;0.500 for the measurement, 1 once register 1 is on the disk, and the error.
+"""
 import sys
 
 from idn import ask, connect, tell

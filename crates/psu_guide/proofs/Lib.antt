@@ -1,2 +1,4 @@
 pub mod Coming
+pub mod Judging
 pub mod Lines
+pub mod Playing

@@ -1,2 +1,4 @@
 pub mod Examples
+pub mod Held
+pub mod Plays
 pub mod Shown

@@ -1,4 +1,7 @@
 //! What the instrument answers.
+ghost use Rattle.std.specs.Prelude.{IfErr, IfOk};
+ghost use Rattle.psu_guide.specs.Held.{IsFaultOfRun};
+ghost use Rattle.psu_guide.specs.Plays.{Plays};
 
 use crate::guide_fault::GuideFault;
 use psu_disk::MemDisk;
@@ -12,12 +15,15 @@ const LIMIT: u16 = 256;
 // The bytes of such an image: two roots and twice the limit, in pages of 512 bytes.
 const SIZE: u64 = 263_168;
 
-/// What the instrument answers to these lines, on a fresh image in memory.
+/// What the instrument answers to these lines, which begin at this line of the guide, on a fresh image in memory.
 pub fn played<A: Allocator + Copy>(
     alloc: A,
     line: usize,
     sent: &[u8],
-) -> Result<Vec<u8, A>, GuideFault<A>> {
+) -> Result<Vec<u8, A>, GuideFault<A>>
+    ensures played { IfOk result (λ text. Plays sent.now text.items) }
+    ensures refused { IfErr result (λ fault. IsFaultOfRun line sent.now fault) }
+{
     let Ok(disk) = MemDisk::new(alloc, SIZE) else {
         return Err(GuideFault::Memory);
     };

@@ -1,0 +1,28 @@
+-- What the instrument answers to lines that are sent to it, in the words of a run.
+use Rattle.std.specs.Prelude.{◌≡◌, ℕ, List, [], length, Some}
+use Rattle.psu_disk.specs.Disk.{DiskState, Left}
+use Rattle.psu_items.specs.Image.{EachStands, counting, number_in}
+use Rattle.psu_server.specs.Results.{WritesRun}
+use Rattle.psu_server.specs.Reasons.{EndsFor}
+use Rattle.psu_server.specs.declared.run_cause.RunCause.{RunCause}
+
+-- A disk with a new image, of 263,168 bytes: whatever a power loss leaves of it stands for the empty map, which may take 256 pages,
+-- and the root that counts has the number 1.
+pub record IsNew (disk : DiskState) : Type 0 where
+  pub size : length disk.bytes ≡ 263168
+  pub stands : EachStands disk 256 []
+  pub first : (image : List ℕ) → Left disk image → number_in (counting image) image ≡ 1
+
+-- On a new image a run to which this is sent ends well and writes this text, and no call of its disk fails.
+pub record Plays (sent text : List ℕ) : Type 0 where
+  pub disk : DiskState
+  pub is_new : IsNew disk
+  pub over : DiskState
+  pub writes : WritesRun disk.bytes sent 0 0 (Some []) (Some text) over
+
+-- On a new image a run to which this is sent ends early for this cause, and no call of its disk fails.
+pub record Stops (sent : List ℕ) (cause : RunCause) : Type 0 where
+  pub disk : DiskState
+  pub is_new : IsNew disk
+  pub left : List ℕ
+  pub why : EndsFor disk.bytes 0 0 left (Some sent) cause
