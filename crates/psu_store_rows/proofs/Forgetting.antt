@@ -4,7 +4,7 @@ use Rattle.std.proofs.lemmas.List.{same_lists, get_or_default, length-replicate}
 use Rattle.std.proofs.lemmas.Bool.{cases_lt}
 use Rattle.psu_disk.specs.Disk.{Range}
 use Rattle.psu_disk.specs.Memory.{memory, marked}
-use Rattle.psu_disk.specs.Ranges.{length-range, range_index}
+use Rattle.psu_disk.specs.Ranges.{range_index}
 use Rattle.psu_disk.proofs.Images.{mark_others, mark_inside}
 use Rattle.psu_disk.proofs.Splice as splices
 use Rattle.psu_disk.proofs.Splice.{splice}

@@ -1,4 +1,4 @@
-use Rattle.std.proofs.Common.{◌≡◌, ℕ, ◌<◌, ◌≤◌, length, get_or, true, false}
+use Rattle.std.proofs.Common.{◌≡◌, ℕ, ◌<◌, length, get_or, true, false}
 use Rattle.psu_store_rows.proofs.forgetting_medium.make_safe.Given as goal
 
 abbrev pub invariant-loop-i : goal.invariant-loop-i
