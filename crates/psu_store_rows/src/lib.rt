@@ -1,4 +1,5 @@
-//! Tests of the store and what lies below it, each through its crate. Expected values are worked by hand from the format of an image.
+//! Tests of the store and what lies below it, each through its crate, and a medium in memory for them. Expected values are worked by hand
+//! from the format of an image and from what a disk is.
 #![tactic(auto)]
 
 #[cfg(test)]
@@ -7,16 +8,23 @@ mod bad_heads;
 mod bad_roots;
 #[cfg(test)]
 mod files;
+mod forgetting_medium;
+#[cfg(test)]
+mod forgotten;
 #[cfg(test)]
 mod image_bytes;
 #[cfg(test)]
 mod images;
+#[cfg(test)]
+mod kept_ranges;
 #[cfg(test)]
 mod losses;
 #[cfg(test)]
 mod maps;
 #[cfg(test)]
 mod migrations;
+#[cfg(test)]
+mod passing_disk;
 #[cfg(test)]
 mod pools;
 #[cfg(test)]
@@ -25,3 +33,5 @@ mod spelled;
 mod stores;
 #[cfg(test)]
 mod strange;
+
+pub use forgetting_medium::ForgettingMedium;
