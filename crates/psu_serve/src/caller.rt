@@ -1,7 +1,7 @@
 // A thread's way to the device.
 ghost use Rattle.std.specs.Prelude.{◌≡◌, ◌⊎◌, ℕ, Bool, List, IfOk, is_some, true};
 ghost use Rattle.std.specs.Arc.{arc_value};
-ghost use Rattle.psu_turn.specs.Seats.{Calls, Splits};
+ghost use Rattle.psu_turn.specs.Seats.{Calls, IsOf, Splits};
 ghost use Rattle.psu_exec.specs.Calls.Entry.{Executed, Settled, Took, Opened, Closed, Cleared, Sent, Delivered, Queried, Fetched, Told, Locked, Released, Ticked, Informed, Due};
 ghost use Rattle.psu_exec.specs.Shown.{outcome_of};
 ghost use Rattle.psu_bench.specs.Calls.{AdmitsOn, session_of};
@@ -28,6 +28,23 @@ pub struct Caller<D: Disk, G: Gate> {
     gate: SharedGate<G>,
     ghost same: { seat.turn ≡ arc_value bench },
     ghost here: { is_some seat.opening ≡ true },
+}
+
+// What a unit caused. A query that is answered sets no bit and changes nothing that is kept, so it makes no news.
+fn news_of<D: Disk, R: Wait>(
+    rt: &R,
+    bench: &Bench<D, Global>,
+    seat: &mut Seat<Global>,
+    outcome: &Outcome<Global>,
+) -> News
+    requires own { IsOf bench.now seat.old }
+    ensures call { (seat.new ≡ seat.old) ⊎ ((asking : List ℕ) × (work : Bool) × Calls (AdmitsOn D.honest) seat.old (Told asking work) seat.new) }
+    ensures own { IsOf bench.now seat.new }
+{
+    match outcome {
+        Outcome::Answer(_) => News::none(),
+        _ => News::of(bench.news(rt, seat)),
+    }
 }
 
 impl<D: Disk + Drop, G: Gate + Drop> Caller<D, G> {
@@ -82,22 +99,10 @@ impl<D: Disk + Drop, G: Gate + Drop> Caller<D, G> {
     {
         let place = self.door.lock(rt);
         let outcome = self.bench.execute(rt, &mut self.seat, session, request);
-        let news = self.news_of(rt, &outcome);
+        let news = news_of(rt, &self.bench, &mut self.seat, &outcome);
         drop(place);
         self.gate.at(Point::AfterAnswer);
         (outcome, news)
-    }
-
-    // What a unit caused. A query that is answered sets no bit and changes nothing that is kept, so it makes no news.
-    #[tactic(auto, using(crate::proofs::Seats::is_of))]
-    fn news_of<R: Wait>(&mut self, rt: &R, outcome: &Outcome<Global>) -> News
-        ensures { (self.new.seat ≡ self.old.seat)
-            ⊎ ((asking : List ℕ) × (work : Bool) × Calls (AdmitsOn D.honest) self.old.seat (Told asking work) self.new.seat) }
-    {
-        match outcome {
-            Outcome::Answer(_) => News::none(),
-            _ => News::of(self.bench.news(rt, &mut self.seat)),
-        }
     }
 
     /// What the wait of a session came to, and what that caused.

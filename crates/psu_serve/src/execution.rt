@@ -61,7 +61,6 @@ impl<'a, 'c, 'r, R: Wait, D: Disk + Drop, G: Gate + Drop> Execution<'a, 'c, 'r, 
     /// Executes what is left of a transmission, up to a unit that has to wait: what that waits for. One that comes too early is tried once more, as
     /// there may have been room meanwhile. What is done leads its course on, and each deed is a call with the session; where it waits for nothing,
     /// nothing is left to do.
-    #[tactic(auto, using(psu_messages::proofs::Going::behind))]
     pub fn advance(&mut self, begun: &mut Begun) -> Result<Option<Need>, Stop>
         ensures goes { IfOk result (λ _. Goes (λ x deed y. HasMade D.honest x.member.now.session x.caller.now.seat deed y.caller.now.seat × (y.member ≡ x.member))
             (source_of begun.old.input) self.old (course_of begun.old.course) self.new (course_of begun.new.course)) }

@@ -30,6 +30,16 @@ enum Round {
     Failed,
 }
 
+impl Round {
+    // What a job's end makes of its round.
+    fn of<D: Disk>(finished: &Finished<D, Global>) -> Round {
+        match finished {
+            Finished::Stored(_) | Finished::Reopened(_) => Round::Worked,
+            Finished::Unstarted(_, _, _) | Finished::Broken(_) => Round::Failed,
+        }
+    }
+}
+
 /// The flusher.
 #[derive(Drop)]
 pub struct Flusher<'a, D: Disk, G: Gate, E: Eprint> {
@@ -56,6 +66,15 @@ impl<'a, D: Disk + Drop, G: Gate + Drop, E: Eprint> Flusher<'a, D, G, E> {
         }
     }
 
+    // Tells what a job's end shows of the store.
+    fn show(&mut self, finished: &Finished<D, Global>)
+        ensures { self.new.caller ≡ self.old.caller }
+    {
+        if let Some(condition) = Condition::shown_by(finished) {
+            self.tell(condition);
+        }
+    }
+
     // Gives a job's end back, wakes those whose waits are over and those that wait for room, and tells who asks for service. The work that is left
     // the flusher knows of: it does not ring its own bell, which would end its pause.
     fn give_back<R: Wait>(&mut self, rt: &R, finished: Finished<D, Global>)
@@ -75,16 +94,10 @@ impl<'a, D: Disk + Drop, G: Gate + Drop, E: Eprint> Flusher<'a, D, G, E> {
     {
         self.caller.before_run();
         let finished = job.run();
-        let went_well = matches!(finished, Finished::Stored(_) | Finished::Reopened(_));
-        if let Some(condition) = Condition::shown_by(&finished) {
-            self.tell(condition);
-        }
+        let round = Round::of(&finished);
+        self.show(&finished);
         self.give_back(rt, finished);
-        if went_well {
-            Round::Worked
-        } else {
-            Round::Failed
-        }
+        round
     }
 
     // One round: a job is taken and run. Where there is none after the store broke, a reopening has found all stored.
