@@ -3,23 +3,15 @@ use Rattle.std.specs.Prelude.{◌≡◌, ◌⊎◌, ℕ, Bool, Option, List}
 use Rattle.psu_turn.specs.Seats.{Sight, Calls}
 use Rattle.psu_exec.specs.Device.{State}
 use Rattle.psu_exec.specs.Calls.{Entry, JobEnd, Taken, Job}
-use Rattle.psu_exec.specs.Calls.Entry.{Executed, Settled, Took, GaveBack, Sent, Told}
+use Rattle.psu_exec.specs.Calls.Entry.{Took, GaveBack, Told}
 use Rattle.psu_bench.specs.Calls.{AdmitsOn}
 use Rattle.psu_bench.specs.Rounds.{IsEndOf}
-use Rattle.psu_messages.specs.Deeds as deed
-use Rattle.psu_messages.specs.Deeds.{Deed}
 
 -- The seat made this call, and perhaps asked for the news behind it. What it has seen then is one legal history, which begins with all that it had seen
 -- and ends with what it called.
 abbrev pub Makes : Type 0 → Sight State Entry → Entry → Sight State Entry → Type 0
 Makes honest old entry new = Calls (AdmitsOn honest) old entry new
     ⊎ ((mid : Sight State Entry) × (asking : List ℕ) × (work : Bool) × Calls (AdmitsOn honest) old entry mid × Calls (AdmitsOn honest) mid (Told asking work) new)
-
--- what is done for a transmission of a session is a call with that session
-abbrev pub HasMade : Type 0 → ℕ → Sight State Entry → Deed → Sight State Entry → Type 0
-HasMade honest session old (deed.Executed request reply) new = Makes honest old (Executed session request reply) new
-HasMade honest session old (deed.Settled reply) new = Makes honest old (Settled session reply) new
-HasMade honest session old (deed.Sent text last) new = Makes honest old (Sent session) new
 
 -- what a job came to was given back
 abbrev pub GivesBack : Type 0 → JobEnd → Sight State Entry → Sight State Entry → Type 0
