@@ -16,6 +16,8 @@ mod sessions_bench;
 #[cfg(test)]
 mod sessions_locks;
 #[cfg(test)]
+mod sessions_script;
+#[cfg(test)]
 mod sessions_status;
 #[cfg(test)]
 mod stores;

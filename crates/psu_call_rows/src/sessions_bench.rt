@@ -4,7 +4,9 @@ ghost use Rattle.psu_exec.specs.Device.{is_open};
 
 use crate::images::formatted;
 use psu_disk::{Disk, MemDisk};
-use psu_exec::{Exec, Finished, Grant, Kind, LockRefusal, LockString, NoJob, Outcome, Session};
+use psu_exec::{
+    Exec, Finished, Freed, Grant, Kind, LockRefusal, LockString, NoJob, Outcome, Session, Sessions,
+};
 use psu_items::Store;
 use psu_lex::Unit;
 use psu_tree::{Path, request};
@@ -140,11 +142,6 @@ pub fn does(rt: &impl Abort, exec: &mut Power, session: Session, text: &[u8]) {
     says(rt, exec, session, text, b"done");
 }
 
-/// Executes a unit that is refused.
-pub fn fails(rt: &impl Abort, exec: &mut Power, session: Session, text: &[u8]) {
-    says(rt, exec, session, text, b"error");
-}
-
 /// One job, from its take to its end; none where there is nothing to do.
 pub fn flush<D: Disk + Drop>(rt: &impl Abort, exec: &mut Exec<D, Global>) {
     match exec.take() {
@@ -159,9 +156,9 @@ pub fn shared(rt: &impl Abort, string: &[u8]) -> Kind {
 }
 
 /// Asks for a lock.
-pub fn lock(
+pub fn lock<D: Disk>(
     rt: &impl Abort,
-    exec: &mut Power,
+    exec: &mut Exec<D, Global>,
     session: Session,
     kind: Kind,
     now: u64,
@@ -171,47 +168,46 @@ pub fn lock(
     exec.lock(session, kind, now, timeout)
 }
 
-/// Gives up a lock: 1 for the exclusive one, 2 for the shared one, 3 where none is held. Looks at the session that is then granted.
-pub fn release(rt: &impl Abort, exec: &mut Power, session: Session, granted: &[Session]) -> u8 {
+/// Gives up a lock.
+pub fn release<D: Disk>(
+    rt: &impl Abort,
+    exec: &mut Exec<D, Global>,
+    session: Session,
+) -> Result<(Freed, Sessions), LockRefusal> {
     look(rt, exec, session);
-    match exec.release(session) {
-        Ok((freed, sessions)) => {
-            assert_eq!(rt; sessions.as_slice(), granted);
-            match freed {
-                psu_exec::Freed::Exclusive => 1,
-                psu_exec::Freed::Shared => 2,
-            }
-        }
-        Err(_) => 3,
-    }
+    exec.release(session)
 }
 
-/// Closes a session, and looks at the sessions that are then granted.
-pub fn close(rt: &impl Abort, exec: &mut Power, session: Session, granted: &[Session]) {
+/// Closes a session. The sessions that are then granted a lock.
+pub fn close<D: Disk>(rt: &impl Abort, exec: &mut Exec<D, Global>, session: Session) -> Sessions {
     look(rt, exec, session);
-    assert_eq!(rt; exec.close_session(session).as_slice(), granted);
+    exec.close_session(session)
 }
 
 /// A status query.
-pub fn polled(rt: &impl Abort, exec: &mut Power, session: Session) -> u8 {
+pub fn polled<D: Disk>(rt: &impl Abort, exec: &mut Exec<D, Global>, session: Session) -> u8 {
     look(rt, exec, session);
     exec.status(session)
 }
 
 /// The service request that is not fetched.
-pub fn requested(rt: &impl Abort, exec: &mut Power, session: Session) -> Option<u8> {
+pub fn requested<D: Disk>(
+    rt: &impl Abort,
+    exec: &mut Exec<D, Global>,
+    session: Session,
+) -> Option<u8> {
     look(rt, exec, session);
     exec.requests(session)
 }
 
 /// An answer was sent.
-pub fn sent(rt: &impl Abort, exec: &mut Power, session: Session) {
+pub fn sent<D: Disk>(rt: &impl Abort, exec: &mut Exec<D, Global>, session: Session) {
     look(rt, exec, session);
     exec.sent(session);
 }
 
 /// It was delivered.
-pub fn delivered(rt: &impl Abort, exec: &mut Power, session: Session) {
+pub fn delivered<D: Disk>(rt: &impl Abort, exec: &mut Exec<D, Global>, session: Session) {
     look(rt, exec, session);
     exec.delivered(session);
 }

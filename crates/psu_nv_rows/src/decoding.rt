@@ -1,6 +1,7 @@
 // Contents from a map: each of its rows good, and each way in which one is bad.
 use psu_items::Items;
 use psu_nv::{Contents, DecodeFault};
+use psu_tables::{bytes, row};
 use std::alloc::{AllocError, Global};
 use std::process::Abort;
 use std::test::Fail;
@@ -26,169 +27,145 @@ fn fault(alloc: Global, key: &[u8], value: &[u8]) -> Result<Option<DecodeFault>,
     }
 }
 
-// Settings with these seven bytes at output 1.
-fn settings(first: [u8; 7]) -> [u8; 28] {
-    let mut bytes = [
-        0, 0, 0, 0, 0xea, 0x60, 0, 0, 0, 0, 0, 0xea, 0x60, 0, 0, 0, 0, 0, 0xea, 0x60, 0, 0, 0, 0,
-        0, 0xea, 0x60, 0,
-    ];
-    bytes[..7].copy_from_slice(&first);
-    bytes
+// The settings of `*RST`.
+const RESET: [u8; 28] = [
+    0, 0, 0, 0, 0xea, 0x60, 0, 0, 0, 0, 0, 0xea, 0x60, 0, 0, 0, 0, 0, 0xea, 0x60, 0, 0, 0, 0, 0,
+    0xea, 0x60, 0,
+];
+
+// The bytes of a cell, which may end with those of outputs 2 to 4 at `*RST`.
+fn bytes_of(alloc: Global, cell: &str) -> Result<Vec<u8>, Fail> {
+    let (first, rest) = match cell.strip_suffix(" reset") {
+        Some(first) => (first, &RESET[7..]),
+        None => (cell, &RESET[..0]),
+    };
+    let mut bytes = bytes(alloc, first).ok_or("a cell")?;
+    bytes.extend_from_slice(rest)?;
+    Ok(bytes)
 }
 
-const BAD_KEY: Option<DecodeFault> = Some(DecodeFault::BadKey);
-
-const BAD_VALUE: Option<DecodeFault> = Some(DecodeFault::BadValue);
-
-// Looks at maps of a key and a value, and at why each is refused.
-fn rows(
-    rt: &impl Abort,
-    alloc: Global,
-    rows: &[(&[u8], &[u8], Option<DecodeFault>)],
-) -> Result<(), Fail> {
-    for (key, value, want) in rows {
-        assert_eq!(rt; fault(alloc, key, value)?, *want, "{key:?} {value:?}");
+// How a fault is called.
+fn told(fault: Option<DecodeFault>) -> &'static str {
+    match fault {
+        None => "good",
+        Some(DecodeFault::BadKey) => "bad key",
+        Some(DecodeFault::BadValue) => "bad value",
+        Some(DecodeFault::Memory) => "memory",
     }
+}
+
+// Looks at maps of a key and a value, and at why each is refused: a row a line, as `key | value -> fault`.
+fn look(rt: &impl Abort, alloc: Global, table: &str) -> Result<(), Fail> {
+    let mut rows = 0u32;
+    for (item, want) in table.lines().filter_map(row) {
+        let (key, value) = item.split_once("|").ok_or("no item")?;
+        let fault = fault(alloc, &bytes_of(alloc, key)?, &bytes_of(alloc, value)?)?;
+        assert_eq!(rt; told(fault), want, "{item}");
+        rows = rows.saturating_add(1);
+    }
+    assert!(rt; rows > 0, "no row in {table}");
     Ok(())
 }
 
+const KEYS: &str = "
+| 01 -> bad key
+00 | 01 -> bad key
+06 00 | 01 -> bad key
+07 | 01 -> bad key
+01 00 | 20 80 -> bad key
+02 | 01*7 reset -> bad key
+02 64 | 01 01 00*5 reset -> bad key
+02 01 00 | 01 01 00*5 reset -> bad key
+03 03 | 'text -> bad key
+04 01 | 01 'A 00 00 -> bad key
+05 | 00 -> bad key
+05 'a/b | 00 -> bad key
+05 41*64 | 00 -> good
+05 41*65 | 00 -> bad key
+";
+
 #[test]
 fn keys_that_no_contents_have(rt: HostRuntime) -> Result<(), Fail> {
-    let good = settings([1, 1, 0, 0, 0, 0, 0]);
-    rows(
-        &rt,
-        rt.alloc(),
-        &[
-            (&[], &[1], BAD_KEY),
-            (&[0], &[1], BAD_KEY),
-            (&[6, 0], &[1], BAD_KEY),
-            (&[7], &[1], BAD_KEY),
-            (&[1, 0], &[32, 128], BAD_KEY),
-            (&[2], &settings([1; 7]), BAD_KEY),
-            (&[2, 100], &good, BAD_KEY),
-            (&[2, 1, 0], &good, BAD_KEY),
-            (&[3, 3], b"text", BAD_KEY),
-            (&[4, 1], &[1, b'A', 0, 0], BAD_KEY),
-            (&[5], &[0], BAD_KEY),
-            (b"\x05a/b", &[0], BAD_KEY),
-        ],
-    )
-}
-
-#[test]
-fn a_name_of_64_bytes(rt: HostRuntime) -> Result<(), Fail> {
-    let mut longer = [b'A'; 66];
-    longer[0] = 5;
-    rows(
-        &rt,
-        rt.alloc(),
-        &[(&longer[..65], &[0], None), (&longer, &[0], BAD_KEY)],
-    )
-}
-
-#[test]
-fn enables(rt: HostRuntime) -> Result<(), Fail> {
-    rows(
-        &rt,
-        rt.alloc(),
-        &[
-            (&[1], &[32, 128], None),
-            (&[1], &[], BAD_VALUE),
-            (&[1], &[32], BAD_VALUE),
-            (&[1], &[32, 128, 0], BAD_VALUE),
-            (&[1], &[96, 128], BAD_VALUE),
-        ],
-    )
+    look(&rt, rt.alloc(), KEYS)
 }
 
 // The choice of the settings at power-on is there for register 0 alone.
+const ENABLES_AND_CHOICE: &str = "
+01 | 20 80 -> good
+01 | -> bad value
+01 | 20 -> bad value
+01 | 20 80 00 -> bad value
+01 | 60 80 -> bad value
+06 | 01 -> good
+06 | -> bad value
+06 | 00 -> bad value
+06 | 02 -> bad value
+06 | 01 00 -> bad value
+";
+
 #[test]
-fn settings_at_power_on(rt: HostRuntime) -> Result<(), Fail> {
-    rows(
-        &rt,
-        rt.alloc(),
-        &[
-            (&[6], &[1], None),
-            (&[6], &[], BAD_VALUE),
-            (&[6], &[0], BAD_VALUE),
-            (&[6], &[2], BAD_VALUE),
-            (&[6], &[1, 0], BAD_VALUE),
-        ],
-    )
+fn enables_and_settings_at_power_on(rt: HostRuntime) -> Result<(), Fail> {
+    look(&rt, rt.alloc(), ENABLES_AND_CHOICE)
 }
+
+const REGISTERS: &str = "
+02 09 | ea 60 13 88 ea 60 03 reset -> good
+02 09 | 00*27 -> bad value
+02 09 | 00*29 -> bad value
+
+The settings of *RST, which no item holds, and each value one beyond its greatest.
+02 00 | 00 00 00 00 ea 60 00 reset -> bad value
+02 00 | ea 61 00 00 00 00 00 reset -> bad value
+02 00 | 00 00 13 89 00 00 00 reset -> bad value
+02 00 | 00 00 00 00 ea 61 00 reset -> bad value
+02 00 | 00 00 00 00 00 00 04 reset -> bad value
+";
 
 #[test]
 fn registers(rt: HostRuntime) -> Result<(), Fail> {
-    rows(
-        &rt,
-        rt.alloc(),
-        &[
-            (
-                &[2, 9],
-                &settings([0xea, 0x60, 0x13, 0x88, 0xea, 0x60, 3]),
-                None,
-            ),
-            (&[2, 9], &[0; 27], BAD_VALUE),
-            (&[2, 9], &[0; 29], BAD_VALUE),
-            // The settings of `*RST`, which no item holds, and each value one beyond its greatest.
-            (&[2, 0], &settings([0, 0, 0, 0, 0xea, 0x60, 0]), BAD_VALUE),
-            (&[2, 0], &settings([0xea, 0x61, 0, 0, 0, 0, 0]), BAD_VALUE),
-            (&[2, 0], &settings([0, 0, 0x13, 0x89, 0, 0, 0]), BAD_VALUE),
-            (&[2, 0], &settings([0, 0, 0, 0, 0xea, 0x61, 0]), BAD_VALUE),
-            (&[2, 0], &settings([0, 0, 0, 0, 0, 0, 4]), BAD_VALUE),
-        ],
-    )
+    look(&rt, rt.alloc(), REGISTERS)
 }
+
+const USER_DATA_AND_FILES: &str = "
+03 | 07 -> good
+03 | 07*63 -> good
+03 | -> bad value
+03 | 07*64 -> bad value
+05 'a-B_9.x | 00 07 -> good
+05 'a-B_9.x | 01 07 -> good
+05 'a-B_9.x | 02 07 -> good
+05 'a | 03 07 -> bad value
+05 'a | -> bad value
+05 'a | 00*32769 -> good
+05 'a | 00*32770 -> bad value
+";
 
 #[test]
 fn user_data_and_files(rt: HostRuntime) -> Result<(), Fail> {
-    let longer = [0; 32_770];
-    rows(
-        &rt,
-        rt.alloc(),
-        &[
-            (&[3], &[7], None),
-            (&[3], &[7; 63], None),
-            (&[3], &[], BAD_VALUE),
-            (&[3], &[7; 64], BAD_VALUE),
-            (b"\x05a-B_9.x", &[0, 7], None),
-            (b"\x05a-B_9.x", &[1, 7], None),
-            (b"\x05a-B_9.x", &[2, 7], None),
-            (b"\x05a", &[3, 7], BAD_VALUE),
-            (b"\x05a", &[], BAD_VALUE),
-            (b"\x05a", &longer[..32_769], None),
-            (b"\x05a", &longer, BAD_VALUE),
-        ],
-    )
+    look(&rt, rt.alloc(), USER_DATA_AND_FILES)
 }
+
+const MACROS: &str = "
+04 | 01 'A 00 04 '*CLS -> good
+04 | 01 'A 00 00 02 'A_ 00 01 'x -> good
+04 | -> bad value
+04 | 00*3 -> bad value
+04 | 02 '9A 00 00 -> bad value
+04 | 0d 'ABCDEFGHIJKLM 00 00 -> bad value
+04 | 05 'A 00 00 -> bad value
+04 | 01 'A -> bad value
+04 | 01 'A 00 -> bad value
+04 | 01 'A 00 05 '*CLS -> bad value
+04 | 01 'A 00 04 '*CLS 01 -> bad value
+04 | 01 'A 00 00 01 'a 00 00 -> bad value
+04 | 0c 'ABCDEFGHIJKL 00 00 -> good
+04 | 01 'A 04 00 78*1024 -> good
+04 | 01 'A 04 01 78*1025 -> bad value
+";
 
 #[test]
 fn macros(rt: HostRuntime) -> Result<(), Fail> {
-    let mut body = [b'x'; 1_028];
-    body[..4].copy_from_slice(b"\x01A\x04\x00");
-    let mut longer = [b'x'; 1_029];
-    longer[..4].copy_from_slice(b"\x01A\x04\x01");
-    rows(
-        &rt,
-        rt.alloc(),
-        &[
-            (&[4], b"\x01A\x00\x04*CLS", None),
-            (&[4], b"\x01A\x00\x00\x02A_\x00\x01x", None),
-            (&[4], b"", BAD_VALUE),
-            (&[4], b"\x00\x00\x00", BAD_VALUE),
-            (&[4], b"\x029A\x00\x00", BAD_VALUE),
-            (&[4], b"\x0dABCDEFGHIJKLM\x00\x00", BAD_VALUE),
-            (&[4], b"\x05A\x00\x00", BAD_VALUE),
-            (&[4], b"\x01A", BAD_VALUE),
-            (&[4], b"\x01A\x00", BAD_VALUE),
-            (&[4], b"\x01A\x00\x05*CLS", BAD_VALUE),
-            (&[4], b"\x01A\x00\x04*CLS\x01", BAD_VALUE),
-            (&[4], b"\x01A\x00\x00\x01a\x00\x00", BAD_VALUE),
-            (&[4], b"\x0cABCDEFGHIJKL\x00\x00", None),
-            (&[4], &body, None),
-            (&[4], &longer, BAD_VALUE),
-        ],
-    )
+    look(&rt, rt.alloc(), MACROS)
 }
 
 #[test]
@@ -226,7 +203,8 @@ fn whole(alloc: Global) -> Result<Items<Global>, AllocError> {
     items.insert([6].to_vec(alloc)?, [1].to_vec(alloc)?)?;
     items.insert([4].to_vec(alloc)?, b"\x01M\x00\x01!".to_vec(alloc)?)?;
     items.insert([3].to_vec(alloc)?, [9].to_vec(alloc)?)?;
-    let on = settings([0, 0, 0, 0, 0xea, 0x60, 2]);
+    let mut on = RESET;
+    on[6] = 2;
     items.insert([2, 4].to_vec(alloc)?, on.to_vec(alloc)?)?;
     Ok(items)
 }

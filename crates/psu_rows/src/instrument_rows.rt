@@ -1,70 +1,100 @@
 // The worked rows of the whole instrument, as inputs of a run on a formatted image and its output.
-use crate::images::{least, run_rows, written, written_on};
+use crate::images::{least, written, written_on};
 use crate::texts::joined;
+use crate::transcripts::play;
 use std::alloc::AllocError;
+use std::test::Fail;
+
+const ROWS_OF_THE_INSTRUMENT: &str = r#"
+Saved settings come back.
+> VOLT 5.25;*SAV 3;*OPC?
+< 1
+> !POWER
+> VOLT?;*RCL 3;VOLT?
+< 0.000;5.250
+
+A register's number is rounded; `COUN?` is read after `SYST:`, where it is undefined.
+> *SAV 100
+> *SAV 99.4
+> *SAV 99.5
+> SYST:ERR?;COUN?
+< -222,"Data out of range"
+> SYST:ERR:COUN?
+< 2
+
+> 
+> SYST:ERR?
+< 0,"No error"
+
+The path goes on behind `SOUR2:`, and `:` leads back to the root.
+> SOUR2:VOLT 3;CURR 0.5;:SOUR2:CURR?;:CURR?
+< 0.500;0.000
+
+User data are protected from power-on.
+> *PUD #15hello
+> SYST:ERR?
+< -203,"Command protected"
+
+> *PUD #15ab
+> SYST:ERR?
+< -161,"Invalid block data"
+
+> DIAG:PUD:PROT OFF;*PUD #13a;b;*PUD?
+< #13a;b
+
+A label is one whatever its case.
+> *DMC "SETA",#17VOLT $1;*EMC 1;SETA 3;VOLT?
+< 3.000
+> *DMC "seta",#10;*LMC?;SYST:ERR?
+< "SETA";-277,"Macro redefinition not allowed"
+
+`*OPC` sets its bit once what was saved is flushed; `*WAI` waits for that.
+> *SAV 1;*OPC;*ESR?
+< 128
+> *WAI;*ESR?
+< 1
+
+Bit 6 of SRE reads 0; half a millivolt is rounded up; of `VOLTA` there is none.
+> *SRE 255;*SRE?
+< 191
+
+> volt 5250.5 mv;VOLT?;:VOLTA?;:SYST:ERR?
+< 5.251;-113,"Undefined header"
+
+> VOLT 60.0004;VOLT?;VOLT 60.0005;VOLT 1E32001;SYST:ERR?;:SYST:ERR?
+< 60.000;-222,"Data out of range";-123,"Exponent too large"
+
+A load of 10 ohms at 12 volts takes more than one ampere: the output is in current limit.
+> VOLT 12;CURR 1;OUTP ON;MEAS:VOLT?;:MEAS:CURR?;:STAT:QUES:COND?
+< 10.000;1.000;2
+
+An output that trips at once is off, and is not switched on again before it is cleared.
+> VOLT:PROT 5;:VOLT:PROT:STAT ON;:CURR 5;:VOLT 6;:OUTP ON;:OUTP?;:VOLT:PROT:TRIP?;:OUTP ON;:SYST:ERR?
+< 0;1;-221,"Settings conflict"
+
+A file of a state; `LOAD:STAT` is read as `MMEM:LOAD:LOAD:STAT`; a name has no `/`.
+> MMEM:STOR:STAT 0,"S";:MMEM:CAT?
+< 1024,130048,"S,STAT,28"
+> MMEM:LOAD:MACR "M","S";LOAD:STAT 2,"S";:MMEM:DATA "a/b",#10;:SYST:ERR?
+< -113,"Undefined header"
+> SYST:ERR?
+< -257,"File name error"
+
+A file is there when power returns.
+> MMEM:DATA "A",#13xyz;*OPC?
+< 1
+> !POWER
+> MMEM:DATA? "A";:MMEM:DEL "B"
+< #13xyz
+> SYST:ERR?
+< -256,"File name not found"
+> MMEM:CAT?
+< 1024,130048,"A,BIN,3"
+"#;
 
 #[test]
-fn rows_of_the_instrument(rt: HostRuntime) {
-    let rows = [
-        // Saved settings come back.
-        (
-            "VOLT 5.25;*SAV 3;*OPC?\n!POWER\nVOLT?;*RCL 3;VOLT?\n",
-            "1\n0.000;5.250\n",
-        ),
-        // A register's number is rounded; `COUN?` is read after `SYST:`, where it is undefined.
-        (
-            "*SAV 100\n*SAV 99.4\n*SAV 99.5\nSYST:ERR?;COUN?\nSYST:ERR:COUN?\n",
-            "-222,\"Data out of range\"\n2\n",
-        ),
-        ("\nSYST:ERR?\n", "0,\"No error\"\n"),
-        // The path goes on behind `SOUR2:`, and `:` leads back to the root.
-        (
-            "SOUR2:VOLT 3;CURR 0.5;:SOUR2:CURR?;:CURR?\n",
-            "0.500;0.000\n",
-        ),
-        // User data are protected from power-on.
-        ("*PUD #15hello\nSYST:ERR?\n", "-203,\"Command protected\"\n"),
-        ("*PUD #15ab\nSYST:ERR?\n", "-161,\"Invalid block data\"\n"),
-        ("DIAG:PUD:PROT OFF;*PUD #13a;b;*PUD?\n", "#13a;b\n"),
-        // A label is one whatever its case.
-        (
-            "*DMC \"SETA\",#17VOLT $1;*EMC 1;SETA 3;VOLT?\n*DMC \"seta\",#10;*LMC?;SYST:ERR?\n",
-            "3.000\n\"SETA\";-277,\"Macro redefinition not allowed\"\n",
-        ),
-        // `*OPC` sets its bit once what was saved is flushed; `*WAI` waits for that.
-        ("*SAV 1;*OPC;*ESR?\n*WAI;*ESR?\n", "128\n1\n"),
-        // Bit 6 of SRE reads 0; half a millivolt is rounded up; of `VOLTA` there is none.
-        ("*SRE 255;*SRE?\n", "191\n"),
-        (
-            "volt 5250.5 mv;VOLT?;:VOLTA?;:SYST:ERR?\n",
-            "5.251;-113,\"Undefined header\"\n",
-        ),
-        (
-            "VOLT 60.0004;VOLT?;VOLT 60.0005;VOLT 1E32001;SYST:ERR?;:SYST:ERR?\n",
-            "60.000;-222,\"Data out of range\";-123,\"Exponent too large\"\n",
-        ),
-        // A load of 10 ohms at 12 volts takes more than one ampere: the output is in current limit.
-        (
-            "VOLT 12;CURR 1;OUTP ON;MEAS:VOLT?;:MEAS:CURR?;:STAT:QUES:COND?\n",
-            "10.000;1.000;2\n",
-        ),
-        // An output that trips at once is off, and is not switched on again before it is cleared.
-        (
-            "VOLT:PROT 5;:VOLT:PROT:STAT ON;:CURR 5;:VOLT 6;:OUTP ON;:OUTP?;:VOLT:PROT:TRIP?;:OUTP ON;:SYST:ERR?\n",
-            "0;1;-221,\"Settings conflict\"\n",
-        ),
-        // A file of a state; `LOAD:STAT` is read as `MMEM:LOAD:LOAD:STAT`; a name has no `/`.
-        (
-            "MMEM:STOR:STAT 0,\"S\";:MMEM:CAT?\nMMEM:LOAD:MACR \"M\",\"S\";LOAD:STAT 2,\"S\";:MMEM:DATA \"a/b\",#10;:SYST:ERR?\nSYST:ERR?\n",
-            "1024,130048,\"S,STAT,28\"\n-113,\"Undefined header\"\n-257,\"File name error\"\n",
-        ),
-        // A file is there when power returns.
-        (
-            "MMEM:DATA \"A\",#13xyz;*OPC?\n!POWER\nMMEM:DATA? \"A\";:MMEM:DEL \"B\"\nSYST:ERR?\nMMEM:CAT?\n",
-            "1\n#13xyz\n-256,\"File name not found\"\n1024,130048,\"A,BIN,3\"\n",
-        ),
-    ];
-    run_rows(&rt, rt.alloc(), &rows);
+fn rows_of_the_instrument(rt: HostRuntime) -> Result<(), Fail> {
+    play(&rt, rt.alloc(), ROWS_OF_THE_INSTRUMENT)
 }
 
 // User data have 63 bytes at most.

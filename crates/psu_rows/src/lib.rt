@@ -45,3 +45,5 @@ mod scarce_lines;
 mod supply_rows;
 #[cfg(test)]
 mod texts;
+#[cfg(test)]
+mod transcripts;

@@ -1,100 +1,92 @@
 // Definitions of macros in runs, and the faults of their commands and calls.
-use crate::images::{run_rows, written};
+use crate::images::written;
+use crate::transcripts::play;
 use std::alloc::{AllocError, Global};
+use std::test::Fail;
+
+const DEFINITIONS_AND_THEIR_FAULTS: &str = r#"
+A label is a letter, then letters, digits or `_`, 12 bytes at most.
+> *DMC "1A",#10;*DMC "ABCDEFGHIJKLM",#10;*DMC "",#10;*DMC "*CLS",#10;*DMC "A:B",#10;*DMC "ABCDEFGHIJ_9",#10;*LMC?
+< "ABCDEFGHIJ_9"
+> SYST:ERR?;:SYST:ERR?;:SYST:ERR?;:SYST:ERR?;:SYST:ERR?;:SYST:ERR?
+< -273,"Illegal macro label";-273,"Illegal macro label";-273,"Illegal macro label";-273,"Illegal macro label";-273,"Illegal macro label";0,"No error"
+
+In order of definition, as written; what is removed can be defined again.
+> *DMC "B",#10;*DMC "a",#11x;*LMC?;*RMC "b";*DMC "b",#10;*LMC?;*PMC;*LMC?
+< "B","a";"a","b";""
+
+> *GMC? "X";*RMC "X";*GMC? "1";*RMC "";:SYST:ERR?;:SYST:ERR?;:SYST:ERR?;:SYST:ERR?
+< -278,"Macro header not found";-278,"Macro header not found";-278,"Macro header not found";-278,"Macro header not found"
+
+A reset disables macros and keeps them; a loss of power too.
+> *DMC "A",#15*IDN?;*EMC 1;A;*RST;A;:SYST:ERR?;*LMC?
+< EXAMPLE,PSU4,0,1.0;-113,"Undefined header";"A"
+
+> *DMC "A",#15*IDN?;*EMC 1;*OPC?
+< 1
+> !POWER
+> *EMC?;*LMC?;*GMC? "A"
+< 0;"A";#15*IDN?
+"#;
 
 #[test]
-fn definitions_and_their_faults(rt: HostRuntime) {
-    let rows = [
-        // A label is a letter, then letters, digits or `_`, 12 bytes at most.
-        (
-            "*DMC \"1A\",#10;*DMC \"ABCDEFGHIJKLM\",#10;*DMC \"\",#10;*DMC \"*CLS\",#10;*DMC \"A:B\",#10;*DMC \"ABCDEFGHIJ_9\",#10;*LMC?\n\
-SYST:ERR?;:SYST:ERR?;:SYST:ERR?;:SYST:ERR?;:SYST:ERR?;:SYST:ERR?\n",
-            "\"ABCDEFGHIJ_9\"\n\
--273,\"Illegal macro label\";-273,\"Illegal macro label\";-273,\"Illegal macro label\";-273,\"Illegal macro label\";-273,\"Illegal macro label\";0,\"No error\"\n",
-        ),
-        // In order of definition, as written; what is removed can be defined again.
-        (
-            "*DMC \"B\",#10;*DMC \"a\",#11x;*LMC?;*RMC \"b\";*DMC \"b\",#10;*LMC?;*PMC;*LMC?\n",
-            "\"B\",\"a\";\"a\",\"b\";\"\"\n",
-        ),
-        (
-            "*GMC? \"X\";*RMC \"X\";*GMC? \"1\";*RMC \"\";:SYST:ERR?;:SYST:ERR?;:SYST:ERR?;:SYST:ERR?\n",
-            "-278,\"Macro header not found\";-278,\"Macro header not found\";-278,\"Macro header not found\";-278,\"Macro header not found\"\n",
-        ),
-        // A reset disables macros and keeps them; a loss of power too.
-        (
-            "*DMC \"A\",#15*IDN?;*EMC 1;A;*RST;A;:SYST:ERR?;*LMC?\n",
-            "EXAMPLE,PSU4,0,1.0;-113,\"Undefined header\";\"A\"\n",
-        ),
-        (
-            "*DMC \"A\",#15*IDN?;*EMC 1;*OPC?\n!POWER\n*EMC?;*LMC?;*GMC? \"A\"\n",
-            "1\n0;\"A\";#15*IDN?\n",
-        ),
-    ];
-    run_rows(&rt, rt.alloc(), &rows);
+fn definitions_and_their_faults(rt: HostRuntime) -> Result<(), Fail> {
+    play(&rt, rt.alloc(), DEFINITIONS_AND_THEIR_FAULTS)
 }
 
-#[test]
-fn calls_and_their_parameters(rt: HostRuntime) {
-    let rows = [
-        // Inside a block or a string no placeholder is looked for.
-        (
-            "*DMC \"S\",#214*DMC \"T\",#12$1;*EMC 1;S;*GMC? \"T\"\n",
-            "#12$1\n",
-        ),
-        (
-            "*DMC \"S\",#214*DMC \"T\",#12$1;*EMC 1;S 5;:SYST:ERR?;*LMC?\n",
-            "-274,\"Macro parameter error\";\"S\"\n",
-        ),
-        // One digit is the placeholder's; a `$` before anything else is left.
-        ("*DMC \"V\",#18VOLT $12;*EMC 1;V 1;VOLT?\n", "12.000\n"),
-        (
-            "*DMC \"V\",#18VOLT $$1;*EMC 1;V 1;:SYST:ERR?;*DMC \"W\",#17VOLT $0;W;:SYST:ERR?\n",
-            "-102,\"Syntax error\";-102,\"Syntax error\"\n",
-        ),
-        // The greatest placeholder says how many parameters there are, though the others are not used.
-        (
-            "*DMC \"V\",#17VOLT $2;*EMC 1;V 1,2;VOLT?;V 3;:SYST:ERR?;:VOLT?\n",
-            "2.000;-274,\"Macro parameter error\";2.000\n",
-        ),
-        (
-            "*DMC \"V\",#17VOLT $9;*EMC 1;V 1,2,3,4,5,6,7,8,9;VOLT?;V 1,2,3,4,5,6,7,8,9,10;SYST:ERR?\n",
-            "9.000;-274,\"Macro parameter error\"\n",
-        ),
-        // Parameters keep their suffix, and lose the white space round them.
-        (
-            "*DMC \"V\",#215VOLT $1;CURR $2;*EMC 1;V  5250 mV , 1 A;VOLT?;CURR?\n",
-            "5.250;1.000\n",
-        ),
-    ];
-    run_rows(&rt, rt.alloc(), &rows);
-}
+const CALLS_AND_THEIR_PARAMETERS: &str = r#"
+Inside a block or a string no placeholder is looked for.
+> *DMC "S",#214*DMC "T",#12$1;*EMC 1;S;*GMC? "T"
+< #12$1
+
+> *DMC "S",#214*DMC "T",#12$1;*EMC 1;S 5;:SYST:ERR?;*LMC?
+< -274,"Macro parameter error";"S"
+
+One digit is the placeholder's; a `$` before anything else is left.
+> *DMC "V",#18VOLT $12;*EMC 1;V 1;VOLT?
+< 12.000
+
+> *DMC "V",#18VOLT $$1;*EMC 1;V 1;:SYST:ERR?;*DMC "W",#17VOLT $0;W;:SYST:ERR?
+< -102,"Syntax error";-102,"Syntax error"
+
+The greatest placeholder says how many parameters there are, though the others are not used.
+> *DMC "V",#17VOLT $2;*EMC 1;V 1,2;VOLT?;V 3;:SYST:ERR?;:VOLT?
+< 2.000;-274,"Macro parameter error";2.000
+
+> *DMC "V",#17VOLT $9;*EMC 1;V 1,2,3,4,5,6,7,8,9;VOLT?;V 1,2,3,4,5,6,7,8,9,10;SYST:ERR?
+< 9.000;-274,"Macro parameter error"
+
+Parameters keep their suffix, and lose the white space round them.
+> *DMC "V",#215VOLT $1;CURR $2;*EMC 1;V  5250 mV , 1 A;VOLT?;CURR?
+< 5.250;1.000
+"#;
 
 #[test]
-fn calls_and_what_is_none(rt: HostRuntime) {
-    let rows = [
-        // A call whose own data have a fault of numbers is still a call; one with a fault of syntax is none.
-        (
-            "*DMC \"V\",#15*IDN?;*DMC \"P\",#13$1?;*EMC 1;P 1E32001;V 5V,;:SYST:ERR?;:SYST:ERR?\n",
-            "-102,\"Syntax error\";-102,\"Syntax error\"\n",
-        ),
-        // A label in front of `:` or behind it, and a query, are none.
-        (
-            "*DMC \"V\",#15*IDN?;*EMC 1;:V;V?;V:V;SYST:ERR?;:SYST:ERR?;:SYST:ERR?;:SYST:ERR?\n",
-            "-113,\"Undefined header\";-113,\"Undefined header\";-113,\"Undefined header\";0,\"No error\"\n",
-        ),
-        // White space alone, and an empty body, are expansions without units.
-        (
-            "*DMC \"E\",#10;*DMC \"F\",#13 ; ;*EMC 1;E;VOLT?;F;*OPC?;:SYST:ERR?\n",
-            "0.000;1;0,\"No error\"\n",
-        ),
-        // What is wrong in an expansion takes no more than the expansion.
-        (
-            "*DMC \"Q\",#14FOO\";*EMC 1;Q;*IDN?;:SYST:ERR?;*DMC \"R\",#17FOO #15;R;*IDN?;:SYST:ERR?\n",
-            "EXAMPLE,PSU4,0,1.0;-151,\"Invalid string data\";EXAMPLE,PSU4,0,1.0;-161,\"Invalid block data\"\n",
-        ),
-    ];
-    run_rows(&rt, rt.alloc(), &rows);
+fn calls_and_their_parameters(rt: HostRuntime) -> Result<(), Fail> {
+    play(&rt, rt.alloc(), CALLS_AND_THEIR_PARAMETERS)
+}
+
+const CALLS_AND_WHAT_IS_NONE: &str = r#"
+A call whose own data have a fault of numbers is still a call; one with a fault of syntax is none.
+> *DMC "V",#15*IDN?;*DMC "P",#13$1?;*EMC 1;P 1E32001;V 5V,;:SYST:ERR?;:SYST:ERR?
+< -102,"Syntax error";-102,"Syntax error"
+
+A label in front of `:` or behind it, and a query, are none.
+> *DMC "V",#15*IDN?;*EMC 1;:V;V?;V:V;SYST:ERR?;:SYST:ERR?;:SYST:ERR?;:SYST:ERR?
+< -113,"Undefined header";-113,"Undefined header";-113,"Undefined header";0,"No error"
+
+White space alone, and an empty body, are expansions without units.
+> *DMC "E",#10;*DMC "F",#13 ; ;*EMC 1;E;VOLT?;F;*OPC?;:SYST:ERR?
+< 0.000;1;0,"No error"
+
+What is wrong in an expansion takes no more than the expansion.
+> *DMC "Q",#14FOO";*EMC 1;Q;*IDN?;:SYST:ERR?;*DMC "R",#17FOO #15;R;*IDN?;:SYST:ERR?
+< EXAMPLE,PSU4,0,1.0;-151,"Invalid string data";EXAMPLE,PSU4,0,1.0;-161,"Invalid block data"
+"#;
+
+#[test]
+fn calls_and_what_is_none(rt: HostRuntime) -> Result<(), Fail> {
+    play(&rt, rt.alloc(), CALLS_AND_WHAT_IS_NONE)
 }
 
 // A definition with a body of so many bytes.

@@ -1,6 +1,7 @@
 // Macros in runs: what a call writes, and where the message that it stands in goes on.
-use crate::images::{formatted, run_rows, written, written_on};
+use crate::images::{formatted, written, written_on};
 use crate::texts::joined;
+use crate::transcripts::play;
 use psu_disk::MemDisk;
 use psu_exec::{Ended, Exec};
 use psu_items::Store;
@@ -8,60 +9,54 @@ use psu_lex::Unit;
 use psu_tree::{Path, request};
 use std::alloc::Global;
 use std::process::Abort;
+use std::test::Fail;
 
 type Power = Exec<MemDisk<Global>, Global>;
 
+const ROWS_OF_MACROS: &str = r#"
+A call is replaced by the macro's body, its parameter in the placeholder's place.
+> *DMC "SETA",#17VOLT $1;*EMC 1;SETA 3;VOLT?
+< 3.000
+
+While macros are disabled a label is a header like another.
+> *DMC "SETA",#17VOLT $1;SETA 3;VOLT?;SYST:ERR?
+< 0.000;-113,"Undefined header"
+
+No macro is called inside an expansion.
+> *DMC "A",#11A;*EMC 1;A;:SYST:ERR?
+< -276,"Macro recursion error"
+
+> *DMC "A",#13B;B;*DMC "B",#15*IDN?;*EMC 1;A;B;:SYST:ERR?;:SYST:ERR?;:SYST:ERR?
+< EXAMPLE,PSU4,0,1.0;-276,"Macro recursion error";-276,"Macro recursion error";0,"No error"
+
+A unit of an expansion waits for the flush; the answers before it are kept, and those of the message follow.
+> *DMC "W",#211*IDN?;*OPC?;*EMC 1;VOLT?;*SAV 1;W;*EMC?
+< 0.000;EXAMPLE,PSU4,0,1.0;1;1
+
+The units of an expansion are read from the root, and the message goes on at its own path.
+> *DMC "M",#219SOUR3:VOLT 1;CURR 2;*EMC 1;SOUR2:VOLT 3;M;CURR 0.5;:SOUR2:CURR?;:SOUR3:CURR?;:SOUR3:VOLT?;:CURR?
+< 0.500;2.000;1.000;0.000
+
+A parameter is put in as written, with its quotes.
+> *DMC "N",#18*GMC? $1;*EMC 1;N "N";*GMC? 'N'
+< #18*GMC? $1;#18*GMC? $1
+
+There are as many parameters as the greatest placeholder says.
+> *DMC "SETA",#17VOLT $1;*EMC 1;SETA;SETA 1,2;SYST:ERR?;:SYST:ERR?;:VOLT?
+< -274,"Macro parameter error";-274,"Macro parameter error";0.000
+
+A label hides a command, and its body still uses it as read from the root; a query is no call.
+> *DMC "VOLT",#18:VOLT $1;*EMC 1;VOLT 4;VOLT?;*EMC 0;VOLT 5;VOLT?;SYST:ERR?
+< 4.000;5.000;0,"No error"
+
+A fault in an expansion is one of its units, and those behind it are executed.
+> *DMC "F",#210FOO;VOLT 2;*EMC 1;F;VOLT?;SYST:ERR:COUN?
+< 2.000;1
+"#;
+
 #[test]
-fn rows_of_macros(rt: HostRuntime) {
-    let rows = [
-        // A call is replaced by the macro's body, its parameter in the placeholder's place.
-        ("*DMC \"SETA\",#17VOLT $1;*EMC 1;SETA 3;VOLT?\n", "3.000\n"),
-        // While macros are disabled a label is a header like another.
-        (
-            "*DMC \"SETA\",#17VOLT $1;SETA 3;VOLT?;SYST:ERR?\n",
-            "0.000;-113,\"Undefined header\"\n",
-        ),
-        // No macro is called inside an expansion.
-        (
-            "*DMC \"A\",#11A;*EMC 1;A;:SYST:ERR?\n",
-            "-276,\"Macro recursion error\"\n",
-        ),
-        (
-            "*DMC \"A\",#13B;B;*DMC \"B\",#15*IDN?;*EMC 1;A;B;:SYST:ERR?;:SYST:ERR?;:SYST:ERR?\n",
-            "EXAMPLE,PSU4,0,1.0;-276,\"Macro recursion error\";-276,\"Macro recursion error\";0,\"No error\"\n",
-        ),
-        // A unit of an expansion waits for the flush; the answers before it are kept, and those of the message follow.
-        (
-            "*DMC \"W\",#211*IDN?;*OPC?;*EMC 1;VOLT?;*SAV 1;W;*EMC?\n",
-            "0.000;EXAMPLE,PSU4,0,1.0;1;1\n",
-        ),
-        // The units of an expansion are read from the root, and the message goes on at its own path.
-        (
-            "*DMC \"M\",#219SOUR3:VOLT 1;CURR 2;*EMC 1;SOUR2:VOLT 3;M;CURR 0.5;:SOUR2:CURR?;:SOUR3:CURR?;:SOUR3:VOLT?;:CURR?\n",
-            "0.500;2.000;1.000;0.000\n",
-        ),
-        // A parameter is put in as written, with its quotes.
-        (
-            "*DMC \"N\",#18*GMC? $1;*EMC 1;N \"N\";*GMC? 'N'\n",
-            "#18*GMC? $1;#18*GMC? $1\n",
-        ),
-        // There are as many parameters as the greatest placeholder says.
-        (
-            "*DMC \"SETA\",#17VOLT $1;*EMC 1;SETA;SETA 1,2;SYST:ERR?;:SYST:ERR?;:VOLT?\n",
-            "-274,\"Macro parameter error\";-274,\"Macro parameter error\";0.000\n",
-        ),
-        // A label hides a command, and its body still uses it as read from the root; a query is no call.
-        (
-            "*DMC \"VOLT\",#18:VOLT $1;*EMC 1;VOLT 4;VOLT?;*EMC 0;VOLT 5;VOLT?;SYST:ERR?\n",
-            "4.000;5.000;0,\"No error\"\n",
-        ),
-        // A fault in an expansion is one of its units, and those behind it are executed.
-        (
-            "*DMC \"F\",#210FOO;VOLT 2;*EMC 1;F;VOLT?;SYST:ERR:COUN?\n",
-            "2.000;1\n",
-        ),
-    ];
-    run_rows(&rt, rt.alloc(), &rows);
+fn rows_of_macros(rt: HostRuntime) -> Result<(), Fail> {
+    play(&rt, rt.alloc(), ROWS_OF_MACROS)
 }
 
 // With 1,023 changes that are not flushed the second change of an expansion comes later: a flush, and then the same unit.

@@ -1,79 +1,91 @@
 // The settings at power-on: their command, what a restart finds, and losses of power in the commit of a choice.
-use crate::images::{formatted, least, run_rows, written_on};
+use crate::images::{formatted, least, written_on};
 use crate::runs::{Ran, run_on};
+use crate::transcripts::play;
 use psu_disk::{Choice, Fuse, MemDisk};
 use psu_server::{recover, report_text};
 use std::alloc::Global;
 use std::process::Abort;
+use std::test::Fail;
+
+const SETTINGS_OF_REGISTER_0_AT_POWER_ON: &str = r#"
+> VOLT 5;*SAV 0;OUTP:PON:STAT RCL0;*OPC?
+< 1
+> !POWER
+> VOLT?;:OUTP:PON:STAT?
+< 5.000;RCL0
+
+What no `*OPC?` confirmed may be lost: here all of it is.
+> VOLT 5;*SAV 0;OUTP:PON:STAT RCL0
+> !POWER
+> VOLT?;:OUTP:PON:STAT?
+< 0.000;RST
+
+1 V through 1 ohm at 1 A; at power-on the load is 10 ohms, and 6 V are above the level: a condition, and no event.
+> SIM:LOAD 1000;:VOLT 6;:CURR 1;:VOLT:PROT 5;:VOLT:PROT:STAT ON;:OUTP ON;:OUTP?;*SAV 0;:OUTP:PON:STAT RCL0;*OPC?
+< 1;1
+> !POWER
+> OUTP?;:VOLT:PROT:TRIP?;:STAT:QUES:COND?;EVEN?
+< 0;1;1;0
+
+In current limit from the start: no event for it either, and none of the filters asks for service.
+> VOLT 20;CURR 1;:OUTP ON;*SAV 0;:OUTP:PON:STAT RCL0;*PSC 0;*SRE 255;*ESE 0;*OPC?
+< 1
+> !POWER
+> STAT:QUES:COND?;EVEN?;*STB?;:MEAS:VOLT?;:SIM:LOAD?
+< 2;0;0;10.000;10000
+
+The register as it is at power-on, and not as it was when the choice was made; a choice taken back; another register.
+> VOLT 5;*SAV 0;OUTP:PON:STAT RCL0;:VOLT 7;*SAV 0;*SAV 1;*OPC?
+< 1
+> !POWER
+> VOLT?
+< 7.000
+> OUTP:PON:STAT RST;*OPC?
+< 1
+> !POWER
+> VOLT?;*RCL 0;VOLT?
+< 0.000;7.000
+
+> VOLT 5;*SAV 1;OUTP:PON:STAT RCL0;*OPC?
+< 1
+> !POWER
+> VOLT?;:OUTP:PON:STAT?
+< 0.000;RCL0
+"#;
 
 #[test]
-fn settings_of_register_0_at_power_on(rt: HostRuntime) {
-    let rows = [
-        (
-            "VOLT 5;*SAV 0;OUTP:PON:STAT RCL0;*OPC?\n!POWER\nVOLT?;:OUTP:PON:STAT?\n",
-            "1\n5.000;RCL0\n",
-        ),
-        // What no `*OPC?` confirmed may be lost: here all of it is.
-        (
-            "VOLT 5;*SAV 0;OUTP:PON:STAT RCL0\n!POWER\nVOLT?;:OUTP:PON:STAT?\n",
-            "0.000;RST\n",
-        ),
-        // 1 V through 1 ohm at 1 A; at power-on the load is 10 ohms, and 6 V are above the level: a condition, and no event.
-        (
-            "SIM:LOAD 1000;:VOLT 6;:CURR 1;:VOLT:PROT 5;:VOLT:PROT:STAT ON;:OUTP ON;:OUTP?;*SAV 0;:OUTP:PON:STAT RCL0;*OPC?\n\
-!POWER\nOUTP?;:VOLT:PROT:TRIP?;:STAT:QUES:COND?;EVEN?\n",
-            "1;1\n0;1;1;0\n",
-        ),
-        // In current limit from the start: no event for it either, and none of the filters asks for service.
-        (
-            "VOLT 20;CURR 1;:OUTP ON;*SAV 0;:OUTP:PON:STAT RCL0;*PSC 0;*SRE 255;*ESE 0;*OPC?\n\
-!POWER\nSTAT:QUES:COND?;EVEN?;*STB?;:MEAS:VOLT?;:SIM:LOAD?\n",
-            "1\n2;0;0;10.000;10000\n",
-        ),
-        // The register as it is at power-on, and not as it was when the choice was made; a choice taken back; another register.
-        (
-            "VOLT 5;*SAV 0;OUTP:PON:STAT RCL0;:VOLT 7;*SAV 0;*SAV 1;*OPC?\n!POWER\nVOLT?\nOUTP:PON:STAT RST;*OPC?\n!POWER\nVOLT?;*RCL 0;VOLT?\n",
-            "1\n7.000\n1\n0.000;7.000\n",
-        ),
-        (
-            "VOLT 5;*SAV 1;OUTP:PON:STAT RCL0;*OPC?\n!POWER\nVOLT?;:OUTP:PON:STAT?\n",
-            "1\n0.000;RCL0\n",
-        ),
-    ];
-    run_rows(&rt, rt.alloc(), &rows);
+fn settings_of_register_0_at_power_on(rt: HostRuntime) -> Result<(), Fail> {
+    play(&rt, rt.alloc(), SETTINGS_OF_REGISTER_0_AT_POWER_ON)
 }
 
+const WORDS_AND_FAULTS_OF_THE_CHOICE: &str = r#"
+> OUTP:PON:STAT?
+< RST
+
+> OUTP:PON:STAT rcl0;STAT?;STATE Rst;STAT?;STAT RCL0;:outp:pon:stat?
+< RCL0;RST;RCL0
+
+> OUTP:PON:STAT RCL0;:OUTP:PON:STAT RCL1;:OUTP:PON:STAT?;:SYST:ERR?
+< RCL0;-224,"Illegal parameter value"
+
+> OUTP:PON:STAT RCL0;:OUTP:PON:STAT 0;:OUTP:PON:STAT?;:SYST:ERR?
+< RCL0;-104,"Data type error"
+
+> OUTP1:PON:STAT RCL0;:OUTP:PON1:STAT RCL0;:OUTP:PON:STAT1 RCL0;:OUTP:PON:STAT?;:SYST:ERR?;:SYST:ERR?;:SYST:ERR:COUN?
+< RST;-113,"Undefined header";-113,"Undefined header";1
+
+> OUTP:PON:STAT;:OUTP:PON:STAT RST,RST;:SYST:ERR?;:SYST:ERR?
+< -109,"Missing parameter";-108,"Parameter not allowed"
+
+Beside it the outputs are switched as ever; `*RST` leaves the choice.
+> OUTP:PON:STAT RCL0;:OUTP2:STAT ON;STAT?;:OUTP?;*RST;:OUTP:PON:STAT?
+< 1;0;RCL0
+"#;
+
 #[test]
-fn words_and_faults_of_the_choice(rt: HostRuntime) {
-    let rows = [
-        ("OUTP:PON:STAT?\n", "RST\n"),
-        (
-            "OUTP:PON:STAT rcl0;STAT?;STATE Rst;STAT?;STAT RCL0;:outp:pon:stat?\n",
-            "RCL0;RST;RCL0\n",
-        ),
-        (
-            "OUTP:PON:STAT RCL0;:OUTP:PON:STAT RCL1;:OUTP:PON:STAT?;:SYST:ERR?\n",
-            "RCL0;-224,\"Illegal parameter value\"\n",
-        ),
-        (
-            "OUTP:PON:STAT RCL0;:OUTP:PON:STAT 0;:OUTP:PON:STAT?;:SYST:ERR?\n",
-            "RCL0;-104,\"Data type error\"\n",
-        ),
-        (
-            "OUTP1:PON:STAT RCL0;:OUTP:PON1:STAT RCL0;:OUTP:PON:STAT1 RCL0;:OUTP:PON:STAT?;:SYST:ERR?;:SYST:ERR?;:SYST:ERR:COUN?\n",
-            "RST;-113,\"Undefined header\";-113,\"Undefined header\";1\n",
-        ),
-        (
-            "OUTP:PON:STAT;:OUTP:PON:STAT RST,RST;:SYST:ERR?;:SYST:ERR?\n",
-            "-109,\"Missing parameter\";-108,\"Parameter not allowed\"\n",
-        ),
-        // Beside it the outputs are switched as ever; `*RST` leaves the choice.
-        (
-            "OUTP:PON:STAT RCL0;:OUTP2:STAT ON;STAT?;:OUTP?;*RST;:OUTP:PON:STAT?\n",
-            "1;0;RCL0\n",
-        ),
-    ];
-    run_rows(&rt, rt.alloc(), &rows);
+fn words_and_faults_of_the_choice(rt: HostRuntime) -> Result<(), Fail> {
+    play(&rt, rt.alloc(), WORDS_AND_FAULTS_OF_THE_CHOICE)
 }
 
 // The text of the report on the image that a run leaves; none where it does not end well.

@@ -1,50 +1,84 @@
 // The worked rows, as inputs of a run on a formatted image and its output.
 use crate::images::written;
+use crate::transcripts::play;
+use std::test::Fail;
+
+const ROWS: &str = "
+Kept enables make the first service request; reading the events ends it.
+> *PSC 0;*SRE 32;*ESE 128;*OPC?
+< 1
+> !POWER
+> *STB?;*ESR?;*STB?
+< 96;128;0
+
+With the flag true the enables are cleared at power-on.
+> *PSC 1;*SRE 32;*ESE 128;*OPC?
+< 1
+> !POWER
+> *STB?;*ESR?;*STB?
+< 0;128;0
+
+What no `*OPC?` confirmed may be lost: here all of it is.
+> *PSC 0;*SRE 32;*ESE 128
+> !POWER
+> *PSC?
+< 1
+
+> *IDN?
+< EXAMPLE,PSU4,0,1.0
+
+Headers without regard to case; the last line may lack its end; empty lines and units give nothing.
+> 
+>  ;\t;
+> *PSC?
+< 1
+
+Bit 6 of SRE is ignored and reads 0.
+> *SRE 255;*SRE?
+< 191
+
+> *ESE 00005;*ESE?
+< 5
+";
 
 #[test]
-fn rows(rt: HostRuntime) {
-    let rows = [
-        // Kept enables make the first service request; reading the events ends it.
-        (
-            "*PSC 0;*SRE 32;*ESE 128;*OPC?\n!POWER\n*STB?;*ESR?;*STB?\n",
-            "1\n96;128;0\n",
-        ),
-        // With the flag true the enables are cleared at power-on.
-        (
-            "*PSC 1;*SRE 32;*ESE 128;*OPC?\n!POWER\n*STB?;*ESR?;*STB?\n",
-            "1\n0;128;0\n",
-        ),
-        // What no `*OPC?` confirmed may be lost: here all of it is.
-        ("*PSC 0;*SRE 32;*ESE 128\n!POWER\n*PSC?\n", "1\n"),
-        ("*IDN?\n", "EXAMPLE,PSU4,0,1.0\n"),
-        // Headers without regard to case; the last line may lack its end; empty lines and units give nothing.
-        ("*idn?", "EXAMPLE,PSU4,0,1.0\n"),
-        ("\n ;\t;\n*PSC?\n", "1\n"),
-        // Bit 6 of SRE is ignored and reads 0.
-        ("*SRE 255;*SRE?\n", "191\n"),
-        ("*ESE 00005;*ESE?\n", "5\n"),
-    ];
-    for (input, want) in rows {
-        let got = written(rt.alloc(), input.as_bytes()).expect(&rt, "the run ends well");
-        assert_eq!(rt; got.as_slice(), want.as_bytes(), "at {input:?}");
-    }
+fn rows(rt: HostRuntime) -> Result<(), Fail> {
+    assert_eq!(rt;
+        written(rt.alloc(), b"*idn?")
+            .expect(&rt, "the run ends well")
+            .as_slice(),
+        b"EXAMPLE,PSU4,0,1.0\n".as_slice()
+    );
+    play(&rt, rt.alloc(), ROWS)
 }
 
+const REFUSALS_SET_THEIR_BIT_ALONE: &str = r#"
+An undefined header sets CME (32), a number out of range EXE (16); PON (128) was there.
+> FOO;*ESR?;*ESR?
+< 160;0
+
+> *SRE 256;*ESR?;*SRE?
+< 144;0
+
+> *ESE -1;*ESR?;*ESE?
+< 144;0
+
+> *PSC 32768;*ESR?;*PSC?
+< 144;1
+
+> *PSC -32767;*ESR?
+< 128
+
+> *PSC 0;*SRE 300;*OPC?
+< 1
+> !POWER
+> *SRE?;*PSC?
+< 0;0
+"#;
+
 #[test]
-fn refusals_set_their_bit_alone(rt: HostRuntime) {
-    let rows = [
-        // An undefined header sets CME (32), a number out of range EXE (16); PON (128) was there.
-        ("FOO;*ESR?;*ESR?\n", "160;0\n"),
-        ("*SRE 256;*ESR?;*SRE?\n", "144;0\n"),
-        ("*ESE -1;*ESR?;*ESE?\n", "144;0\n"),
-        ("*PSC 32768;*ESR?;*PSC?\n", "144;1\n"),
-        ("*PSC -32767;*ESR?\n", "128\n"),
-        ("*PSC 0;*SRE 300;*OPC?\n!POWER\n*SRE?;*PSC?\n", "1\n0;0\n"),
-    ];
-    for (input, want) in rows {
-        let got = written(rt.alloc(), input.as_bytes()).expect(&rt, "the run ends well");
-        assert_eq!(rt; got.as_slice(), want.as_bytes(), "at {input:?}");
-    }
+fn refusals_set_their_bit_alone(rt: HostRuntime) -> Result<(), Fail> {
+    play(&rt, rt.alloc(), REFUSALS_SET_THEIR_BIT_ALONE)
 }
 
 #[test]

@@ -1,5 +1,5 @@
 // Heads that are refused, and heads that are good to the last: keys, lengths, counts and pages.
-use crate::bad_roots::{found, found_with};
+use crate::bad_roots::{are_found, found};
 use crate::spelled::{head, put, root};
 use psu_disk::MemDisk;
 use psu_items::OpenCause;
@@ -9,54 +9,45 @@ use std::test::Fail;
 const BAD: Result<usize, OpenCause> = Err(OpenCause::BadRoot);
 
 // The head on page 3, which says: a key of one byte, the value's length, how many pages, which.
+const WORDS_OF_A_HEAD: &str = "
+1536: 01 01 00 00 00 01 00 01 00 08 -> 2
+1536: 01 01 00 00 02 00 00 01 00 08 -> 2
+
+No key.
+1536: 00 00 00 00 01 00 01 00 04 -> bad root
+
+No value, and other counts than its length asks for.
+1536: 01 01 00 00 00 00 00 00 -> bad root
+1536: 01 01 00 00 00 00 00 01 00 04 -> bad root
+1536: 01 01 00 00 00 01 00 00 -> bad root
+1536: 01 01 00 00 00 01 00 02 00 04 00 08 -> bad root
+1536: 01 01 00 00 02 01 00 01 00 04 -> bad root
+
+A length that needs more than its two last bytes.
+1536: 01 01 01 00 00 01 00 01 00 04 -> bad root
+
+Pages outside the pool.
+1536: 01 01 00 00 00 01 00 01 00 01 -> bad root
+1536: 01 01 00 00 00 01 00 01 00 0e -> bad root
+
+A page that is named twice: the head's own, the other head's, and one of the other's value.
+1536: 01 01 00 00 00 01 00 01 00 03 -> bad root
+1536: 01 01 00 00 00 01 00 01 00 05 -> bad root
+1536: 01 01 00 00 00 01 00 01 00 06 -> bad root
+1536: 01 01 00 00 02 01 00 02 00 04 00 04 -> bad root
+
+The key of the other head.
+1536: 02 02 09 00 00 00 01 00 01 00 04 -> bad root
+
+What stands behind a head's words, and behind a value, is not looked at.
+1546: ee*502 -> 2
+2049: ee*511 -> 2
+3160: ee*424 -> 2
+";
+
 #[test]
 fn the_words_of_a_head(rt: HostRuntime) -> Result<(), Fail> {
-    let rows: [(&[u8], Result<usize, OpenCause>); 16] = [
-        (&[1, 1, 0, 0, 0, 1, 0, 1, 0, 8], Ok(2)),
-        (&[1, 1, 0, 0, 2, 0, 0, 1, 0, 8], Ok(2)),
-        // No key.
-        (&[0, 0, 0, 0, 1, 0, 1, 0, 4], BAD),
-        // No value, and other counts than its length asks for.
-        (&[1, 1, 0, 0, 0, 0, 0, 0], BAD),
-        (&[1, 1, 0, 0, 0, 0, 0, 1, 0, 4], BAD),
-        (&[1, 1, 0, 0, 0, 1, 0, 0], BAD),
-        (&[1, 1, 0, 0, 0, 1, 0, 2, 0, 4, 0, 8], BAD),
-        (&[1, 1, 0, 0, 2, 1, 0, 1, 0, 4], BAD),
-        // A length that needs more than its two last bytes.
-        (&[1, 1, 1, 0, 0, 1, 0, 1, 0, 4], BAD),
-        // Pages outside the pool.
-        (&[1, 1, 0, 0, 0, 1, 0, 1, 0, 1], BAD),
-        (&[1, 1, 0, 0, 0, 1, 0, 1, 0, 14], BAD),
-        // A page that is named twice: the head's own, the other head's, and one of the other's value.
-        (&[1, 1, 0, 0, 0, 1, 0, 1, 0, 3], BAD),
-        (&[1, 1, 0, 0, 0, 1, 0, 1, 0, 5], BAD),
-        (&[1, 1, 0, 0, 0, 1, 0, 1, 0, 6], BAD),
-        (&[1, 1, 0, 0, 2, 1, 0, 2, 0, 4, 0, 4], BAD),
-        // The key of the other head.
-        (&[2, 2, 9, 0, 0, 0, 1, 0, 1, 0, 4], BAD),
-    ];
-    for (bytes, want) in rows {
-        assert_eq!(rt;
-            found_with(rt.alloc(), &[(1_536, bytes)])?,
-            want,
-            "{bytes:?}"
-        );
-    }
-    Ok(())
-}
-
-// What stands behind a head's words, and behind a value, is not looked at.
-#[test]
-fn what_a_page_has_to_spare(rt: HostRuntime) -> Result<(), Fail> {
-    let rows: [(u64, &[u8]); 3] = [
-        (1_546, &[0xee; 502]),
-        (2_049, &[0xee; 511]),
-        (3_160, &[0xee; 424]),
-    ];
-    for (at, bytes) in rows {
-        assert_eq!(rt; found_with(rt.alloc(), &[(at, bytes)])?, Ok(2), "at {at}");
-    }
-    Ok(())
+    are_found(&rt, rt.alloc(), WORDS_OF_A_HEAD)
 }
 
 // An image of limit 100 with one item on the pages from 2 on.

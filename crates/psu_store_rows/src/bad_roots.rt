@@ -1,9 +1,11 @@
 // Roots that are refused, and roots that are good though they differ: what is looked at, and in which order.
-use crate::spelled::{put, put_all, root, spelled};
+use crate::spelled::{put, root, spelled};
 use crate::stores::opened;
 use psu_disk::MemDisk;
 use psu_items::{Items, OpenCause, Store};
+use psu_tables::{bytes, row};
 use std::alloc::Global;
+use std::process::Abort;
 use std::test::Fail;
 
 /// An image of limit 6 whose first root, of the number 1, names the heads on pages 3 and 5: the key 1 with the value 36 on page 4, and
@@ -31,11 +33,37 @@ pub fn found(alloc: Global, disk: MemDisk<Global>) -> Result<usize, OpenCause> {
     }
 }
 
-/// What an opening finds of the image with these bytes put over it, each with their place.
-pub fn found_with(alloc: Global, parts: &[(u64, &[u8])]) -> Result<Result<usize, OpenCause>, Fail> {
-    let mut disk = image(alloc)?;
-    put_all(&mut disk, parts)?;
-    Ok(found(alloc, disk))
+// What an opening finds, in the words of a table: how many items, or why none.
+fn told(found: Result<usize, OpenCause>, wanted: &str) -> bool {
+    match found {
+        Ok(count) => wanted.parse() == Ok(count),
+        Err(OpenCause::NoRoot) => wanted == "no root",
+        Err(OpenCause::BadVersion) => wanted == "bad version",
+        Err(OpenCause::BadRoot) => wanted == "bad root",
+        Err(_) => false,
+    }
+}
+
+// Puts bytes over a disk: their place, and then they.
+fn put_part(alloc: Global, disk: &mut MemDisk<Global>, part: &str) -> Result<(), Fail> {
+    let (at, cell) = part.trim().split_once(": ").ok_or("no place")?;
+    let at: u64 = at.parse().map_err(|_| "no place")?;
+    put(disk, at, &bytes(alloc, cell).ok_or("no bytes")?)
+}
+
+/// The image is found as a table says with the bytes of each row put over it, each with their place: `512: a5 'PSU; 527: 01 -> bad root`.
+pub fn are_found(rt: &impl Abort, alloc: Global, table: &str) -> Result<(), Fail> {
+    let mut rows = 0u32;
+    for (parts, wanted) in table.lines().filter_map(row) {
+        let mut disk = image(alloc)?;
+        for part in parts.split(';') {
+            put_part(alloc, &mut disk, part)?;
+        }
+        assert!(rt; told(found(alloc, disk), wanted), "at {parts}");
+        rows = rows.saturating_add(1);
+    }
+    assert!(rt; rows > 0, "no row in {table}");
+    Ok(())
 }
 
 // Whether the items are the two of the image.
@@ -60,127 +88,110 @@ fn the_image_holds_two_items(rt: HostRuntime) -> Result<(), Fail> {
     Ok(())
 }
 
-const BAD: Result<usize, OpenCause> = Err(OpenCause::BadRoot);
+const WORDS_OF_A_ROOT: &str = "
+The gate: a5 alone is open.
+0: 00 -> no root
+0: a4 -> no root
+
+PSU
+1: 51 -> bad root
+3: 58 -> bad root
+
+The version.
+4: 00 00 -> bad version
+4: 00 01 -> 2
+4: 00 03 -> bad version
+4: 00 07 -> bad version
+4: 01 01 -> bad version
+
+The limit: the items cost 5 pages, and the disk has room for 6.
+6: 00 03 -> bad root
+6: 00 04 -> bad root
+6: 00 05 -> 2
+6: 00 07 -> bad root
+6: 01 e1 -> bad root
+
+The number: any is good.
+8: 00*8 -> 2
+8: ff*8 -> 2
+
+What stands behind the names is not looked at.
+22: ee*490 -> 2
+";
 
 #[test]
 fn the_words_of_a_root(rt: HostRuntime) -> Result<(), Fail> {
-    let rows: [(u64, &[u8], Result<usize, OpenCause>); 17] = [
-        // The gate: `a5` alone is open.
-        (0, &[0], Err(OpenCause::NoRoot)),
-        (0, &[0xa4], Err(OpenCause::NoRoot)),
-        // `PSU`
-        (1, &[0x51], BAD),
-        (3, &[0x58], BAD),
-        // The version.
-        (4, &[0, 0], Err(OpenCause::BadVersion)),
-        (4, &[0, 1], Ok(2)),
-        (4, &[0, 3], Err(OpenCause::BadVersion)),
-        (4, &[0, 7], Err(OpenCause::BadVersion)),
-        (4, &[1, 1], Err(OpenCause::BadVersion)),
-        // The limit: the items cost 5 pages, and the disk has room for 6.
-        (6, &[0, 3], BAD),
-        (6, &[0, 4], BAD),
-        (6, &[0, 5], Ok(2)),
-        (6, &[0, 7], BAD),
-        (6, &[1, 0xe1], BAD),
-        // The number: any is good.
-        (8, &[0; 8], Ok(2)),
-        (8, &[0xff; 8], Ok(2)),
-        // What stands behind the names is not looked at.
-        (22, &[0xee; 490], Ok(2)),
-    ];
-    for (at, bytes, want) in rows {
-        assert_eq!(rt;
-            found_with(rt.alloc(), &[(at, bytes)])?,
-            want,
-            "at {at}: {bytes:?}"
-        );
-    }
-    Ok(())
+    are_found(&rt, rt.alloc(), WORDS_OF_A_ROOT)
 }
+
+// From the count of items on.
+const HEADS_OF_A_ROOT: &str = "
+16: 00 00 -> 0
+16: 00 01 -> 1
+16: 00 02 00 05 00 03 -> 2
+16: 00 01 00 05 -> 1
+
+The roots' pages, and the first behind the pool.
+16: 00 02 00 03 00 00 -> bad root
+16: 00 02 00 01 00 05 -> bad root
+16: 00 02 00 03 00 0e -> bad root
+16: 00 02 ff ff 00 05 -> bad root
+
+A head twice, and a page of zeros, whose key is empty.
+16: 00 02 00 03 00 03 -> bad root
+16: 00 03 00 03 00 05 00 08 -> bad root
+
+241 items.
+16: 00 f1 -> bad root
+";
 
 #[test]
 fn the_heads_that_a_root_names(rt: HostRuntime) -> Result<(), Fail> {
-    // From the count of items on.
-    let rows: [(&[u8], Result<usize, OpenCause>); 11] = [
-        (&[0, 0], Ok(0)),
-        (&[0, 1], Ok(1)),
-        (&[0, 2, 0, 5, 0, 3], Ok(2)),
-        (&[0, 1, 0, 5], Ok(1)),
-        // The roots' pages, and the first behind the pool.
-        (&[0, 2, 0, 3, 0, 0], BAD),
-        (&[0, 2, 0, 1, 0, 5], BAD),
-        (&[0, 2, 0, 3, 0, 14], BAD),
-        (&[0, 2, 0xff, 0xff, 0, 5], BAD),
-        // A head twice, and a page of zeros, whose key is empty.
-        (&[0, 2, 0, 3, 0, 3], BAD),
-        (&[0, 3, 0, 3, 0, 5, 0, 8], BAD),
-        // 241 items.
-        (&[0, 241], BAD),
-    ];
-    for (bytes, want) in rows {
-        assert_eq!(rt; found_with(rt.alloc(), &[(16, bytes)])?, want, "{bytes:?}");
-    }
-    Ok(())
+    are_found(&rt, rt.alloc(), HEADS_OF_A_ROOT)
 }
 
-// A second root of the number 2, which names the second head.
-const SECOND: [u8; 20] = [
-    0xa5, 0x50, 0x53, 0x55, 0, 2, 0, 6, 0, 0, 0, 0, 0, 0, 0, 2, 0, 1, 0, 5,
-];
+// Of two open gates the higher number counts, and the other root's content is not looked at. A second root of the number 2 names the
+// second head; the last byte of its number is at 527.
+const ROOT_THAT_COUNTS: &str = "
+512: a5 'PSU 00 02 00 06 00*7 02 00 01 00 05 -> 1
+512: a5 'PSU 00 02 00 06 00*7 02 00 01 00 05; 512: a4 -> 2
+512: a5 'PSU 00 02 00 06 00*7 02 00 01 00 05; 527: 01 -> bad root
+512: a5 'PSU 00 02 00 06 00*7 02 00 01 00 05; 513: 'psu; 527: 00 ff -> 2
+512: a5 'PSU 00 02 00 06 00*7 02 00 01 00 05; 513: 'psu -> bad root
+512: a5 'PSU 00 02 00 06 00*7 02 00 01 00 05; 516: 00 00 -> bad version
 
-// Of two open gates the higher number counts, and the other root's content is not looked at. The number's last byte is at 527.
+PSU comes before the version, and the version before all else.
+512: a5 'PSU 00 02 00 06 00*7 02 00 01 00 05; 513: 'psu 00 07 -> bad root
+1: 'psu 00 07 -> bad root
+4: 00 07 00 00; 16: ff*400 -> bad version
+
+Equal numbers are refused whatever else the roots say.
+512: a5 'PSU 00 02 00 06 00*7 02 00 01 00 05; 527: 01; 516: 00 07; 4: 00 07 -> bad root
+";
+
 #[test]
 fn the_root_that_counts(rt: HostRuntime) -> Result<(), Fail> {
-    let rows: [(&[(u64, &[u8])], Result<usize, OpenCause>); 10] = [
-        (&[(512, &SECOND)], Ok(1)),
-        (&[(512, &SECOND), (512, &[0xa4])], Ok(2)),
-        (&[(512, &SECOND), (527, &[1])], BAD),
-        (&[(512, &SECOND), (513, b"psu"), (527, &[0, 0xff])], Ok(2)),
-        (&[(512, &SECOND), (513, b"psu")], BAD),
-        (
-            &[(512, &SECOND), (516, &[0, 0])],
-            Err(OpenCause::BadVersion),
-        ),
-        // `PSU` comes before the version, and the version before all else.
-        (&[(512, &SECOND), (513, b"psu\x00\x07")], BAD),
-        (&[(1, b"psu\x00\x07")], BAD),
-        (
-            &[(4, &[0, 7, 0, 0]), (16, &[0xff; 400])],
-            Err(OpenCause::BadVersion),
-        ),
-        // Equal numbers are refused whatever else the roots say.
-        (
-            &[(512, &SECOND), (527, &[1]), (516, &[0, 7]), (4, &[0, 7])],
-            BAD,
-        ),
-    ];
-    for (parts, want) in rows {
-        assert_eq!(rt; found_with(rt.alloc(), parts)?, want, "{parts:?}");
-    }
-    Ok(())
+    are_found(&rt, rt.alloc(), ROOT_THAT_COUNTS)
 }
 
 // The image on disks of other sizes.
+const SIZES: &str = "
+512 -> no root
+1023 -> no root
+1024 -> bad root
+5119 -> bad root
+5120 -> 0
+5121 -> 0
+100000 -> 0
+";
+
 #[test]
 fn disks_that_are_too_small_or_larger(rt: HostRuntime) -> Result<(), Fail> {
     let alloc = rt.alloc();
     let page = root(alloc, 0xa5, 4, 1, &[])?;
-    let rows = [
-        (512, Err(OpenCause::NoRoot)),
-        (1_023, Err(OpenCause::NoRoot)),
-        (1_024, BAD),
-        (5_119, BAD),
-        (5_120, Ok(0)),
-        (5_121, Ok(0)),
-        (100_000, Ok(0)),
-    ];
-    for (size, want) in rows {
-        assert_eq!(rt;
-            found(alloc, spelled(alloc, size, &[(0, &page)])?),
-            want,
-            "{size}"
-        );
+    for (size, wanted) in SIZES.lines().filter_map(row) {
+        let disk = spelled(alloc, size.parse().map_err(|_| "no size")?, &[(0, &page)])?;
+        assert!(rt; told(found(alloc, disk), wanted), "{size}");
     }
     Ok(())
 }

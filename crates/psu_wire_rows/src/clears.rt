@@ -1,5 +1,5 @@
 // Device clears, answers in parts, a feed that is refused memory, and the answers to what is asked of the locks.
-use crate::frames::{Told, bare, executes, is_sent, joined, sends, tell};
+use crate::frames::{Told, bare, executes, is_nothing, is_sent, joined, leave, sends, tell};
 use bumpalo::Bump;
 use psu_hislip::{
     Action, Channel, Header, Message, Origin, SessionCore, Side, lock_info_response, lock_response,
@@ -22,10 +22,6 @@ fn executed(told: &Told) -> Option<Origin> {
         },
         None => None,
     }
-}
-
-fn is_nothing(told: &Told) -> bool {
-    matches!(told, Some(actions) if actions.is_empty())
 }
 
 // AsyncDeviceClear is answered by AsyncDeviceClearAcknowledge alone.
@@ -182,17 +178,6 @@ fn answers_of_the_locks(rt: HostRuntime) {
         let info = Info { exclusive, holders };
         assert!(rt; lock_info_response(info).bytes() == expected);
     }
-}
-
-// Leaves so many bytes of an arena.
-fn leave(arena: &Bump, left: usize) -> Option<()> {
-    arena.set_allocation_limit(Some(arena.allocated_bytes()));
-    let spare = arena.chunk_capacity();
-    if spare < left {
-        return None;
-    }
-    arena.try_alloc_slice_fill_clone(spare - left, 0u8).ok()?;
-    Some(())
 }
 
 // The payloads of two frames, of which the first has begun, fed with so many bytes of memory; true where it was refused.

@@ -1,4 +1,5 @@
 // What the tests of frames and sessions share: messages by the bytes of the profile's table.
+use bumpalo::Bump;
 use psu_hislip::{Action, Channel, First, Origin, SessionCore, Side};
 use std::alloc::Global;
 
@@ -62,6 +63,11 @@ pub fn sends(told: &Told, side: Side, bytes: &[u8]) -> bool {
     }
 }
 
+/// Nothing is asked for.
+pub fn is_nothing(told: &Told) -> bool {
+    matches!(told, Some(actions) if actions.is_empty())
+}
+
 /// The last thing asked for, which is the one where `count` is 1.
 pub fn executes(told: &Told, count: usize, number: u32, text: &[u8]) -> bool {
     match told {
@@ -73,4 +79,15 @@ pub fn executes(told: &Told, count: usize, number: u32, text: &[u8]) -> bool {
         },
         None => false,
     }
+}
+
+/// Leaves so many bytes of an arena.
+pub fn leave(arena: &Bump, left: usize) -> Option<()> {
+    arena.set_allocation_limit(Some(arena.allocated_bytes()));
+    let spare = arena.chunk_capacity();
+    if spare < left {
+        return None;
+    }
+    arena.try_alloc_slice_fill_clone(spare - left, 0u8).ok()?;
+    Some(())
 }

@@ -1,8 +1,12 @@
 // The worked examples of the grammar; expected values by its rules.
 use psu_lex::{
-    DatumClass, ScpiError, Unit, UnitFault, block, definite, expand, fixed3, number, split, string,
-    syntax,
+    Bytes, DatumClass, ScpiError, Unit, UnitFault, block, definite, expand, fixed3, number, split,
+    string, syntax,
 };
+use psu_tables::{bracketed, bytes, row, written};
+use std::alloc::Global;
+use std::process::Abort;
+use std::test::Fail;
 
 fn is_unit(unit: Unit<'_>, text: &[u8], first: bool, fault: Option<UnitFault>) -> bool {
     unit.text == text && unit.first == first && unit.fault == fault
@@ -34,134 +38,210 @@ fn messages_are_cut_into_units(rt: HostRuntime) {
     }
 }
 
+// Units whose string or block has a fault, each alone in its message; `\n` stands for NL.
+const FAULTY_UNITS: &str = r#"
+A 'b;C\nD -> string
+A 'b' c;D -> string
+A "b'c;D -> string
+A #14abc;D -> block
+A #;B -> block
+A #2 1a;B -> block
+A #11ab;C -> block
+A #0b;c\nD -> none
+"#;
+
+// The fault of this name.
+fn fault_named(name: &str) -> Option<UnitFault> {
+    match name {
+        "string" => Some(UnitFault::String),
+        "block" => Some(UnitFault::Block),
+        _ => None,
+    }
+}
+
+// A message is one unit with this fault.
+fn is_one(rt: &impl Abort, alloc: Global, text: &[u8], fault: Option<UnitFault>) {
+    let units = split(alloc, text).expect(rt, "memory");
+    match units.as_slice() {
+        [unit] => assert!(rt; is_unit(*unit, text, true, fault), "at {text:?}"),
+        _ => panic!(rt; "not one unit in {text:?}"),
+    }
+}
+
 #[test]
-fn faulty_strings_and_blocks_take_all_up_to_the_end(rt: HostRuntime) {
-    let string = Some(UnitFault::String);
-    let block = Some(UnitFault::Block);
-    let rows: [(&[u8], Option<UnitFault>); 8] = [
-        (b"A 'b;C\nD", string),
-        (b"A 'b' c;D", string),
-        (b"A \"b'c;D", string),
-        (b"A #14abc;D", block),
-        (b"A #;B", block),
-        (b"A #2 1a;B", block),
-        (b"A #11ab;C", block),
-        (b"A #0b;c\nD", None),
-    ];
-    for (text, fault) in rows {
-        let Ok(units) = split(rt.alloc(), text) else {
-            panic!(rt; "out of memory");
-        };
-        let units = units.as_slice();
-        assert!(rt; units.len() == 1);
-        if units.len() == 1 {
-            assert!(rt; is_unit(units[0], text, true, fault));
+fn faulty_strings_and_blocks_take_all_up_to_the_end(rt: HostRuntime) -> Result<(), Fail> {
+    for (text, fault) in FAULTY_UNITS.lines().filter_map(row) {
+        let text = written(rt.alloc(), text).ok_or("memory")?;
+        is_one(&rt, rt.alloc(), text.as_bytes(), fault_named(fault));
+    }
+    Ok(())
+}
+
+// Numbers in brackets, how many places of theirs count, and what they are, or the number of the error.
+const NUMBERS: &str = "
+[5.0005] 3 -> 5001
+[-1.5] 0 -> -2
+[2.5] 0 -> 3
+[-0.4] 0 -> 0
+[.5E1] 0 -> 5
+[+5.] 0 -> 5
+[1 E +2 ] 0 -> 100
+[9e32000] 0 -> 1000000000000000
+[-9e99] 0 -> -1000000000000000
+[1E-32000] 3 -> 0
+
+[] 0 -> error 102
+[.] 0 -> error 102
+[+] 0 -> error 102
+[- 1] 0 -> error 102
+[ 1] 0 -> error 102
+[1 E + 2] 0 -> error 102
+[1 E V 1] 0 -> error 102
+[1E5E5] 0 -> error 102
+[5_] 0 -> error 102
+
+[1E-32001] 0 -> error 123
+[0E32001] 0 -> error 123
+[1E32001V] 0 -> error 123
+[1E99999999999999999999] 0 -> error 123
+
+[1E] 0 -> error 131
+[1 EV] 0 -> error 131
+[1MV] 0 -> error 131
+[1E5 V] 0 -> error 131
+";
+
+// Whether a number reads as its row says.
+fn is_number(text: &[u8], places: u8, wanted: &str) -> bool {
+    match (number(text, places), wanted.strip_prefix("error ")) {
+        (Ok(value), None) => wanted.parse() == Ok(value),
+        (Err(error), Some(wanted)) => wanted.parse() == Ok(error.magnitude()),
+        _ => false,
+    }
+}
+
+#[test]
+fn numbers_are_read_and_rounded(rt: HostRuntime) -> Result<(), Fail> {
+    for (text, rest) in NUMBERS.lines().filter_map(bracketed) {
+        let (places, wanted) = row(rest).ok_or("no row")?;
+        let places = places.parse().map_err(|_| "no places")?;
+        assert!(rt;
+            places <= 3 && is_number(text.as_bytes(), places, wanted),
+            "{text}"
+        );
+    }
+    Ok(())
+}
+
+// The greatest count of digits, in their bytes.
+const MANY_DIGITS: &str = "
+31*256 -> error 124
+31*255 -> 1000000000000000
+30 2e 30*297 31 -> 0
+";
+
+#[test]
+fn numbers_of_many_digits(rt: HostRuntime) -> Result<(), Fail> {
+    for (cell, wanted) in MANY_DIGITS.lines().filter_map(row) {
+        let digits = bytes(rt.alloc(), cell).ok_or("no digits")?;
+        assert!(rt; is_number(&digits, 0, wanted), "{cell}");
+    }
+    Ok(())
+}
+
+// Strings and blocks as data, and the bytes that they are in brackets; `\n` stands for NL.
+const STRINGS: &str = r#"
+'it''s' -> [it's]
+"it''s" -> [it''s]
+'' -> []
+'a -> none
+'a'b' -> none
+'a'  -> none
+a -> none
+"#;
+
+const BLOCKS: &str = r#"
+#13a;b -> [a;b]
+#203a;b -> [a;b]
+#10 -> []
+#0a;b\n -> [a;b]
+#0 -> []
+#13a; -> none
+#13a;bc -> none
+#H1 -> none
+"#;
+
+// Whether what was read is what a row says: these bytes in brackets, or nothing.
+fn is_read(read: Result<Bytes<Global>, ScpiError>, error: ScpiError, wanted: &str) -> bool {
+    match (read, wanted.strip_prefix("[")) {
+        (Ok(bytes), Some(inner)) => inner.strip_suffix("]").map(|inner| inner.as_bytes())
+            == Some(bytes.as_slice()),
+        (Err(told), None) => told == error,
+        _ => false,
+    }
+}
+
+#[test]
+fn strings_are_read(rt: HostRuntime) {
+    for (text, wanted) in STRINGS.lines().filter_map(row) {
+        let read = string(rt.alloc(), text.as_bytes());
+        assert!(rt;
+            is_read(read, ScpiError::InvalidStringData, wanted),
+            "{text}"
+        );
+    }
+}
+
+#[test]
+fn blocks_are_read(rt: HostRuntime) -> Result<(), Fail> {
+    for (text, wanted) in BLOCKS.lines().filter_map(row) {
+        let data = written(rt.alloc(), text).ok_or("memory")?;
+        let read = block(rt.alloc(), data.as_bytes());
+        assert!(rt;
+            is_read(read, ScpiError::InvalidBlockData, wanted),
+            "{text}"
+        );
+    }
+    Ok(())
+}
+
+// Bodies of macros, their parameters in brackets, and what they are expanded to.
+const MACROS: &str = r#"
+VOLT $1;*SAV $2 [3][1] -> VOLT 3;*SAV 1
+VOLT $1;*SAV $2 [3] -> none
+"$1" $0  -> "$1" $0
+$$1$12 [x] -> $xx2
+#12$1$1'$1 [x] -> #12$1x'$1
+$2 [x] -> none
+"#;
+
+// A body is expanded as a row says.
+fn expands(rt: &impl Abort, alloc: Global, body: &str, args: &[&[u8]], wanted: &str) {
+    match expand(alloc, body.as_bytes(), args) {
+        Ok(text) => assert_eq!(rt; text.as_slice(), wanted.as_bytes(), "{body}"),
+        Err(error) => {
+            assert!(rt;
+                error == ScpiError::MacroParameterError && wanted == "none",
+                "{body}"
+            );
         }
     }
 }
 
 #[test]
-fn numbers_are_read_and_rounded(rt: HostRuntime) {
-    assert!(rt; number(b"5.0005", 3) == Ok(5001));
-    assert!(rt; number(b"-1.5", 0) == Ok(-2));
-    assert!(rt; number(b"2.5", 0) == Ok(3));
-    assert!(rt; number(b"-0.4", 0) == Ok(0));
-    assert!(rt; number(b".5E1", 0) == Ok(5));
-    assert!(rt; number(b"+5.", 0) == Ok(5));
-    assert!(rt; number(b"1 E +2 ", 0) == Ok(100));
-    assert!(rt; number(b"9e32000", 0) == Ok(1_000_000_000_000_000));
-    assert!(rt; number(b"-9e99", 0) == Ok(-1_000_000_000_000_000));
-    assert!(rt; number(b"1E-32000", 3) == Ok(0));
-}
-
-#[test]
-fn what_is_no_number_is_refused_in_order(rt: HostRuntime) {
-    let syntax: [&[u8]; 9] = [
-        b"", b".", b"+", b"- 1", b" 1", b"1 E + 2", b"1 E V 1", b"1E5E5", b"5_",
-    ];
-    for text in syntax {
-        assert!(rt; number(text, 0) == Err(ScpiError::SyntaxError));
-    }
-    let large: [&[u8]; 4] = [
-        b"1E-32001",
-        b"0E32001",
-        b"1E32001V",
-        b"1E99999999999999999999",
-    ];
-    for text in large {
-        assert!(rt; number(text, 0) == Err(ScpiError::ExponentTooLarge));
-    }
-    let suffixed: [&[u8]; 4] = [b"1E", b"1 EV", b"1MV", b"1E5 V"];
-    for text in suffixed {
-        assert!(rt; number(text, 0) == Err(ScpiError::InvalidSuffix));
-    }
-    let ones = [b'1'; 256];
-    let mut zeros = [b'0'; 300];
-    zeros[1] = b'.';
-    zeros[299] = b'1';
-    assert!(rt; number(&ones, 0) == Err(ScpiError::TooManyDigits));
-    assert!(rt; number(&ones[1..], 0) == Ok(1_000_000_000_000_000));
-    assert!(rt; number(&zeros, 0) == Ok(0));
-}
-
-#[test]
-fn strings_and_blocks_are_read(rt: HostRuntime) {
-    let rows: [(&[u8], Option<&[u8]>); 7] = [
-        (b"'it''s'", Some(b"it's")),
-        (b"\"it''s\"", Some(b"it''s")),
-        (b"''", Some(b"")),
-        (b"'a", None),
-        (b"'a'b'", None),
-        (b"'a' ", None),
-        (b"a", None),
-    ];
-    for (text, expected) in rows {
-        match string(rt.alloc(), text) {
-            Ok(bytes) => assert!(rt; Some(bytes.as_slice()) == expected),
-            Err(error) => {
-                assert!(rt; error == ScpiError::InvalidStringData && expected.is_none());
-            }
+fn macros_are_expanded(rt: HostRuntime) -> Result<(), Fail> {
+    for (call, wanted) in MACROS.lines().filter_map(row) {
+        let (body, parameters) = call.rsplit_once(" ").unwrap_or((call, ""));
+        let mut args: Vec<&[u8]> = Vec::new(rt.alloc());
+        for parameter in parameters
+            .split("]")
+            .filter_map(|rest| rest.strip_prefix("["))
+        {
+            args.push(parameter.as_bytes())?;
         }
+        expands(&rt, rt.alloc(), body, &args, wanted);
     }
-    let rows: [(&[u8], Option<&[u8]>); 8] = [
-        (b"#13a;b", Some(b"a;b")),
-        (b"#203a;b", Some(b"a;b")),
-        (b"#10", Some(b"")),
-        (b"#0a;b\n", Some(b"a;b")),
-        (b"#0", Some(b"")),
-        (b"#13a;", None),
-        (b"#13a;bc", None),
-        (b"#H1", None),
-    ];
-    for (text, expected) in rows {
-        match block(rt.alloc(), text) {
-            Ok(bytes) => assert!(rt; Some(bytes.as_slice()) == expected),
-            Err(error) => {
-                assert!(rt; error == ScpiError::InvalidBlockData && expected.is_none());
-            }
-        }
-    }
-}
-
-#[test]
-fn macros_are_expanded(rt: HostRuntime) {
-    let body = b"VOLT $1;*SAV $2";
-    let rows: [(&[u8], &[&[u8]], Option<&[u8]>); 6] = [
-        (body, &[b"3", b"1"], Some(b"VOLT 3;*SAV 1")),
-        (body, &[b"3"], None),
-        (b"\"$1\" $0", &[], Some(b"\"$1\" $0")),
-        (b"$$1$12", &[b"x"], Some(b"$xx2")),
-        (b"#12$1$1'$1", &[b"x"], Some(b"#12$1x'$1")),
-        (b"$2", &[b"x"], None),
-    ];
-    for (body, args, expected) in rows {
-        match expand(rt.alloc(), body, args) {
-            Ok(text) => assert!(rt; Some(text.as_slice()) == expected),
-            Err(error) => {
-                assert!(rt; error == ScpiError::MacroParameterError && expected.is_none());
-            }
-        }
-    }
+    Ok(())
 }
 
 #[test]
@@ -193,136 +273,95 @@ fn unit_of(text: &[u8]) -> Unit<'_> {
     }
 }
 
-// Whether the unit has this header, and these data: each with its class, and no others.
-fn reads(text: &[u8], header: &[u8], expected: &[(DatumClass, &[u8])]) -> bool {
+// The class of this name.
+fn class_named(name: &str) -> Option<DatumClass> {
+    match name {
+        "number" => Some(DatumClass::Numeric),
+        "word" => Some(DatumClass::Character),
+        "string" => Some(DatumClass::String),
+        "block" => Some(DatumClass::Block),
+        _ => None,
+    }
+}
+
+// Whether a unit has this header, and these data: each with its class, and no others.
+fn reads(text: &[u8], wanted: &str) -> bool {
     let Ok(parts) = syntax(&unit_of(text)) else {
         return false;
     };
-    if parts.header.text != header {
+    let mut cells = wanted.split(" | ");
+    if cells.next().map(|header| header.as_bytes()) != Some(parts.header.text) {
         return false;
     }
     let mut rest = parts.parameters;
-    for (class, text) in expected {
-        let Some((datum, others)) = rest.first() else {
-            return false;
-        };
-        if datum.class != *class || datum.text != *text {
-            return false;
+    for (class, text) in cells.filter_map(|cell| cell.split_once(" ")) {
+        match rest.first() {
+            Some((datum, others))
+                if class_named(class) == Some(datum.class) && datum.text == text.as_bytes() => {
+                rest = others;
+            }
+            _ => return false,
         }
-        rest = others;
     }
     rest.first().is_none()
 }
 
+// Units in brackets, and the header and the data that each has.
+const UNITS: &str = r#"
+[*IDN?] *IDN?
+[*IDN? ] *IDN?
+[SYST:ERR?] SYST:ERR?
+[:syst:err:count?] :syst:err:count?
+[a_1:B2] a_1:B2
+[x] x
+[*GMC? ] *GMC?
+[VOLT 5] VOLT | number 5
+[VOLT  1 E +2 ] VOLT | number 1 E +2
+[VOLT 5 V] VOLT | number 5 V
+[VOLT -.5,MAX] VOLT | number -.5 | word MAX
+[VOLT? MIN , ON5] VOLT? | word MIN | word ON5
+[F 5ON] F | number 5ON
+[*DMC "A",#13a,b] *DMC | string "A" | block #13a,b
+[D 'it''s' , ";," ] D | string 'it''s' | string ";,"
+[D #10,1] D | block #10 | number 1
+[D 1,#0a, é ] D | number 1 | block #0a, é 
+[D 'é'] D | string 'é'
+"#;
+
 #[test]
 fn units_are_read_by_their_parts(rt: HostRuntime) {
-    let rows: [(&[u8], &[u8]); 8] = [
-        (b"*IDN?", b"*IDN?"),
-        (b"*IDN? ", b"*IDN?"),
-        (b" \t*CLS\r", b"*CLS"),
-        (b"SYST:ERR?", b"SYST:ERR?"),
-        (b":syst:err:count?", b":syst:err:count?"),
-        (b"a_1:B2", b"a_1:B2"),
-        (b"x", b"x"),
-        (b"*GMC? ", b"*GMC?"),
-    ];
-    for (text, header) in rows {
-        assert!(rt; reads(text, header, &[]));
+    for (text, wanted) in UNITS.lines().filter_map(bracketed) {
+        assert!(rt; reads(text.as_bytes(), wanted), "{text}");
     }
-    let number = DatumClass::Numeric;
-    let word = DatumClass::Character;
-    assert!(rt; reads(b"VOLT 5", b"VOLT", &[(number, b"5")]));
-    assert!(rt; reads(b"VOLT  1 E +2 ", b"VOLT", &[(number, b"1 E +2")]));
-    assert!(rt; reads(b"VOLT 5 V", b"VOLT", &[(number, b"5 V")]));
-    assert!(rt;
-        reads(
-            b"VOLT -.5,MAX",
-            b"VOLT",
-            &[(number, b"-.5"), (word, b"MAX")]
-        )
-    );
-    assert!(rt;
-        reads(
-            b"VOLT? MIN , ON5",
-            b"VOLT?",
-            &[(word, b"MIN"), (word, b"ON5")]
-        )
-    );
-    assert!(rt; reads(b"F 5ON", b"F", &[(number, b"5ON")]));
-    let string = DatumClass::String;
-    let block = DatumClass::Block;
-    assert!(rt;
-        reads(
-            b"*DMC \"A\",#13a,b",
-            b"*DMC",
-            &[(string, b"\"A\""), (block, b"#13a,b")]
-        )
-    );
-    assert!(rt;
-        reads(
-            b"D 'it''s' , \";,\" ",
-            b"D",
-            &[(string, b"'it''s'"), (string, b"\";,\"")]
-        )
-    );
-    assert!(rt; reads(b"D #10,1", b"D", &[(block, b"#10"), (number, b"1")]));
-    assert!(rt;
-        reads(
-            b"D 1,#0a, \xff ",
-            b"D",
-            &[(number, b"1"), (block, b"#0a, \xff ")]
-        )
-    );
-    assert!(rt; reads(b"D '\xe9'", b"D", &[(string, b"'\xe9'")]));
+    assert!(rt; reads(b" \t*CLS\r", "*CLS"));
 }
+
+// What is no unit, in brackets.
+const NO_UNITS: &str = r#"
+[] [ ] [?] [*] [:] [1] [*?] [A:] [A::B] [:*IDN?] [*A:B] [VOLT ,1] [VOLT 1,] [VOLT ,] [VOLT 1,,2]
+[*GMC?"A"] [VOLT?MAX] [VOLT ?] [SYST :ERR?] [A? ?] [A 5_] [A 1 2] [A +] [A B C] [A $1] [VO"a"LT]
+"#;
 
 #[test]
 fn what_is_no_unit_is_a_syntax_error(rt: HostRuntime) {
-    let rows: [&[u8]; 26] = [
-        b"",
-        b" ",
-        b"?",
-        b"*",
-        b":",
-        b"1",
-        b"*?",
-        b"A:",
-        b"A::B",
-        b":*IDN?",
-        b"*A:B",
-        b"VOLT ,1",
-        b"VOLT 1,",
-        b"VOLT ,",
-        b"VOLT 1,,2",
-        b"*GMC?\"A\"",
-        b"VOLT?MAX",
-        b"VOLT ?",
-        b"SYST :ERR?",
-        b"A? ?",
-        b"A 5_",
-        b"A 1 2",
-        b"A +",
-        b"A B C",
-        b"A $1",
-        b"VO\"a\"LT",
-    ];
-    for text in rows {
-        assert!(rt; syntax(&unit_of(text)).err() == Some(ScpiError::SyntaxError));
+    let mut units = 0u32;
+    for text in NO_UNITS.split("]").filter_map(|rest| rest.split_once("[")) {
+        assert!(rt;
+            syntax(&unit_of(text.1.as_bytes())).err() == Some(ScpiError::SyntaxError),
+            "{}",
+            text.1
+        );
+        units = units.saturating_add(1);
     }
+    assert_eq!(rt; units, 26);
 }
 
 #[test]
 fn faults_of_a_unit_come_in_order(rt: HostRuntime) {
-    let rows: [&[u8]; 5] = [
-        b"VOLT \xff",
-        b"\x7f",
-        b"A 'b' ,\x80",
-        b"A::B \xe9",
-        b"A #11\xff,\xff",
-    ];
-    for text in rows {
-        assert!(rt; syntax(&unit_of(text)).err() == Some(ScpiError::InvalidCharacter));
+    for text in ["VOLT \u{ff}", "\u{7f}", "A 'b' ,\u{80}", "A::B \u{e9}"] {
+        assert!(rt; syntax(&unit_of(text.as_bytes())).err() == Some(ScpiError::InvalidCharacter));
     }
+    assert!(rt; syntax(&unit_of(b"A #11\xff,\xff")).err() == Some(ScpiError::InvalidCharacter));
     let faulty = Unit {
         text: b"A\xff 'b",
         first: true,

@@ -1,5 +1,5 @@
 // Each allocation of a feed, of a message and of an answer refused in turn: nothing has changed.
-use crate::frames::origin;
+use crate::frames::{leave, origin};
 use bumpalo::Bump;
 use psu_hislip::{Action, Channel, Message, SessionCore, Side};
 use std::alloc::{AllocError, Global};
@@ -15,17 +15,6 @@ const END: &[u8] = b"HS\x07\x01\x00\x00\x00\x02\x00\x00\x00\x00\x00\x00\x00\x03N
 
 /// The one frame of the answer `a` and NL.
 const ANSWER: &[u8] = b"HS\x07\x00\x00\x00\x00\x02\x00\x00\x00\x00\x00\x00\x00\x02a\n";
-
-// Leaves so many bytes of an arena.
-fn leave(arena: &Bump, left: usize) -> Option<()> {
-    arena.set_allocation_limit(Some(arena.allocated_bytes()));
-    let spare = arena.chunk_capacity();
-    if spare < left {
-        return None;
-    }
-    arena.try_alloc_slice_fill_clone(spare - left, 0u8).ok()?;
-    Some(())
-}
 
 // Whether a feed with so many bytes of memory is refused; none where anything is wrong.
 fn feed_is_refused(alloc: Global, left: usize) -> Option<bool> {

@@ -1,51 +1,68 @@
 // What the label of a macro and the name of a file may be: a letter followed by letters, digits or `_`, 1 to 12 bytes; and 1 to 64 of
 // letters, digits, `_`, `-` and `.`.
 use psu_lex::{is_label, is_name};
+use psu_tables::{bracketed, bytes};
+use std::test::Fail;
+
+// Texts in brackets, and whether each is a label.
+const LABELS: &str = r#"
+[A] yes
+[z] yes
+[a_1] yes
+[ABCDEFGHIJ_9] yes
+[ABCDEFGHIJ_90] no
+[] no
+[1A] no
+[_A] no
+[A-B] no
+[A.B] no
+[A B] no
+[*A] no
+[A?] no
+[é] no
+"#;
+
+// The same of names.
+const NAMES: &str = r#"
+[a] yes
+[9] yes
+[_] yes
+[-] yes
+[.] yes
+[st.a_1-B] yes
+[] no
+[a/b] no
+[a b] no
+[a"b] no
+[a,b] no
+[é] no
+"#;
 
 #[test]
 fn labels_of_macros(rt: HostRuntime) {
-    let rows = [
-        ("A", true),
-        ("z", true),
-        ("a_1", true),
-        ("ABCDEFGHIJ_9", true),
-        ("ABCDEFGHIJ_90", false),
-        ("", false),
-        ("1A", false),
-        ("_A", false),
-        ("A-B", false),
-        ("A.B", false),
-        ("A B", false),
-        ("*A", false),
-        ("A?", false),
-        ("\u{e9}", false),
-    ];
-    for (text, wanted) in rows {
-        assert_eq!(rt; is_label(text.as_bytes()), wanted, "{text}");
+    let mut rows = 0u32;
+    for (text, is) in LABELS.lines().filter_map(bracketed) {
+        assert_eq!(rt; is_label(text.as_bytes()), is == "yes", "{text}");
+        rows = rows.saturating_add(1);
     }
+    assert_eq!(rt; rows, 14);
 }
 
 #[test]
 fn names_of_files(rt: HostRuntime) {
-    let rows = [
-        ("a", true),
-        ("9", true),
-        ("_", true),
-        ("-", true),
-        (".", true),
-        ("st.a_1-B", true),
-        ("", false),
-        ("a/b", false),
-        ("a b", false),
-        ("a\"b", false),
-        ("a,b", false),
-        ("\u{e9}", false),
-    ];
-    for (text, wanted) in rows {
-        assert_eq!(rt; is_name(text.as_bytes()), wanted, "{text}");
+    let mut rows = 0u32;
+    for (text, is) in NAMES.lines().filter_map(bracketed) {
+        assert_eq!(rt; is_name(text.as_bytes()), is == "yes", "{text}");
+        rows = rows.saturating_add(1);
     }
-    let most = [b'n'; 64];
+    assert_eq!(rt; rows, 12);
+}
+
+#[test]
+fn the_longest_name(rt: HostRuntime) -> Result<(), Fail> {
+    let most = bytes(rt.alloc(), "6e*64").ok_or("memory")?;
     assert!(rt; is_name(&most));
-    let more = [b'n'; 65];
+    let more = bytes(rt.alloc(), "6e*65").ok_or("memory")?;
     assert!(rt; !is_name(&more));
+    Ok(())
 }

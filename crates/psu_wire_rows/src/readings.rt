@@ -1,7 +1,9 @@
 // Units as commands are read from them, and the faults of a reading in their order. A number is rounded half away from
 // zero before it is looked at.
+use crate::tree::fail_as_told;
 use psu_lex::{ScpiError, Unit, split};
 use psu_tree::{Command, Enable, Flag, Path, Query, read_unit, request};
+use std::test::Fail;
 
 fn unit_of(text: &[u8]) -> Unit<'_> {
     Unit {
@@ -58,43 +60,42 @@ fn numbers_of_commands(rt: HostRuntime) {
     }
 }
 
+// Faults of a byte, of the syntax, of the header, of the number of data, and then of each datum.
+const FAULTS: &str = "
+*SRE \u{ff} -> 101
+*SRE ,\u{ff} -> 101
+*SRE 5, -> 102
+*SRE5 ,5 -> 102
+:*IDN? -> 102
+*SRE ? -> 102
+*SRE 1 E + 2 -> 102
+*SRE5 -> 113
+SRE 5 -> 113
+*IDN -> 113
+*ESR 1,2 -> 113
+FOO 1E99999 -> 113
+*SRE -> 109
+*PSC  -> 109
+*SRE 5,FOO -> 108
+*IDN? 'a' -> 108
+*SRE? 5 -> 108
+*SRE FOO -> 104
+*PSC ON -> 104
+*ESE '5' -> 104
+*ESE #11a -> 104
+*ESE 1E32001 V -> 123
+*ESE 1 V -> 131
+*ESE 999 V -> 131
+*ESE 255.5 -> 222
+*ESE -1 -> 222
+*SRE 256 -> 222
+*PSC 32768 -> 222
+*PSC -32767.5 -> 222
+";
+
 #[test]
-fn faults_of_a_reading_come_in_order(rt: HostRuntime) {
-    let rows: [(&[u8], ScpiError); 29] = [
-        (b"*SRE \xff", ScpiError::InvalidCharacter),
-        (b"*SRE ,\xff", ScpiError::InvalidCharacter),
-        (b"*SRE 5,", ScpiError::SyntaxError),
-        (b"*SRE5 ,5", ScpiError::SyntaxError),
-        (b":*IDN?", ScpiError::SyntaxError),
-        (b"*SRE ?", ScpiError::SyntaxError),
-        (b"*SRE 1 E + 2", ScpiError::SyntaxError),
-        (b"*SRE5", ScpiError::UndefinedHeader),
-        (b"SRE 5", ScpiError::UndefinedHeader),
-        (b"*IDN", ScpiError::UndefinedHeader),
-        (b"*ESR 1,2", ScpiError::UndefinedHeader),
-        (b"FOO 1E99999", ScpiError::UndefinedHeader),
-        (b"*SRE", ScpiError::MissingParameter),
-        (b"*PSC ", ScpiError::MissingParameter),
-        (b"*SRE 5,FOO", ScpiError::ParameterNotAllowed),
-        (b"*IDN? 'a'", ScpiError::ParameterNotAllowed),
-        (b"*SRE? 5", ScpiError::ParameterNotAllowed),
-        (b"*SRE FOO", ScpiError::DataTypeError),
-        (b"*PSC ON", ScpiError::DataTypeError),
-        (b"*ESE '5'", ScpiError::DataTypeError),
-        (b"*ESE #11a", ScpiError::DataTypeError),
-        (b"*ESE 1E32001 V", ScpiError::ExponentTooLarge),
-        (b"*ESE 1 V", ScpiError::InvalidSuffix),
-        (b"*ESE 999 V", ScpiError::InvalidSuffix),
-        (b"*ESE 255.5", ScpiError::DataOutOfRange),
-        (b"*ESE -1", ScpiError::DataOutOfRange),
-        (b"*SRE 256", ScpiError::DataOutOfRange),
-        (b"*PSC 32768", ScpiError::DataOutOfRange),
-        (b"*PSC -32767.5", ScpiError::DataOutOfRange),
-    ];
-    for (text, error) in rows {
-        let read = read_unit(&Path::root(), &unit_of(text));
-        assert!(rt; matches!(read, Err(fault) if fault == error), "at {text:?}");
-    }
+fn faults_of_a_reading_come_in_order(rt: HostRuntime) -> Result<(), Fail> {
+    fail_as_told(&rt, FAULTS)
 }
 
 // The units of a message, and the fault of the last.

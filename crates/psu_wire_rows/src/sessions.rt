@@ -1,5 +1,5 @@
 // Messages of a session.
-use crate::frames::{Told, bare, executes, first, is_sent, joined, sends, tell};
+use crate::frames::{Told, bare, executes, first, is_nothing, is_sent, joined, sends, tell};
 use psu_hislip::{Action, FatalCode, First, SessionCore, Side};
 use std::alloc::Global;
 
@@ -16,13 +16,6 @@ fn ends(told: &Told, side: Side, code: u8) -> bool {
 fn is_closed(told: &Told) -> bool {
     match told {
         Some(actions) => actions.len() == 1 && matches!(actions.first(), Some(Action::Closed)),
-        None => false,
-    }
-}
-
-fn is_nothing(told: &Told) -> bool {
-    match told {
-        Some(actions) => actions.is_empty(),
         None => false,
     }
 }
