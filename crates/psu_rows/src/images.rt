@@ -3,7 +3,6 @@ use psu_disk::MemDisk;
 use psu_items::Store;
 use psu_server::run;
 use std::alloc::Global;
-use std::process::Abort;
 
 /// The size of an image of 256 pages.
 pub const SIZE: u64 = 263_168;
@@ -44,13 +43,5 @@ pub fn written_on(alloc: Global, disk: MemDisk<Global>, input: &[u8]) -> Option<
     match run(alloc, &mut reader, &mut text, disk) {
         Ok(_) => Some(text),
         Err(_) => None,
-    }
-}
-
-/// Runs lines and looks at what they write, each row on a fresh image.
-pub fn run_rows(rt: &impl Abort, alloc: Global, rows: &[(&str, &str)]) {
-    for (input, want) in rows {
-        let got = written(alloc, input.as_bytes()).expect(rt, "the run ends well");
-        assert!(rt; got.as_slice() == want.as_bytes(), "at {input}: {got:?}");
     }
 }
