@@ -1,122 +1,143 @@
--- One datum at the front of a text.
-use Rattle.std.proofs.Common.{◌≡◌, ℕ, zero, suc, ◌-◌, ◌<◌, ◌≤◌, true, false, List, [], ◌∷◌, ◌++◌, length, take, drop, refl, sym, ap, ◌∙◌, subst, arith, Option, Some, None, slice_index, take_all, drop-cons, IfSome, IfNone, unwrap_or}
-use Rattle.std.proofs.lemmas.List.{take-append-drop, append_cancel_right}
-use Rattle.psu_lex.specs.Bytes.{is_white, all_white, starts, starts_quoted}
-use Rattle.psu_lex.specs.Number.{Number, IsNumber, number_text}
-use Rattle.psu_lex.specs.Message.{BeginsPiece}
-use Rattle.psu_lex.specs.NumberScan.{run, left}
-use Rattle.psu_lex.specs.Syntax.{Datum, ends_in_white}
-use Rattle.psu_lex.specs.SyntaxScan.{is_uncut, class_at, is_parted, Trims, Splits, Ends, HasNone, Begins}
+-- One datum at the front of a text: its scan leaves what follows it.
+use Rattle.std.proofs.Common.{◌≡◌, ℕ, ◌+◌, ◌-◌, ◌==◌, ◌||◌, ◌<◌, true, false, List, [], ◌∷◌, ◌++◌, length, take, drop, refl, sym, ap, ◌∙◌, subst, arith, inl, inr, Option, Some, None, length-append}
+use Rattle.std.proofs.lemmas.Bool.{cases_Bool}
+use Rattle.std.proofs.lemmas.Bool.Decides.{nat_tests}
+use Rattle.std.proofs.lemmas.List.{append-nil}
+use Rattle.std.proofs.lemmas.Option.{same_Some, some_pair_parts}
+use Rattle.std.proofs.Math.Seq.{take-append_seam}
+use Rattle.psu_lex.specs.Bytes.{is_white, starts, starts_quoted}
+use Rattle.psu_lex.specs.Message.{Piece, spelling, BeginsPiece}
+use Rattle.psu_lex.specs.Message.Piece.{Quoted, Counted, Open}
+use Rattle.psu_lex.specs.NumberScan.{left, is_number, scanned}
+use Rattle.psu_lex.specs.Scan.{after_piece}
+use Rattle.psu_lex.specs.Syntax.{Datum, IsDatum, IsWholeIn, is_node, class_of}
+use Rattle.psu_lex.specs.SyntaxScan.{after_datum, class_at, datum_at, datum_in, is_parted, parted, written}
 use Rattle.psu_lex.specs.declared.datum_class.DatumClass.{DatumClass}
 use Rattle.psu_lex.specs.declared.datum_class.DatumClass.TheVariants.{Numeric, Character, String, Block}
-use Rattle.psu_lex.proofs.Quotes.{both}
-use Rattle.psu_lex.proofs.Runs.{every, leads, run_at, run_all}
-use Rattle.psu_lex.proofs.Searches.{has_head, has_tail, free_before, free_all}
-use Rattle.psu_lex.specs.Scan.{has}
-use Rattle.memchr.specs.Find.{IsFirstByte, is_byte}
-use Rattle.psu_lex.proofs.FirstBytes.{first_of, class_is}
-use Rattle.psu_lex.proofs.WrittenData.{trims_same, cancel_at, last_dark, node_uncut, node_end, number_uncut, uncut_run, run_white}
-use Rattle.psu_lex.proofs.DataPieces.{PieceOf, only_piece, quoted_ends, no_quoted, counted_ends, no_counted}
+use Rattle.psu_lex.proofs.Quotes.{both, same_byte}
+use Rattle.psu_lex.proofs.PieceScans.{found, whole}
+use Rattle.psu_lex.proofs.NumberSound.{number_in}
+use Rattle.psu_lex.proofs.WrittenData.{number_found, word_found, written_whole}
+use Rattle.psu_lex.proofs.FirstBytes.{first_of}
 
--- ---- one datum at the front
+-- ---- what follows a datum is left
 
-one_written : (body a b x y : List ℕ) → body ≡ a ++ x → body ≡ b ++ y → every is_uncut a ≡ true → every is_uncut b ≡ true → ends_in_white a ≡ false → ends_in_white b ≡ false
-    → is_parted (left is_white x) ≡ true → is_parted (left is_white y) ≡ true → (a ≡ b) × (x ≡ y)
-one_written body a b x y e f u v p q h k =
-    let same : a ≡ b = trims_same a b (run is_white x) (run is_white y) (sym (uncut_run a x u h) ∙ ap (run is_uncut) (sym e ∙ f) ∙ uncut_run b y v k) (run_white x) (run_white y) p q in
-    (same, cancel_at a b x y same (sym e ∙ f))
+no_zero : (n : ℕ) → 0 < n → (48 + n == 48) ≡ false
+no_zero n h = grind (arith, nat_tests)
 
-one_piece : (class : DatumClass) (body a b x y : List ℕ) → body ≡ a ++ x → body ≡ b ++ y → PieceOf class a x → PieceOf class b y → (a ≡ b) × (x ≡ y)
-one_piece class body a b x y e f (p, c, s, w) q =
-    let same : y ≡ x = only_piece class body b y x p (e ∙ ap (λ (z : List ℕ). z ++ x) s) w f q in
-    (append_cancel_right a b x (sym e ∙ f ∙ ap (λ (z : List ℕ). b ++ z) same), sym same)
+as_string : (body : List ℕ) → starts_quoted body ≡ true → after_datum String body ≡ after_piece body
+as_string body t = rw t refl
 
-uncut_number : (text : List ℕ) (n : Number) → IsNumber n → text ≡ number_text n → every is_uncut text ≡ true
-uncut_number text n h e = subst (λ (z : List ℕ). every is_uncut z ≡ true) (sym e) (number_uncut n h)
+as_block : (body : List ℕ) → starts 35 body ≡ true → starts 48 (drop 1 body) ≡ false → after_datum Block body ≡ after_piece body
+as_block body t f = rw (t, f) refl
 
-one_split : (class : DatumClass) (body a b x y : List ℕ) → Splits class body a x → Splits class body b y → (a ≡ b) × (x ≡ y)
-one_split Numeric body a b x y s t = one_written body a b x y s.0 t.0 (uncut_number a s.1.0 s.1.1 s.1.2) (uncut_number b t.1.0 t.1.1 t.1.2) s.1.3 t.1.3 s.2 t.2
-one_split Character body a b x y s t = one_written body a b x y s.0 t.0 (node_uncut a s.1) (node_uncut b t.1) (node_end a s.1) (node_end b t.1) s.2 t.2
-one_split String body a b x y s t = one_piece String body a b x y s.0 t.0 s.1 t.1
-one_split Block body a b x y s t = one_piece Block body a b x y s.0 t.0 s.1 t.1
+quoted_found : (body next : List ℕ) (p : Piece) → class_of p ≡ String → body ≡ spelling p ++ next → IsWholeIn p next → after_datum String body ≡ Some next
+quoted_found body next (Quoted q content) c e w = as_string body (ap starts_quoted e ∙ w.0) ∙ ap after_piece e ∙ found (Quoted q content) next w
+quoted_found body next (Counted d content) c e w = absurd (cc (c))
+quoted_found body next (Open content) c e w = absurd (cc (c))
 
-same_class : (c d : DatumClass) (body a b x y : List ℕ) → Splits c body a x → Splits d body b y → c ≡ d
-same_class c d body a b x y s t =
-    let f = first_of c a x s.1 in
-    let e : body ≡ f.0 ∷ (f.1 ++ x) = s.0 ∙ ap (λ (z : List ℕ). z ++ x) f.2 in
-    f.3 ∙ sym (class_is d f.0 (f.1 ++ x) b y (subst (λ (z : List ℕ). Splits d z b y) e t))
+block_found : (body next : List ℕ) (p : Piece) → class_of p ≡ Block → body ≡ spelling p ++ next → IsWholeIn p next → after_datum Block body ≡ Some next
+block_found body next (Quoted q content) c e w = absurd (cc (c))
+block_found body next (Counted d content) c e w =
+    as_block body (ap (starts 35) e) (ap (λ (z : List ℕ). starts 48 (drop 1 z)) e ∙ no_zero (length d) w.0) ∙ ap after_piece e ∙ found (Counted d content) next w
+block_found body next (Open content) c e w = rw e (ap (λ (z : List ℕ). Some z) (sym w))
 
-abbrev made : DatumClass → List ℕ → Datum
-made class text = record { class = class; text = text }
+datum_found : (class : DatumClass) (body text next : List ℕ) → body ≡ text ++ next → IsDatum class text next → is_parted (left is_white next) ≡ true → after_datum class body ≡ Some next
+datum_found Numeric body text next e (n, h, k, d) p = number_found body text next n e h k d p
+datum_found Character body text next e h p = word_found body text next e h p
+datum_found String body text next e (r, c, s, w) p = quoted_found body next r c (e ∙ ap (λ (z : List ℕ). z ++ next) s) w
+datum_found Block body text next e (r, c, s, w) p = block_found body next r c (e ∙ ap (λ (z : List ℕ). z ++ next) s) w
 
-same_datum : (d e : Datum) → d.class ≡ e.class → d.text ≡ e.text → d ≡ e
-same_datum d e c t = ap (λ (z : DatumClass). made z d.text) c ∙ ap (made e.class) t
+-- ---- what is left follows a datum
 
-pub one_datum : (text : List ℕ) (d e : Datum) (x y : List ℕ) → Begins text d x → Begins text e y → (d ≡ e) × (x ≡ y)
-one_datum text d e x y s t =
-    let c = same_class d.class e.class (left is_white text) d.text e.text x y s t in
-    let same = one_split e.class (left is_white text) d.text e.text x y (subst (λ (z : DatumClass). Splits z (left is_white text) d.text x) c s) t in
-    (same_datum d e c same.0, same.1)
+-- a datum of the class is all of the body but for what follows it
+abbrev Splits : DatumClass → List ℕ → List ℕ → Type 0
+Splits class body next = (text : List ℕ) × (body ≡ text ++ next) × IsDatum class text next
 
--- ---- the same, as the scans go
+quoted_whole : (body next : List ℕ) → starts_quoted body ≡ true → BeginsPiece body next → Splits String body next
+quoted_whole body next t (Quoted q content, e, w) = (spelling (Quoted q content), e, (Quoted q content, refl, refl, w))
+quoted_whole body next t (Counted d content, e, w) = absurd (both (starts_quoted body) t (ap starts_quoted e))
+quoted_whole body next t (Open content, e, w) = absurd (both (starts_quoted body) t (ap starts_quoted e))
 
-pub quoted_some : (body : List ℕ) (r : Option ℕ) → starts_quoted body ≡ true → IfSome r (λ n. BeginsPiece body (drop n body)) → IfSome r (λ n. Ends String body n)
-quoted_some body None h s = tt
-quoted_some body (Some n) h s = quoted_ends body n h s
+open_text : (body : List ℕ) → starts 35 body ≡ true → starts 48 (drop 1 body) ≡ true → body ≡ 35 ∷ 48 ∷ drop 2 body
+open_text [] h z = absurd (cc (h))
+open_text (x ∷ []) h z = absurd (cc (z))
+open_text (x ∷ y ∷ body) h z = cc (same_byte x 35 h, same_byte y 48 z)
 
-pub quoted_none : (body : List ℕ) (r : Option ℕ) → IfNone r ((more : List ℕ) → BeginsPiece body more → ⊥) → IfNone r (HasNone String body)
-quoted_none body None n = no_quoted body n
-quoted_none body (Some k) n = tt
+counted_whole : (body next : List ℕ) → starts 35 body ≡ true → starts 48 (drop 1 body) ≡ false → BeginsPiece body next → Splits Block body next
+counted_whole body next t f (Quoted q content, e, w) =
+    let hash : q ≡ 35 = same_byte q 35 (sym (ap (starts 35) e) ∙ t) in
+    absurd (cc (subst (λ (z : ℕ). (z == 34 || z == 39) ≡ true) hash w.0))
+counted_whole body next t f (Counted d content, e, w) = (spelling (Counted d content), e, (Counted d content, refl, refl, w))
+counted_whole body next t f (Open content, e, w) = absurd (both (starts 48 (drop 1 body)) (ap (λ (z : List ℕ). starts 48 (drop 1 z)) e) f)
 
-pub counted_some : (body : List ℕ) (r : Option ℕ) → starts 35 body ≡ true → starts 48 (drop 1 body) ≡ false → IfSome r (λ n. BeginsPiece body (drop n body)) → IfSome r (λ n. Ends Block body n)
-counted_some body None h z s = tt
-counted_some body (Some n) h z s = counted_ends body n h z s
+datum_whole : (class : DatumClass) (body next : List ℕ) → after_datum class body ≡ Some next → Splits class body next
+datum_whole Numeric body next e = elim (cases_Bool (is_number (written body))) [
+  | inr f ↦ absurd (cc (rw f at e))
+  | inl t ↦
+      let w = written_whole body in
+      let n = number_in (written body) t in
+      (written body, w.0 ∙ ap (λ (z : List ℕ). written body ++ z) (same_Some _ next (rw t at e)), (scanned (written body), n.0, n.1, w.1))
+]
+datum_whole Character body next e = elim (cases_Bool (is_node (written body))) [
+  | inr f ↦ absurd (cc (rw f at e))
+  | inl t ↦ (written body, (written_whole body).0 ∙ ap (λ (z : List ℕ). written body ++ z) (same_Some _ next (rw t at e)), t)
+]
+datum_whole String body next e = elim (cases_Bool (starts_quoted body)) [
+  | inr f ↦ absurd (cc (rw f at e))
+  | inl t ↦ quoted_whole body next t (whole body next (rw t at e))
+]
+datum_whole Block body next e = elim (cases_Bool (starts 35 body)) [
+  | inr f ↦ absurd (cc (rw f at e))
+  | inl t ↦ elim (cases_Bool (starts 48 (drop 1 body))) [
+    | inl z ↦
+        let none : next ≡ [] = sym (same_Some [] next (rw (t, z) at e)) in
+        (body, sym (append-nil body) ∙ ap (λ (k : List ℕ). body ++ k) (sym none), (Open (drop 2 body), refl, open_text body t z, none))
+    | inr z ↦ counted_whole body next t z (whole body next (rw (t, z) at e))
+  ]
+]
 
-pub counted_none : (body : List ℕ) (r : Option ℕ) → starts 48 (drop 1 body) ≡ false → IfNone r ((more : List ℕ) → BeginsPiece body more → ⊥) → IfNone r (HasNone Block body)
-counted_none body None z n = no_counted body z n
-counted_none body (Some k) z n = tt
+-- ---- the datum at the front, after white space
 
--- where the search of a `,` ends, or the text does
-has_every : (xs : List ℕ) → has (is_byte 44) xs ≡ false → every is_uncut xs ≡ true
-has_every [] h = refl
-has_every (x ∷ xs) h = rw (has_head (is_byte 44) x xs h) (has_every xs (has_tail (is_byte 44) x xs h))
+-- a datum stands at the front, after white space, and then this
+abbrev pub Begins : List ℕ → Datum → List ℕ → Type 0
+Begins text d next = (left is_white text ≡ d.text ++ next) × IsDatum d.class d.text next × (is_parted (left is_white next) ≡ true)
 
-cut_leads : (body : List ℕ) (n : ℕ) → n < length body → is_byte 44 (slice_index body n) ≡ true → leads is_uncut (drop n body) ≡ false
-cut_leads body n within h = rw (drop-cons body n 0 within) (rw h refl)
+pub begun_found : (text : List ℕ) (d : Datum) (next : List ℕ) → Begins text d next → datum_at text ≡ Some (d, left is_white next)
+begun_found text d next (e, h, p) =
+    let (x, xs, is, class, dark) = first_of d.class d.text next h in
+    let body : d.text ++ next ≡ x ∷ (xs ++ next) = ap (λ (z : List ℕ). z ++ next) is in
+    let after : after_datum d.class (d.text ++ next) ≡ Some next = datum_found d.class (d.text ++ next) d.text next refl h p in
+    let n : length (d.text ++ next) - length next ≡ length d.text = omega (arith, length-append d.text next) in
+    let cut : parted d.class (d.text ++ next) (after_datum d.class (d.text ++ next)) ≡ Some (d, left is_white next) = rw (after, p, n, take-append_seam d.text next) refl in
+    ap datum_in (e ∙ body) ∙ ap (λ (c : DatumClass). parted c (x ∷ (xs ++ next)) (after_datum c (x ∷ (xs ++ next)))) (sym class) ∙ ap (λ (z : List ℕ). parted d.class z (after_datum d.class z)) (sym body) ∙ cut
 
-pub up_to_cut : (body : List ℕ) (r : Option ℕ) → IsFirstByte (is_byte 44) body r → run is_uncut body ≡ take (unwrap_or r (length body)) body
-up_to_cut body None h = run_all is_uncut body (has_every body (free_all (is_byte 44) body h)) ∙ sym (take_all (length body) body (omega arith))
-up_to_cut body (Some n) h =
-    ap (run is_uncut) (sym (take-append-drop n body))
-    ∙ run_at is_uncut (take n body) (drop n body) (has_every (take n body) (free_before (is_byte 44) body n h)) (cut_leads body n h.0.high h.1)
+front_is : (body text next : List ℕ) → body ≡ text ++ next → take (length body - length next) body ≡ text
+front_is body text next e =
+    let n : length body - length next ≡ length text = omega (arith, ap length e, length-append text next) in
+    rw (n, e) (take-append_seam text next)
 
-take_take : (n m : ℕ) (s : List ℕ) → n ≤ length (take m s) → take n (take m s) ≡ take n s
-take_take zero m s h = refl
-take_take (suc n) zero s h = absurd (omega (arith, h))
-take_take (suc n) (suc m) [] h = absurd (omega (arith, h))
-take_take (suc n) (suc m) (x ∷ s) h = ap (λ (z : List ℕ). x ∷ z) (take_take n m s (omega (arith, h)))
+parted_whole : (class : DatumClass) (body : List ℕ) (r : Option (List ℕ)) (d : Datum) (tail : List ℕ) → after_datum class body ≡ r → parted class body r ≡ Some (d, tail)
+    → (next : List ℕ) × (body ≡ d.text ++ next) × IsDatum d.class d.text next × (is_parted (left is_white next) ≡ true) × (tail ≡ left is_white next)
+parted_whole class body None d tail e f = absurd (cc (f))
+parted_whole class body (Some next) d tail e f = elim (cases_Bool (is_parted (left is_white next))) [
+  | inr g ↦ absurd (cc (rw g at f))
+  | inl p ↦
+      let (text, s, h) = datum_whole class body next e in
+      let front = front_is body text next s in
+      let given : Some (record { class = class; text = take (length body - length next) body }, left is_white next) ≡ Some (d, tail) = rw p at f in
+      let is = some_pair_parts (record { class = class; text = take (length body - length next) body }) d (left is_white next) tail given in
+      subst (λ (z : Datum). (next : List ℕ) × (body ≡ z.text ++ next) × IsDatum z.class z.text next × (is_parted (left is_white next) ≡ true) × (tail ≡ left is_white next)) is.0
+      (next, s ∙ ap (λ (z : List ℕ). z ++ next) (sym front), subst (λ (z : List ℕ). IsDatum class z next) (sym front) h, p, sym is.1)
+]
 
-pub trims_at : (body front : List ℕ) (m n : ℕ) → run is_uncut body ≡ take m body → front ≡ take m body → n ≤ length front → all_white (drop n front) ≡ true → ends_in_white (take n front) ≡ false
-    → Trims body (take n body)
-trims_at body front m n r f le w d =
-    let same : take n front ≡ take n body = ap (take n) f ∙ take_take n m body (subst (λ (z : List ℕ). n ≤ length z) f le) in
-    (drop n front, r ∙ sym f ∙ sym (take-append-drop n front) ∙ ap (λ (z : List ℕ). z ++ drop n front) same, w, subst (λ (z : List ℕ). ends_in_white z ≡ false) same d)
+in_whole : (body : List ℕ) (d : Datum) (tail : List ℕ) → datum_in body ≡ Some (d, tail)
+    → (next : List ℕ) × (body ≡ d.text ++ next) × IsDatum d.class d.text next × (is_parted (left is_white next) ≡ true) × (tail ≡ left is_white next)
+in_whole [] d tail e = absurd (cc (e))
+in_whole (x ∷ xs) d tail e = parted_whole (class_at x) (x ∷ xs) (after_datum (class_at x) (x ∷ xs)) d tail refl e
 
-pub dark_at : (s : List ℕ) (end : ℕ) → 0 < end → end ≤ length s → is_white (slice_index s (end - 1)) ≡ false → ends_in_white (take end s) ≡ false
-dark_at s zero some le h = absurd (omega (arith, some))
-dark_at s (suc m) some le h =
-    let e : suc m - 1 ≡ m = omega arith in
-    last_dark s m (omega (arith, le)) (subst (λ (z : ℕ). is_white (slice_index s z) ≡ false) e h)
+pub begun_whole : (text : List ℕ) (d : Datum) (tail : List ℕ) → datum_at text ≡ Some (d, tail) → (next : List ℕ) × Begins text d next × (tail ≡ left is_white next)
+begun_whole text d tail e = let (next, s, h, p, t) = in_whole (left is_white text) d tail e in (next, (s, h, p), t)
 
--- the class of what begins at the front
-pub none_at : (body : List ℕ) (class : DatumClass) → 0 < length body → class ≡ class_at (slice_index body 0) → HasNone class body → (d : Datum) (next : List ℕ) → Splits d.class body d.text next → ⊥
-none_at [] class some c none d next s = omega (arith, some)
-none_at (x ∷ xs) class some c none d next s =
-    none d.text next (subst (λ (z : DatumClass). Splits z (x ∷ xs) d.text next) (class_is d.class x xs d.text next s ∙ sym c) s)
-
-pub unparted_at : (body tail : List ℕ) (n : ℕ) (class : DatumClass) → 0 < length body → class ≡ class_at (slice_index body 0) → Ends class body n → tail ≡ left is_white (drop n body) → is_parted tail ≡ false
-    → (d : Datum) (next : List ℕ) → Splits d.class body d.text next → ⊥
-unparted_at [] tail n class some c ends t f d next s = omega (arith, some)
-unparted_at (x ∷ xs) tail n class some c ends t f d next s =
-    let same = ends.1 d.text next (subst (λ (z : DatumClass). Splits z (x ∷ xs) d.text next) (class_is d.class x xs d.text next s ∙ sym c) s) in
-    both (is_parted (left is_white next)) s.2 (ap (λ (z : List ℕ). is_parted (left is_white z)) same ∙ ap is_parted (sym t) ∙ f)
+pub tail_parted : (text tail : List ℕ) (d : Datum) → datum_at text ≡ Some (d, tail) → is_parted tail ≡ true
+tail_parted text tail d e = let (next, s, t) = begun_whole text d tail e in ap is_parted t ∙ s.2

@@ -1,18 +1,19 @@
 -- Steps over a macro's body.
-use Rattle.std.proofs.Common.{◌≡◌, ℕ, ◌-◌, ◌==◌, ◌<◌, ◌≤◌, ◌+◌, nat_lt, max, min, Bool, true, false, cond, List, [], ◌∷◌, ◌++◌, length, take, drop, take_all, refl, sym, ap, ◌∙◌, subst, arith, append_assoc, inl, inr, length-append, slice_index, Ok, Err}
+use Rattle.std.proofs.Common.{◌≡◌, ℕ, ◌-◌, ◌==◌, ◌<◌, ◌≤◌, ◌+◌, nat_lt, max, min, Bool, true, false, cond, List, [], ◌∷◌, ◌++◌, length, take, drop, take_all, refl, sym, ap, ◌∙◌, subst, arith, append_assoc, inl, inr, length-append, slice_index, Ok, Err, Some, None}
 use Rattle.std.proofs.lemmas.Bool.{cases_Bool}
 use Rattle.std.proofs.lemmas.Bool.Decides.{nat_tests}
 use Rattle.std.proofs.lemmas.List.{append-nil, take-append-drop, drop_all, append_cancel_right}
 use Rattle.std.proofs.lemmas.Grind.{common_steps}
 use Rattle.psu_lex.specs.Bytes.{opens, separates}
-use Rattle.psu_lex.specs.Message.{Token, spelling, opens_first, BeginsPiece, Reads}
+use Rattle.psu_lex.specs.Message.{Token, spelling, opens_first, Reads}
 use Rattle.psu_lex.specs.Message.Token.{Byte, Separator, Whole, Faulty}
 use Rattle.psu_lex.specs.Macros.{is_placeholder, parameter, expansion, greatest, anything, ExpandsTo}
 use Rattle.psu_lex.specs.MacroScan.{begins_placeholder, Spells, Keeps, Puts}
 use Rattle.psu_lex.specs.declared.scpi_error.ScpiError.TheVariants.{MacroParameterError, TooMuchData}
 use Rattle.psu_lex.proofs.Quotes.{same_byte, same_head}
-use Rattle.psu_lex.proofs.Unique.{same_tokens}
-use Rattle.psu_lex.proofs.Exists.{some_tokens}
+use Rattle.psu_lex.specs.Scan.{after_piece}
+use Rattle.psu_lex.proofs.PieceScans.{none, whole}
+use Rattle.psu_lex.proofs.Tokens.{same_tokens, some_tokens}
 
 pub spells_end : (args : List (List ℕ)) → Spells args [] 0 []
 spells_end args = ([], refl, refl, refl)
@@ -68,18 +69,19 @@ keeps_byte (x ∷ rest) some o f = keeps_byte_at x rest o f
 
 -- ---- a string or block
 
-pub keeps_piece : (bytes : List ℕ) (n : ℕ) → BeginsPiece bytes (drop n bytes) → Keeps bytes n
-keeps_piece bytes n begun args most text (tokens, reads, m, t) =
+pub keeps_piece : (bytes : List ℕ) (n : ℕ) → after_piece bytes ≡ Some (drop n bytes) → Keeps bytes n
+keeps_piece bytes n e args most text (tokens, reads, m, t) =
+    let begun = whole bytes (drop n bytes) e in
     let front : take n bytes ≡ spelling begun.0 = append_cancel_right (take n bytes) (spelling begun.0) (drop n bytes) (take-append-drop n bytes ∙ begun.1) in
     (Whole begun.0 ∷ tokens, (drop n bytes, begun.1, (begun.2, refl), reads), m, ap (λ (z : List ℕ). z ++ text) front ∙ ap (λ (z : List ℕ). spelling begun.0 ++ z) t)
 
-pub keeps_fault : (bytes : List ℕ) (n : ℕ) → n ≡ length bytes → opens_first bytes ≡ true → ((more : List ℕ) → BeginsPiece bytes more → ⊥) → Keeps bytes n
-keeps_fault bytes n e o none args most text (tokens, reads, m, t) =
+pub keeps_fault : (bytes : List ℕ) (n : ℕ) → n ≡ length bytes → opens_first bytes ≡ true → after_piece bytes ≡ None → Keeps bytes n
+keeps_fault bytes n e o f args most text (tokens, reads, m, t) =
     let end : drop n bytes ≡ [] = drop_all n bytes (omega (arith, e)) in
     let empty : tokens ≡ [] = same_tokens anything (drop n bytes) tokens [] reads end in
     let nothing : text ≡ [] = t ∙ ap (expansion args false) empty in (
       Faulty bytes ∷ [],
-      ([], sym (append-nil bytes), (refl, o, λ more b _. none more b), refl),
+      ([], sym (append-nil bytes), (refl, o, λ more b _. none bytes more f b), refl),
       m ∙ ap (greatest false) empty,
       ap (λ (z : List ℕ). z ++ text) (take_all n bytes (omega (arith, e))) ∙ ap (λ (z : List ℕ). bytes ++ z) nothing,
     )

@@ -1,5 +1,5 @@
 -- What a datum begins with.
-use Rattle.std.proofs.Common.{◌≡◌, ℕ, ◌<◌, ◌==◌, ◌||◌, Bool, true, false, List, [], ◌∷◌, ◌++◌, length, refl, sym, ap, ◌∙◌, subst, arith, Option, Some, None}
+use Rattle.std.proofs.Common.{◌≡◌, ℕ, ◌<◌, ◌==◌, ◌||◌, Bool, true, false, List, [], ◌∷◌, ◌++◌, length, refl, sym, ◌∙◌, subst, arith, Option, Some, None}
 use Rattle.std.proofs.lemmas.Bool.Decides.{nat_tests}
 use Rattle.std.proofs.lemmas.Grind.{common_steps}
 use Rattle.psu_lex.specs.Bytes.{is_white, is_digit, is_letter, is_quote}
@@ -8,10 +8,9 @@ use Rattle.psu_lex.specs.Number.Sign.{Plus, Minus, Unsigned}
 use Rattle.psu_lex.specs.Message.{Piece, spelling}
 use Rattle.psu_lex.specs.Message.Piece.{Quoted, Counted, Open}
 use Rattle.psu_lex.specs.Syntax.{is_node, class_of, IsWholeIn, IsDatum}
-use Rattle.psu_lex.specs.SyntaxScan.{class_at, Splits}
+use Rattle.psu_lex.specs.SyntaxScan.{class_at}
 use Rattle.psu_lex.specs.declared.datum_class.DatumClass.{DatumClass}
 use Rattle.psu_lex.specs.declared.datum_class.DatumClass.TheVariants.{Numeric, Character, String, Block}
-use Rattle.psu_lex.proofs.Quotes.{same_head}
 use Rattle.psu_lex.proofs.Runs.{every, digits_every, every_head}
 
 -- ---- the first byte
@@ -75,8 +74,3 @@ first_of Numeric text more (n, h, e, w) = subst (IsFirst Numeric) (sym e) (first
 first_of Character text more h = first_node text h
 first_of String text more h = first_of_piece String text more h
 first_of Block text more h = first_of_piece Block text more h
-
-pub class_is : (class : DatumClass) (x : ℕ) (xs text next : List ℕ) → Splits class (x ∷ xs) text next → class ≡ class_at x
-class_is class x xs text next (e, d, p) =
-    let f = first_of class text next d in
-    f.3 ∙ ap class_at (sym (same_head x f.0 _ _ (e ∙ ap (λ (z : List ℕ). z ++ next) f.2)))

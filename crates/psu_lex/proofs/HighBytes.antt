@@ -5,13 +5,14 @@ use Rattle.std.proofs.lemmas.Bool.Decides.{nat_tests}
 use Rattle.std.proofs.lemmas.List.{append-nil, take-append-drop}
 use Rattle.memchr.specs.Find.{IsFirstByte, is_byte3}
 use Rattle.psu_lex.specs.Bytes.{opens, separates, is_closed}
-use Rattle.psu_lex.specs.Message.{Token, Reads, opens_first, BeginsPiece, HasNoPiece}
+use Rattle.psu_lex.specs.Message.{Token, Reads, opens_first, HasNoPiece}
 use Rattle.psu_lex.specs.Message.Token.{Byte, Separator, Whole, Faulty}
-use Rattle.psu_lex.specs.Scan.{has}
+use Rattle.psu_lex.specs.Scan.{has, after_piece}
 use Rattle.psu_lex.specs.Syntax.{has_high}
 use Rattle.psu_lex.specs.SyntaxScan.{is_high}
 use Rattle.psu_lex.proofs.Searches.{has_head, has_tail, free_before, free_all}
-use Rattle.psu_lex.proofs.Exists.{some_tokens}
+use Rattle.psu_lex.proofs.PieceScans.{whole}
+use Rattle.psu_lex.proofs.Tokens.{some_tokens}
 use Rattle.psu_lex.proofs.UnitScans.{opens_at}
 
 -- the bytes have tokens, and whether one of them is such a byte is known
@@ -37,8 +38,8 @@ tells_run (x ∷ run) rest high o t =
     subst (Tells (x ∷ (run ++ rest))) (or_same (is_high x) (has is_high run) high)
     (tells_byte x (run ++ rest) (has is_high run || high) (has_head opens x run o) (tells_run run rest high (has_tail opens x run o) t))
 
-pub tells_piece : (bytes more : List ℕ) (high : Bool) → BeginsPiece bytes more → is_closed more ≡ true → Tells more high → Tells bytes high
-tells_piece bytes more high b h (tokens, r, e) = (Whole b.0 ∷ tokens, (more, b.1, (b.2, h), r), e)
+pub tells_piece : (bytes more : List ℕ) (high : Bool) → after_piece bytes ≡ Some more → is_closed more ≡ true → Tells more high → Tells bytes high
+tells_piece bytes more high s h (tokens, r, e) = let b = whole bytes more s in (Whole b.0 ∷ tokens, (more, b.1, (b.2, h), r), e)
 
 pub tells_fault : (bytes : List ℕ) → opens_first bytes ≡ true → HasNoPiece is_closed bytes → Tells bytes false
 tells_fault bytes o n = (Faulty bytes ∷ [], ([], sym (append-nil bytes), (refl, o, n), refl), refl)

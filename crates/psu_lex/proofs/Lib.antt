@@ -1,13 +1,11 @@
 pub mod Quotes
-pub mod Unique
-pub mod Exists
 pub mod Searches
 pub mod StringScans
+pub mod Tokens
 pub mod PieceScans
 pub mod UnitScans
 pub mod SplitScans
 pub mod BlockData
-pub mod StringData
 pub mod Digits
 pub mod Runs
 pub mod NumberSound
@@ -18,11 +16,9 @@ pub mod Expansions
 pub mod HeaderScans
 pub mod FirstBytes
 pub mod WrittenData
-pub mod DataPieces
 pub mod DataScans
 pub mod DataLists
 pub mod HighBytes
 pub mod UnitParts
 pub mod UnitDecides
 pub mod HeaderParts
-pub mod DatumContents

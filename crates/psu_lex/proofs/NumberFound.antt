@@ -6,8 +6,7 @@ use Rattle.psu_lex.specs.Bytes.{is_digit, is_letter, is_white}
 use Rattle.psu_lex.specs.declared.scpi_error.ScpiError.{ScpiError}
 use Rattle.psu_lex.specs.Number.{Sign, Exponent, Number, IsNumber, NumberGives, reading_of, ExponentHolds, sign_text, fraction_text, fraction_digits, exponent_text, number_text, mantissa}
 use Rattle.psu_lex.specs.Number.Sign.{Plus, Minus, Unsigned}
-use Rattle.psu_lex.specs.NumberScan.{run, left, sign_of, after_sign, fraction_of, after_fraction, exponent_with, exponent_from, exponent_of, after_exponent, is_nonempty, suffix_of, gap_of, end_of, excess_of, at_fraction, at_exponent, at_tail, scanned}
-use Rattle.psu_lex.proofs.Quotes.{both}
+use Rattle.psu_lex.specs.NumberScan.{run, left, sign_of, after_sign, fraction_of, after_fraction, exponent_with, exponent_from, exponent_of, after_exponent, is_nonempty, is_number, suffix_of, gap_of, end_of, excess_of, at_fraction, at_exponent, at_tail, scanned}
 use Rattle.psu_lex.proofs.Runs.{every, leads, digits_every, white_every, letters_every, every_head, every_tail, run_at, left_at, every_append, every_left, left_none, run_all, every_more}
 
 -- what may stand behind the digits of a number
@@ -269,23 +268,19 @@ scanned_is text n h e =
     let p = parts_of text n h e in
     same_made _ n.sign _ n.whole _ n.fraction _ n.exponent _ n.gap _ n.suffix _ n.rest p.sign p.whole p.fraction p.exponent p.tail.gap_is p.tail.suffix_is p.tail.end_is
 
--- ---- what is no number
+-- ---- what is a number
 
-nonempty_length : (xs : List ℕ) → 0 < length xs → is_nonempty xs ≡ false → ⊥
-nonempty_length [] h f = omega (arith, h)
-nonempty_length (x ∷ xs) h f = absurd (cc (f))
+some_mantissa : (xs : List ℕ) → 0 < length xs → is_nonempty xs ≡ true
+some_mantissa [] h = absurd (omega (arith, h))
+some_mantissa (x ∷ xs) h = refl
 
-pub none_without_digits : (text whole fraction : List ℕ) → whole ≡ run is_digit (after_sign text) → fraction ≡ fraction_digits (fraction_of (at_fraction text))
-    → is_nonempty (whole ++ fraction) ≡ false → (n : Number) → IsNumber n → text ≡ number_text n → ⊥
-none_without_digits text whole fraction w f none n h e =
-    let p = parts_of text n h e in
-    let same : whole ++ fraction ≡ mantissa n = ap (λ (z : List ℕ). z ++ fraction) (w ∙ p.whole) ∙ ap (λ (z : List ℕ). n.whole ++ z) (f ∙ ap fraction_digits p.fraction) in
-    nonempty_length (mantissa n) h.some (ap is_nonempty (sym same) ∙ none)
+pub number_out : (text : List ℕ) (n : Number) → IsNumber n → text ≡ number_text n → is_number text ≡ true
+number_out text n h e =
+    let some : is_nonempty (mantissa (scanned text)) ≡ true = ap (λ (z : Number). is_nonempty (mantissa z)) (scanned_is text n h e) ∙ some_mantissa (mantissa n) h.some in
+    rw (some, (parts_of text n h e).tail.none) refl
 
-pub none_with_excess : (text : List ℕ) → is_nonempty (excess_of (at_tail text)) ≡ true → (n : Number) → IsNumber n → text ≡ number_text n → ⊥
-none_with_excess text some n h e =
-    let p = parts_of text n h e in
-    both (is_nonempty (excess_of (at_tail text))) some (ap is_nonempty p.tail.none)
+pub no_number : (text : List ℕ) → is_number text ≡ false → (n : Number) → IsNumber n → text ≡ number_text n → ⊥
+no_number text f n h e = absurd (cc (f, number_out text n h e))
 
 -- ---- one value
 

@@ -1,11 +1,11 @@
 -- What a scan of a number finds is a number, spelled as the text is.
-use Rattle.std.proofs.Common.{◌≡◌, ℕ, ◌==◌, ◌||◌, ◌<◌, Bool, true, false, List, [], ◌∷◌, ◌++◌, length, drop, refl, sym, ap, ◌∙◌, if◌then◌else◌, arith, append_assoc, inl, inr, is_none}
-use Rattle.std.proofs.lemmas.Bool.{cases_Bool}
+use Rattle.std.proofs.Common.{◌≡◌, ℕ, ◌==◌, ◌||◌, ◌<◌, Bool, true, false, not, List, [], ◌∷◌, ◌++◌, length, drop, refl, sym, ap, ◌∙◌, if◌then◌else◌, arith, append_assoc, inl, inr, is_none}
+use Rattle.std.proofs.lemmas.Bool.{and_parts, cases_Bool}
 use Rattle.std.proofs.lemmas.List.{append-nil}
 use Rattle.psu_lex.specs.Bytes.{starts, is_digit, is_letter, is_white, all_digits, all_white}
 use Rattle.psu_lex.specs.Number.{Sign, IsNumber, ExponentHolds, sign_text, fraction_text, fraction_digits, exponent_text, number_text, mantissa}
 use Rattle.psu_lex.specs.Shown.{is_minus}
-use Rattle.psu_lex.specs.NumberScan.{run, left, sign_of, after_sign, fraction_of, after_fraction, exponent_with, exponent_from, exponent_of, after_exponent, is_nonempty, suffix_of, gap_of, end_of, excess_of, at_fraction, at_exponent, at_tail, scanned}
+use Rattle.psu_lex.specs.NumberScan.{run, left, sign_of, after_sign, fraction_of, after_fraction, exponent_with, exponent_from, exponent_of, after_exponent, is_nonempty, is_number, suffix_of, gap_of, end_of, excess_of, at_fraction, at_exponent, at_tail, scanned}
 use Rattle.psu_lex.proofs.Quotes.{same_byte}
 use Rattle.psu_lex.proofs.Runs.{every, leads, digits_every, white_every, letters_every, run_left, run_every, left_at, every_append}
 
@@ -124,8 +124,8 @@ some_length : (xs : List ℕ) → is_nonempty xs ≡ true → 0 < length xs
 some_length [] h = absurd (cc (h))
 some_length (x ∷ xs) h = omega arith
 
-pub is_number : (text : List ℕ) → is_nonempty (mantissa (scanned text)) ≡ true → IsNumber (scanned text)
-is_number text some =
+sound : (text : List ℕ) → is_nonempty (mantissa (scanned text)) ≡ true → IsNumber (scanned text)
+sound text some =
     let d = at_tail text in
     record {
       digits = digits_every (mantissa (scanned text)) ∙ every_append is_digit (run is_digit (after_sign text)) (fraction_digits (fraction_of (at_fraction text))) (run_every is_digit (after_sign text)) (fraction_every (at_fraction text));
@@ -137,8 +137,8 @@ is_number text some =
       rest = if_white (is_nonempty (suffix_of d)) (run is_white (left is_letter (left is_white d))) (run is_white d) (white_run (left is_letter (left is_white d))) (white_run d);
     }
 
-pub is_text : (text : List ℕ) → excess_of (at_tail text) ≡ [] → text ≡ number_text (scanned text)
-is_text text none =
+spelled : (text : List ℕ) → excess_of (at_tail text) ≡ [] → text ≡ number_text (scanned text)
+spelled text none =
     let a = after_sign text in
     let b = at_fraction text in
     let c = at_exponent text in
@@ -159,6 +159,11 @@ minus_is (x ∷ text) = elim (cases_Bool (x == 43)) [
   ]
 ]
 
-pub nothing : (xs : List ℕ) → is_nonempty xs ≡ false → xs ≡ []
-nothing [] f = refl
-nothing (x ∷ xs) f = absurd (cc (f))
+nothing : (xs : List ℕ) → not (is_nonempty xs) ≡ true → xs ≡ []
+nothing [] h = refl
+nothing (x ∷ xs) h = absurd (cc (h))
+
+pub number_in : (text : List ℕ) → is_number text ≡ true → IsNumber (scanned text) × (text ≡ number_text (scanned text))
+number_in text h =
+    let parts = and_parts (is_nonempty (mantissa (scanned text))) (not (is_nonempty (excess_of (at_tail text)))) h in
+    (sound text parts.0, spelled text (nothing (excess_of (at_tail text)) parts.1))

@@ -1,75 +1,59 @@
 -- What a search for quotes and NL says of a string.
-use Rattle.std.proofs.Common.{◌≡◌, ℕ, ◌+◌, ◌-◌, true, false, List, [], ◌∷◌, ◌++◌, length, take, drop, sym, ap, ◌∙◌, subst, arith, append_assoc, length-append, Some, None, slice_index}
+use Rattle.std.proofs.Common.{◌≡◌, ◌==◌, ℕ, ◌+◌, ◌-◌, true, false, List, [], ◌∷◌, ◌++◌, length, take, drop, sym, ap, ◌∙◌, refl, arith, inl, inr, length-drop, Some, None, slice_index}
+use Rattle.std.proofs.lemmas.Bool.{cases_lt, eq-eqb, ne_eqb}
 use Rattle.std.proofs.lemmas.Bool.Decides.{nat_tests}
-use Rattle.std.proofs.lemmas.List.{append-nil, take-append-drop}
-use Rattle.std.proofs.Math.Seq.{drop-append_seam}
+use Rattle.std.proofs.lemmas.List.{append-nil, drop_all}
 use Rattle.std.proofs.lemmas.Grind.{common_steps}
 use Rattle.memchr.specs.Find.{IsFirstByte, is_byte2}
 use Rattle.psu_lex.specs.Bytes.{starts, is_quote}
-use Rattle.psu_lex.specs.Message.{EndsString}
-use Rattle.psu_lex.proofs.Quotes.{broken, closing, plain_in, plain_out, twice_in, twice_out, unended, same_byte}
-use Rattle.psu_lex.specs.Scan.{has}
-use Rattle.psu_lex.proofs.Searches.{has_head, has_tail, free_before, free_all, parts_at}
-use Rattle.psu_lex.proofs.Exists.{quote_line}
+use Rattle.psu_lex.specs.Scan.{has, after_piece, after_string}
+use Rattle.psu_lex.proofs.Searches.{has_head, has_tail, free_before, free_all, parts_at, drop-add}
 
-run_in : (q : ℕ) (front rest more : List ℕ) → has (is_byte2 q 10) front ≡ false → EndsString q rest more → EndsString q (front ++ rest) more
-run_in q [] rest more h s = s
-run_in q (x ∷ front) rest more h s =
+over_run : (q : ℕ) (front rest : List ℕ) → has (is_byte2 q 10) front ≡ false → after_string false q (front ++ rest) ≡ after_string false q rest
+over_run q [] rest h = refl
+over_run q (x ∷ front) rest h =
     let t = has_head (is_byte2 q 10) x front h in
-    plain_in q x (front ++ rest) more (grind (arith, common_steps, t)) (grind (arith, common_steps, t)) (run_in q front rest more (has_tail (is_byte2 q 10) x front h) s)
+    let plain : (x == q) ≡ false = grind (arith, common_steps, t) in
+    let no_line : (x == 10) ≡ false = grind (arith, common_steps, t) in
+    rw (plain, no_line) (over_run q front rest (has_tail (is_byte2 q 10) x front h))
 
-run_out : (q : ℕ) (front rest more : List ℕ) → has (is_byte2 q 10) front ≡ false → EndsString q (front ++ rest) more → EndsString q rest more
-run_out q [] rest more h s = s
-run_out q (x ∷ front) rest more h s =
-    let t = has_head (is_byte2 q 10) x front h in
-    run_out q front rest more (has_tail (is_byte2 q 10) x front h) (plain_out q x (front ++ rest) more (grind (arith, common_steps, t)) s)
+pub string_none : (q : ℕ) (s : List ℕ) → IsFirstByte (is_byte2 q 10) s None → after_string false q s ≡ None
+string_none q s h = ap (after_string false q) (sym (append-nil s)) ∙ over_run q s [] (free_all (is_byte2 q 10) s h)
 
-no_string : (q : ℕ) (s more : List ℕ) → has (is_byte2 q 10) s ≡ false → EndsString q s more → ⊥
-no_string q s more h e = unended q more (run_out q s [] more h (subst (λ (z : List ℕ). EndsString q z more) (sym (append-nil s)) e))
+string_at : (q : ℕ) (s : List ℕ) (at : ℕ) → IsFirstByte (is_byte2 q 10) s (Some at) → after_string false q s ≡ after_string false q (slice_index s at ∷ drop (at + 1) s)
+string_at q s at h = ap (after_string false q) (parts_at s at h.0.high) ∙ over_run q (take at s) (slice_index s at ∷ drop (at + 1) s) (free_before (is_byte2 q 10) s at h)
 
-pub string_none : (q : ℕ) (s more : List ℕ) → IsFirstByte (is_byte2 q 10) s None → EndsString q s more → ⊥
-string_none q s more h e = no_string q s more (free_all (is_byte2 q 10) s h) e
+pub string_broken : (q : ℕ) (s : List ℕ) (at : ℕ) → is_quote q ≡ true → IsFirstByte (is_byte2 q 10) s (Some at) → slice_index s at ≡ 10 → after_string false q s ≡ None
+string_broken q s at k h is =
+    let line : (10 == q) ≡ false = grind (arith, nat_tests, k) in
+    string_at q s at h ∙ ap (λ (z : ℕ). after_string false q (z ∷ drop (at + 1) s)) is ∙ rw line refl
 
-pub string_broken : (q : ℕ) (s more : List ℕ) (at : ℕ) → is_quote q ≡ true → IsFirstByte (is_byte2 q 10) s (Some at) → slice_index s at ≡ 10 → EndsString q s more → ⊥
-string_broken q s more at k h is e =
-    let split : s ≡ take at s ++ 10 ∷ drop (at + 1) s = parts_at s at h.0.high ∙ ap (λ (x : ℕ). take at s ++ x ∷ drop (at + 1) s) is in
-    broken q (drop (at + 1) s) more (grind (arith, nat_tests, quote_line q k))
-    (run_out q (take at s) (10 ∷ drop (at + 1) s) more (free_before (is_byte2 q 10) s at h) (subst (λ (z : List ℕ). EndsString q z more) split e))
-
-quote_found : (q : ℕ) (s : List ℕ) (at : ℕ) → IsFirstByte (is_byte2 q 10) s (Some at) → (slice_index s at ≡ 10 → ⊥) → s ≡ take at s ++ q ∷ drop (at + 1) s
-quote_found q s at h not_line =
+pub quote_at : (q : ℕ) (s : List ℕ) (at : ℕ) → IsFirstByte (is_byte2 q 10) s (Some at) → (slice_index s at ≡ 10 → ⊥) → after_string false q s ≡ after_string true q (drop (at + 1) s)
+quote_at q s at h not_line =
     let is : slice_index s at ≡ q = grind (arith, nat_tests, h.1, not_line) in
-    parts_at s at h.0.high ∙ ap (λ (x : ℕ). take at s ++ x ∷ drop (at + 1) s) is
+    string_at q s at h ∙ rw (eq-eqb (slice_index s at) q is) refl
 
-pub string_ends : (q : ℕ) (s : List ℕ) (at : ℕ) → IsFirstByte (is_byte2 q 10) s (Some at) → (slice_index s at ≡ 10 → ⊥)
-    → starts q (drop (at + 1) s) ≡ false → EndsString q s (drop (at + 1) s)
-string_ends q s at h not_line f =
-    subst (λ (z : List ℕ). EndsString q z (drop (at + 1) s)) (sym (quote_found q s at h not_line))
-    (run_in q (take at s) (q ∷ drop (at + 1) s) (drop (at + 1) s) (free_before (is_byte2 q 10) s at h) (closing q (drop (at + 1) s) f))
+pub string_ends : (q : ℕ) (next : List ℕ) → starts q next ≡ false → after_string true q next ≡ Some next
+string_ends q [] f = refl
+string_ends q (x ∷ next) f = rw f refl
 
--- a doubled quote, with what stands before it
-pub doubled_in : (q : ℕ) (s rest more : List ℕ) (at : ℕ) → is_quote q ≡ true → IsFirstByte (is_byte2 q 10) s (Some at) → (slice_index s at ≡ 10 → ⊥)
-    → drop (at + 1) s ≡ q ∷ rest → EndsString q rest more → EndsString q s more
-doubled_in q s rest more at k h not_line e r =
-    let split : s ≡ take at s ++ q ∷ q ∷ rest = quote_found q s at h not_line ∙ ap (λ (z : List ℕ). take at s ++ q ∷ z) e in
-    subst (λ (z : List ℕ). EndsString q z more) (sym split) (run_in q (take at s) (q ∷ q ∷ rest) more (free_before (is_byte2 q 10) s at h) (twice_in q rest more (quote_line q k) r))
+pub goes_on : (q : ℕ) (next : List ℕ) → starts q next ≡ true → after_string true q next ≡ after_string false q (drop 1 next)
+goes_on q [] h = absurd (cc (h))
+goes_on q (x ∷ next) h = rw h refl
 
-pub doubled_out : (q : ℕ) (s rest more : List ℕ) (at : ℕ) → IsFirstByte (is_byte2 q 10) s (Some at) → (slice_index s at ≡ 10 → ⊥)
-    → drop (at + 1) s ≡ q ∷ rest → EndsString q s more → EndsString q rest more
-doubled_out q s rest more at h not_line e r =
-    let split : s ≡ take at s ++ q ∷ q ∷ rest = quote_found q s at h not_line ∙ ap (λ (z : List ℕ). take at s ++ q ∷ z) e in
-    twice_out q rest more (run_out q (take at s) (q ∷ q ∷ rest) more (free_before (is_byte2 q 10) s at h) (subst (λ (z : List ℕ). EndsString q z more) split r))
+pub string_in : (bytes rest : List ℕ) (q n : ℕ) → bytes ≡ q ∷ rest → (q ≡ 35 → ⊥) → is_quote q ≡ true → after_string false q rest ≡ Some (drop n rest) → after_piece bytes ≡ Some (drop (1 + n) bytes)
+string_in bytes rest q n e f h s =
+    let one : drop (1 + n) (q ∷ rest) ≡ drop n rest = drop-add 1 n (q ∷ rest) in
+    rw (e, ne_eqb q 35 f, h, one) s
 
 -- where the rest stands in the text
-pub suffix : (text front rest : List ℕ) → text ≡ front ++ rest → drop (length text - length rest) text ≡ rest
-suffix text front rest e =
-    let n : length text - length rest ≡ length front = omega (arith, ap length e, length-append front rest) in
-    rw (n, e) (drop-append_seam front rest)
-
-pub suffix_more : (text front rest next : List ℕ) (at : ℕ) → text ≡ front ++ rest → next ≡ drop at rest → text ≡ (front ++ take at rest) ++ next
-suffix_more text front rest next at e f =
-    e ∙ ap (λ (z : List ℕ). front ++ z) (sym (take-append-drop at rest) ∙ ap (λ (z : List ℕ). take at rest ++ z) (sym f)) ∙ sym (append_assoc front (take at rest) next)
-
-pub quote_first : (q : ℕ) (next rest : List ℕ) → starts q next ≡ true → rest ≡ drop 1 next → next ≡ q ∷ rest
-quote_first q [] rest h e = absurd (cc (h))
-quote_first q (x ∷ next) rest h e = cc (same_byte x q h, e)
+pub suffix : (text rest : List ℕ) (n : ℕ) → rest ≡ drop n text → drop (length text - length rest) text ≡ rest
+suffix text rest n e = elim (cases_lt (length text) n) [
+  | inl lt ↦
+      let none : rest ≡ [] = e ∙ drop_all n text (omega arith) in
+      let all : length text - length rest ≡ length text = omega (arith, ap length none) in
+      rw all (drop_all (length text) text (omega arith) ∙ sym none)
+  | inr le ↦
+      let same : length text - length rest ≡ n = omega (arith, ap length e, length-drop n text) in
+      rw same (sym e)
+]

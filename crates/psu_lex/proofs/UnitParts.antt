@@ -15,7 +15,7 @@ use Rattle.psu_lex.specs.declared.unit_fault.UnitFault.{UnitFault}
 use Rattle.psu_lex.specs.declared.scpi_error.ScpiError.{ScpiError}
 use Rattle.psu_lex.specs.declared.scpi_error.ScpiError.TheVariants.{InvalidCharacter, SyntaxError}
 use Rattle.psu_lex.proofs.Runs.{every, leads, every_head, every_append, every_more, run_at, left_at, run_left}
-use Rattle.psu_lex.proofs.Unique.{same_tokens}
+use Rattle.psu_lex.proofs.Tokens.{same_tokens}
 use Rattle.psu_lex.proofs.NumberSound.{left_stops}
 use Rattle.psu_lex.proofs.WrittenData.{node_every}
 use Rattle.psu_lex.proofs.DataLists.{left_over, space_white, one_list}

@@ -10,7 +10,8 @@ use Rattle.psu_lex.specs.Bytes.{opens, separates, is_closed}
 use Rattle.psu_lex.specs.Message.{opens_first, ends_unit, BeginsPiece, HasNoPiece, Makes, Part, ended, next_first, fault_of, spelling}
 use Rattle.psu_lex.specs.declared.unit_fault.UnitFault.{UnitFault}
 use Rattle.psu_lex.specs.Message.Token.{Byte, Separator, Whole, Faulty}
-use Rattle.psu_lex.specs.Scan.{has, IsStop}
+use Rattle.psu_lex.specs.Scan.{has, after_piece, IsStop}
+use Rattle.psu_lex.proofs.PieceScans.{whole}
 use Rattle.psu_lex.proofs.Searches.{has_head, has_tail, has_shorter, free_before, free_all, drop-add, free_later}
 
 pub makes_byte : (first : Bool) (x : ℕ) (text rest : List ℕ) (units : List Part) → separates x ≡ false → opens x ≡ false
@@ -90,12 +91,12 @@ step_fault first bytes at o n =
 -- ---- the same, as the scan of a unit goes
 
 pub unit_step : (first : Bool) (bytes piece : List ℕ) (at found n : ℕ) (units : List Part) → piece ≡ drop (at + found) bytes
-    → has separates (take found (drop at bytes)) ≡ false → has opens (take found (drop at bytes)) ≡ false → BeginsPiece piece (drop n piece) → is_closed (drop n piece) ≡ true
+    → has separates (take found (drop at bytes)) ≡ false → has opens (take found (drop at bytes)) ≡ false → after_piece piece ≡ Some (drop n piece) → is_closed (drop n piece) ≡ true
     → Makes first (take (at + (found + n)) bytes) (drop (at + (found + n)) bytes) units → Makes first (take at bytes) (drop at bytes) units
 unit_step first bytes piece at found n units e a b p h m =
     let same : at + (found + n) ≡ at + found + n = omega arith in
     step_run first bytes at found units a b
-    (step_piece first bytes (at + found) n units (subst (λ (z : List ℕ). BeginsPiece z (drop n z)) e p) (subst (λ (z : List ℕ). is_closed (drop n z) ≡ true) e h)
+    (step_piece first bytes (at + found) n units (whole _ _ (subst (λ (z : List ℕ). after_piece z ≡ Some (drop n z)) e p)) (subst (λ (z : List ℕ). is_closed (drop n z) ≡ true) e h)
     (subst (λ (z : ℕ). Makes first (take z bytes) (drop z bytes) units) same m))
 
 pub unit_fault : (first : Bool) (bytes piece : List ℕ) (at found : ℕ) (fault : UnitFault) → piece ≡ drop (at + found) bytes

@@ -6,7 +6,6 @@ ghost use Rattle.psu_lex.specs.NumberScan.{with_minus};
 ghost use Rattle.psu_lex.specs.Shown.{ShowsNumber};
 
 use crate::ScpiError;
-use crate::number_scan::scan;
 use crate::pieces::front;
 use crate::written::Written;
 
@@ -158,7 +157,7 @@ fn reading(shown: &Written<'_>, places: u8) -> Result<i64, ScpiError>
 pub fn number(text: &[u8], places: u8) -> Result<i64, ScpiError>
     ensures { NumberGives text.now places result }
 {
-    let Some(shown) = scan(text) else {
+    let Some(shown) = Written::of(text) else {
         return Err(ScpiError::SyntaxError);
     };
     reading(&shown, places)

@@ -1,5 +1,5 @@
 use Rattle.std.proofs.Common.{sym, ◌∙◌}
-use Rattle.psu_lex.proofs.DataScans.{dark_at}
+use Rattle.psu_lex.proofs.WrittenData.{dark_at}
 use Rattle.psu_lex.proofs.data_scan.dark_end.Goals as goal
 
 pub returns-else-has-clause-dark : goal.returns-else-has-clause-dark

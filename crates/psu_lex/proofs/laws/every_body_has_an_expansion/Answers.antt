@@ -1,6 +1,6 @@
 use Rattle.std.proofs.Common.{refl}
 use Rattle.psu_lex.specs.Macros.{anything, outcome}
-use Rattle.psu_lex.proofs.Exists.{some_tokens}
+use Rattle.psu_lex.proofs.Tokens.{some_tokens}
 use Rattle.psu_lex.proofs.laws.every_body_has_an_expansion.Goals as goal
 
 pub returns : goal.returns

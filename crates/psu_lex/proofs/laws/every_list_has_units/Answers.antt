@@ -1,7 +1,7 @@
 use Rattle.std.proofs.Common.{refl, [], true}
 use Rattle.psu_lex.specs.Bytes.{is_closed}
 use Rattle.psu_lex.specs.Message.{units_of}
-use Rattle.psu_lex.proofs.Exists.{some_tokens}
+use Rattle.psu_lex.proofs.Tokens.{some_tokens}
 use Rattle.psu_lex.proofs.laws.every_list_has_units.Goals as goal
 
 pub returns : goal.returns
