@@ -291,3 +291,6 @@ one_value text places r q (inl g) (inl h) =
 one_value text places r q (inl g) (inr h) = absurd (h.0 g.0 g.1 g.2)
 one_value text places r q (inr g) (inl h) = absurd (g.0 h.0 h.1 h.2)
 one_value text places r q (inr g) (inr h) = g.1 ∙ sym h.1
+
+pub one_number : (m n : Number) → IsNumber m → IsNumber n → number_text m ≡ number_text n → m ≡ n
+one_number m n h k e = sym (scanned_is (number_text m) m h refl) ∙ scanned_is (number_text m) n k e

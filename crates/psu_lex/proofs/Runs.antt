@@ -63,46 +63,6 @@ left_at test [] [] h f = refl
 left_at test [] (x ∷ b) h f = rw f refl
 left_at test (x ∷ a) b h f = rw (every_head test x a h) (left_at test a b (every_tail test x a h) f)
 
--- ---- the scan of a run
-
--- up to `at` all pass
-pub record RunsTo (test : ℕ → Bool) (text : List ℕ) (at : ℕ) : Type 0 where
-  pub front : run test text ≡ take at text ++ run test (drop at text)
-  pub back : left test text ≡ left test (drop at text)
-
-pub runs_start : (test : ℕ → Bool) (text : List ℕ) → RunsTo test text 0
-runs_start test text = record { front = refl; back = refl }
-
-next : (text : List ℕ) (at : ℕ) → at < length text → drop at text ≡ slice_index text at ∷ drop (at + 1) text
-next text at within = drop-cons text at 0 within ∙ ap (λ (n : ℕ). slice_index text at ∷ drop n text) (sym (add-one at))
-
-one_more : (text : List ℕ) (at : ℕ) → at < length text → take (at + 1) text ≡ take at text ++ slice_index text at ∷ []
-one_more text at within = grind (arith, common_steps, within)
-
-pub runs_on : (test : ℕ → Bool) (text : List ℕ) (at : ℕ) → at < length text → test (slice_index text at) ≡ true → RunsTo test text at → RunsTo test text (at + 1)
-runs_on test text at within t r =
-    let e = next text at within in
-    record {
-      front = r.front ∙ ap (λ (z : List ℕ). take at text ++ run test z) e ∙ rw t (sym (append_assoc (take at text) (slice_index text at ∷ []) (run test (drop (at + 1) text))))
-          ∙ ap (λ (z : List ℕ). z ++ run test (drop (at + 1) text)) (sym (one_more text at within));
-      back = r.back ∙ ap (left test) e ∙ rw t refl;
-    }
-
-pub runs_to : (test : ℕ → Bool) (text : List ℕ) (at : ℕ) → at < length text → test (slice_index text at) ≡ false → RunsTo test text at → (take at text ≡ run test text) × (drop at text ≡ left test text)
-runs_to test text at within f r =
-    let e = next text at within in
-    let none : run test (drop at text) ≡ [] = ap (run test) e ∙ rw f refl in
-    let all : left test (drop at text) ≡ drop at text = ap (left test) e ∙ rw f (sym e) in
-    (sym (r.front ∙ ap (λ (z : List ℕ). take at text ++ z) none ∙ append-nil (take at text)), sym (r.back ∙ all))
-
-pub runs_all : (test : ℕ → Bool) (text : List ℕ) (at n : ℕ) → length text ≤ at → n ≡ length text → RunsTo test text at → (take n text ≡ run test text) × (drop n text ≡ left test text)
-runs_all test text at n le is r =
-    let none : drop at text ≡ [] = drop_all at text le in
-    let end : drop n text ≡ [] = drop_all n text (omega (arith, is)) in
-    let front : run test text ≡ take at text = r.front ∙ ap (λ (z : List ℕ). take at text ++ run test z) none ∙ append-nil (take at text) in
-    let back : left test text ≡ [] = r.back ∙ ap (left test) none in
-    (take_all n text (omega (arith, is)) ∙ sym (take_all at text le) ∙ sym front, end ∙ sym back)
-
 -- ---- more of runs
 
 pub every_append : (test : ℕ → Bool) (a b : List ℕ) → every test a ≡ true → every test b ≡ true → every test (a ++ b) ≡ true

@@ -4,8 +4,9 @@ use Rattle.std.proofs.lemmas.Bool.{cases_Bool, eqb-false, eqb-true}
 use Rattle.psu_lex.specs.Bytes.{is_white, is_dark, is_closed, all_white}
 use Rattle.psu_lex.specs.Number.{NumberGives, reading_of}
 use Rattle.psu_lex.specs.NumberScan.{run, left, is_number, scanned}
+use Rattle.psu_lex.specs.Message.{Part}
 use Rattle.psu_lex.specs.Shown.{TailLists}
-use Rattle.psu_lex.specs.Syntax.{Datum, error_of, Lists, Syntax, SpellsHeader, UnitReads, has_high, TextGives, FaultGives}
+use Rattle.psu_lex.specs.Syntax.{Datum, error_of, Lists, Syntax, SpellsHeader, UnitReads, has_high, TextGives, FaultGives, SyntaxGives}
 use Rattle.psu_lex.specs.SyntaxScan.{datum_at, is_header}
 use Rattle.psu_lex.specs.declared.unit_fault.UnitFault.{UnitFault}
 use Rattle.psu_lex.specs.declared.scpi_error.ScpiError.{ScpiError}
@@ -85,9 +86,12 @@ some_gives false text = elim (decide_unit text) [
   | inr none ↦ (Err SyntaxError, inr (none, refl))
 ]
 
-pub some_result : (fault : Option UnitFault) (text : List ℕ) → (r : Result Syntax ScpiError) × FaultGives fault text r
-some_result (Some e) text = (Err (error_of e), refl)
-some_result None text =
+result_at : (fault : Option UnitFault) (text : List ℕ) → (r : Result Syntax ScpiError) × FaultGives fault text r
+result_at (Some e) text = (Err (error_of e), refl)
+result_at None text =
     let tokens = some_tokens is_closed text in
     let r = some_gives (has_high tokens.0) text in
     (r.0, (tokens.0, tokens.1, r.1))
+
+pub some_result : (unit : Part) → (r : Result Syntax ScpiError) × SyntaxGives unit r
+some_result unit = result_at unit.fault unit.text

@@ -5,8 +5,8 @@ use Rattle.std.proofs.lemmas.Grind.{common_steps}
 use Rattle.std.specs.Option.{ok_or}
 use Rattle.psu_lex.specs.Bytes.{is_white, is_dark, is_closed}
 use Rattle.psu_lex.specs.NumberScan.{run, left}
-use Rattle.psu_lex.specs.Message.{Token, Reads}
-use Rattle.psu_lex.specs.Syntax.{error_of, is_name_byte, is_node, all_nodes, behind, ask_text, mark_text, Header, IsHeader, header_text, SpellsHeader, Lists, Syntax, is_apart, UnitReads, has_high, TextGives, FaultGives}
+use Rattle.psu_lex.specs.Message.{Part, Token, Reads}
+use Rattle.psu_lex.specs.Syntax.{error_of, is_name_byte, is_node, all_nodes, behind, ask_text, mark_text, Header, IsHeader, header_text, SpellsHeader, Lists, Syntax, is_apart, UnitReads, has_high, TextGives, FaultGives, SyntaxGives}
 use Rattle.psu_lex.specs.declared.mark.Mark.{Mark}
 use Rattle.psu_lex.specs.declared.mark.Mark.TheVariants.{Star, Colon, Bare}
 use Rattle.psu_lex.specs.Shown.{Shows, ShowsSyntax}
@@ -120,11 +120,14 @@ one_gives false text r q (inl g) (inr h) = absurd (h.0 g.0 g.1)
 one_gives false text r q (inr g) (inl h) = absurd (g.0 h.0 h.1)
 one_gives false text r q (inr g) (inr h) = g.1 ∙ sym h.1
 
-pub one_result : (fault : Option UnitFault) (text : List ℕ) (r q : Result Syntax ScpiError) → FaultGives fault text r → FaultGives fault text q → r ≡ q
-one_result (Some e) text r q g h = g ∙ sym h
-one_result None text r q (tokens, reads, g) (others, more, h) =
+result_at : (fault : Option UnitFault) (text : List ℕ) (r q : Result Syntax ScpiError) → FaultGives fault text r → FaultGives fault text q → r ≡ q
+result_at (Some e) text r q g h = g ∙ sym h
+result_at None text r q (tokens, reads, g) (others, more, h) =
     let same : others ≡ tokens = same_tokens is_closed text others tokens more reads in
     one_gives (has_high tokens) text r q g (subst (λ (z : List Token). TextGives (has_high z) text q) same h)
+
+pub one_result : (unit : Part) (r q : Result Syntax ScpiError) → SyntaxGives unit r → SyntaxGives unit q → r ≡ q
+one_result unit = result_at unit.fault unit.text
 
 -- ---- the same, as the code goes
 

@@ -16,6 +16,7 @@ use crate::{Data, Datum, DatumClass};
 use memchr::memchr;
 
 /// Where the white space at the end begins.
+#[tactic(auto, using(crate::proofs::WrittenData::dark_at))]
 fn dark_end(text: &[u8]) -> usize
     ensures within { result ≤ length text.now }
     ensures white { all_white (drop result text.now) ≡ true }

@@ -110,6 +110,7 @@ fn closes(text: &[u8]) -> bool
     true
 }
 
+#[tactic(auto, using(crate::proofs::PieceScans::last_byte))]
 fn ends_line(text: &[u8]) -> bool
     ensures { result ≡ ends_in_newline text.now }
 {
