@@ -11,8 +11,7 @@ use Rattle.psu_lex.specs.declared.found.Found.{Found}
 use Rattle.psu_lex.specs.declared.datum_class.DatumClass.{DatumClass}
 use Rattle.psu_lex.proofs.Quotes.{same_byte, same_tail, both}
 use Rattle.psu_lex.proofs.Runs.{leads, white_every, run_left, run_every, left_at, left_none}
-use Rattle.psu_lex.proofs.FirstBytes.{IsFirst, first_of}
-use Rattle.psu_lex.proofs.DataScans.{Begins, begun_found, begun_whole}
+use Rattle.psu_lex.proofs.DataScans.{IsFirst, first_of, Begins, begun_found, begun_whole}
 
 -- ---- white space
 

@@ -20,9 +20,6 @@ spells_end args = ([], refl, refl, refl)
 
 -- ---- a byte that stays
 
-no_dollar : (x : ℕ) → separates x ≡ true → (x == 36) ≡ false
-no_dollar x h = grind (arith, nat_tests, h)
-
 spells_byte : (args : List (List ℕ)) (x : ℕ) (rest : List ℕ) (most : ℕ) (text : List ℕ) → opens x ≡ false → (x == 36) ≡ false
     → Spells args rest most text → Spells args (x ∷ rest) most (x ∷ text)
 spells_byte args x rest most text o d (tokens, reads, m, t) = elim (cases_Bool (separates x)) [
@@ -31,9 +28,6 @@ spells_byte args x rest most text o d (tokens, reads, m, t) = elim (cases_Bool (
 ]
 
 -- ---- a `$`
-
-first_of : (b : ℕ) (tokens : List Token) (rest : List ℕ) → Reads anything rest (Byte b ∷ tokens) → (more : List ℕ) × (rest ≡ b ∷ more)
-first_of b tokens rest r = (r.0, r.1)
 
 no_number : (b : ℕ) (rest more : List ℕ) → begins_placeholder (36 ∷ rest) ≡ false → rest ≡ b ∷ more → is_placeholder b ≡ false
 no_number b [] more f e = absurd (cc (e))
@@ -106,13 +100,6 @@ spells_placeholder args (x ∷ y ∷ rest) most text h (tokens, reads, m, t) =
       rw p (ap (max (y - 48)) m),
       rw p (ap (λ (z : List ℕ). parameter args (y - 49) ++ z) t),
     )
-
-pub placeholder_in : (bytes : List ℕ) → begins_placeholder bytes ≡ true → (2 ≤ length bytes) × (49 ≤ slice_index bytes 1) × (slice_index bytes 1 ≤ 57)
-placeholder_in [] h = absurd (cc (h))
-placeholder_in (x ∷ []) h = absurd (cc (h))
-placeholder_in (x ∷ y ∷ rest) h =
-    let p : is_placeholder y ≡ true = grind (arith, common_steps, h) in
-    (omega arith, grind (arith, nat_tests, p), grind (arith, nat_tests, p))
 
 -- ---- the whole body
 

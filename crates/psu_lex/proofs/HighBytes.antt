@@ -1,6 +1,7 @@
 -- Bytes of 127 or more outside strings and blocks.
 use Rattle.std.proofs.Common.{◌≡◌, ℕ, ◌||◌, Bool, true, false, List, [], ◌∷◌, ◌++◌, take, drop, refl, sym, ap, subst, arith, inl, inr, Some, None}
 use Rattle.std.proofs.lemmas.Bool.{cases_Bool}
+use Rattle.std.proofs.Math.Bool.{or_assoc, or-false}
 use Rattle.std.proofs.lemmas.Bool.Decides.{nat_tests}
 use Rattle.std.proofs.lemmas.List.{append-nil, take-append-drop}
 use Rattle.memchr.specs.Find.{IsFirstByte, is_byte3}
@@ -28,14 +29,10 @@ tells_byte x rest high o (tokens, r, e) = elim (cases_Bool (separates x)) [
   | inr f ↦ (Byte x ∷ tokens, (rest, refl, (f, o), r), ap (λ (z : Bool). is_high x || z) e)
 ]
 
-or_same : (a b c : Bool) → a || (b || c) ≡ (a || b) || c
-or_same true b c = refl
-or_same false b c = refl
-
 tells_run : (run rest : List ℕ) (high : Bool) → has opens run ≡ false → Tells rest high → Tells (run ++ rest) (has is_high run || high)
 tells_run [] rest high o t = t
 tells_run (x ∷ run) rest high o t =
-    subst (Tells (x ∷ (run ++ rest))) (or_same (is_high x) (has is_high run) high)
+    subst (Tells (x ∷ (run ++ rest))) (sym (or_assoc (is_high x) (has is_high run) high))
     (tells_byte x (run ++ rest) (has is_high run || high) (has_head opens x run o) (tells_run run rest high (has_tail opens x run o) t))
 
 pub tells_piece : (bytes more : List ℕ) (high : Bool) → after_piece bytes ≡ Some more → is_closed more ≡ true → Tells more high → Tells bytes high
@@ -47,14 +44,7 @@ tells_fault bytes o n = (Faulty bytes ∷ [], ([], sym (append-nil bytes), (refl
 pub tells_some : (bytes : List ℕ) → (high : Bool) × Tells bytes high
 tells_some bytes = let r = some_tokens is_closed bytes in (has_high r.0, (r.0, r.1, refl))
 
-or_false : (b : Bool) → (b || false) ≡ b
-or_false true = refl
-or_false false = refl
-
 -- ---- the same, as the scan goes
-
-no_opening : (bytes : List ℕ) → IsFirstByte (is_byte3 34 39 35) bytes None → has opens bytes ≡ false
-no_opening bytes h = free_all opens bytes h
 
 pub before_opening : (bytes : List ℕ) (n : ℕ) → IsFirstByte (is_byte3 34 39 35) bytes (Some n) → (has opens (take n bytes) ≡ false) × (opens_first (drop n bytes) ≡ true)
 before_opening bytes n h = (free_before opens bytes n h, opens_at bytes n h.0.high h.1)
@@ -62,7 +52,7 @@ before_opening bytes n h = (free_before opens bytes n h, opens_at bytes n h.0.hi
 pub tells_all : (bytes : List ℕ) → IsFirstByte (is_byte3 34 39 35) bytes None → Tells bytes (has is_high bytes)
 tells_all bytes h =
     subst (λ (z : List ℕ). Tells z (has is_high bytes)) (append-nil bytes)
-    (subst (Tells (bytes ++ [])) (or_false (has is_high bytes)) (tells_run bytes [] false (no_opening bytes h) ([], refl, refl)))
+    (subst (Tells (bytes ++ [])) (or-false (has is_high bytes)) (tells_run bytes [] false (free_all opens bytes h) ([], refl, refl)))
 
 pub tells_from : (bytes : List ℕ) (n : ℕ) (high : Bool) → IsFirstByte (is_byte3 34 39 35) bytes (Some n) → Tells (drop n bytes) high → Tells bytes (has is_high (take n bytes) || high)
 tells_from bytes n high h t =

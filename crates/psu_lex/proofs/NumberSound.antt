@@ -149,16 +149,6 @@ spelled text none =
     ∙ ap (λ (z : List ℕ). sign_text (sign_of text) ++ z) (run_left is_digit a)
     ∙ sign_split text)
 
-pub minus_is : (text : List ℕ) → starts 45 text ≡ is_minus (sign_of text)
-minus_is [] = refl
-minus_is (x ∷ text) = elim (cases_Bool (x == 43)) [
-  | inl t ↦ let g : (x == 45) ≡ false = (let e : x ≡ 43 = same_byte x 43 t in rw e refl) in rw (t, g) refl
-  | inr f ↦ elim (cases_Bool (x == 45)) [
-    | inl t ↦ rw (f, t) refl
-    | inr g ↦ rw (f, g) refl
-  ]
-]
-
 nothing : (xs : List ℕ) → not (is_nonempty xs) ≡ true → xs ≡ []
 nothing [] h = refl
 nothing (x ∷ xs) h = absurd (cc (h))

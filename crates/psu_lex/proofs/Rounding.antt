@@ -1,35 +1,17 @@
--- Rounding and holding.
-use Rattle.std.proofs.Common.{◌≡◌, ℕ, zero, suc, ◌+◌, ◌-◌, ◌*◌, ◌^◌, ◌<◌, ◌≤◌, min, true, List, [], ◌∷◌, ◌++◌, length, take, drop, refl, sym, ap, ◌∙◌, arith, inl, inr, add-one, slice_index}
-use Rattle.std.proofs.lemmas.Bool.{cases_lt}
+-- The value of a number: rounding, holding, and digits by their place.
+use Rattle.std.proofs.Common.{◌≡◌, ℕ, zero, suc, ◌+◌, ◌-◌, ◌*◌, ◌^◌, ◌<◌, ◌≤◌, min, true, List, [], ◌∷◌, ◌++◌, length, take, drop, refl, sym, ap, ◌∙◌, arith, inl, inr, add-one, slice_index, ◌==◌, false, length-append, take_all, drop-cons}
+use Rattle.std.proofs.lemmas.Bool.{cases_lt, cases_Bool}
 use Rattle.std.proofs.lemmas.Nat.{pow-add}
-use Rattle.std.proofs.lemmas.List.{take-append-drop}
+use Rattle.std.proofs.lemmas.List.{take-append-drop, append-nil}
 use Rattle.std.proofs.lemmas.Grind.{common_steps}
 use Rattle.std.proofs.lemmas.Bool.Decides.{nat_tests}
 use Rattle.std.proofs.Math.Nat.{mul_comm, mul_assoc, suc-mul, mul-suc, add-mul, mul-le-mul_right, div-eq_of_lt-le}
 use Rattle.psu_lex.specs.Bytes.{value_after, all_digits}
-use Rattle.psu_lex.specs.Number.{magnitude, rounded}
-
-after_ge : (n : ℕ) (ds : List ℕ) → n ≤ value_after n ds
-after_ge n [] = omega arith
-after_ge n (d ∷ ds) = omega (arith, after_ge (10 * n + (d - 48)) ds)
-
--- holding on the way changes nothing at the end
-pub held_same : (top n : ℕ) (ds : List ℕ) → min top (value_after (min n top) ds) ≡ min top (value_after n ds)
-held_same top n ds = elim (cases_lt top n) [
-  | inr le ↦
-      let e : min n top ≡ n = omega (arith, le) in
-      ap (λ (z : ℕ). min top (value_after z ds)) e
-  | inl lt ↦
-      let e : min n top ≡ top = omega (arith, lt) in
-      let a : top ≤ value_after (min n top) ds = omega (arith, e, after_ge (min n top) ds) in
-      omega (arith, lt, a, after_ge n ds)
-]
+use Rattle.psu_lex.specs.Number.{magnitude, rounded, without_zeros}
+use Rattle.std.specs.Prelude.{nat_lt}
 
 pub shift_step : (top w : ℕ) → min (10 * min top w) top ≡ min top (10 * w)
 shift_step top w = omega arith
-
-pub held_step : (top n : ℕ) (ds : List ℕ) (x : ℕ) → x ≡ min n top → min top (value_after x ds) ≡ min top (value_after n ds)
-held_step top n ds x e = ap (λ (z : ℕ). min top (value_after z ds)) e ∙ held_same top n ds
 
 pub power_step : (v i : ℕ) → v * 10 ^ (i + 1) ≡ 10 * (v * 10 ^ i)
 power_step v i = rw (pow-add 10 i 1) (omega (arith, mul_comm (v * 10 ^ i) 10, mul_assoc v (10 ^ i) 10))
@@ -234,5 +216,30 @@ cut_down digits front (y ∷ back) up down held h e lt n hd small =
     ap (λ (z : ℕ). rounded z (10 ^ down)) (parts_of digits front (y ∷ back) up down e lt n) ∙ rounded_down (value_after 0 front) (b * 10 ^ up) (10 ^ down) m in
     omega (arith, r, hd)
 
-pub joined : (digits front back : List ℕ) (keep : ℕ) → front ≡ take keep digits → back ≡ drop keep digits → digits ≡ front ++ back
-joined digits front back keep e f = sym (take-append-drop keep digits) ∙ ap (λ (z : List ℕ). z ++ drop keep digits) (sym e) ∙ ap (λ (z : List ℕ). front ++ z) (sym f)
+-- ---- digits by their place
+
+pub digit_in : (ds : List ℕ) (i : ℕ) → all_digits ds ≡ true → i < length ds → (48 ≤ slice_index ds i) × (slice_index ds i < 58)
+digit_in [] i h lt = absurd (omega (arith, lt))
+digit_in (x ∷ ds) zero h lt = grind (arith, nat_tests, h)
+digit_in (x ∷ ds) (suc i) h lt = digit_in ds i (grind (arith, common_steps, h)) (omega (arith, lt))
+
+pub value_more : (ds : List ℕ) (i : ℕ) → i < length ds → value_after 0 (take (i + 1) ds) ≡ 10 * value_after 0 (take i ds) + (slice_index ds i - 48)
+value_more ds i lt =
+    let e : take (i + 1) ds ≡ take i ds ++ slice_index ds i ∷ [] = grind (arith, common_steps, lt) in
+    ap (value_after 0) e ∙ after_append 0 (take i ds) (slice_index ds i ∷ [])
+
+pub first_dropped : (ds : List ℕ) (k : ℕ) → k < length ds → slice_index (drop k ds) 0 ≡ slice_index ds k
+first_dropped ds k lt = ap (λ (z : List ℕ). slice_index z 0) (drop-cons ds k 0 lt)
+
+without_zeros_shorter : (ds : List ℕ) → length (without_zeros ds) ≤ length ds
+without_zeros_shorter [] = omega arith
+without_zeros_shorter (d ∷ ds) = elim (cases_Bool (d == 48)) [
+  | inl t ↦ let h = without_zeros_shorter ds in rw t (omega (arith, h))
+  | inr f ↦ rw f (omega arith)
+]
+
+pub few_digits : (whole fraction : List ℕ) → length whole + length fraction ≤ 255 → nat_lt 255 (length (without_zeros (whole ++ fraction))) ≡ false
+few_digits whole fraction h =
+    let k = without_zeros_shorter (whole ++ fraction) in
+    let l : length (whole ++ fraction) ≡ length whole + length fraction = length-append whole fraction in
+    grind (arith, nat_tests, h, k, l)

@@ -1,18 +1,18 @@
--- What each token adds to the units, and what the scan of a unit adds.
-use Rattle.std.proofs.Common.{◌≡◌, ℕ, ◌+◌, ◌-◌, ◌<◌, ◌≤◌, Bool, true, false, List, [], ◌∷◌, ◌++◌, length, take, drop, refl, sym, ap, ◌∙◌, subst, arith, append_assoc, length-drop, Option, Some, None, slice_index, drop-cons}
-use Rattle.std.proofs.lemmas.List.{append-nil, take-append-drop, get_or-take, append_cancel_right}
+-- What each token adds to the units, and what the scans of a unit and of a transmission add.
+use Rattle.std.proofs.Common.{◌≡◌, ℕ, ◌+◌, ◌-◌, ◌<◌, ◌≤◌, Bool, true, false, List, [], ◌∷◌, ◌++◌, length, take, drop, refl, sym, ap, ◌∙◌, subst, arith, append_assoc, length-drop, Option, Some, None, slice_index, drop-cons, take_all, unwrap_or, ◌==◌, ◌||◌, ◌&&◌}
+use Rattle.std.proofs.lemmas.List.{append-nil, take-append-drop, get_or-take, append_cancel_right, drop_all}
 use Rattle.std.proofs.Math.Seq.{take-add}
-use Rattle.std.proofs.Common.{take_all, unwrap_or}
-use Rattle.std.proofs.lemmas.List.{drop_all}
 use Rattle.std.proofs.lemmas.Grind.{common_steps}
 use Rattle.memchr.specs.Find.{IsFirstByte, is_byte2, is_byte3}
-use Rattle.psu_lex.specs.Bytes.{opens, separates, is_closed}
-use Rattle.psu_lex.specs.Message.{opens_first, ends_unit, BeginsPiece, HasNoPiece, Makes, Part, ended, next_first, fault_of, spelling}
+use Rattle.psu_lex.specs.Bytes.{opens, separates, is_closed, all_white}
+use Rattle.psu_lex.specs.Message.{opens_first, ends_unit, BeginsPiece, HasNoPiece, Makes, Part, ended, next_first, fault_of, spelling, part, parts}
 use Rattle.psu_lex.specs.declared.unit_fault.UnitFault.{UnitFault}
 use Rattle.psu_lex.specs.Message.Token.{Byte, Separator, Whole, Faulty}
 use Rattle.psu_lex.specs.Scan.{has, after_piece, IsStop}
-use Rattle.psu_lex.proofs.PieceScans.{whole}
+use Rattle.psu_lex.proofs.PieceScans.{whole, not_zero}
 use Rattle.psu_lex.proofs.Searches.{has_head, has_tail, has_shorter, free_before, free_all, drop-add, free_later}
+use Rattle.psu_lex.specs.declared.unit.Unit as rust
+use Rattle.psu_lex.proofs.Quotes.{same_byte}
 
 pub makes_byte : (first : Bool) (x : ℕ) (text rest : List ℕ) (units : List Part) → separates x ≡ false → opens x ≡ false
     → Makes first (text ++ x ∷ []) rest units → Makes first text (x ∷ rest) units
@@ -146,3 +146,31 @@ stop_kept bytes at step stop s le =
       free = rw (count, drop-add at step bytes) (free_later separates (drop at bytes) (stop - at) step s.free);
       ends = s.ends;
     }
+
+pub parts_push : (us : List rust.Unit) (u : rust.Unit) → parts (us ++ u ∷ []) ≡ parts us ++ part u ∷ []
+parts_push [] u = refl
+parts_push (v ∷ us) u = ap (λ (z : List Part). part v ∷ z) (parts_push us u)
+
+pub split_end : (first : Bool) (rest text sep : List ℕ) (end : ℕ) → text ≡ take end rest → sep ≡ drop end rest → length sep ≡ 0 → Makes first (take end rest) (drop end rest) (ended first text)
+split_end first rest text [] end t s n = subst (λ (z : List ℕ). Makes first (take end rest) z (ended first text)) s (subst (λ (z : List ℕ). Makes first z [] (ended first text)) t (makes_end first text))
+split_end first rest text (x ∷ sep) end t s n = absurd (omega (arith, n))
+
+pub split_step : (first next blank : Bool) (rest text sep later : List ℕ) (end : ℕ) (more : List Part) → text ≡ take end rest → sep ≡ drop end rest → (length sep ≡ 0 → ⊥) → ends_unit (drop end rest) ≡ true
+    → later ≡ drop 1 sep → next ≡ (slice_index sep 0 == 10 || (first && blank)) → blank ≡ all_white text → Makes next [] later more
+    → Makes first (take end rest) (drop end rest) (ended first text ++ more)
+split_step first next blank rest text [] later end more t s n u l f b m = absurd (n refl)
+split_step first next blank rest text (x ∷ sep) later end more t s n u l f b m =
+    let is : next ≡ next_first first text x = f ∙ ap (λ (z : Bool). x == 10 || (first && z)) b in
+    let sp : separates x ≡ true = subst (λ (z : List ℕ). ends_unit z ≡ true) (sym s) u in
+    subst (λ (z : List ℕ). Makes first (take end rest) z (ended first text ++ more)) s
+    (subst (λ (z : List ℕ). Makes first z (x ∷ sep) (ended first text ++ more)) t
+    (makes_separator first x text sep more sp (subst (λ (z : Bool). Makes z [] sep more) is (subst (λ (z : List ℕ). Makes next [] z more) l m))))
+
+pub ended_some : (first : Bool) (text : List ℕ) → all_white text ≡ false → ended first text ≡ record { text = text; first = first; fault = None } ∷ []
+ended_some first text h = rw h refl
+
+pub is_zero : (text : List ℕ) (b : Bool) → b ≡ (length text == 0) → b ≡ true → length text ≡ 0
+is_zero text b e f = same_byte (length text) 0 (sym e ∙ f)
+
+pub some_left : (text : List ℕ) (b : Bool) → b ≡ (length text == 0) → b ≡ false → length text ≡ 0 → ⊥
+some_left text b e f n = omega (arith, n, not_zero text b e f)

@@ -44,7 +44,7 @@ pub fn one_value_of_a_text()
 {}
 
 /// Every text gives a value, or an error in its place.
-#[tactic(auto, using(crate::proofs::UnitDecides::some_value))]
+#[tactic(auto, using(crate::proofs::UnitParts::some_value))]
 pub fn every_text_gives_a_value()
     ensures { (text : List ℕ) (places : ℕ) → (value : Result ℤ ScpiError) × NumberGives text places value }
 {}
@@ -67,7 +67,7 @@ pub fn one_syntax_of_a_unit()
 {}
 
 /// Every unit gives a result.
-#[tactic(auto, using(crate::proofs::UnitDecides::some_result))]
+#[tactic(auto, using(crate::proofs::UnitParts::some_result))]
 pub fn every_unit_has_a_syntax()
     ensures { (unit : Part) → (result : Result Syntax ScpiError) × SyntaxGives unit result }
 {}

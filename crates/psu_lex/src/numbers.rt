@@ -88,7 +88,7 @@ fn significant(whole: &[u8], fraction: &[u8]) -> usize
 }
 
 /// Whether the mantissa has more than 255 digits, leading zeros not counted.
-#[tactic(auto, using(crate::proofs::NumberValue::few_digits))]
+#[tactic(auto, using(crate::proofs::Rounding::few_digits))]
 fn is_too_long(whole: &[u8], fraction: &[u8]) -> bool
     ensures { result ≡ nat_lt 255 (length (without_zeros (whole.now ++ fraction.now))) }
 {

@@ -1,6 +1,6 @@
 use Rattle.std.proofs.Common.{sym, subst, ◌∙◌, ap, List, ◌++◌, append_assoc}
 use Rattle.psu_lex.specs.Message.{Part, parts, ended, IsMessage}
-use Rattle.psu_lex.proofs.SplitScans.{parts_push, split_end, split_step, is_zero, some_left}
+use Rattle.psu_lex.proofs.UnitScans.{parts_push, split_end, split_step, is_zero, some_left}
 use Rattle.psu_lex.proofs.message.split.Goals as goal
 
 pub returns-in-Err : goal.returns-in-Err

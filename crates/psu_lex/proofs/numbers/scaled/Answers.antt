@@ -1,8 +1,7 @@
 use Rattle.std.proofs.Common.{◌≡◌, ◌<◌, ◌+◌, ◌-◌, ◌++◌, ◌^◌, min, length, take, drop, take_all, arith, length-append, length-drop, sym, ap, ◌∙◌, List, ℕ}
 use Rattle.std.proofs.lemmas.List.{take-append-drop}
 use Rattle.psu_lex.specs.Bytes.{value_after}
-use Rattle.psu_lex.proofs.Rounding.{scaled_up, cut_away, cut_up, cut_down, digits_split}
-use Rattle.psu_lex.proofs.NumberValue.{first_dropped}
+use Rattle.psu_lex.proofs.Rounding.{scaled_up, cut_away, cut_up, cut_down, digits_split, first_dropped}
 use Rattle.psu_lex.proofs.numbers.scaled.Goals as goal
 
 pub returns-then-up-down : goal.returns-then-up-down

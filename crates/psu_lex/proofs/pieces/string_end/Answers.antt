@@ -1,8 +1,7 @@
 use Rattle.std.proofs.Common.{sym, ◌∙◌, ap, ◌+◌, true, false, drop, Some, arith}
 use Rattle.std.proofs.lemmas.Grind.{common_steps}
 use Rattle.psu_lex.specs.Scan.{after_string}
-use Rattle.psu_lex.proofs.Searches.{drop-add}
-use Rattle.psu_lex.proofs.StringScans.{string_none, string_broken, quote_at, string_ends, goes_on, suffix}
+use Rattle.psu_lex.proofs.Searches.{drop-add, string_none, string_broken, quote_at, string_ends, goes_on, suffix}
 use Rattle.psu_lex.proofs.pieces.string_end.Goals as goal
 
 pub returns-then-rest-at-eq10-clause-none : goal.returns-then-rest-at-eq10-clause-none

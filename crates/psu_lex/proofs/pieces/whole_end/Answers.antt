@@ -1,5 +1,5 @@
 use Rattle.std.proofs.Common.{sym, ◌∙◌}
-use Rattle.psu_lex.proofs.StringScans.{string_in}
+use Rattle.psu_lex.proofs.Searches.{string_in}
 use Rattle.psu_lex.proofs.pieces.whole_end.Goals as goal
 
 pub returns-then-is_quote-clause-some : goal.returns-then-is_quote-clause-some
