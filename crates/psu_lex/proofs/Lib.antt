@@ -3,7 +3,6 @@ pub mod Searches
 pub mod Tokens
 pub mod PieceScans
 pub mod UnitScans
-pub mod Digits
 pub mod Runs
 pub mod NumberSound
 pub mod NumberFound
@@ -11,7 +10,5 @@ pub mod Rounding
 pub mod Expansions
 pub mod HeaderScans
 pub mod WrittenData
-pub mod DataScans
 pub mod DataLists
-pub mod HighBytes
 pub mod UnitParts

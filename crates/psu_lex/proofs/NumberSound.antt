@@ -7,7 +7,7 @@ use Rattle.psu_lex.specs.Number.{Sign, IsNumber, ExponentHolds, sign_text, fract
 use Rattle.psu_lex.specs.Shown.{is_minus}
 use Rattle.psu_lex.specs.NumberScan.{run, left, sign_of, after_sign, fraction_of, after_fraction, exponent_with, exponent_from, exponent_of, after_exponent, is_nonempty, is_number, suffix_of, gap_of, end_of, excess_of, at_fraction, at_exponent, at_tail, scanned}
 use Rattle.psu_lex.proofs.Quotes.{same_byte}
-use Rattle.psu_lex.proofs.Runs.{every, leads, digits_every, white_every, letters_every, run_left, run_every, left_at, every_append}
+use Rattle.psu_lex.proofs.Runs.{run_white, every, leads, digits_every, white_every, letters_every, run_left, run_every, left_at, every_append}
 
 sign_split : (text : List ℕ) → sign_text (sign_of text) ++ after_sign text ≡ text
 sign_split [] = refl
@@ -107,9 +107,6 @@ tail_split_at d (x ∷ s) e none =
 tail_split : (d : List ℕ) → excess_of d ≡ [] → gap_of d ++ (suffix_of d ++ end_of d) ≡ d
 tail_split d none = tail_split_at d (suffix_of d) refl none
 
-white_run : (d : List ℕ) → all_white (run is_white d) ≡ true
-white_run d = white_every (run is_white d) ∙ run_every is_white d
-
 if_white : (b : Bool) (x y : List ℕ) → all_white x ≡ true → all_white y ≡ true → all_white (if b then x else y) ≡ true
 if_white true x y h k = h
 if_white false x y h k = k
@@ -130,11 +127,11 @@ sound text some =
     record {
       digits = digits_every (mantissa (scanned text)) ∙ every_append is_digit (run is_digit (after_sign text)) (fraction_digits (fraction_of (at_fraction text))) (run_every is_digit (after_sign text)) (fraction_every (at_fraction text));
       some = some_length (mantissa (scanned text)) some;
-      exponent = from_holds (run is_white (at_exponent text)) (left is_white (at_exponent text)) (white_run (at_exponent text));
-      gap = if_white (is_nonempty (suffix_of d)) (run is_white d) [] (white_run d) refl;
+      exponent = from_holds (run is_white (at_exponent text)) (left is_white (at_exponent text)) (run_white (at_exponent text));
+      gap = if_white (is_nonempty (suffix_of d)) (run is_white d) [] (run_white d) refl;
       no_gap = λ none. no_gap_at (suffix_of d) d none;
       suffix = letters_every (suffix_of d) ∙ run_every is_letter (left is_white d);
-      rest = if_white (is_nonempty (suffix_of d)) (run is_white (left is_letter (left is_white d))) (run is_white d) (white_run (left is_letter (left is_white d))) (white_run d);
+      rest = if_white (is_nonempty (suffix_of d)) (run is_white (left is_letter (left is_white d))) (run is_white d) (run_white (left is_letter (left is_white d))) (run_white d);
     }
 
 spelled : (text : List ℕ) → excess_of (at_tail text) ≡ [] → text ≡ number_text (scanned text)

@@ -51,6 +51,9 @@ run_every test (x ∷ xs) = elim (cases_Bool (test x)) [
   | inr f ↦ rw f refl
 ]
 
+pub run_white : (xs : List ℕ) → all_white (run is_white xs) ≡ true
+run_white xs = white_every (run is_white xs) ∙ run_every is_white xs
+
 -- ---- the run of a text that is made of one
 
 pub run_at : (test : ℕ → Bool) (a b : List ℕ) → every test a ≡ true → leads test b ≡ false → run test (a ++ b) ≡ a

@@ -14,11 +14,11 @@ use Rattle.psu_lex.specs.declared.unit_syntax.Syntax as rust
 use Rattle.psu_lex.specs.declared.unit_fault.UnitFault.{UnitFault}
 use Rattle.psu_lex.specs.declared.scpi_error.ScpiError.{ScpiError}
 use Rattle.psu_lex.specs.declared.scpi_error.ScpiError.TheVariants.{InvalidCharacter, SyntaxError}
-use Rattle.psu_lex.proofs.Runs.{every, leads, every_head, every_append, every_more, run_at, left_at, run_left}
+use Rattle.psu_lex.proofs.Runs.{run_white, every, leads, every_head, every_append, every_more, run_at, left_at, run_left}
 use Rattle.psu_lex.proofs.Tokens.{same_tokens, some_tokens}
 use Rattle.psu_lex.proofs.NumberSound.{left_stops, number_in}
 use Rattle.psu_lex.proofs.WrittenData.{node_every}
-use Rattle.psu_lex.proofs.DataLists.{left_over, space_white, one_list, lists_in, no_list, no_tail, rest_of, tail_rest, tail_shorter}
+use Rattle.psu_lex.proofs.DataLists.{left_over, one_list, lists_in, no_list, no_tail, rest_of, tail_rest, tail_shorter}
 use Rattle.std.proofs.lemmas.Bool.{cases_Bool, eqb-false, eqb-true}
 use Rattle.psu_lex.specs.Number.{NumberGives, reading_of}
 use Rattle.psu_lex.specs.SyntaxScan.{datum_at, is_header}
@@ -95,7 +95,7 @@ pub unit_reads : (text header rest : List ℕ) (s : Syntax) → header ≡ run i
 unit_reads text header rest s h r spelled e l =
     let whole : text ≡ run is_white text ++ (s.header ++ rest)
     = sym (run_left is_white text) ∙ ap (λ (z : List ℕ). run is_white text ++ z) (sym (run_left is_dark (left is_white text)) ∙ ap (λ (z : List ℕ). z ++ left is_dark (left is_white text)) (sym (e ∙ h)) ∙ ap (λ (z : List ℕ). s.header ++ z) (sym r)) in
-    (run is_white text, rest, space_white text, whole, subst SpellsHeader (sym e) spelled, apart_at rest (subst (λ (z : List ℕ). leads is_dark z ≡ false) (sym r) (left_stops is_dark (left is_white text))), l)
+    (run is_white text, rest, run_white text, whole, subst SpellsHeader (sym e) spelled, apart_at rest (subst (λ (z : List ℕ). leads is_dark z ≡ false) (sym r) (left_stops is_dark (left is_white text))), l)
 
 -- ---- one syntax
 

@@ -1,11 +1,11 @@
 -- What each token adds to the units, and what the scans of a unit and of a transmission add.
-use Rattle.std.proofs.Common.{◌≡◌, ℕ, ◌+◌, ◌-◌, ◌<◌, ◌≤◌, Bool, true, false, List, [], ◌∷◌, ◌++◌, length, take, drop, refl, sym, ap, ◌∙◌, subst, arith, append_assoc, length-drop, Option, Some, None, slice_index, drop-cons, take_all, unwrap_or, ◌==◌, ◌||◌, ◌&&◌}
+use Rattle.std.proofs.Common.{◌≡◌, ℕ, ◌+◌, ◌-◌, ◌<◌, ◌≤◌, Bool, true, false, List, [], ◌∷◌, ◌++◌, length, take, drop, refl, sym, ap, ◌∙◌, subst, arith, append_assoc, length-drop, Option, Some, None, slice_index, drop-cons, take_all, unwrap_or, ◌==◌, ◌||◌, ◌&&◌, inl, inr}
 use Rattle.std.proofs.lemmas.List.{append-nil, take-append-drop, get_or-take, append_cancel_right, drop_all}
 use Rattle.std.proofs.Math.Seq.{take-add}
 use Rattle.std.proofs.lemmas.Grind.{common_steps}
 use Rattle.memchr.specs.Find.{IsFirstByte, is_byte2, is_byte3}
 use Rattle.psu_lex.specs.Bytes.{opens, separates, is_closed, all_white}
-use Rattle.psu_lex.specs.Message.{opens_first, ends_unit, BeginsPiece, HasNoPiece, Makes, Part, ended, next_first, fault_of, spelling, part, parts}
+use Rattle.psu_lex.specs.Message.{opens_first, ends_unit, BeginsPiece, HasNoPiece, Makes, Part, ended, next_first, fault_of, spelling, part, parts, Token, Reads}
 use Rattle.psu_lex.specs.declared.unit_fault.UnitFault.{UnitFault}
 use Rattle.psu_lex.specs.Message.Token.{Byte, Separator, Whole, Faulty}
 use Rattle.psu_lex.specs.Scan.{has, after_piece, IsStop}
@@ -13,6 +13,12 @@ use Rattle.psu_lex.proofs.PieceScans.{whole, not_zero}
 use Rattle.psu_lex.proofs.Searches.{has_head, has_tail, has_shorter, free_before, free_all, drop-add, free_later}
 use Rattle.psu_lex.specs.declared.unit.Unit as rust
 use Rattle.psu_lex.proofs.Quotes.{same_byte}
+use Rattle.std.proofs.lemmas.Bool.{cases_Bool}
+use Rattle.std.proofs.Math.Bool.{or_assoc, or-false}
+use Rattle.std.proofs.lemmas.Bool.Decides.{nat_tests}
+use Rattle.psu_lex.specs.Syntax.{has_high}
+use Rattle.psu_lex.specs.SyntaxScan.{is_high}
+use Rattle.psu_lex.proofs.Tokens.{some_tokens}
 
 pub makes_byte : (first : Bool) (x : ℕ) (text rest : List ℕ) (units : List Part) → separates x ≡ false → opens x ≡ false
     → Makes first (text ++ x ∷ []) rest units → Makes first text (x ∷ rest) units
@@ -174,3 +180,46 @@ is_zero text b e f = same_byte (length text) 0 (sym e ∙ f)
 
 pub some_left : (text : List ℕ) (b : Bool) → b ≡ (length text == 0) → b ≡ false → length text ≡ 0 → ⊥
 some_left text b e f n = omega (arith, n, not_zero text b e f)
+
+-- the bytes have tokens, and whether one of them is such a byte is known
+abbrev pub Tells : List ℕ → Bool → Type 0
+Tells bytes high = (tokens : List Token) × Reads is_closed bytes tokens × (high ≡ has_high tokens)
+
+low_separator : (x : ℕ) → separates x ≡ true → is_high x ≡ false
+low_separator x h = grind (arith, nat_tests, h)
+
+tells_byte : (x : ℕ) (rest : List ℕ) (high : Bool) → opens x ≡ false → Tells rest high → Tells (x ∷ rest) (is_high x || high)
+tells_byte x rest high o (tokens, r, e) = elim (cases_Bool (separates x)) [
+  | inl s ↦ (Separator x ∷ tokens, (rest, refl, s, r), rw (low_separator x s) e)
+  | inr f ↦ (Byte x ∷ tokens, (rest, refl, (f, o), r), ap (λ (z : Bool). is_high x || z) e)
+]
+
+tells_run : (run rest : List ℕ) (high : Bool) → has opens run ≡ false → Tells rest high → Tells (run ++ rest) (has is_high run || high)
+tells_run [] rest high o t = t
+tells_run (x ∷ run) rest high o t =
+    subst (Tells (x ∷ (run ++ rest))) (sym (or_assoc (is_high x) (has is_high run) high))
+    (tells_byte x (run ++ rest) (has is_high run || high) (has_head opens x run o) (tells_run run rest high (has_tail opens x run o) t))
+
+pub tells_piece : (bytes more : List ℕ) (high : Bool) → after_piece bytes ≡ Some more → is_closed more ≡ true → Tells more high → Tells bytes high
+tells_piece bytes more high s h (tokens, r, e) = let b = whole bytes more s in (Whole b.0 ∷ tokens, (more, b.1, (b.2, h), r), e)
+
+pub tells_fault : (bytes : List ℕ) → opens_first bytes ≡ true → HasNoPiece is_closed bytes → Tells bytes false
+tells_fault bytes o n = (Faulty bytes ∷ [], ([], sym (append-nil bytes), (refl, o, n), refl), refl)
+
+pub tells_some : (bytes : List ℕ) → (high : Bool) × Tells bytes high
+tells_some bytes = let r = some_tokens is_closed bytes in (has_high r.0, (r.0, r.1, refl))
+
+-- ---- the same, as the scan goes
+
+pub before_opening : (bytes : List ℕ) (n : ℕ) → IsFirstByte (is_byte3 34 39 35) bytes (Some n) → (has opens (take n bytes) ≡ false) × (opens_first (drop n bytes) ≡ true)
+before_opening bytes n h = (free_before opens bytes n h, opens_at bytes n h.0.high h.1)
+
+pub tells_all : (bytes : List ℕ) → IsFirstByte (is_byte3 34 39 35) bytes None → Tells bytes (has is_high bytes)
+tells_all bytes h =
+    subst (λ (z : List ℕ). Tells z (has is_high bytes)) (append-nil bytes)
+    (subst (Tells (bytes ++ [])) (or-false (has is_high bytes)) (tells_run bytes [] false (free_all opens bytes h) ([], refl, refl)))
+
+pub tells_from : (bytes : List ℕ) (n : ℕ) (high : Bool) → IsFirstByte (is_byte3 34 39 35) bytes (Some n) → Tells (drop n bytes) high → Tells bytes (has is_high (take n bytes) || high)
+tells_from bytes n high h t =
+    subst (λ (z : List ℕ). Tells z (has is_high (take n bytes) || high)) (take-append-drop n bytes)
+    (tells_run (take n bytes) (drop n bytes) high (before_opening bytes n h).0 t)

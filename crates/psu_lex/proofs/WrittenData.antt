@@ -14,7 +14,7 @@ use Rattle.psu_lex.specs.Scan.{has}
 use Rattle.psu_lex.specs.Syntax.{is_name_byte, all_name, is_node, ends_in_white}
 use Rattle.psu_lex.specs.SyntaxScan.{is_uncut, is_parted, put_dark, trimmed, written, after_datum}
 use Rattle.psu_lex.specs.declared.datum_class.DatumClass.TheVariants.{Numeric, Character}
-use Rattle.psu_lex.proofs.Runs.{every, leads, digits_every, white_every, letters_every, every_head, every_tail, every_append, every_more, run_at, run_all, run_left, run_every}
+use Rattle.psu_lex.proofs.Runs.{run_white, every, leads, digits_every, white_every, letters_every, every_head, every_tail, every_append, every_more, run_at, run_all, run_left, run_every}
 use Rattle.psu_lex.proofs.Searches.{has_head, has_tail, free_before, free_all}
 use Rattle.psu_lex.proofs.NumberFound.{digits_parts, number_out}
 
@@ -141,9 +141,6 @@ uncut_run text next h p =
     let whole : text ++ next ≡ (text ++ space) ++ tail = ap (λ (z : List ℕ). text ++ z) (sym (run_left is_white next)) ∙ sym (append_assoc text space tail) in
     ap (run is_uncut) whole ∙ run_at is_uncut (text ++ space) tail
     (every_append is_uncut text space h (every_more is_white is_uncut space white_uncut (run_every is_white next))) (parted_leads tail p)
-
-run_white : (xs : List ℕ) → all_white (run is_white xs) ≡ true
-run_white xs = white_every (run is_white xs) ∙ run_every is_white xs
 
 written_found : (body text next : List ℕ) → body ≡ text ++ next → every is_uncut text ≡ true → ends_in_white text ≡ false → is_parted (left is_white next) ≡ true
     → (written body ≡ text) × (drop (length (written body)) body ≡ next)

@@ -1,8 +1,7 @@
 use Rattle.std.proofs.Common.{◌∷◌, []}
 use Rattle.psu_lex.specs.Syntax.{datum_of}
 use Rattle.psu_lex.proofs.Expansions.{no_bytes}
-use Rattle.psu_lex.proofs.DataScans.{tail_parted}
-use Rattle.psu_lex.proofs.DataLists.{comma, lists_in, no_tail, tail_rest}
+use Rattle.psu_lex.proofs.DataLists.{tail_parted, comma, lists_in, no_tail, tail_rest}
 use Rattle.psu_lex.proofs.data_scan.goes_on.Goals as goal
 
 pub returns-in_default-clause-no : goal.returns-in_default-clause-no

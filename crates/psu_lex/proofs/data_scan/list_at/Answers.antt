@@ -1,7 +1,6 @@
 use Rattle.std.proofs.Common.{refl, sym, ◌∙◌, ◌∷◌, []}
 use Rattle.psu_lex.specs.Syntax.{datum_of}
-use Rattle.psu_lex.proofs.DataScans.{tail_parted}
-use Rattle.psu_lex.proofs.DataLists.{lists_in, no_list, rest_of, some_datum}
+use Rattle.psu_lex.proofs.DataLists.{tail_parted, lists_in, no_list, rest_of, some_datum}
 use Rattle.psu_lex.proofs.data_scan.list_at.Goals as goal
 
 pub returns-then-is_blank-clause-some : goal.returns-then-is_blank-clause-some
