@@ -1,5 +1,5 @@
 -- Steps over a macro's body.
-use Rattle.std.proofs.Common.{◌≡◌, ℕ, ◌-◌, ◌==◌, ◌<◌, ◌≤◌, ◌+◌, nat_lt, max, min, Bool, true, false, cond, List, [], ◌∷◌, ◌++◌, length, take, drop, take_all, refl, sym, ap, ◌∙◌, subst, arith, append_assoc, inl, inr, length-append, slice_index, Ok, Err, Some, None}
+use Rattle.std.proofs.Common.{◌≡◌, ℕ, ◌-◌, ◌==◌, ◌<◌, ◌≤◌, ◌+◌, nat_lt, max, min, Bool, true, false, cond, if◌then◌else◌, List, [], ◌∷◌, ◌++◌, length, take, drop, take_all, refl, sym, ap, ◌∙◌, subst, arith, append_assoc, inl, inr, length-append, slice_index, Ok, Err, Some, None}
 use Rattle.std.proofs.lemmas.Bool.{cases_Bool}
 use Rattle.std.proofs.lemmas.Bool.Decides.{nat_tests}
 use Rattle.std.proofs.lemmas.List.{append-nil, take-append-drop, drop_all, append_cancel_right}
@@ -103,35 +103,15 @@ spells_placeholder args (x ∷ y ∷ rest) most text h (tokens, reads, m, t) =
 
 -- ---- the whole body
 
--- the same greatest placeholder, whatever the parameters
-same_most : (args others : List (List ℕ)) (bytes : List ℕ) (most more : ℕ) (text other : List ℕ) → Spells args bytes most text → Spells others bytes more other → most ≡ more
-same_most args others bytes most more text other s u = s.2 ∙ ap (greatest false) (same_tokens anything bytes s.0 u.0 s.1 u.1) ∙ sym u.2
+pub same_text : (args : List (List ℕ)) (bytes : List ℕ) (most more : ℕ) (text other : List ℕ) → Spells args bytes most text → Spells args bytes more other → text ≡ other
+same_text args bytes most more text other s u = s.3 ∙ ap (expansion args false) (same_tokens anything bytes s.0 u.0 s.1 u.1) ∙ sym u.3
 
-pub some_spelling : (args : List (List ℕ)) (bytes : List ℕ) → (most : ℕ) × (text : List ℕ) × Spells args bytes most text
-some_spelling args bytes =
-    let r = some_tokens anything bytes in
-    (greatest false r.0, expansion args false r.0, (r.0, r.1, refl, refl))
-
-pub expands_other : (args : List (List ℕ)) (bytes text : List ℕ) (most : ℕ) → Spells [] bytes most text → (most == length args) ≡ false → ExpandsTo bytes args (Err MacroParameterError)
-expands_other args bytes text most s f =
-    let g : (greatest false s.0 == length args) ≡ false = ap (λ (z : ℕ). z == length args) (sym s.2) ∙ f in
-    (s.0, s.1, rw g refl)
-
-pub expands_long : (args : List (List ℕ)) (bytes text other : List ℕ) (most more : ℕ) → Spells [] bytes most other → (most == length args) ≡ true → Spells args bytes more text → 65536 < length text
-    → ExpandsTo bytes args (Err TooMuchData)
-expands_long args bytes text other most more s e u lt =
-    let g : (greatest false u.0 == length args) ≡ true = ap (λ (z : ℕ). z == length args) (sym u.2 ∙ same_most args [] bytes more most text other u s) ∙ e in
-    let far : 65536 < length (expansion args false u.0) = omega (arith, lt, ap length u.3) in
-    let l : nat_lt 65536 (length (expansion args false u.0)) ≡ true = grind (arith, nat_tests, far) in
-    (u.0, u.1, rw (g, l) refl)
-
-pub expands : (args : List (List ℕ)) (bytes text other : List ℕ) (most more : ℕ) → Spells [] bytes most other → (most == length args) ≡ true → Spells args bytes more text → length text ≤ 65536
-    → ExpandsTo bytes args (Ok text)
-expands args bytes text other most more s e u le =
-    let g : (greatest false u.0 == length args) ≡ true = ap (λ (z : ℕ). z == length args) (sym u.2 ∙ same_most args [] bytes more most text other u s) ∙ e in
-    let near : length (expansion args false u.0) ≤ 65536 = omega (arith, le, ap length u.3) in
-    let l : nat_lt 65536 (length (expansion args false u.0)) ≡ false = grind (arith, nat_tests, near) in
-    (u.0, u.1, rw (g, l) (ap (λ (z : List ℕ). Ok z) u.3))
+-- what a body gives, by its greatest placeholder and the text that it spells
+pub gives : (args : List (List ℕ)) (body text other : List ℕ) (most more : ℕ) → Spells [] body most other → Spells args body more text
+    → ExpandsTo body args (if most == length args then (if nat_lt 65536 (length text) then Err TooMuchData else Ok text) else Err MacroParameterError)
+gives args body text other most more s (tokens, reads, m, t) =
+    let same : most ≡ greatest false tokens = s.2 ∙ ap (greatest false) (same_tokens anything body s.0 tokens s.1 reads) in
+    (tokens, reads, rw (same, t) refl)
 
 -- ---- the same, as the loops go
 
@@ -161,27 +141,6 @@ put_on args body bytes later old new piece n so_far e p d most text s =
     let same : old ++ (piece ++ text) ≡ new ++ text = sym (append_assoc old piece text) ∙ ap (λ (z : List ℕ). z ++ text) (sym e) in
     (all.0, subst (Spells args body all.0) same all.1)
 
--- the same of its length
-pub put_length : (args : List (List ℕ)) (body bytes later piece : List ℕ) (n had has : ℕ)
-    → ((most : ℕ) (text : List ℕ) → Spells args bytes most text → (all : ℕ) × (whole : List ℕ) × Spells args body all whole × (min 65537 (had + length text) ≡ min 65537 (length whole)))
-    → has ≡ min 65537 (had + length piece) → Puts args bytes n piece → later ≡ drop n bytes
-    → (most : ℕ) (text : List ℕ) → Spells args later most text → (all : ℕ) × (whole : List ℕ) × Spells args body all whole × (min 65537 (has + length text) ≡ min 65537 (length whole))
-put_length args body bytes later piece n had has so_far e p d most text s =
-    let put = p most text (subst (λ (z : List ℕ). Spells args z most text) d s) in
-    let all = so_far put.0 (piece ++ text) put.1 in
-    let l : length (piece ++ text) ≡ length piece + length text = length-append piece text in
-    (all.0, all.1, all.2, omega (arith, e, l, all.3))
-
-same_text : (args : List (List ℕ)) (bytes : List ℕ) (most more : ℕ) (text other : List ℕ) → Spells args bytes most text → Spells args bytes more other → text ≡ other
-same_text args bytes most more text other s u = s.3 ∙ ap (expansion args false) (same_tokens anything bytes s.0 u.0 s.1 u.1) ∙ sym u.3
-
--- what was filled, where its length is good
-pub filled_is : (args : List (List ℕ)) (body text other whole : List ℕ) (most more all held : ℕ) → Spells [] body most other → (most == length args) ≡ true → Spells args body more whole
-    → held ≡ min 65537 (length whole) → held ≤ 65536 → Spells args body all text → ExpandsTo body args (Ok text)
-filled_is args body text other whole most more all held g is s l le t =
-    let same = same_text args body all more text whole t s in
-    expands args body text other most all g is t (omega (arith, l, le, ap length same))
-
 -- ---- too many parameters
 
 within_nine : (b : ℕ) (most : ℕ) → is_placeholder b ≡ true → most ≤ 9 → max (b - 48) most ≤ 9
@@ -204,11 +163,10 @@ greatest_most false (Whole piece ∷ tokens) = greatest_most false tokens
 greatest_most true (Faulty text ∷ tokens) = greatest_most false tokens
 greatest_most false (Faulty text ∷ tokens) = greatest_most false tokens
 
-apart : (m n : ℕ) → m < n → (m == n) ≡ false
-apart m n lt = grind (arith, nat_tests)
-
 -- more than nine parameters are too many for every body
 pub expands_many : (args : List (List ℕ)) (bytes : List ℕ) → 9 < length args → ExpandsTo bytes args (Err MacroParameterError)
 expands_many args bytes lt =
-    let s = some_spelling [] bytes in
-    expands_other args bytes s.1 s.0 s.2 (apart s.0 (length args) (omega (arith, s.2.2, greatest_most false s.2.0)))
+    let r = some_tokens anything bytes in
+    let most = greatest_most false r.0 in
+    let other : (greatest false r.0 == length args) ≡ false = grind (arith, nat_tests, lt, most) in
+    (r.0, r.1, rw other refl)

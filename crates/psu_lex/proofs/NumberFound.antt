@@ -17,41 +17,20 @@ is_tail b = is_white b || is_letter b
 abbrev is_body : ℕ → Bool
 is_body b = is_digit b || b == 46
 
-no_digit : (x : ℕ) → is_tail x ≡ true → is_digit x ≡ false
-no_digit x h = grind (arith, nat_tests, h)
+tail_byte : (x : ℕ) → is_tail x ≡ true → (is_digit x ≡ false) × ((x == 46) ≡ false)
+tail_byte x h = (grind (arith, nat_tests, h), grind (arith, nat_tests, h))
 
-no_point : (x : ℕ) → is_tail x ≡ true → (x == 46) ≡ false
-no_point x h = grind (arith, nat_tests, h)
+body_byte : (x : ℕ) → is_body x ≡ true → ((x == 43) ≡ false) × ((x == 45) ≡ false) × (is_white x ≡ false)
+body_byte x h = (grind (arith, nat_tests, h), grind (arith, nat_tests, h), grind (arith, nat_tests, h))
 
 no_white_letter : (x : ℕ) → is_letter x ≡ true → is_white x ≡ false
 no_white_letter x h = grind (arith, nat_tests, h)
 
-no_letter_white : (x : ℕ) → is_white x ≡ true → is_letter x ≡ false
-no_letter_white x h = grind (arith, nat_tests, h)
-
 no_white_mark : (x : ℕ) → (x == 69 || x == 101) ≡ true → is_white x ≡ false
 no_white_mark x h = grind (arith, nat_tests, h)
 
-tail_mark : (x : ℕ) → (x == 69 || x == 101) ≡ true → is_tail x ≡ true
-tail_mark x h = grind (arith, nat_tests, h)
-
 tail_white : (x : ℕ) → is_white x ≡ true → is_tail x ≡ true
 tail_white x h = rw h refl
-
-no_plus_body : (x : ℕ) → is_body x ≡ true → (x == 43) ≡ false
-no_plus_body x h = grind (arith, nat_tests, h)
-
-no_minus_body : (x : ℕ) → is_body x ≡ true → (x == 45) ≡ false
-no_minus_body x h = grind (arith, nat_tests, h)
-
-no_white_body : (x : ℕ) → is_body x ≡ true → is_white x ≡ false
-no_white_body x h = grind (arith, nat_tests, h)
-
-body_digit : (x : ℕ) → is_digit x ≡ true → is_body x ≡ true
-body_digit x h = rw h refl
-
-tail_letter : (x : ℕ) → is_letter x ≡ true → is_tail x ≡ true
-tail_letter x h = grind (arith, nat_tests, h)
 
 every_sign : (test : ℕ → Bool) (xs : List ℕ) → every test xs ≡ true → every test (after_sign xs) ≡ true
 every_sign test [] h = refl
@@ -69,9 +48,9 @@ every_first : (xs : List ℕ) → every is_tail xs ≡ true → tail_first xs �
 every_first [] h = refl
 every_first (x ∷ xs) h = every_head is_tail x xs h
 
-leads_not : (test : ℕ → Bool) (xs : List ℕ) → ((x : ℕ) → is_tail x ≡ true → test x ≡ false) → tail_first xs ≡ true → leads test xs ≡ false
-leads_not test [] f h = refl
-leads_not test (x ∷ xs) f h = f x h
+no_digits : (xs : List ℕ) → tail_first xs ≡ true → leads is_digit xs ≡ false
+no_digits [] h = refl
+no_digits (x ∷ xs) h = (tail_byte x h).0
 
 run_none : (test : ℕ → Bool) (xs : List ℕ) → leads test xs ≡ false → run test xs ≡ []
 run_none test xs f = run_at test [] xs refl f
@@ -83,30 +62,31 @@ sign_found Plus body h = (refl, refl, refl)
 sign_found Minus body h = (refl, refl, refl)
 sign_found Unsigned [] h = absurd (cc (h))
 sign_found Unsigned (x ∷ body) h =
-    (rw (no_plus_body x h, no_minus_body x h) refl, rw (no_plus_body x h, no_minus_body x h) refl, no_white_body x h)
+    let plain = body_byte x h in
+    (rw (plain.0, plain.1) refl, rw (plain.0, plain.1) refl, plain.2)
 
 leads_digits : (ds later : List ℕ) → 0 < length ds → every is_digit ds ≡ true → leads is_body (ds ++ later) ≡ true
 leads_digits [] later some h = absurd (omega (arith, some))
-leads_digits (d ∷ ds) later some h = body_digit d (every_head is_digit d ds h)
+leads_digits (d ∷ ds) later some h = rw (every_head is_digit d ds h) refl
 
 leads_mantissa : (whole : List ℕ) (fraction : Option (List ℕ)) (later : List ℕ) → 0 < length (whole ++ fraction_digits fraction) → every is_digit whole ≡ true
     → leads is_body (whole ++ (fraction_text fraction ++ later)) ≡ true
 leads_mantissa [] None later some h = absurd (omega (arith, some))
 leads_mantissa [] (Some ds) later some h = refl
-leads_mantissa (d ∷ whole) fraction later some h = body_digit d (every_head is_digit d whole h)
+leads_mantissa (d ∷ whole) fraction later some h = rw (every_head is_digit d whole h) refl
 
 -- ---- the fraction
 
 fraction_found : (fraction : Option (List ℕ)) (later : List ℕ) → every is_digit (fraction_digits fraction) ≡ true → tail_first later ≡ true
     → (fraction_of (fraction_text fraction ++ later) ≡ fraction) × (after_fraction (fraction_text fraction ++ later) ≡ later)
 fraction_found None [] h t = (refl, refl)
-fraction_found None (x ∷ later) h t = (rw (no_point x t) refl, rw (no_point x t) refl)
+fraction_found None (x ∷ later) h t = let point = (tail_byte x t).1 in (rw point refl, rw point refl)
 fraction_found (Some ds) later h t =
-    let stop = leads_not is_digit later no_digit t in
+    let stop = no_digits later t in
     (ap Some (run_at is_digit ds later h stop), left_at is_digit ds later h stop)
 
 fraction_first : (fraction : Option (List ℕ)) (later : List ℕ) → tail_first later ≡ true → leads is_digit (fraction_text fraction ++ later) ≡ false
-fraction_first None later t = leads_not is_digit later no_digit t
+fraction_first None later t = no_digits later t
 fraction_first (Some ds) later t = refl
 
 -- ---- the exponent
@@ -115,7 +95,7 @@ from_none : (before ys : List ℕ) → every is_tail ys ≡ true → exponent_fr
 from_none before [] h = refl
 from_none before (x ∷ ys) h =
     let inner : every is_tail (after_sign (left is_white ys)) ≡ true = every_sign is_tail (left is_white ys) (every_left is_tail is_white ys (every_tail is_tail x ys h)) in
-    let none : run is_digit (after_sign (left is_white ys)) ≡ [] = run_none is_digit (after_sign (left is_white ys)) (leads_not is_digit (after_sign (left is_white ys)) no_digit (every_first (after_sign (left is_white ys)) inner)) in
+    let none : run is_digit (after_sign (left is_white ys)) ≡ [] = run_none is_digit (after_sign (left is_white ys)) (no_digits (after_sign (left is_white ys)) (every_first (after_sign (left is_white ys)) inner)) in
     elim (cases_Bool (x == 69 || x == 101)) [
       | inl t ↦ rw (t, none) refl
       | inr f ↦ rw f refl
@@ -145,7 +125,7 @@ exponent_some text before x a s ds later e b m w d some t =
     let signed = sign_text s ++ (ds ++ later) in
     let marked = x ∷ (a ++ signed) in
     let sign = sign_found s (ds ++ later) (leads_digits ds later some d) in
-    let stop = leads_not is_digit later no_digit t in
+    let stop = no_digits later t in
     let front : run is_white text ≡ before = ap (run is_white) e ∙ run_at is_white before marked b (no_white_mark x m) in
     let back : left is_white text ≡ marked = ap (left is_white) e ∙ left_at is_white before marked b (no_white_mark x m) in
     let gap : run is_white (a ++ signed) ≡ a = run_at is_white a signed w sign.2 in
@@ -160,7 +140,7 @@ exponent_some text before x a s ds later e b m w d some t =
     }
 
 first_of : (before : List ℕ) (x : ℕ) (a later : List ℕ) → every is_white before ≡ true → (x == 69 || x == 101) ≡ true → tail_first ((before ++ x ∷ a) ++ later) ≡ true
-first_of [] x a later b m = tail_mark x m
+first_of [] x a later b m = grind (arith, nat_tests, m)
 first_of (y ∷ before) x a later b m = tail_white y (every_head is_white y before b)
 
 exponent_found : (exponent : Option Exponent) (later : List ℕ) → ExponentHolds exponent → every is_tail later ≡ true
@@ -175,7 +155,7 @@ exponent_found (Some e) later h t =
 
 white_no_letter : (xs : List ℕ) → every is_white xs ≡ true → leads is_letter xs ≡ false
 white_no_letter [] h = refl
-white_no_letter (x ∷ xs) h = no_letter_white x (every_head is_white x xs h)
+white_no_letter (x ∷ xs) h = grind (arith, nat_tests, every_head is_white x xs h)
 
 pub record Tail (d gap suffix rest : List ℕ) : Type 0 where
   pub suffix_is : suffix_of d ≡ suffix
@@ -210,7 +190,7 @@ tail_found gap (x ∷ s) rest g none h r =
 tail_every : (gap suffix rest : List ℕ) → every is_white gap ≡ true → every is_letter suffix ≡ true → every is_white rest ≡ true → every is_tail (gap ++ (suffix ++ rest)) ≡ true
 tail_every gap suffix rest g s r =
     every_append is_tail gap (suffix ++ rest) (every_more is_white is_tail gap tail_white g)
-    (every_append is_tail suffix rest (every_more is_letter is_tail suffix tail_letter s) (every_more is_white is_tail rest tail_white r))
+    (every_append is_tail suffix rest (every_more is_letter is_tail suffix (λ x h. grind (arith, nat_tests, h)) s) (every_more is_white is_tail rest tail_white r))
 
 -- ---- all of it
 

@@ -49,9 +49,6 @@ header_dark h is =
 spelled_dark : (text : List ℕ) → SpellsHeader text → every is_dark text ≡ true
 spelled_dark text (h, is, e) = subst (λ (z : List ℕ). every is_dark z ≡ true) (sym e) (header_dark h is)
 
-dark_white : (x : ℕ) → is_dark x ≡ true → is_white x ≡ false
-dark_white x h = grind (arith, nat_tests, h)
-
 marked_some : (mark : Mark) (node later : List ℕ) → is_node node ≡ true → mark_text mark ++ (node ++ later) ≡ [] → ⊥
 marked_some Star node later h e = absurd (cc (e))
 marked_some Colon node later h e = absurd (cc (e))
@@ -60,7 +57,7 @@ marked_some Bare (x ∷ node) later h e = absurd (cc (e))
 
 spelled_first : (text rest : List ℕ) → SpellsHeader text → leads is_white (text ++ rest) ≡ false
 spelled_first [] rest (h, is, e) = absurd (marked_some h.mark h.node (behind h.nodes ++ ask_text h.asks) is.node (sym e))
-spelled_first (x ∷ text) rest s = dark_white x (every_head is_dark x text (spelled_dark (x ∷ text) s))
+spelled_first (x ∷ text) rest s = grind (arith, nat_tests, every_head is_dark x text (spelled_dark (x ∷ text) s))
 
 apart_leads : (rest : List ℕ) → is_apart rest ≡ true → leads is_dark rest ≡ false
 apart_leads [] h = refl

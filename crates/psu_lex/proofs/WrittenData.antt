@@ -61,21 +61,6 @@ white_uncut x h = grind (arith, nat_tests, h)
 digit_uncut : (x : ℕ) → is_digit x ≡ true → is_uncut x ≡ true
 digit_uncut x h = grind (arith, nat_tests, h)
 
-letter_uncut : (x : ℕ) → is_letter x ≡ true → is_uncut x ≡ true
-letter_uncut x h = grind (arith, nat_tests, h)
-
-mark_uncut : (x : ℕ) → (x == 69 || x == 101) ≡ true → is_uncut x ≡ true
-mark_uncut x h = grind (arith, nat_tests, h)
-
-name_uncut : (x : ℕ) → is_name_byte x ≡ true → is_uncut x ≡ true
-name_uncut x h = grind (arith, nat_tests, h)
-
-name_dark : (x : ℕ) → is_name_byte x ≡ true → is_white x ≡ false
-name_dark x h = grind (arith, nat_tests, h)
-
-letter_name : (x : ℕ) → is_letter x ≡ true → is_name_byte x ≡ true
-letter_name x h = rw h refl
-
 name_every : (xs : List ℕ) → all_name xs ≡ every is_name_byte xs
 name_every [] = refl
 name_every (x ∷ xs) = ap (λ (z : Bool). is_name_byte x && z) (name_every xs)
@@ -85,14 +70,14 @@ node_every [] h = refl
 node_every (x ∷ text) h =
     let l : is_letter x ≡ true = grind (arith, common_steps, h) in
     let later : all_name text ≡ true = grind (arith, common_steps, h) in
-    rw (letter_name x l) (sym (name_every text) ∙ later)
+    rw l (sym (name_every text) ∙ later)
 
 node_uncut : (text : List ℕ) → is_node text ≡ true → every is_uncut text ≡ true
-node_uncut text h = every_more is_name_byte is_uncut text name_uncut (node_every text h)
+node_uncut text h = every_more is_name_byte is_uncut text (λ x h. grind (arith, nat_tests, h)) (node_every text h)
 
 name_end : (text : List ℕ) → every is_name_byte text ≡ true → ends_in_white text ≡ false
 name_end [] h = refl
-name_end (x ∷ []) h = name_dark x (every_head is_name_byte x [] h)
+name_end (x ∷ []) h = grind (arith, nat_tests, every_head is_name_byte x [] h)
 name_end (x ∷ y ∷ text) h = name_end (y ∷ text) (every_tail is_name_byte x (y ∷ text) h)
 
 node_end : (text : List ℕ) → is_node text ≡ true → ends_in_white text ≡ false
@@ -116,13 +101,13 @@ exponent_uncut (Some e) h =
     let digits = every_more is_digit is_uncut e.digits digit_uncut (sym (digits_every e.digits) ∙ h.3) in
     let signed = every_append is_uncut (sign_text e.sign) e.digits (sign_uncut e.sign) digits in
     let after = every_append is_uncut e.after (sign_text e.sign ++ e.digits) (whites e.after h.2) signed in
-    let marked : every is_uncut (e.letter ∷ (e.after ++ (sign_text e.sign ++ e.digits))) ≡ true = rw (mark_uncut e.letter h.1) after in
+    let marked : every is_uncut (e.letter ∷ (e.after ++ (sign_text e.sign ++ e.digits))) ≡ true = (let mark : is_uncut e.letter ≡ true = grind (arith, nat_tests, h.1) in rw mark after) in
     every_append is_uncut e.before (e.letter ∷ (e.after ++ (sign_text e.sign ++ e.digits))) (whites e.before h.0) marked
 
 number_uncut : (n : Number) → IsNumber n → every is_uncut (number_text n) ≡ true
 number_uncut n h =
     let digits = digits_parts n.whole (fraction_digits n.fraction) (sym (digits_every (mantissa n)) ∙ h.digits) in
-    let r1 = every_append is_uncut n.suffix n.rest (every_more is_letter is_uncut n.suffix letter_uncut (sym (letters_every n.suffix) ∙ h.suffix)) (whites n.rest h.rest) in
+    let r1 = every_append is_uncut n.suffix n.rest (every_more is_letter is_uncut n.suffix (λ x h. grind (arith, nat_tests, h)) (sym (letters_every n.suffix) ∙ h.suffix)) (whites n.rest h.rest) in
     let r2 = every_append is_uncut n.gap (n.suffix ++ n.rest) (whites n.gap h.gap) r1 in
     let r3 = every_append is_uncut (exponent_text n.exponent) (n.gap ++ (n.suffix ++ n.rest)) (exponent_uncut n.exponent h.exponent) r2 in
     let r4 = every_append is_uncut (fraction_text n.fraction) (exponent_text n.exponent ++ (n.gap ++ (n.suffix ++ n.rest))) (fraction_uncut n.fraction digits.1) r3 in
