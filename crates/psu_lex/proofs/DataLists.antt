@@ -1,7 +1,7 @@
 -- Data: one datum at the front of a text, and lists of them.
 use Rattle.std.proofs.Common.{◌≡◌, ℕ, ◌≤◌, ◌==◌, Bool, true, false, List, [], ◌∷◌, ◌++◌, length, drop, refl, sym, ap, ◌∙◌, subst, arith, Option, Some, None, IfSome, IfNone, length-append, ◌+◌, ◌-◌, ◌||◌, ◌<◌, take, inl, inr}
 use Rattle.std.proofs.lemmas.List.{append-nil}
-use Rattle.std.proofs.lemmas.Option.{some_pair_parts, same_Some}
+use Rattle.std.proofs.lemmas.Option.{cond_some, some_pair_parts, same_Some}
 use Rattle.psu_lex.specs.Bytes.{is_white, all_white, starts, starts_quoted, is_digit, is_letter, is_quote}
 use Rattle.psu_lex.specs.NumberScan.{run, left, is_number, scanned}
 use Rattle.psu_lex.specs.Syntax.{Datum, IsBefore, Lists, datum_of, IsDatum, IsWholeIn, is_node, class_of}
@@ -139,17 +139,14 @@ counted_whole body next t f (Counted d content, e, w) = (spelling (Counted d con
 counted_whole body next t f (Open content, e, w) = absurd (both (starts 48 (drop 1 body)) (ap (λ (z : List ℕ). starts 48 (drop 1 z)) e) f)
 
 datum_whole : (class : DatumClass) (body next : List ℕ) → after_datum class body ≡ Some next → Splits class body next
-datum_whole Numeric body next e = elim (cases_Bool (is_number (written body))) [
-  | inr f ↦ absurd (cc (rw f at e))
-  | inl t ↦
-      let w = written_whole body in
-      let n = number_in (written body) t in
-      (written body, w.0 ∙ ap (λ (z : List ℕ). written body ++ z) (same_Some _ next (rw t at e)), (scanned (written body), n.0, n.1, w.1))
-]
-datum_whole Character body next e = elim (cases_Bool (is_node (written body))) [
-  | inr f ↦ absurd (cc (rw f at e))
-  | inl t ↦ (written body, (written_whole body).0 ∙ ap (λ (z : List ℕ). written body ++ z) (same_Some _ next (rw t at e)), t)
-]
+datum_whole Numeric body next e =
+    let (t, left) = cond_some (is_number (written body)) _ next e in
+    let (front, dark) = written_whole body in
+    let n = number_in (written body) t in
+    (written body, front ∙ ap (λ (z : List ℕ). written body ++ z) left, (scanned (written body), n.0, n.1, dark))
+datum_whole Character body next e =
+    let (t, left) = cond_some (is_node (written body)) _ next e in
+    (written body, (written_whole body).0 ∙ ap (λ (z : List ℕ). written body ++ z) left, t)
 datum_whole String body next e = elim (cases_Bool (starts_quoted body)) [
   | inr f ↦ absurd (cc (rw f at e))
   | inl t ↦ quoted_whole body next t (whole body next (rw t at e))

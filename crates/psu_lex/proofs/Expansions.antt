@@ -1,5 +1,5 @@
 -- Steps over a macro's body.
-use Rattle.std.proofs.Common.{◌≡◌, ℕ, ◌-◌, ◌==◌, ◌<◌, ◌≤◌, ◌+◌, nat_lt, max, min, Bool, true, false, cond, if◌then◌else◌, List, [], ◌∷◌, ◌++◌, length, take, drop, take_all, refl, sym, ap, ◌∙◌, subst, arith, append_assoc, inl, inr, length-append, slice_index, Ok, Err, Some, None}
+use Rattle.std.proofs.Common.{◌≡◌, ℕ, ◌-◌, ◌==◌, ◌<◌, ◌≤◌, ◌+◌, nat_lt, max, min, Bool, true, false, cond, if◌then◌else◌, List, [], ◌∷◌, ◌++◌, length, take, drop, take_all, refl, sym, ap, ◌∙◌, subst, arith, append_assoc, inl, inr, length-append, slice_index, Result, Ok, Err, Some, None}
 use Rattle.std.proofs.lemmas.Bool.{cases_Bool}
 use Rattle.std.proofs.lemmas.Bool.Decides.{nat_tests}
 use Rattle.std.proofs.lemmas.List.{append-nil, take-append-drop, drop_all, append_cancel_right}
@@ -7,8 +7,9 @@ use Rattle.std.proofs.lemmas.Grind.{common_steps}
 use Rattle.psu_lex.specs.Bytes.{opens, separates}
 use Rattle.psu_lex.specs.Message.{Token, spelling, opens_first, Reads}
 use Rattle.psu_lex.specs.Message.Token.{Byte, Separator, Whole, Faulty}
-use Rattle.psu_lex.specs.Macros.{is_placeholder, parameter, expansion, greatest, anything, ExpandsTo}
+use Rattle.psu_lex.specs.Macros.{is_placeholder, parameter, expansion, greatest, anything, outcome, ExpandsTo}
 use Rattle.psu_lex.specs.MacroScan.{begins_placeholder, Spells, Keeps, Puts}
+use Rattle.psu_lex.specs.declared.scpi_error.ScpiError.{ScpiError}
 use Rattle.psu_lex.specs.declared.scpi_error.ScpiError.TheVariants.{MacroParameterError, TooMuchData}
 use Rattle.psu_lex.proofs.Quotes.{same_byte, same_head}
 use Rattle.psu_lex.specs.Scan.{after_piece}
@@ -170,3 +171,6 @@ expands_many args bytes lt =
     let most = greatest_most false r.0 in
     let other : (greatest false r.0 == length args) ≡ false = grind (arith, nat_tests, lt, most) in
     (r.0, r.1, rw other refl)
+
+pub some_expansion : (body : List ℕ) (args : List (List ℕ)) → (result : Result (List ℕ) ScpiError) × ExpandsTo body args result
+some_expansion body args = let r = some_tokens anything body in (outcome args r.0, (r.0, r.1, refl))

@@ -52,9 +52,6 @@ no_digits : (xs : List ℕ) → tail_first xs ≡ true → leads is_digit xs ≡
 no_digits [] h = refl
 no_digits (x ∷ xs) h = (tail_byte x h).0
 
-run_none : (test : ℕ → Bool) (xs : List ℕ) → leads test xs ≡ false → run test xs ≡ []
-run_none test xs f = run_at test [] xs refl f
-
 -- ---- the sign
 
 sign_found : (s : Sign) (body : List ℕ) → leads is_body body ≡ true → (sign_of (sign_text s ++ body) ≡ s) × (after_sign (sign_text s ++ body) ≡ body) × (leads is_white (sign_text s ++ body) ≡ false)
@@ -95,7 +92,7 @@ from_none : (before ys : List ℕ) → every is_tail ys ≡ true → exponent_fr
 from_none before [] h = refl
 from_none before (x ∷ ys) h =
     let inner : every is_tail (after_sign (left is_white ys)) ≡ true = every_sign is_tail (left is_white ys) (every_left is_tail is_white ys (every_tail is_tail x ys h)) in
-    let none : run is_digit (after_sign (left is_white ys)) ≡ [] = run_none is_digit (after_sign (left is_white ys)) (no_digits (after_sign (left is_white ys)) (every_first (after_sign (left is_white ys)) inner)) in
+    let none : run is_digit (after_sign (left is_white ys)) ≡ [] = run_at is_digit [] (after_sign (left is_white ys)) refl (no_digits (after_sign (left is_white ys)) (every_first (after_sign (left is_white ys)) inner)) in
     elim (cases_Bool (x == 69 || x == 101)) [
       | inl t ↦ rw (t, none) refl
       | inr f ↦ rw f refl
@@ -108,10 +105,6 @@ with_some : (before : List ℕ) (x : ℕ) (a : List ℕ) (s : Sign) (ds : List �
     → exponent_with before x a s ds ≡ Some (record { before = before; letter = x; after = a; sign = s; digits = ds })
 with_some before x a s [] some = absurd (omega (arith, some))
 with_some before x a s (d ∷ ds) some = refl
-
-exponent_apart : (before : List ℕ) (x : ℕ) (a : List ℕ) (s : List ℕ) (ds later : List ℕ) → (before ++ x ∷ (a ++ (s ++ ds))) ++ later ≡ before ++ x ∷ (a ++ (s ++ (ds ++ later)))
-exponent_apart before x a s ds later =
-    append_assoc before (x ∷ (a ++ (s ++ ds))) later ∙ ap (λ (z : List ℕ). before ++ x ∷ z) (append_assoc a (s ++ ds) later ∙ ap (λ (z : List ℕ). a ++ z) (append_assoc s ds later))
 
 -- white space, the letter, white space, a sign and digits are found
 record Found (text : List ℕ) (before : List ℕ) (x : ℕ) (a : List ℕ) (s : Sign) (ds later : List ℕ) : Type 0 where
@@ -147,7 +140,7 @@ exponent_found : (exponent : Option Exponent) (later : List ℕ) → ExponentHol
     → (exponent_of (exponent_text exponent ++ later) ≡ exponent) × (after_exponent (exponent_text exponent ++ later) ≡ later) × (tail_first (exponent_text exponent ++ later) ≡ true)
 exponent_found None later h t = (exponent_none later t, rw (exponent_none later t) refl, every_first later t)
 exponent_found (Some e) later h t =
-    let found = exponent_some (exponent_text (Some e) ++ later) e.before e.letter e.after e.sign e.digits later (exponent_apart e.before e.letter e.after (sign_text e.sign) e.digits later)
+    let found = exponent_some (exponent_text (Some e) ++ later) e.before e.letter e.after e.sign e.digits later (simp append_assoc)
     (sym (white_every e.before) ∙ h.0) h.1 (sym (white_every e.after) ∙ h.2) (sym (digits_every e.digits) ∙ h.3) h.4 (every_first later t) in
     (found.exponent, found.after, first_of e.before e.letter (e.after ++ (sign_text e.sign ++ e.digits)) later (sym (white_every e.before) ∙ h.0) h.1)
 
@@ -233,20 +226,10 @@ parts_of text n h e =
       tail = subst (λ (z : List ℕ). Tail z n.gap n.suffix n.rest) (sym at_end) (tail_found n.gap n.suffix n.rest white h.no_gap letters end);
     }
 
-abbrev made : Sign → List ℕ → Option (List ℕ) → Option Exponent → List ℕ → List ℕ → List ℕ → Number
-made s w f e g x r = record { sign = s; whole = w; fraction = f; exponent = e; gap = g; suffix = x; rest = r }
-
-same_made : (s t : Sign) (w v : List ℕ) (f d : Option (List ℕ)) (e k : Option Exponent) (g h x y r q : List ℕ)
-    → s ≡ t → w ≡ v → f ≡ d → e ≡ k → g ≡ h → x ≡ y → r ≡ q → made s w f e g x r ≡ made t v d k h y q
-same_made s t w v f d e k g h x y r q a1 a2 a3 a4 a5 a6 a7 =
-    ap (λ (z : Sign). made z w f e g x r) a1 ∙ ap (λ (z : List ℕ). made t z f e g x r) a2 ∙ ap (λ (z : Option (List ℕ)). made t v z e g x r) a3
-    ∙ ap (λ (z : Option Exponent). made t v d z g x r) a4 ∙ ap (λ (z : List ℕ). made t v d k z x r) a5 ∙ ap (λ (z : List ℕ). made t v d k h z r) a6
-    ∙ ap (λ (z : List ℕ). made t v d k h y z) a7
-
 pub scanned_is : (text : List ℕ) (n : Number) → IsNumber n → text ≡ number_text n → scanned text ≡ n
 scanned_is text n h e =
     let p = parts_of text n h e in
-    same_made _ n.sign _ n.whole _ n.fraction _ n.exponent _ n.gap _ n.suffix _ n.rest p.sign p.whole p.fraction p.exponent p.tail.gap_is p.tail.suffix_is p.tail.end_is
+    rw (p.tail.end_is, p.tail.gap_is, p.tail.suffix_is, p.exponent, p.fraction, p.whole, p.sign) refl
 
 -- ---- what is a number
 

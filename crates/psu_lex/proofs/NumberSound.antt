@@ -87,15 +87,12 @@ left_stops test (x ∷ xs) = elim (cases_Bool (test x)) [
   | inr f ↦ rw f f
 ]
 
-left_twice : (test : ℕ → Bool) (xs : List ℕ) → leads test xs ≡ false → left test xs ≡ xs
-left_twice test xs f = left_at test [] xs refl f
-
 tail_split_at : (d s : List ℕ) → s ≡ suffix_of d → excess_of d ≡ []
     → (if is_nonempty s then run is_white d else []) ++ (s ++ (if is_nonempty s then run is_white (left is_letter (left is_white d)) else run is_white d)) ≡ d
 tail_split_at d [] e none =
     let y = left is_white d in
     let same : left is_letter y ≡ y = ap (λ (z : List ℕ). z ++ left is_letter y) e ∙ run_left is_letter y in
-    let gone : y ≡ [] = sym (left_twice is_white y (left_stops is_white d)) ∙ ap (left is_white) (sym same) ∙ none in
+    let gone : y ≡ [] = sym (left_at is_white [] y refl (left_stops is_white d)) ∙ ap (left is_white) (sym same) ∙ none in
     sym (append-nil (run is_white d)) ∙ ap (λ (z : List ℕ). run is_white d ++ z) (sym gone) ∙ run_left is_white d
 tail_split_at d (x ∷ s) e none =
     let y = left is_white d in
@@ -103,9 +100,6 @@ tail_split_at d (x ∷ s) e none =
     let all : run is_white r ≡ r = sym (append-nil (run is_white r)) ∙ ap (λ (z : List ℕ). run is_white r ++ z) (sym none) ∙ run_left is_white r in
     let later : (x ∷ s) ++ run is_white r ≡ y = ap (λ (z : List ℕ). (x ∷ s) ++ z) all ∙ ap (λ (z : List ℕ). z ++ r) e ∙ run_left is_letter y in
     ap (λ (z : List ℕ). run is_white d ++ z) later ∙ run_left is_white d
-
-tail_split : (d : List ℕ) → excess_of d ≡ [] → gap_of d ++ (suffix_of d ++ end_of d) ≡ d
-tail_split d none = tail_split_at d (suffix_of d) refl none
 
 if_white : (b : Bool) (x y : List ℕ) → all_white x ≡ true → all_white y ≡ true → all_white (if b then x else y) ≡ true
 if_white true x y h k = h
@@ -140,7 +134,7 @@ spelled text none =
     let b = at_fraction text in
     let c = at_exponent text in
     let d = at_tail text in
-    sym (ap (λ (z : List ℕ). sign_text (sign_of text) ++ (run is_digit a ++ (fraction_text (fraction_of b) ++ (exponent_text (exponent_of c) ++ z)))) (tail_split d none)
+    sym (ap (λ (z : List ℕ). sign_text (sign_of text) ++ (run is_digit a ++ (fraction_text (fraction_of b) ++ (exponent_text (exponent_of c) ++ z)))) (tail_split_at d (suffix_of d) refl none)
     ∙ ap (λ (z : List ℕ). sign_text (sign_of text) ++ (run is_digit a ++ (fraction_text (fraction_of b) ++ z))) (exponent_split c)
     ∙ ap (λ (z : List ℕ). sign_text (sign_of text) ++ (run is_digit a ++ z)) (fraction_split b)
     ∙ ap (λ (z : List ℕ). sign_text (sign_of text) ++ z) (run_left is_digit a)

@@ -1,9 +1,9 @@
 -- Strings and blocks: what their scan leaves is what follows a whole one, and a text holds one content.
-use Rattle.std.proofs.Common.{◌≡◌, ℕ, zero, suc, ◌+◌, ◌-◌, ◌==◌, ◌<◌, ◌≤◌, Bool, true, false, List, [], ◌∷◌, ◌++◌, length, take, drop, refl, sym, ap, ◌∙◌, subst, arith, append_assoc, inl, inr, length-append, slice_index, Option, Some, None, if◌then◌else◌, nat_lt, ◌||◌, length-drop}
+use Rattle.std.proofs.Common.{◌≡◌, ℕ, zero, suc, ◌+◌, ◌-◌, ◌==◌, ◌<◌, ◌≤◌, Bool, true, false, List, [], ◌∷◌, ◌++◌, length, take, drop, refl, sym, ap, ◌∙◌, subst, arith, append_assoc, inl, inr, length-append, slice_index, Option, Some, None, if◌then◌else◌, nat_lt, nat_le, ◌||◌, ◌&&◌, length-drop}
 use Rattle.std.proofs.lemmas.Bool.{and_parts, cases_Bool, eq-eqb, eqb-true, or_parts, or_from, eqb-false}
 use Rattle.std.proofs.lemmas.Bool.Decides.{nat_tests}
 use Rattle.std.proofs.lemmas.List.{append-nil, append_cancel_right, take-append-drop, drop_all}
-use Rattle.std.proofs.lemmas.Option.{same_Some}
+use Rattle.std.proofs.lemmas.Option.{cond_some, same_Some}
 use Rattle.std.proofs.lemmas.Grind.{common_steps}
 use Rattle.std.proofs.Math.Seq.{take-append_seam, drop-append_seam}
 use Rattle.psu_lex.specs.Bytes.{all_digits, ends_in_newline, has_newline, is_quote, starts, starts_quoted, value_after}
@@ -33,8 +33,8 @@ counted_found : (n : ℕ) (d c more : List ℕ) → n ≡ length d → all_digit
 counted_found n d c more e h v =
     let front : take n (d ++ (c ++ more)) ≡ d = rw e (take-append_seam d (c ++ more)) in
     let back : drop n (d ++ (c ++ more)) ≡ c ++ more = rw e (drop-append_seam d (c ++ more)) in
-    let long : nat_lt (length (d ++ (c ++ more))) n ≡ false = grind (arith, nat_tests, common_steps, e) in
-    let fits : nat_lt (length (c ++ more)) (value_after 0 d) ≡ false = grind (arith, nat_tests, common_steps, v) in
+    let long : nat_le n (length (d ++ (c ++ more))) ≡ true = grind (arith, nat_tests, common_steps, e) in
+    let fits : nat_le (value_after 0 d) (length (c ++ more)) ≡ true = grind (arith, nat_tests, common_steps, v) in
     let left : drop (n + value_after 0 d) (d ++ (c ++ more)) ≡ more = drop-add n (value_after 0 d) (d ++ (c ++ more)) ∙ rw (back, ← v) (drop-append_seam c more) in
     rw (long, front, h, back, fits, left) refl
 
@@ -83,12 +83,14 @@ string_whole false q (x ∷ text) more g e = elim (cases_Bool (x == q)) [
   ]
 ]
 
-counted_parts : (n : ℕ) (text more : List ℕ) → 0 < n → n < 10 → nat_lt (length text) n ≡ false → all_digits (take n text) ≡ true → nat_lt (length (drop n text)) (value_after 0 (take n text)) ≡ false
-    → drop (n + value_after 0 (take n text)) text ≡ more → BeginsPiece (35 ∷ (48 + n) ∷ text) more
-counted_parts n text more some few long h fits e =
+counted_whole : (n : ℕ) (text more : List ℕ) → 0 < n → n < 10 → after_counted n text ≡ Some more → BeginsPiece (35 ∷ (48 + n) ∷ text) more
+counted_whole n text more some few s =
     let d = take n text in
     let v = value_after 0 d in
     let a = take v (drop n text) in
+    let (is, e) = cond_some (nat_le n (length text) && (all_digits d && nat_le v (length (drop n text)))) _ more s in
+    let (long, rest) = and_parts (nat_le n (length text)) (all_digits d && nat_le v (length (drop n text))) is in
+    let (h, fits) = and_parts (all_digits d) (nat_le v (length (drop n text))) rest in
     let digits : length d ≡ n = grind (arith, common_steps, nat_tests, long) in
     let bytes : length a ≡ v = grind (arith, common_steps, nat_tests, fits) in
     let back : drop v (drop n text) ≡ more = sym (drop-add n v text) ∙ e in
@@ -110,18 +112,6 @@ open_whole (x ∷ text) more e = elim (cases_Bool (ends_in_newline (x ∷ text))
   | inr f ↦
       let left : more ≡ [] = sym (same_Some _ more (rw f at e)) ∙ drop_all (length (48 ∷ x ∷ text)) (48 ∷ x ∷ text) (omega arith) in
       (Open (x ∷ text), ap (λ (z : List ℕ). 35 ∷ 48 ∷ z) (sym (append-nil (x ∷ text)) ∙ ap (λ (z : List ℕ). (x ∷ text) ++ z) (sym left)), inl (left, f))
-]
-
-counted_whole : (n : ℕ) (text more : List ℕ) → 0 < n → n < 10 → after_counted n text ≡ Some more → BeginsPiece (35 ∷ (48 + n) ∷ text) more
-counted_whole n text more some few e = elim (cases_Bool (nat_lt (length text) n)) [
-  | inl t ↦ absurd (cc (rw t at e))
-  | inr f ↦ elim (cases_Bool (all_digits (take n text))) [
-    | inr g ↦ absurd (cc (rw (f, g) at e))
-    | inl h ↦ elim (cases_Bool (nat_lt (length (drop n text)) (value_after 0 (take n text)))) [
-      | inl t ↦ absurd (cc (rw (f, h, t) at e))
-      | inr g ↦ counted_parts n text more some few f h g (same_Some _ more (rw (f, h, g) at e))
-    ]
-  ]
 ]
 
 pub block_whole : (text more : List ℕ) → after_block text ≡ Some more → BeginsPiece (35 ∷ text) more

@@ -34,15 +34,10 @@ pub parts_at : (s : List ℕ) (at : ℕ) → at < length s → s ≡ take at s +
 parts_at s at within =
     sym (take-append-drop at s) ∙ ap (λ (z : List ℕ). take at s ++ z) (drop-cons s at 0 within ∙ ap (λ (n : ℕ). slice_index s at ∷ drop n s) (sym (add-one at)))
 
-pub has_shorter : (test : ℕ → Bool) (s : List ℕ) (n m : ℕ) → n ≤ m → has test (take m s) ≡ false → has test (take n s) ≡ false
-has_shorter test [] zero zero le h = refl
-has_shorter test [] zero (suc m) le h = refl
-has_shorter test [] (suc n) zero le h = refl
-has_shorter test [] (suc n) (suc m) le h = refl
-has_shorter test (x ∷ s) zero m le h = refl
-has_shorter test (x ∷ s) (suc n) zero le h = absurd (omega (arith, le))
-has_shorter test (x ∷ s) (suc n) (suc m) le h =
-    rw (has_head test x (take m s) h) (has_shorter test s n m (omega (arith, le)) (has_tail test x (take m s) h))
+pub has_front : (test : ℕ → Bool) (s : List ℕ) (n : ℕ) → has test s ≡ false → has test (take n s) ≡ false
+has_front test s zero h = refl
+has_front test [] (suc n) h = refl
+has_front test (x ∷ s) (suc n) h = rw (has_head test x s h) (has_front test s n (has_tail test x s h))
 
 pub drop-add : (a b : ℕ) (s : List ℕ) → drop (a + b) s ≡ drop b (drop a s)
 drop-add a b s = grind (arith, common_steps)

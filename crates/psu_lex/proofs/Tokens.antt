@@ -5,8 +5,8 @@ use Rattle.std.proofs.lemmas.Bool.Decides.{nat_tests}
 use Rattle.std.proofs.lemmas.List.{append-nil}
 use Rattle.std.proofs.Math.Seq.{take-append_seam}
 use Rattle.std.proofs.lemmas.Option.{some_pair_parts}
-use Rattle.psu_lex.specs.Bytes.{is_quote, opens, separates}
-use Rattle.psu_lex.specs.Message.{Piece, spelling, opens_first, IsWhole, Token, text_of, Stands, Reads, HasNoPiece}
+use Rattle.psu_lex.specs.Bytes.{is_closed, is_quote, opens, separates}
+use Rattle.psu_lex.specs.Message.{Piece, spelling, opens_first, IsWhole, Token, text_of, Stands, Reads, HasNoPiece, IsMessage, Part, units_of}
 use Rattle.psu_lex.specs.Message.Piece.{Quoted, Counted, Open}
 use Rattle.psu_lex.specs.Message.Token.{Byte, Separator, Whole, Faulty}
 use Rattle.psu_lex.specs.Scan.{after_piece}
@@ -89,3 +89,6 @@ tokens_within f (suc n) (x ∷ bytes) le = elim (cases_Bool (opens x)) [
 
 pub some_tokens : (f : List ℕ → Bool) (bytes : List ℕ) → (ts : List Token) × Reads f bytes ts
 some_tokens f bytes = tokens_within f (length bytes) bytes (omega arith)
+
+pub some_units : (bytes : List ℕ) → (units : List Part) × IsMessage bytes units
+some_units bytes = let r = some_tokens is_closed bytes in (units_of true [] r.0, (r.0, r.1, refl))

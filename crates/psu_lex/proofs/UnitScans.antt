@@ -10,7 +10,7 @@ use Rattle.psu_lex.specs.declared.unit_fault.UnitFault.{UnitFault}
 use Rattle.psu_lex.specs.Message.Token.{Byte, Separator, Whole, Faulty}
 use Rattle.psu_lex.specs.Scan.{has, after_piece, IsStop}
 use Rattle.psu_lex.proofs.PieceScans.{whole, not_zero}
-use Rattle.psu_lex.proofs.Searches.{has_head, has_tail, has_shorter, free_before, free_all, drop-add, free_later}
+use Rattle.psu_lex.proofs.Searches.{has_head, has_tail, has_front, free_before, free_all, drop-add, free_later}
 use Rattle.psu_lex.specs.declared.unit.Unit as rust
 use Rattle.psu_lex.proofs.Quotes.{same_byte}
 use Rattle.std.proofs.lemmas.Bool.{cases_Bool}
@@ -20,28 +20,12 @@ use Rattle.psu_lex.specs.Syntax.{has_high}
 use Rattle.psu_lex.specs.SyntaxScan.{is_high}
 use Rattle.psu_lex.proofs.Tokens.{some_tokens}
 
-pub makes_byte : (first : Bool) (x : ℕ) (text rest : List ℕ) (units : List Part) → separates x ≡ false → opens x ≡ false
-    → Makes first (text ++ x ∷ []) rest units → Makes first text (x ∷ rest) units
-makes_byte first x text rest units f g m = (Byte x ∷ m.0, (rest, refl, (f, g), m.1), m.2)
-
 pub makes_run : (first : Bool) (run text rest : List ℕ) (units : List Part) → has separates run ≡ false → has opens run ≡ false
     → Makes first (text ++ run) rest units → Makes first text (run ++ rest) units
 makes_run first [] text rest units f g m = subst (λ (z : List ℕ). Makes first z rest units) (append-nil text) m
 makes_run first (x ∷ run) text rest units f g m =
-    makes_byte first x text (run ++ rest) units (has_head separates x run f) (has_head opens x run g)
-    (makes_run first run (text ++ x ∷ []) rest units (has_tail separates x run f) (has_tail opens x run g)
-    (subst (λ (z : List ℕ). Makes first z rest units) (sym (append_assoc text (x ∷ []) run)) m))
-
-pub makes_piece : (first : Bool) (text bytes more : List ℕ) (units : List Part) → (b : BeginsPiece bytes more) → is_closed more ≡ true
-    → Makes first (text ++ spelling b.0) more units → Makes first text bytes units
-makes_piece first text bytes more units b h m = (Whole b.0 ∷ m.0, (more, b.1, (b.2, h), m.1), m.2)
-
-pub makes_fault : (first : Bool) (text bytes : List ℕ) → opens_first bytes ≡ true → HasNoPiece is_closed bytes
-    → Makes first text bytes (record { text = text ++ bytes; first = first; fault = Some (fault_of bytes) } ∷ [])
-makes_fault first text bytes o n = (Faulty bytes ∷ [], ([], sym (append-nil bytes), (refl, o, n), refl), refl)
-
-pub makes_end : (first : Bool) (text : List ℕ) → Makes first text [] (ended first text)
-makes_end first text = ([], refl, refl)
+    let later = makes_run first run (text ++ x ∷ []) rest units (has_tail separates x run f) (has_tail opens x run g) (subst (λ (z : List ℕ). Makes first z rest units) (sym (append_assoc text (x ∷ []) run)) m) in
+    (Byte x ∷ later.0, (run ++ rest, refl, (has_head separates x run f, has_head opens x run g), later.1), later.2)
 
 pub makes_separator : (first : Bool) (x : ℕ) (text rest : List ℕ) (units : List Part) → separates x ≡ true
     → Makes (next_first first text x) [] rest units → Makes first text (x ∷ rest) (ended first text ++ units)
@@ -53,7 +37,7 @@ opens_at s n within h = rw (drop-cons s n 0 within) h
 -- the terminator that was found, or the end
 pub stop_at : (s : List ℕ) (r : Option ℕ) → IsFirstByte (is_byte2 59 10) s r
     → (unwrap_or r (length s) ≤ length s) × (has separates (take (unwrap_or r (length s)) s) ≡ false) × (ends_unit (drop (unwrap_or r (length s)) s) ≡ true)
-stop_at s None h = (omega arith, has_shorter separates s (length s) (length s) (omega arith) (rw (take_all (length s) s (omega arith)) (free_all separates s h)), rw (drop_all (length s) s (omega arith)) refl)
+stop_at s None h = (omega arith, rw (take_all (length s) s (omega arith)) (free_all separates s h), rw (drop_all (length s) s (omega arith)) refl)
 stop_at s (Some n) h = (omega (arith, h.0.high), free_before separates s n h, rw (drop-cons s n 0 h.0.high) h.1)
 
 -- the quote or `#` that was found before it
@@ -64,7 +48,7 @@ open_at s run n le h f =
     let t : opens (slice_index (take run s) n) ≡ true = h.1 in
     let same : take n (take run s) ≡ take n s = grind (arith, common_steps, below) in (
       omega (arith, below, le),
-      has_shorter separates s n run (omega (arith, below)) f,
+      ap (has separates) (sym same) ∙ has_front separates (take run s) n f,
       ap (has opens) (sym same) ∙ free_before opens (take run s) n h,
       opens_at s n (omega (arith, below, le)) (ap opens (sym (get_or-take run s n 0 below)) ∙ t),
     )
@@ -83,16 +67,16 @@ pub step_piece : (first : Bool) (bytes : List ℕ) (at n : ℕ) (units : List Pa
     → Makes first (take (at + n) bytes) (drop (at + n) bytes) units → Makes first (take at bytes) (drop at bytes) units
 step_piece first bytes at n units b h m =
     let text : take n (drop at bytes) ≡ spelling b.0 = append_cancel_right (take n (drop at bytes)) (spelling b.0) (drop n (drop at bytes)) (take-append-drop n (drop at bytes) ∙ b.1) in
-    makes_piece first (take at bytes) (drop at bytes) (drop n (drop at bytes)) units b h
-    (subst (λ (z : List ℕ). Makes first (take at bytes ++ z) (drop n (drop at bytes)) units) text
+    let later = subst (λ (z : List ℕ). Makes first (take at bytes ++ z) (drop n (drop at bytes)) units) text
     (subst (λ (z : List ℕ). Makes first z (drop n (drop at bytes)) units) (take-add at n bytes)
-    (subst (λ (z : List ℕ). Makes first (take (at + n) bytes) z units) (drop-add at n bytes) m)))
+    (subst (λ (z : List ℕ). Makes first (take (at + n) bytes) z units) (drop-add at n bytes) m)) in
+    (Whole b.0 ∷ later.0, (drop n (drop at bytes), b.1, (b.2, h), later.1), later.2)
 
 pub step_fault : (first : Bool) (bytes : List ℕ) (at : ℕ) → opens_first (drop at bytes) ≡ true → HasNoPiece is_closed (drop at bytes)
     → Makes first (take at bytes) (drop at bytes) (record { text = bytes; first = first; fault = Some (fault_of (drop at bytes)) } ∷ [])
 step_fault first bytes at o n =
     subst (λ (z : List ℕ). Makes first (take at bytes) (drop at bytes) (record { text = z; first = first; fault = Some (fault_of (drop at bytes)) } ∷ []))
-    (take-append-drop at bytes) (makes_fault first (take at bytes) (drop at bytes) o n)
+    (take-append-drop at bytes) (Faulty (drop at bytes) ∷ [], ([], sym (append-nil (drop at bytes)), (refl, o, n), refl), refl)
 
 -- ---- the same, as the scan of a unit goes
 
@@ -158,7 +142,7 @@ parts_push [] u = refl
 parts_push (v ∷ us) u = ap (λ (z : List Part). part v ∷ z) (parts_push us u)
 
 pub split_end : (first : Bool) (rest text sep : List ℕ) (end : ℕ) → text ≡ take end rest → sep ≡ drop end rest → length sep ≡ 0 → Makes first (take end rest) (drop end rest) (ended first text)
-split_end first rest text [] end t s n = subst (λ (z : List ℕ). Makes first (take end rest) z (ended first text)) s (subst (λ (z : List ℕ). Makes first z [] (ended first text)) t (makes_end first text))
+split_end first rest text [] end t s n = subst (λ (z : List ℕ). Makes first (take end rest) z (ended first text)) s (subst (λ (z : List ℕ). Makes first z [] (ended first text)) t ([], refl, refl))
 split_end first rest text (x ∷ sep) end t s n = absurd (omega (arith, n))
 
 pub split_step : (first next blank : Bool) (rest text sep later : List ℕ) (end : ℕ) (more : List Part) → text ≡ take end rest → sep ≡ drop end rest → (length sep ≡ 0 → ⊥) → ends_unit (drop end rest) ≡ true

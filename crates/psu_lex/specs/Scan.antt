@@ -1,5 +1,5 @@
 -- Words of the contracts inside this crate: what a scan has found so far.
-use Rattle.std.specs.Prelude.{◌≡◌, ℕ, ◌+◌, ◌-◌, ◌≤◌, ◌==◌, ◌||◌, ◌&&◌, nat_lt, not, Bool, true, false, List, [], ◌∷◌, length, take, drop, slice_index, Option, Some, None, if◌then◌else◌}
+use Rattle.std.specs.Prelude.{◌≡◌, ℕ, ◌+◌, ◌-◌, ◌≤◌, ◌==◌, ◌||◌, ◌&&◌, nat_lt, nat_le, Bool, true, false, List, [], ◌∷◌, length, take, drop, slice_index, Option, Some, None, if◌then◌else◌}
 use Rattle.psu_lex.specs.Bytes.{all_digits, ends_in_newline, is_quote, separates, starts_quoted, value_after}
 use Rattle.psu_lex.specs.Message.{ends_unit}
 
@@ -32,10 +32,8 @@ single second q (x ∷ xs) = if second then single false q xs else x ∷ single 
 -- what follows n digits and as many bytes as they say
 abbrev pub after_counted : ℕ → List ℕ → Option (List ℕ)
 after_counted n text =
-    if nat_lt (length text) n then None
-    else (if not (all_digits (take n text)) then None
-    else (if nat_lt (length (drop n text)) (value_after 0 (take n text)) then None
-    else Some (drop (n + value_after 0 (take n text)) text)))
+    if nat_le n (length text) && (all_digits (take n text) && nat_le (value_after 0 (take n text)) (length (drop n text))) then Some (drop (n + value_after 0 (take n text)) text)
+    else None
 
 -- what follows a block, from behind its `#` on
 abbrev pub after_block : List ℕ → Option (List ℕ)

@@ -8,6 +8,7 @@ ghost use Rattle.psu_lex.specs.Syntax.{Header, IsHeader, Syntax, SyntaxGives, Un
 ghost use Rattle.psu_lex.specs.declared.scpi_error.ScpiError.{ScpiError};
 
 /// Every list of bytes has units.
+#[tactic(auto, using(crate::proofs::Tokens::some_units))]
 pub fn every_list_has_units()
     ensures { (bytes : List ℕ) → (units : List Part) × IsMessage bytes units }
 {}
@@ -78,6 +79,7 @@ pub fn one_expansion_of_a_body()
 {}
 
 /// Every body has an expansion, or an error in its place.
+#[tactic(auto, using(crate::proofs::Expansions::some_expansion))]
 pub fn every_body_has_an_expansion()
     ensures { (body : List ℕ) (args : List (List ℕ)) → (result : Result (List ℕ) ScpiError) × ExpandsTo body args result }
 {}
