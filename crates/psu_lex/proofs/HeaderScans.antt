@@ -10,7 +10,6 @@ use Rattle.psu_lex.specs.SyntaxScan.{is_empty, joins, is_part, is_path, is_heade
 use Rattle.psu_lex.specs.NumberScan.{run, left}
 use Rattle.psu_lex.proofs.Quotes.{same_byte, same_head, same_tail, both}
 use Rattle.psu_lex.proofs.Runs.{every, leads, run_at, left_at, every_head, every_tail, every_append, every_more}
-use Rattle.std.proofs.lemmas.Grind.{common_steps}
 use Rattle.std.proofs.lemmas.List.{append-nil}
 use Rattle.std.proofs.Math.Seq.{take-append_seam}
 use Rattle.psu_lex.specs.Shown.{ShowsHeader}

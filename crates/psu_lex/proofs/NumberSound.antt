@@ -2,10 +2,9 @@
 use Rattle.std.proofs.Common.{◌≡◌, ℕ, ◌==◌, ◌||◌, ◌<◌, Bool, true, false, not, List, [], ◌∷◌, ◌++◌, length, drop, refl, sym, ap, ◌∙◌, if◌then◌else◌, arith, append_assoc, inl, inr, is_none}
 use Rattle.std.proofs.lemmas.Bool.{and_parts, cases_Bool}
 use Rattle.std.proofs.lemmas.List.{append-nil}
-use Rattle.psu_lex.specs.Bytes.{starts, is_digit, is_letter, is_white, all_digits, all_white}
+use Rattle.psu_lex.specs.Bytes.{is_digit, is_letter, is_white, all_digits, all_white}
 use Rattle.psu_lex.specs.Number.{Sign, IsNumber, ExponentHolds, sign_text, fraction_text, fraction_digits, exponent_text, number_text, mantissa}
-use Rattle.psu_lex.specs.Shown.{is_minus}
-use Rattle.psu_lex.specs.NumberScan.{run, left, sign_of, after_sign, fraction_of, after_fraction, exponent_with, exponent_from, exponent_of, after_exponent, is_nonempty, is_number, suffix_of, gap_of, end_of, excess_of, at_fraction, at_exponent, at_tail, scanned}
+use Rattle.psu_lex.specs.NumberScan.{run, left, sign_of, after_sign, fraction_of, after_fraction, exponent_with, exponent_from, exponent_of, after_exponent, is_nonempty, is_number, suffix_of, excess_of, at_fraction, at_exponent, at_tail, scanned}
 use Rattle.psu_lex.proofs.Quotes.{same_byte}
 use Rattle.psu_lex.proofs.Runs.{run_white, every, leads, digits_every, white_every, letters_every, run_left, run_every, left_at, every_append}
 

@@ -227,10 +227,6 @@ pub last_byte : (text : List ℕ) → 0 < length text → (slice_index text (len
 last_byte [] h = absurd (omega (arith, h))
 last_byte (x ∷ xs) h = last_at x xs (length (x ∷ xs) - 1) (omega arith)
 
-pub not_zero : (text : List ℕ) (b : Bool) → b ≡ (length text == 0) → b ≡ false → 0 < length text
-not_zero [] b e f = absurd (cc (e, f))
-not_zero (x ∷ text) b e f = omega arith
-
 -- ---- a string that is all of a text
 
 spent : (r : Option (List ℕ)) → is_spent r ≡ true → r ≡ Some []

@@ -1,11 +1,11 @@
 -- The value of a number: rounding, holding, digits by their place, and digits that std writes.
-use Rattle.std.proofs.Common.{◌≡◌, ℕ, zero, suc, ◌+◌, ◌-◌, ◌*◌, ◌^◌, ◌<◌, ◌≤◌, min, true, List, [], ◌∷◌, ◌++◌, length, take, drop, refl, sym, ap, ◌∙◌, arith, inl, inr, add-one, slice_index, ◌==◌, false, length-append, take_all, drop-cons, decimal, rules}
+use Rattle.std.proofs.Common.{◌/◌, length-drop, ◌≡◌, ℕ, zero, suc, ◌+◌, ◌-◌, ◌*◌, ◌^◌, ◌<◌, ◌≤◌, min, true, List, [], ◌∷◌, ◌++◌, length, take, drop, refl, sym, ap, ◌∙◌, arith, inl, inr, add-one, slice_index, ◌==◌, false, length-append, drop-cons, decimal, rules}
 use Rattle.std.proofs.lemmas.Bool.{cases_lt, cases_Bool}
 use Rattle.std.proofs.lemmas.Nat.{pow-add}
-use Rattle.std.proofs.lemmas.List.{take-append-drop, append-nil}
+use Rattle.std.proofs.lemmas.List.{take-append-drop}
 use Rattle.std.proofs.lemmas.Grind.{common_steps}
 use Rattle.std.proofs.lemmas.Bool.Decides.{nat_tests}
-use Rattle.std.proofs.Math.Nat.{one-le-pow, pow-succ', mul_comm, mul_assoc, suc-mul, mul-suc, add-mul, mul-le-mul_right, div-eq_of_lt-le}
+use Rattle.std.proofs.Math.Nat.{mul-div-mul_right, one-le-pow, pow-succ', mul_comm, mul_assoc, suc-mul, mul-suc, add-mul, mul-le-mul_right, div-eq_of_lt-le}
 use Rattle.psu_lex.specs.Bytes.{value_after, all_digits}
 use Rattle.psu_lex.specs.Number.{magnitude, rounded, without_zeros}
 use Rattle.std.specs.Prelude.{nat_lt}
@@ -139,15 +139,15 @@ half x xs h =
 
 -- ---- digits cut away
 
-less_mul : (v k u : ℕ) → 0 < u → 2 * v < k → 2 * (v * u) < k * u
-less_mul v k u h lt =
-    let m : (2 * v + 1) * u ≤ k * u = mul-le-mul_right u (omega (arith, lt)) in
-    omega (arith, m, h, add-mul (2 * v) 1 u, mul_assoc 2 v u)
-
-more_mul : (v k u : ℕ) → k ≤ 2 * v → k * u ≤ 2 * (v * u)
-more_mul v k u le =
-    let m : k * u ≤ 2 * v * u = mul-le-mul_right u le in
-    omega (arith, m, mul_assoc 2 v u)
+-- tens that multiply and divide
+rounded_tens : (v up down : ℕ) → up ≤ down → rounded (v * 10 ^ up) (10 ^ down) ≡ rounded v (10 ^ (down - up))
+rounded_tens v up down le =
+    let u = 10 ^ up in
+    let k = 10 ^ (down - up) in
+    let e : 10 ^ down ≡ k * u = ap (λ (z : ℕ). 10 ^ z) (omega (arith, le)) ∙ pow-add 10 (down - up) up in
+    let n : 2 * (v * u) + k * u ≡ (2 * v + k) * u = omega (arith, add-mul (2 * v) k u, mul_assoc 2 v u) in
+    ap (rounded (v * u)) e ∙ ap (λ (z : ℕ). z / (2 * (k * u))) n ∙ ap (λ (z : ℕ). (2 * v + k) * u / z) (sym (mul_assoc 2 k u))
+    ∙ mul-div-mul_right (2 * v + k) (2 * k) (one-le-pow up 10 (omega arith))
 
 ten_le : (m n : ℕ) → m ≤ n → 10 ^ m ≤ 10 ^ n
 ten_le m n le =
@@ -155,58 +155,35 @@ ten_le m n le =
     let f : 1 * 10 ^ m ≤ 10 ^ (n - m) * 10 ^ m = mul-le-mul_right (10 ^ m) (omega (arith, one-le-pow (n - m) 10 (omega arith))) in
     omega (arith, e, f)
 
-over_up : (up down : ℕ) → up ≤ down → 10 ^ down ≡ 10 ^ (down - up) * 10 ^ up
-over_up up down le = ap (λ (z : ℕ). 10 ^ z) (omega (arith, le)) ∙ pow-add 10 (down - up) up
-
 pub cut_away : (digits : List ℕ) (up down : ℕ) → all_digits digits ≡ true → up < down → length digits < down - up → 0 ≡ magnitude digits up down
 cut_away digits up down h lt short =
     let v = value_after 0 digits in
     let k = 10 ^ (down - up) in
     let b : 10 ^ suc (length digits) ≤ k = ten_le (suc (length digits)) (down - up) (omega (arith, short)) in
-    let s : 2 * v < k = omega (arith, b, pow-succ' 10 (length digits), below_power digits h) in
-    let m : 2 * (v * 10 ^ up) < 10 ^ down = omega (arith, less_mul v k (10 ^ up) (one-le-pow up 10 (omega arith)) s, over_up up down (omega (arith, lt))) in
-    let r : rounded (0 * 10 ^ down + v * 10 ^ up) (10 ^ down) ≡ 0 = rounded_down 0 (v * 10 ^ up) (10 ^ down) m in
-    let z : 0 * 10 ^ down + v * 10 ^ up ≡ v * 10 ^ up = omega arith in
-    let r2 : rounded (v * 10 ^ up) (10 ^ down) ≡ 0 = ap (λ (n : ℕ). rounded n (10 ^ down)) (sym z) ∙ r in
-    omega (arith, r2)
+    let none : rounded v k ≡ 0 = ap (λ (n : ℕ). rounded n k) (omega arith) ∙ rounded_down 0 v k (omega (arith, b, pow-succ' 10 (length digits), below_power digits h)) in
+    omega (arith, rounded_tens v up down (omega (arith, lt)) ∙ none)
 
--- the digits before the place, and those after it
-parts_of : (digits front back : List ℕ) (up down : ℕ) → digits ≡ front ++ back → up < down → length back ≡ down - up
-    → value_after 0 digits * 10 ^ up ≡ value_after 0 front * 10 ^ down + value_after 0 back * 10 ^ up
-parts_of digits front back up down e lt n =
-    let f = value_after 0 front in
-    let b = value_after 0 back in
+-- the digits before the place, rounded by the digit at it
+pub cut : (digits : List ℕ) (up down kept : ℕ) → all_digits digits ≡ true → up < down → kept + (down - up) ≡ length digits
+    → (53 ≤ slice_index digits kept → rounded (value_after 0 digits * 10 ^ up) (10 ^ down) ≡ value_after 0 (take kept digits) + 1)
+    × (slice_index digits kept < 53 → rounded (value_after 0 digits * 10 ^ up) (10 ^ down) ≡ value_after 0 (take kept digits))
+cut digits up down kept h lt n =
+    let f = value_after 0 (take kept digits) in
+    let y = slice_index digits kept in
+    let back = drop (suc kept) digits in
+    let b = value_after 0 (y ∷ back) in
     let k = 10 ^ (down - up) in
-    let a : value_after 0 digits ≡ f * 10 ^ length back + b = ap (value_after 0) e ∙ after_append 0 front back ∙ after_split f back in
-    let a2 : value_after 0 digits ≡ f * k + b = a ∙ ap (λ (z : ℕ). f * 10 ^ z + b) n in
-    let w : f * 10 ^ down ≡ f * k * 10 ^ up = ap (λ (z : ℕ). f * z) (over_up up down (omega (arith, lt))) ∙ sym (mul_assoc f k (10 ^ up)) in
-    ap (λ (z : ℕ). z * 10 ^ up) a2 ∙ add-mul (f * k) b (10 ^ up) ∙ ap (λ (z : ℕ). z + b * 10 ^ up) (sym w)
-
-pub cut_up : (digits front back : List ℕ) (up down held x : ℕ) → all_digits back ≡ true → digits ≡ front ++ back → up < down → length back ≡ down - up
-    → held ≡ min (10 ^ 15) (value_after 0 front) → 53 ≤ slice_index back 0 → x ≡ min (held + 1) (10 ^ 15) → x ≡ magnitude digits up down
-cut_up digits front [] up down held x h e lt n hd big w = absurd (omega (arith, n, lt))
-cut_up digits front (y ∷ back) up down held x h e lt n hd big w =
-    let b = value_after 0 (y ∷ back) in
-    let k : 10 ^ length (y ∷ back) ≡ 10 ^ (down - up) = ap (λ (z : ℕ). 10 ^ z) n in
-    let g : 10 ^ (down - up) ≤ 2 * b = omega (arith, k, (half y back h).0 big) in
-    let t : b < 10 ^ (down - up) = omega (arith, k, below_power (y ∷ back) h) in
-    let m : b * 10 ^ up < 10 ^ down = omega (arith, mul-le-mul_right {m = b + 1} {n = 10 ^ (down - up)} (10 ^ up) (omega (arith, t)), add-mul b 1 (10 ^ up), one-le-pow up 10 (omega arith), over_up up down (omega (arith, lt))) in
-    let o : 10 ^ down ≤ 2 * (b * 10 ^ up) = omega (arith, more_mul b (10 ^ (down - up)) (10 ^ up) g, over_up up down (omega (arith, lt))) in
-    let r : rounded (value_after 0 digits * 10 ^ up) (10 ^ down) ≡ value_after 0 front + 1 =
-    ap (λ (z : ℕ). rounded z (10 ^ down)) (parts_of digits front (y ∷ back) up down e lt n) ∙ rounded_up (value_after 0 front) (b * 10 ^ up) (10 ^ down) m o in
-    omega (arith, r, hd, w)
-
-pub cut_down : (digits front back : List ℕ) (up down held : ℕ) → all_digits back ≡ true → digits ≡ front ++ back → up < down → length back ≡ down - up
-    → held ≡ min (10 ^ 15) (value_after 0 front) → slice_index back 0 < 53 → held ≡ magnitude digits up down
-cut_down digits front [] up down held h e lt n hd small = absurd (omega (arith, n, lt))
-cut_down digits front (y ∷ back) up down held h e lt n hd small =
-    let b = value_after 0 (y ∷ back) in
-    let k : 10 ^ length (y ∷ back) ≡ 10 ^ (down - up) = ap (λ (z : ℕ). 10 ^ z) n in
-    let g : 2 * b < 10 ^ (down - up) = omega (arith, k, (half y back h).1 small) in
-    let m : 2 * (b * 10 ^ up) < 10 ^ down = omega (arith, less_mul b (10 ^ (down - up)) (10 ^ up) (one-le-pow up 10 (omega arith)) g, over_up up down (omega (arith, lt))) in
-    let r : rounded (value_after 0 digits * 10 ^ up) (10 ^ down) ≡ value_after 0 front =
-    ap (λ (z : ℕ). rounded z (10 ^ down)) (parts_of digits front (y ∷ back) up down e lt n) ∙ rounded_down (value_after 0 front) (b * 10 ^ up) (10 ^ down) m in
-    omega (arith, r, hd)
+    let rest : drop kept digits ≡ y ∷ back = drop-cons digits kept 0 (omega (arith, n, lt)) in
+    let each : all_digits (y ∷ back) ≡ true = ap all_digits (sym rest) ∙ (digits_split kept digits h).1 in
+    let long : suc (length back) ≡ down - up = omega (arith, ap length rest, length-drop kept digits, n) in
+    let tens : 10 ^ suc (length back) ≡ k = ap (λ (z : ℕ). 10 ^ z) long in
+    let value : value_after 0 digits ≡ f * k + b
+    = ap (value_after 0) (sym (take-append-drop kept digits) ∙ ap (λ (z : List ℕ). take kept digits ++ z) rest) ∙ after_append 0 (take kept digits) (y ∷ back) ∙ after_split f (y ∷ back) ∙ ap (λ (z : ℕ). f * z + b) tens in
+    let all : rounded (value_after 0 digits * 10 ^ up) (10 ^ down) ≡ rounded (f * k + b) k = rounded_tens (value_after 0 digits) up down (omega (arith, lt)) ∙ ap (λ (z : ℕ). rounded z k) value in
+    let halves = half y back each in (
+      λ big. all ∙ rounded_up f b k (omega (arith, tens, below_power (y ∷ back) each)) (omega (arith, tens, halves.0 big)),
+      λ small. all ∙ rounded_down f b k (omega (arith, tens, halves.1 small)),
+    )
 
 -- ---- digits by their place
 
@@ -219,9 +196,6 @@ pub value_more : (ds : List ℕ) (i : ℕ) → i < length ds → value_after 0 (
 value_more ds i lt =
     let e : take (i + 1) ds ≡ take i ds ++ slice_index ds i ∷ [] = grind (arith, common_steps, lt) in
     ap (value_after 0) e ∙ after_append 0 (take i ds) (slice_index ds i ∷ [])
-
-pub first_dropped : (ds : List ℕ) (k : ℕ) → k < length ds → slice_index (drop k ds) 0 ≡ slice_index ds k
-first_dropped ds k lt = ap (λ (z : List ℕ). slice_index z 0) (drop-cons ds k 0 lt)
 
 without_zeros_shorter : (ds : List ℕ) → length (without_zeros ds) ≤ length ds
 without_zeros_shorter [] = omega arith
@@ -239,16 +213,10 @@ few_digits whole fraction h =
 own : IsNumeralModel (λ ds. all_digits ds ≡ true) (value_after 0)
 own = numerals_by_fold _ (search rules) value_after (search rules)
 
-pub digits_of_decimal : (n : ℕ) → n < 2 ^ 64 → all_digits (decimal n) ≡ true
-digits_of_decimal n small = digits_decimal own n small
-
-pub value_of_decimal : (n : ℕ) → n < 2 ^ 64 → value_after 0 (decimal n) ≡ n
-value_of_decimal n small = digits_value-decimal own n small
-
 -- a block as answered is a block of its bytes
 pub definite_is_block : (bytes : List ℕ) → length bytes < 10 ^ 9 → IsBlockOf (definite_text bytes) bytes
 definite_is_block bytes small =
     let n = length bytes in
     let fits : n < 2 ^ 64 = omega (arith, small) in
     let short : length (decimal n) ≤ 9 = length-decimal-le 9 n (omega arith) small fits in
-    inl (decimal n, refl, (decimal_nonempty n fits, omega (arith, short), digits_of_decimal n fits, sym (value_of_decimal n fits)))
+    inl (decimal n, refl, (decimal_nonempty n fits, omega (arith, short), digits_decimal own n fits, sym (digits_value-decimal own n fits)))

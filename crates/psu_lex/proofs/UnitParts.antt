@@ -1,12 +1,11 @@
 -- A unit: its header, what stands behind it, and whether a text is one.
 use Rattle.std.proofs.Common.{◌≡◌, ℕ, Bool, true, false, not, List, [], ◌∷◌, ◌++◌, refl, sym, ap, ◌∙◌, subst, arith, inl, inr, Option, Some, None, Result, Ok, Err, IfSome, IfNone, ◌⊎◌, zero, suc, ◌==◌, ◌≤◌, length, ℤ}
 use Rattle.std.proofs.lemmas.Bool.Decides.{nat_tests}
-use Rattle.std.proofs.lemmas.Grind.{common_steps}
 use Rattle.std.specs.Option.{ok_or}
 use Rattle.psu_lex.specs.Bytes.{is_white, is_dark, is_closed, all_white}
 use Rattle.psu_lex.specs.NumberScan.{run, left, is_number, scanned}
 use Rattle.psu_lex.specs.Message.{Part, Token, Reads}
-use Rattle.psu_lex.specs.Syntax.{error_of, is_name_byte, is_node, all_nodes, behind, ask_text, mark_text, Header, IsHeader, header_text, SpellsHeader, Lists, Syntax, is_apart, UnitReads, has_high, TextGives, FaultGives, SyntaxGives, Datum}
+use Rattle.psu_lex.specs.Syntax.{error_of, is_name_byte, is_node, behind, ask_text, mark_text, Header, IsHeader, header_text, SpellsHeader, Lists, Syntax, is_apart, UnitReads, has_high, TextGives, FaultGives, SyntaxGives, Datum}
 use Rattle.psu_lex.specs.declared.mark.Mark.{Mark}
 use Rattle.psu_lex.specs.declared.mark.Mark.TheVariants.{Star, Colon, Bare}
 use Rattle.psu_lex.specs.Shown.{Shows, ShowsSyntax, TailLists}

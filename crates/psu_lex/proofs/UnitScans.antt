@@ -9,10 +9,9 @@ use Rattle.psu_lex.specs.Message.{opens_first, ends_unit, BeginsPiece, HasNoPiec
 use Rattle.psu_lex.specs.declared.unit_fault.UnitFault.{UnitFault}
 use Rattle.psu_lex.specs.Message.Token.{Byte, Separator, Whole, Faulty}
 use Rattle.psu_lex.specs.Scan.{has, after_piece, IsStop}
-use Rattle.psu_lex.proofs.PieceScans.{whole, not_zero}
+use Rattle.psu_lex.proofs.PieceScans.{whole}
 use Rattle.psu_lex.proofs.Searches.{has_head, has_tail, has_front, free_before, free_all, drop-add, free_later}
 use Rattle.psu_lex.specs.declared.unit.Unit as rust
-use Rattle.psu_lex.proofs.Quotes.{same_byte}
 use Rattle.std.proofs.lemmas.Bool.{cases_Bool}
 use Rattle.std.proofs.Math.Bool.{or_assoc, or-false}
 use Rattle.std.proofs.lemmas.Bool.Decides.{nat_tests}
@@ -158,12 +157,6 @@ split_step first next blank rest text (x ∷ sep) later end more t s n u l f b m
 
 pub ended_some : (first : Bool) (text : List ℕ) → all_white text ≡ false → ended first text ≡ record { text = text; first = first; fault = None } ∷ []
 ended_some first text h = rw h refl
-
-pub is_zero : (text : List ℕ) (b : Bool) → b ≡ (length text == 0) → b ≡ true → length text ≡ 0
-is_zero text b e f = same_byte (length text) 0 (sym e ∙ f)
-
-pub some_left : (text : List ℕ) (b : Bool) → b ≡ (length text == 0) → b ≡ false → length text ≡ 0 → ⊥
-some_left text b e f n = omega (arith, n, not_zero text b e f)
 
 -- the bytes have tokens, and whether one of them is such a byte is known
 abbrev pub Tells : List ℕ → Bool → Type 0

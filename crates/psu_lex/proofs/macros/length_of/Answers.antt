@@ -1,4 +1,4 @@
-use Rattle.std.proofs.Common.{ℕ, List, [], ◌++◌, length, length-append, map, min, refl, sym, ap, ◌∙◌, subst, arith}
+use Rattle.std.proofs.Common.{ℕ, List, [], ◌++◌, length-append, map, refl, sym, subst, arith}
 use Rattle.std.proofs.lemmas.List.{append-nil}
 use Rattle.psu_lex.specs.MacroScan.{Spells}
 use Rattle.psu_lex.proofs.Expansions.{spells_end, no_bytes, put_on}
