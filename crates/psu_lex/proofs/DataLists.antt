@@ -9,9 +9,8 @@ use Rattle.psu_lex.specs.Shown.{TailLists, HoldsFound, IsSomeDatum}
 use Rattle.psu_lex.specs.SyntaxScan.{is_parted, datum_at, datum_in, after_datum, class_at, parted, written}
 use Rattle.psu_lex.specs.declared.found.Found.{Found}
 use Rattle.psu_lex.specs.declared.datum_class.DatumClass.{DatumClass}
-use Rattle.psu_lex.proofs.Quotes.{same_byte, same_tail, both}
-use Rattle.psu_lex.proofs.Runs.{run_white, leads, white_every, run_left, run_every, left_at, left_none, every, digits_every, every_head}
-use Rattle.std.proofs.lemmas.Bool.{cases_Bool}
+use Rattle.psu_lex.proofs.Runs.{same_tail, both, run_white, leads, white_every, run_left, run_every, left_at, left_none, every, digits_every, every_head}
+use Rattle.std.proofs.lemmas.Bool.{eqb-true, cases_Bool}
 use Rattle.std.proofs.lemmas.Bool.Decides.{nat_tests}
 use Rattle.std.proofs.Math.Seq.{take-append_seam}
 use Rattle.psu_lex.specs.Message.{Piece, spelling, BeginsPiece}
@@ -41,20 +40,14 @@ number_byte x h = (grind (arith, nat_tests, h), grind (arith, nat_tests, h), gri
 letter_byte : (x : ℕ) → is_letter x ≡ true → (is_quote x ≡ false) × ((x == 35) ≡ false) × (is_white x ≡ false)
 letter_byte x h = (grind (arith, nat_tests, h), grind (arith, nat_tests, h), grind (arith, nat_tests, h))
 
-quote_byte : (x : ℕ) → is_quote x ≡ true → is_white x ≡ false
-quote_byte x h = grind (arith, nat_tests, h)
-
 is_first_number : (x : ℕ) (xs : List ℕ) → begins_number x ≡ true → IsFirst Numeric (x ∷ xs)
 is_first_number x xs h = let plain = number_byte x h in (x, xs, refl, rw (plain.0, plain.1, plain.2) refl, plain.3)
-
-digit_first : (x : ℕ) → is_digit x ≡ true → begins_number x ≡ true
-digit_first x h = rw h refl
 
 first_mantissa : (whole : List ℕ) (fraction : Option (List ℕ)) (later : List ℕ) → 0 < length (whole ++ fraction_digits fraction) → every is_digit (whole ++ fraction_digits fraction) ≡ true
     → IsFirst Numeric (whole ++ (fraction_text fraction ++ later))
 first_mantissa [] None later some h = absurd (omega (arith, some))
 first_mantissa [] (Some ds) later some h = is_first_number 46 (ds ++ later) refl
-first_mantissa (d ∷ whole) fraction later some h = is_first_number d (whole ++ (fraction_text fraction ++ later)) (digit_first d (every_head is_digit d (whole ++ fraction_digits fraction) h))
+first_mantissa (d ∷ whole) fraction later some h = is_first_number d (whole ++ (fraction_text fraction ++ later)) (rw (every_head is_digit d (whole ++ fraction_digits fraction) h) refl)
 
 first_signed : (s : Sign) (text : List ℕ) → IsFirst Numeric text → IsFirst Numeric (sign_text s ++ text)
 first_signed Plus text h = is_first_number 43 text refl
@@ -74,7 +67,7 @@ first_node (x ∷ text) h =
     (x, text, refl, rw (plain.0, plain.1, l) refl, plain.2)
 
 first_piece : (p : Piece) (more : List ℕ) → IsWholeIn p more → IsFirst (class_of p) (spelling p)
-first_piece (Quoted q content) more w = (q, _, refl, rw w.0 refl, quote_byte q w.0)
+first_piece (Quoted q content) more w = (q, _, refl, rw w.0 refl, grind (arith, nat_tests, w.0))
 first_piece (Counted digits content) more w = (35, _, refl, refl, refl)
 first_piece (Open content) more w = (35, _, refl, refl, refl)
 
@@ -129,11 +122,11 @@ quoted_whole body next t (Open content, e, w) = absurd (both (starts_quoted body
 open_text : (body : List ℕ) → starts 35 body ≡ true → starts 48 (drop 1 body) ≡ true → body ≡ 35 ∷ 48 ∷ drop 2 body
 open_text [] h z = absurd (cc (h))
 open_text (x ∷ []) h z = absurd (cc (z))
-open_text (x ∷ y ∷ body) h z = cc (same_byte x 35 h, same_byte y 48 z)
+open_text (x ∷ y ∷ body) h z = cc (eqb-true x 35 h, eqb-true y 48 z)
 
 counted_whole : (body next : List ℕ) → starts 35 body ≡ true → starts 48 (drop 1 body) ≡ false → BeginsPiece body next → Splits Block body next
 counted_whole body next t f (Quoted q content, e, w) =
-    let hash : q ≡ 35 = same_byte q 35 (sym (ap (starts 35) e) ∙ t) in
+    let hash : q ≡ 35 = eqb-true q 35 (sym (ap (starts 35) e) ∙ t) in
     absurd (cc (subst (λ (z : ℕ). (z == 34 || z == 39) ≡ true) hash w.0))
 counted_whole body next t f (Counted d content, e, w) = (spelling (Counted d content), e, (Counted d content, refl, refl, w))
 counted_whole body next t f (Open content, e, w) = absurd (both (starts 48 (drop 1 body)) (ap (λ (z : List ℕ). starts 48 (drop 1 z)) e) f)
@@ -288,7 +281,7 @@ no_list text list f e l = both (all_white text) (subst (Lists text) (none_begins
 
 pub comma : (tail text : List ℕ) (empty : Bool) → is_parted tail ≡ true → empty ≡ (length tail == 0) → empty ≡ false → text ≡ drop 1 tail → tail ≡ 44 ∷ text
 comma [] text empty p e f is = absurd (cc (e, f))
-comma (x ∷ tail) text empty p e f is = cc (same_byte x 44 p, is)
+comma (x ∷ tail) text empty p e f is = cc (eqb-true x 44 p, is)
 
 tail_lists : (tail text : List ℕ) (others : List Datum) → tail ≡ 44 ∷ text → TailLists tail others → Lists text others × (others ≡ [] → ⊥)
 tail_lists tail text [] e l = absurd (cc (e, l))

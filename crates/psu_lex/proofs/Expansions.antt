@@ -1,6 +1,6 @@
 -- Steps over a macro's body.
 use Rattle.std.proofs.Common.{◌≡◌, ℕ, ◌-◌, ◌==◌, ◌<◌, ◌≤◌, nat_lt, max, Bool, true, false, cond, if◌then◌else◌, List, [], ◌∷◌, ◌++◌, length, take, drop, take_all, refl, sym, ap, ◌∙◌, subst, arith, append_assoc, inl, inr, slice_index, Result, Ok, Err, Some, None}
-use Rattle.std.proofs.lemmas.Bool.{cases_Bool}
+use Rattle.std.proofs.lemmas.Bool.{eqb-true, cases_Bool}
 use Rattle.std.proofs.lemmas.Bool.Decides.{nat_tests}
 use Rattle.std.proofs.lemmas.List.{append-nil, take-append-drop, drop_all, append_cancel_right}
 use Rattle.std.proofs.lemmas.Grind.{common_steps}
@@ -11,13 +11,10 @@ use Rattle.psu_lex.specs.Macros.{is_placeholder, parameter, expansion, greatest,
 use Rattle.psu_lex.specs.MacroScan.{begins_placeholder, Spells, Keeps, Puts}
 use Rattle.psu_lex.specs.declared.scpi_error.ScpiError.{ScpiError}
 use Rattle.psu_lex.specs.declared.scpi_error.ScpiError.TheVariants.{MacroParameterError, TooMuchData}
-use Rattle.psu_lex.proofs.Quotes.{same_byte, same_head}
+use Rattle.psu_lex.proofs.Runs.{same_head}
 use Rattle.psu_lex.specs.Scan.{after_piece}
 use Rattle.psu_lex.proofs.PieceScans.{none, whole}
 use Rattle.psu_lex.proofs.Tokens.{same_tokens, some_tokens}
-
-pub spells_end : (args : List (List ℕ)) → Spells args [] 0 []
-spells_end args = ([], refl, refl, refl)
 
 -- ---- a byte that stays
 
@@ -54,7 +51,7 @@ keeps_byte_at : (x : ℕ) (rest : List ℕ) → opens x ≡ false → begins_pla
 keeps_byte_at x rest o f args most text s = elim (cases_Bool (x == 36)) [
   | inr d ↦ spells_byte args x rest most text o d s
   | inl t ↦
-      let e : x ≡ 36 = same_byte x 36 t in
+      let e : x ≡ 36 = eqb-true x 36 t in
       subst (λ (z : ℕ). Spells args (z ∷ rest) most (z ∷ text)) (sym e) (spells_dollar args rest most text (subst (λ (z : ℕ). begins_placeholder (z ∷ rest) ≡ false) e f) s)
 ]
 
@@ -83,9 +80,6 @@ keeps_fault bytes n e o f args most text (tokens, reads, m, t) =
 
 -- ---- a placeholder
 
-placeholder_plain : (b : ℕ) → is_placeholder b ≡ true → (separates b ≡ false) × (opens b ≡ false)
-placeholder_plain b h = (grind (arith, nat_tests, h), grind (arith, nat_tests, h))
-
 pub spells_placeholder : (args : List (List ℕ)) (bytes : List ℕ) (most : ℕ) (text : List ℕ) → begins_placeholder bytes ≡ true → Spells args (drop 2 bytes) most text
     → Spells args bytes (max (slice_index bytes 1 - 48) most) (parameter args (slice_index bytes 1 - 49) ++ text)
 spells_placeholder args [] most text h s = absurd (cc (h))
@@ -93,11 +87,10 @@ spells_placeholder args (x ∷ []) most text h s = absurd (cc (h))
 spells_placeholder args (x ∷ y ∷ rest) most text h (tokens, reads, m, t) =
     let d : (x == 36) ≡ true = grind (arith, common_steps, h) in
     let p : is_placeholder y ≡ true = grind (arith, common_steps, h) in
-    let plain = placeholder_plain y p in
-    let e : x ≡ 36 = same_byte x 36 d in
+    let e : x ≡ 36 = eqb-true x 36 d in
     subst (λ (z : ℕ). Spells args (z ∷ y ∷ rest) (max (y - 48) most) (parameter args (y - 49) ++ text)) (sym e) (
       Byte 36 ∷ Byte y ∷ tokens,
-      (y ∷ rest, refl, (refl, refl), (rest, refl, (plain.0, plain.1), reads)),
+      (y ∷ rest, refl, (refl, refl), (rest, refl, (grind (arith, nat_tests, p), grind (arith, nat_tests, p)), reads)),
       rw p (ap (max (y - 48)) m),
       rw p (ap (λ (z : List ℕ). parameter args (y - 49) ++ z) t),
     )
@@ -121,7 +114,10 @@ respelled args bytes most more text other e f s = (s.0, s.1, e ∙ s.2, f ∙ s.
 
 pub no_bytes : (bytes : List ℕ) (empty : Bool) → empty ≡ (length bytes == 0) → empty ≡ true → bytes ≡ []
 no_bytes [] empty e t = refl
-no_bytes (x ∷ bytes) empty e t = absurd (omega (arith, same_byte (length (x ∷ bytes)) 0 (sym e ∙ t)))
+no_bytes (x ∷ bytes) empty e t = absurd (omega (arith, eqb-true (length (x ∷ bytes)) 0 (sym e ∙ t)))
+
+pub spells_end : (args : List (List ℕ)) (bytes : List ℕ) (empty : Bool) → empty ≡ (length bytes == 0) → empty ≡ true → Spells args bytes 0 []
+spells_end args bytes empty e t = subst (λ (z : List ℕ). Spells args z 0 []) (sym (no_bytes bytes empty e t)) ([], refl, refl, refl)
 
 pub puts_placeholder : (args : List (List ℕ)) (bytes piece : List ℕ) → begins_placeholder bytes ≡ true → piece ≡ parameter args (slice_index bytes 1 - 49) → Puts args bytes 2 piece
 puts_placeholder args bytes piece h e most text s =

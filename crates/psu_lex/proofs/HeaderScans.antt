@@ -1,6 +1,6 @@
 -- Headers: what their scan accepts is a header, every header is accepted, and its parts are found.
 use Rattle.std.proofs.Common.{◌≡◌, ℕ, ◌==◌, ◌&&◌, Bool, true, false, List, [], ◌∷◌, ◌++◌, refl, sym, ap, ◌∙◌, arith, append_assoc, inl, inr, ◌-◌, ◌<◌, not, length, take, slice_index, zero, suc, length-append}
-use Rattle.std.proofs.lemmas.Bool.{and_parts, cases_Bool}
+use Rattle.std.proofs.lemmas.Bool.{not-true, eqb-true, and_parts, cases_Bool}
 use Rattle.std.proofs.lemmas.Bool.Decides.{nat_tests}
 use Rattle.psu_lex.specs.Bytes.{is_letter}
 use Rattle.psu_lex.specs.Syntax.{is_name_byte, all_name, is_node, all_nodes, behind, ask_text, mark_text, Header, IsHeader, SpellsHeader, header_text, path_text}
@@ -8,8 +8,7 @@ use Rattle.psu_lex.specs.declared.mark.Mark.{Mark}
 use Rattle.psu_lex.specs.declared.mark.Mark.TheVariants.{Star, Colon, Bare}
 use Rattle.psu_lex.specs.SyntaxScan.{is_empty, joins, is_part, is_path, is_header, mark_of, behind_mark, ends_asking, without_ask}
 use Rattle.psu_lex.specs.NumberScan.{run, left}
-use Rattle.psu_lex.proofs.Quotes.{same_byte, same_head, same_tail, both}
-use Rattle.psu_lex.proofs.Runs.{every, leads, run_at, left_at, every_head, every_tail, every_append, every_more}
+use Rattle.psu_lex.proofs.Runs.{same_head, same_tail, both, every, leads, run_at, left_at, every_head, every_tail, every_append, every_more}
 use Rattle.std.proofs.lemmas.List.{append-nil}
 use Rattle.std.proofs.Math.Seq.{take-append_seam}
 use Rattle.psu_lex.specs.Shown.{ShowsHeader}
@@ -35,7 +34,7 @@ asked several false x xs e h = absurd (cc (h))
 
 joined : (several begun : Bool) (x : ℕ) (xs : List ℕ) → joins begun several x ≡ true → Rest several false xs → Rest several begun (x ∷ xs)
 joined true true x xs h (node, nodes, asks, n, ns, one, e) =
-    ([], node ∷ nodes, asks, refl, rw n ns, (λ f. absurd (cc (f))), ap (λ (z : ℕ). z ∷ xs) (same_byte x 58 h) ∙ ap (λ (z : List ℕ). 58 ∷ z) (e ∙ sym (append_assoc node (behind nodes) (ask_text asks))))
+    ([], node ∷ nodes, asks, refl, rw n ns, (λ f. absurd (cc (f))), ap (λ (z : ℕ). z ∷ xs) (eqb-true x 58 h) ∙ ap (λ (z : List ℕ). 58 ∷ z) (e ∙ sym (append_assoc node (behind nodes) (ask_text asks))))
 joined true false x xs h r = absurd (cc (h))
 joined false true x xs h r = absurd (cc (h))
 joined false false x xs h r = absurd (cc (h))
@@ -48,7 +47,7 @@ path_out : (several begun : Bool) (text : List ℕ) → is_path several begun te
 path_out several true [] h = ([], [], false, refl, refl, (λ f. refl), refl)
 path_out several false [] h = absurd (cc (h))
 path_out several begun (x ∷ xs) h = elim (cases_Bool (x == 63)) [
-  | inl t ↦ asked several begun x xs (same_byte x 63 t) (rw t at h)
+  | inl t ↦ asked several begun x xs (eqb-true x 63 t) (rw t at h)
   | inr f ↦ elim (cases_Bool (joins begun several x)) [
     | inl j ↦ joined several begun x xs j (path_out several false xs (rw (f, j) at h))
     | inr g ↦ elim (cases_Bool (is_part begun x)) [
@@ -105,11 +104,11 @@ header_out [] h = absurd (cc (h))
 header_out (x ∷ xs) h = elim (cases_Bool (x == 42)) [
   | inl t ↦
       let r = path_out false false xs (rw t at h) in
-      (record { mark = Star; node = r.0; nodes = r.1; asks = r.2 }, record { node = r.3; nodes = r.4; common = λ e. r.5 refl }, ap (λ (z : ℕ). z ∷ xs) (same_byte x 42 t) ∙ ap (λ (z : List ℕ). 42 ∷ z) r.6)
+      (record { mark = Star; node = r.0; nodes = r.1; asks = r.2 }, record { node = r.3; nodes = r.4; common = λ e. r.5 refl }, ap (λ (z : ℕ). z ∷ xs) (eqb-true x 42 t) ∙ ap (λ (z : List ℕ). 42 ∷ z) r.6)
   | inr f ↦ elim (cases_Bool (x == 58)) [
     | inl t ↦
         let r = path_out true false xs (rw (f, t) at h) in
-        (record { mark = Colon; node = r.0; nodes = r.1; asks = r.2 }, record { node = r.3; nodes = r.4; common = λ e. absurd (cc (e)) }, ap (λ (z : ℕ). z ∷ xs) (same_byte x 58 t) ∙ ap (λ (z : List ℕ). 58 ∷ z) r.6)
+        (record { mark = Colon; node = r.0; nodes = r.1; asks = r.2 }, record { node = r.3; nodes = r.4; common = λ e. absurd (cc (e)) }, ap (λ (z : ℕ). z ∷ xs) (eqb-true x 58 t) ∙ ap (λ (z : List ℕ). 58 ∷ z) r.6)
     | inr g ↦
         let r = path_out true false (x ∷ xs) (rw (f, g) at h) in
         (record { mark = Bare; node = r.0; nodes = r.1; asks = r.2 }, record { node = r.3; nodes = r.4; common = λ e. absurd (cc (e)) }, r.6)
@@ -129,11 +128,8 @@ header_at Star asks node nodes n ns one = path_in false asks node nodes n ns (λ
 header_at Colon asks node nodes n ns one = path_in true asks node nodes n ns (λ f. absurd (cc (f)))
 header_at Bare asks node nodes n ns one = bare_in node (behind nodes ++ ask_text asks) n ∙ path_in true asks node nodes n ns (λ f. absurd (cc (f)))
 
-header_in : (h : Header) → IsHeader h → is_header (header_text h) ≡ true
-header_in h is = header_at h.mark h.asks h.node h.nodes is.node is.nodes is.common
-
 pub no_header : (text : List ℕ) → is_header text ≡ false → SpellsHeader text → ⊥
-no_header text f (h, is, e) = both (is_header text) (ap is_header e ∙ header_in h is) f
+no_header text f (h, is, e) = both (is_header text) (ap is_header e ∙ header_at h.mark h.asks h.node h.nodes is.node is.nodes is.common) f
 
 -- ---- one header
 
@@ -214,12 +210,9 @@ is_plain b = not (b == 63)
 name_unasked : (x : ℕ) → is_name_byte x ≡ true → is_plain x ≡ true
 name_unasked x h = grind (arith, nat_tests, h)
 
-plain_byte : (x : ℕ) → is_plain x ≡ true → (x == 63) ≡ false
-plain_byte x h = grind (arith, nat_tests, h)
-
 plain_end : (xs : List ℕ) → every is_plain xs ≡ true → ends_asking xs ≡ false
 plain_end [] h = refl
-plain_end (x ∷ []) h = plain_byte x (every_head is_plain x [] h)
+plain_end (x ∷ []) h = not-true (x == 63) (every_head is_plain x [] h)
 plain_end (x ∷ y ∷ xs) h = plain_end (y ∷ xs) (every_tail is_plain x (y ∷ xs) h)
 
 asking_end : (xs : List ℕ) → ends_asking (xs ++ 63 ∷ []) ≡ true

@@ -1,4 +1,3 @@
-pub mod Quotes
 pub mod Searches
 pub mod Tokens
 pub mod PieceScans

@@ -107,13 +107,9 @@ with_some before x a s [] some = absurd (omega (arith, some))
 with_some before x a s (d ∷ ds) some = refl
 
 -- white space, the letter, white space, a sign and digits are found
-record Found (text : List ℕ) (before : List ℕ) (x : ℕ) (a : List ℕ) (s : Sign) (ds later : List ℕ) : Type 0 where
-  exponent : exponent_of text ≡ Some (record { before = before; letter = x; after = a; sign = s; digits = ds })
-  after : after_exponent text ≡ later
-
 exponent_some : (text before : List ℕ) (x : ℕ) (a : List ℕ) (s : Sign) (ds later : List ℕ) → text ≡ before ++ x ∷ (a ++ (sign_text s ++ (ds ++ later)))
     → every is_white before ≡ true → (x == 69 || x == 101) ≡ true → every is_white a ≡ true → every is_digit ds ≡ true → 0 < length ds → tail_first later ≡ true
-    → Found text before x a s ds later
+    → (exponent_of text ≡ Some (record { before = before; letter = x; after = a; sign = s; digits = ds })) × (after_exponent text ≡ later)
 exponent_some text before x a s ds later e b m w d some t =
     let signed = sign_text s ++ (ds ++ later) in
     let marked = x ∷ (a ++ signed) in
@@ -127,10 +123,7 @@ exponent_some text before x a s ds later e b m w d some t =
     let rest : left is_digit (ds ++ later) ≡ later = left_at is_digit ds later d stop in
     let is : exponent_of text ≡ Some (record { before = before; letter = x; after = a; sign = s; digits = ds })
     = rw (front, back, m, gap, later_sign, sign.0, sign.1, digits) (with_some before x a s ds some) in
-    record {
-      exponent = is;
-      after = rw is (rw (back, later_sign, sign.1) rest);
-    }
+    (is, rw is (rw (back, later_sign, sign.1) rest))
 
 first_of : (before : List ℕ) (x : ℕ) (a later : List ℕ) → every is_white before ≡ true → (x == 69 || x == 101) ≡ true → tail_first ((before ++ x ∷ a) ++ later) ≡ true
 first_of [] x a later b m = grind (arith, nat_tests, m)
@@ -142,7 +135,7 @@ exponent_found None later h t = (exponent_none later t, rw (exponent_none later 
 exponent_found (Some e) later h t =
     let found = exponent_some (exponent_text (Some e) ++ later) e.before e.letter e.after e.sign e.digits later (simp append_assoc)
     (sym (white_every e.before) ∙ h.0) h.1 (sym (white_every e.after) ∙ h.2) (sym (digits_every e.digits) ∙ h.3) h.4 (every_first later t) in
-    (found.exponent, found.after, first_of e.before e.letter (e.after ++ (sign_text e.sign ++ e.digits)) later (sym (white_every e.before) ∙ h.0) h.1)
+    (found.0, found.1, first_of e.before e.letter (e.after ++ (sign_text e.sign ++ e.digits)) later (sym (white_every e.before) ∙ h.0) h.1)
 
 -- ---- the suffix and the white space round it
 

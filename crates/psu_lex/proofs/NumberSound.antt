@@ -1,19 +1,18 @@
 -- What a scan of a number finds is a number, spelled as the text is.
 use Rattle.std.proofs.Common.{◌≡◌, ℕ, ◌==◌, ◌||◌, ◌<◌, Bool, true, false, not, List, [], ◌∷◌, ◌++◌, length, drop, refl, sym, ap, ◌∙◌, if◌then◌else◌, arith, append_assoc, inl, inr, is_none}
-use Rattle.std.proofs.lemmas.Bool.{and_parts, cases_Bool}
+use Rattle.std.proofs.lemmas.Bool.{eqb-true, and_parts, cases_Bool}
 use Rattle.std.proofs.lemmas.List.{append-nil}
 use Rattle.psu_lex.specs.Bytes.{is_digit, is_letter, is_white, all_digits, all_white}
 use Rattle.psu_lex.specs.Number.{Sign, IsNumber, ExponentHolds, sign_text, fraction_text, fraction_digits, exponent_text, number_text, mantissa}
 use Rattle.psu_lex.specs.NumberScan.{run, left, sign_of, after_sign, fraction_of, after_fraction, exponent_with, exponent_from, exponent_of, after_exponent, is_nonempty, is_number, suffix_of, excess_of, at_fraction, at_exponent, at_tail, scanned}
-use Rattle.psu_lex.proofs.Quotes.{same_byte}
 use Rattle.psu_lex.proofs.Runs.{run_white, every, leads, digits_every, white_every, letters_every, run_left, run_every, left_at, every_append}
 
 sign_split : (text : List ℕ) → sign_text (sign_of text) ++ after_sign text ≡ text
 sign_split [] = refl
 sign_split (x ∷ xs) = elim (cases_Bool (x == 43)) [
-  | inl t ↦ let e : x ≡ 43 = same_byte x 43 t in rw t (ap (λ (z : ℕ). z ∷ xs) (sym e))
+  | inl t ↦ let e : x ≡ 43 = eqb-true x 43 t in rw t (ap (λ (z : ℕ). z ∷ xs) (sym e))
   | inr f ↦ elim (cases_Bool (x == 45)) [
-    | inl t ↦ let e : x ≡ 45 = same_byte x 45 t in rw (f, t) (ap (λ (z : ℕ). z ∷ xs) (sym e))
+    | inl t ↦ let e : x ≡ 45 = eqb-true x 45 t in rw (f, t) (ap (λ (z : ℕ). z ∷ xs) (sym e))
     | inr g ↦ rw (f, g) refl
   ]
 ]
@@ -21,7 +20,7 @@ sign_split (x ∷ xs) = elim (cases_Bool (x == 43)) [
 fraction_split : (text : List ℕ) → fraction_text (fraction_of text) ++ after_fraction text ≡ text
 fraction_split [] = refl
 fraction_split (x ∷ xs) = elim (cases_Bool (x == 46)) [
-  | inl t ↦ let e : x ≡ 46 = same_byte x 46 t in rw t (ap (λ (z : List ℕ). 46 ∷ z) (run_left is_digit xs) ∙ ap (λ (z : ℕ). z ∷ xs) (sym e))
+  | inl t ↦ let e : x ≡ 46 = eqb-true x 46 t in rw t (ap (λ (z : List ℕ). 46 ∷ z) (run_left is_digit xs) ∙ ap (λ (z : ℕ). z ∷ xs) (sym e))
   | inr f ↦ rw f refl
 ]
 
@@ -104,10 +103,6 @@ if_white : (b : Bool) (x y : List ℕ) → all_white x ≡ true → all_white y 
 if_white true x y h k = h
 if_white false x y h k = k
 
-no_gap_at : (s d : List ℕ) → s ≡ [] → (if is_nonempty s then run is_white d else []) ≡ []
-no_gap_at [] d e = refl
-no_gap_at (x ∷ s) d e = absurd (cc (e))
-
 -- ---- all of it
 
 some_length : (xs : List ℕ) → is_nonempty xs ≡ true → 0 < length xs
@@ -122,7 +117,7 @@ sound text some =
       some = some_length (mantissa (scanned text)) some;
       exponent = from_holds (run is_white (at_exponent text)) (left is_white (at_exponent text)) (run_white (at_exponent text));
       gap = if_white (is_nonempty (suffix_of d)) (run is_white d) [] (run_white d) refl;
-      no_gap = λ none. no_gap_at (suffix_of d) d none;
+      no_gap = λ none. rw none refl;
       suffix = letters_every (suffix_of d) ∙ run_every is_letter (left is_white d);
       rest = if_white (is_nonempty (suffix_of d)) (run is_white (left is_letter (left is_white d))) (run is_white d) (run_white (left is_letter (left is_white d))) (run_white d);
     }

@@ -11,7 +11,7 @@ use Rattle.psu_lex.specs.Data.{IsStringOf, IsBlockOf, IsDatumOf}
 use Rattle.psu_lex.specs.Message.{Piece, doubled, spelling, IsWhole, BeginsPiece, EndsString, HasNoPiece}
 use Rattle.psu_lex.specs.Message.Piece.{Quoted, Counted, Open}
 use Rattle.psu_lex.specs.Scan.{after_string, after_counted, after_block, after_piece, is_spent, is_string, single, quoted}
-use Rattle.psu_lex.proofs.Quotes.{both, same_head, same_tail}
+use Rattle.psu_lex.proofs.Runs.{both, same_head, same_tail}
 use Rattle.psu_lex.proofs.Searches.{drop-add}
 
 -- ---- what follows a whole one is left

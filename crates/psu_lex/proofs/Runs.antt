@@ -1,4 +1,4 @@
--- The bytes in front that pass a test.
+-- The bytes in front that pass a test, and lists that are the same.
 use Rattle.std.proofs.Common.{◌≡◌, ℕ, ◌&&◌, Bool, true, false, List, [], ◌∷◌, ◌++◌, refl, sym, ap, ◌∙◌, arith, inl, inr}
 use Rattle.std.proofs.lemmas.Bool.{cases_Bool}
 use Rattle.std.proofs.lemmas.List.{append-nil}
@@ -88,3 +88,12 @@ run_all test xs h = ap (run test) (sym (append-nil xs)) ∙ run_at test xs [] h 
 pub every_more : (a b : ℕ → Bool) (xs : List ℕ) → ((x : ℕ) → a x ≡ true → b x ≡ true) → every a xs ≡ true → every b xs ≡ true
 every_more a b [] f h = refl
 every_more a b (x ∷ xs) f h = rw (f x (every_head a x xs h)) (every_more a b xs f (every_tail a x xs h))
+
+pub same_head : (x y : ℕ) (xs ys : List ℕ) → x ∷ xs ≡ y ∷ ys → x ≡ y
+same_head x y xs ys e = cc
+
+pub same_tail : (x y : ℕ) (xs ys : List ℕ) → x ∷ xs ≡ y ∷ ys → xs ≡ ys
+same_tail x y xs ys e = cc
+
+pub both : (b : Bool) → b ≡ true → b ≡ false → ⊥
+both b t f = absurd (cc (t, f))

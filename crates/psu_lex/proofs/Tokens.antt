@@ -5,7 +5,7 @@ use Rattle.std.proofs.lemmas.Bool.Decides.{nat_tests}
 use Rattle.std.proofs.lemmas.List.{append-nil}
 use Rattle.std.proofs.Math.Seq.{take-append_seam}
 use Rattle.std.proofs.lemmas.Option.{some_pair_parts}
-use Rattle.psu_lex.specs.Bytes.{is_closed, is_quote, opens, separates}
+use Rattle.psu_lex.specs.Bytes.{is_closed, opens, separates}
 use Rattle.psu_lex.specs.Message.{Piece, spelling, opens_first, IsWhole, Token, text_of, Stands, Reads, HasNoPiece, IsMessage, Part, units_of}
 use Rattle.psu_lex.specs.Message.Piece.{Quoted, Counted, Open}
 use Rattle.psu_lex.specs.Message.Token.{Byte, Separator, Whole, Faulty}
@@ -22,14 +22,8 @@ abbrev next_token : (List ℕ → Bool) → List ℕ → Option (Token × List �
 next_token f [] = None
 next_token f (x ∷ xs) = Some (if opens x then piece_token f (x ∷ xs) (after_piece (x ∷ xs)) else (if separates x then Separator x else Byte x, xs))
 
-separator_opens : (b : ℕ) → separates b ≡ true → opens b ≡ false
-separator_opens b h = grind (arith, nat_tests, h)
-
-quote_opens : (q : ℕ) → is_quote q ≡ true → opens q ≡ true
-quote_opens q h = grind (arith, nat_tests, h)
-
 piece_opens : (p : Piece) (more : List ℕ) → IsWhole p more → opens_first (spelling p ++ more) ≡ true
-piece_opens (Quoted q content) more w = quote_opens q w.0
+piece_opens (Quoted q content) more w = grind (arith, nat_tests, w.0)
 piece_opens (Counted d content) more w = refl
 piece_opens (Open content) more w = refl
 
@@ -46,7 +40,9 @@ faulty f text (Some more) e n = elim (cases_Bool (f more)) [
 
 next_is : (f : List ℕ → Bool) (token : Token) (more : List ℕ) → Stands f token more → next_token f (text_of token ++ more) ≡ Some (token, more)
 next_is f (Byte b) more (s, o) = rw (o, s) refl
-next_is f (Separator b) more s = rw (separator_opens b s, s) refl
+next_is f (Separator b) more s =
+    let plain : opens b ≡ false = grind (arith, nat_tests, s) in
+    rw (plain, s) refl
 next_is f (Whole p) more (w, h) =
     let n : length (spelling p ++ more) - length more ≡ length (spelling p) = omega (arith, length-append (spelling p) more) in
     opened f (spelling p ++ more) (piece_opens p more w) ∙ rw (found p more w, h, n, take-append_seam (spelling p) more, piece_is p more w) refl

@@ -1,11 +1,11 @@
 -- A unit: its header, what stands behind it, and whether a text is one.
-use Rattle.std.proofs.Common.{◌≡◌, ℕ, Bool, true, false, not, List, [], ◌∷◌, ◌++◌, refl, sym, ap, ◌∙◌, subst, arith, inl, inr, Option, Some, None, Result, Ok, Err, IfSome, IfNone, ◌⊎◌, zero, suc, ◌==◌, ◌≤◌, length, ℤ}
+use Rattle.std.proofs.Common.{◌≡◌, ℕ, Bool, true, false, List, [], ◌∷◌, ◌++◌, refl, sym, ap, ◌∙◌, subst, arith, inl, inr, Option, Some, None, Result, Ok, Err, IfSome, IfNone, ◌⊎◌, zero, suc, ◌==◌, ◌≤◌, length, ℤ}
 use Rattle.std.proofs.lemmas.Bool.Decides.{nat_tests}
 use Rattle.std.specs.Option.{ok_or}
 use Rattle.psu_lex.specs.Bytes.{is_white, is_dark, is_closed, all_white}
 use Rattle.psu_lex.specs.NumberScan.{run, left, is_number, scanned}
 use Rattle.psu_lex.specs.Message.{Part, Token, Reads}
-use Rattle.psu_lex.specs.Syntax.{error_of, is_name_byte, is_node, behind, ask_text, mark_text, Header, IsHeader, header_text, SpellsHeader, Lists, Syntax, is_apart, UnitReads, has_high, TextGives, FaultGives, SyntaxGives, Datum}
+use Rattle.psu_lex.specs.Syntax.{error_of, is_name_byte, behind, ask_text, mark_text, Header, IsHeader, header_text, SpellsHeader, Lists, Syntax, is_apart, UnitReads, has_high, TextGives, FaultGives, SyntaxGives, Datum}
 use Rattle.psu_lex.specs.declared.mark.Mark.{Mark}
 use Rattle.psu_lex.specs.declared.mark.Mark.TheVariants.{Star, Colon, Bare}
 use Rattle.psu_lex.specs.Shown.{Shows, ShowsSyntax, TailLists}
@@ -13,15 +13,14 @@ use Rattle.psu_lex.specs.declared.unit_syntax.Syntax as rust
 use Rattle.psu_lex.specs.declared.unit_fault.UnitFault.{UnitFault}
 use Rattle.psu_lex.specs.declared.scpi_error.ScpiError.{ScpiError}
 use Rattle.psu_lex.specs.declared.scpi_error.ScpiError.TheVariants.{InvalidCharacter, SyntaxError}
-use Rattle.psu_lex.proofs.Runs.{run_white, every, leads, every_head, every_append, every_more, run_at, left_at, run_left}
+use Rattle.psu_lex.proofs.Runs.{run_white, every, leads, every_head, every_append, every_more, run_at, left_at, run_left, same_head}
 use Rattle.psu_lex.proofs.Tokens.{same_tokens, some_tokens}
 use Rattle.psu_lex.proofs.NumberSound.{left_stops, number_in}
 use Rattle.psu_lex.proofs.WrittenData.{node_every}
 use Rattle.psu_lex.proofs.DataLists.{left_over, one_list, lists_in, no_list, no_tail, rest_of, tail_rest, tail_shorter}
-use Rattle.std.proofs.lemmas.Bool.{cases_Bool, eqb-false, eqb-true}
+use Rattle.std.proofs.lemmas.Bool.{not-false, cases_Bool, eqb-false, eqb-true}
 use Rattle.psu_lex.specs.Number.{NumberGives, reading_of}
 use Rattle.psu_lex.specs.SyntaxScan.{datum_at, is_header}
-use Rattle.psu_lex.proofs.Quotes.{same_head}
 use Rattle.psu_lex.proofs.NumberFound.{no_number}
 use Rattle.psu_lex.proofs.HeaderScans.{behind_every, header_out, no_header}
 
@@ -48,14 +47,8 @@ header_dark h is =
 spelled_dark : (text : List ℕ) → SpellsHeader text → every is_dark text ≡ true
 spelled_dark text (h, is, e) = subst (λ (z : List ℕ). every is_dark z ≡ true) (sym e) (header_dark h is)
 
-marked_some : (mark : Mark) (node later : List ℕ) → is_node node ≡ true → mark_text mark ++ (node ++ later) ≡ [] → ⊥
-marked_some Star node later h e = absurd (cc (e))
-marked_some Colon node later h e = absurd (cc (e))
-marked_some Bare [] later h e = absurd (cc (h))
-marked_some Bare (x ∷ node) later h e = absurd (cc (e))
-
 spelled_first : (text rest : List ℕ) → SpellsHeader text → leads is_white (text ++ rest) ≡ false
-spelled_first [] rest (h, is, e) = absurd (marked_some h.mark h.node (behind h.nodes ++ ask_text h.asks) is.node (sym e))
+spelled_first [] rest s = absurd (no_header [] refl s)
 spelled_first (x ∷ text) rest s = grind (arith, nat_tests, every_head is_dark x text (spelled_dark (x ∷ text) s))
 
 apart_leads : (rest : List ℕ) → is_apart rest ≡ true → leads is_dark rest ≡ false
@@ -78,13 +71,9 @@ parts_of text s (space, rest, w, e, h, a, l) =
       rest_is = ap (left is_dark) body ∙ left_at is_dark s.header rest dark (apart_leads rest a);
     }
 
-not_dark : (b : Bool) → not b ≡ false → b ≡ true
-not_dark true f = refl
-not_dark false f = absurd (cc (f))
-
 apart_at : (rest : List ℕ) → leads is_dark rest ≡ false → is_apart rest ≡ true
 apart_at [] f = refl
-apart_at (x ∷ rest) f = not_dark (is_white x) f
+apart_at (x ∷ rest) f = not-false (is_white x) f
 
 pub unit_reads : (text header rest : List ℕ) (s : Syntax) → header ≡ run is_dark (left is_white text) → rest ≡ left is_dark (left is_white text) → SpellsHeader header → s.header ≡ header → Lists rest s.parameters
     → UnitReads text s

@@ -162,12 +162,9 @@ ended_some first text h = rw h refl
 abbrev pub Tells : List ℕ → Bool → Type 0
 Tells bytes high = (tokens : List Token) × Reads is_closed bytes tokens × (high ≡ has_high tokens)
 
-low_separator : (x : ℕ) → separates x ≡ true → is_high x ≡ false
-low_separator x h = grind (arith, nat_tests, h)
-
 tells_byte : (x : ℕ) (rest : List ℕ) (high : Bool) → opens x ≡ false → Tells rest high → Tells (x ∷ rest) (is_high x || high)
 tells_byte x rest high o (tokens, r, e) = elim (cases_Bool (separates x)) [
-  | inl s ↦ (Separator x ∷ tokens, (rest, refl, s, r), rw (low_separator x s) e)
+  | inl s ↦ (Separator x ∷ tokens, (rest, refl, s, r), let low : is_high x ≡ false = grind (arith, nat_tests, s) in rw low e)
   | inr f ↦ (Byte x ∷ tokens, (rest, refl, (f, o), r), ap (λ (z : Bool). is_high x || z) e)
 ]
 

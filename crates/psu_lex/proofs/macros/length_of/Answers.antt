@@ -1,7 +1,7 @@
-use Rattle.std.proofs.Common.{ℕ, List, [], ◌++◌, length-append, map, refl, sym, subst, arith}
+use Rattle.std.proofs.Common.{[], ◌++◌, length-append, map, refl, subst, arith}
 use Rattle.std.proofs.lemmas.List.{append-nil}
 use Rattle.psu_lex.specs.MacroScan.{Spells}
-use Rattle.psu_lex.proofs.Expansions.{spells_end, no_bytes, put_on}
+use Rattle.psu_lex.proofs.Expansions.{spells_end, put_on}
 use Rattle.psu_lex.proofs.macros.length_of.Goals as goal
 
 pub loop-rest-init : goal.loop-rest-init
@@ -22,6 +22,5 @@ pub returns : goal.returns
 returns c =
     let args = map (λ arg. arg.now) c.args.args.now in
     let old = c.loop-rest.invariant.written in
-    let gone = no_bytes c.loop-rest.rest.now c.is_empty.result c.is_empty.ensures c.loop-rest-test.false in
-    let all = c.loop-rest.invariant.so_far 0 [] (subst (λ (z : List ℕ). Spells args z 0 []) (sym gone) (spells_end args)) in
+    let all = c.loop-rest.invariant.so_far 0 [] (spells_end args c.loop-rest.rest.now c.is_empty.result c.is_empty.ensures c.loop-rest-test.false) in
     (all.0, old, subst (Spells args c.args.body.now all.0) (append-nil old) all.1, c.loop-rest.invariant.held)
