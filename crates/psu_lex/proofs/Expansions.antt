@@ -1,26 +1,22 @@
 -- Steps over a macro's body.
-use Rattle.std.proofs.Common.{◌≡◌, ℕ, ◌-◌, ◌==◌, ◌<◌, ◌≤◌, ◌+◌, nat_lt, max, min, Bool, true, false, cond, List, [], ◌∷◌, ◌++◌, length, take, drop, take_all, refl, sym, ap, ◌∙◌, subst, arith, append_assoc, inl, inr, length-append, slice_index, Ok, Err}
-use Rattle.std.proofs.lemmas.Bool.{cases_Bool}
+use Rattle.std.proofs.Common.{◌≡◌, ℕ, ◌-◌, ◌==◌, ◌<◌, ◌≤◌, nat_lt, max, Bool, true, false, cond, if◌then◌else◌, List, [], ◌∷◌, ◌++◌, length, take, drop, take_all, refl, sym, ap, ◌∙◌, subst, arith, append_assoc, inl, inr, slice_index, Result, Ok, Err, Some, None}
+use Rattle.std.proofs.lemmas.Bool.{eqb-true, cases_Bool}
 use Rattle.std.proofs.lemmas.Bool.Decides.{nat_tests}
 use Rattle.std.proofs.lemmas.List.{append-nil, take-append-drop, drop_all, append_cancel_right}
 use Rattle.std.proofs.lemmas.Grind.{common_steps}
 use Rattle.psu_lex.specs.Bytes.{opens, separates}
-use Rattle.psu_lex.specs.Message.{Token, spelling, opens_first, BeginsPiece, Reads}
+use Rattle.psu_lex.specs.Message.{Token, spelling, opens_first, Reads}
 use Rattle.psu_lex.specs.Message.Token.{Byte, Separator, Whole, Faulty}
-use Rattle.psu_lex.specs.Macros.{is_placeholder, parameter, expansion, greatest, anything, ExpandsTo}
+use Rattle.psu_lex.specs.Macros.{is_placeholder, parameter, expansion, greatest, anything, outcome, ExpandsTo}
 use Rattle.psu_lex.specs.MacroScan.{begins_placeholder, Spells, Keeps, Puts}
+use Rattle.psu_lex.specs.declared.scpi_error.ScpiError.{ScpiError}
 use Rattle.psu_lex.specs.declared.scpi_error.ScpiError.TheVariants.{MacroParameterError, TooMuchData}
-use Rattle.psu_lex.proofs.Quotes.{same_byte, same_head}
-use Rattle.psu_lex.proofs.Unique.{same_tokens}
-use Rattle.psu_lex.proofs.Exists.{some_tokens}
-
-pub spells_end : (args : List (List ℕ)) → Spells args [] 0 []
-spells_end args = ([], refl, refl, refl)
+use Rattle.psu_lex.proofs.Runs.{same_head}
+use Rattle.psu_lex.specs.Scan.{after_piece}
+use Rattle.psu_lex.proofs.PieceScans.{none, whole}
+use Rattle.psu_lex.proofs.Tokens.{same_tokens, some_tokens}
 
 -- ---- a byte that stays
-
-no_dollar : (x : ℕ) → separates x ≡ true → (x == 36) ≡ false
-no_dollar x h = grind (arith, nat_tests, h)
 
 spells_byte : (args : List (List ℕ)) (x : ℕ) (rest : List ℕ) (most : ℕ) (text : List ℕ) → opens x ≡ false → (x == 36) ≡ false
     → Spells args rest most text → Spells args (x ∷ rest) most (x ∷ text)
@@ -30,9 +26,6 @@ spells_byte args x rest most text o d (tokens, reads, m, t) = elim (cases_Bool (
 ]
 
 -- ---- a `$`
-
-first_of : (b : ℕ) (tokens : List Token) (rest : List ℕ) → Reads anything rest (Byte b ∷ tokens) → (more : List ℕ) × (rest ≡ b ∷ more)
-first_of b tokens rest r = (r.0, r.1)
 
 no_number : (b : ℕ) (rest more : List ℕ) → begins_placeholder (36 ∷ rest) ≡ false → rest ≡ b ∷ more → is_placeholder b ≡ false
 no_number b [] more f e = absurd (cc (e))
@@ -58,7 +51,7 @@ keeps_byte_at : (x : ℕ) (rest : List ℕ) → opens x ≡ false → begins_pla
 keeps_byte_at x rest o f args most text s = elim (cases_Bool (x == 36)) [
   | inr d ↦ spells_byte args x rest most text o d s
   | inl t ↦
-      let e : x ≡ 36 = same_byte x 36 t in
+      let e : x ≡ 36 = eqb-true x 36 t in
       subst (λ (z : ℕ). Spells args (z ∷ rest) most (z ∷ text)) (sym e) (spells_dollar args rest most text (subst (λ (z : ℕ). begins_placeholder (z ∷ rest) ≡ false) e f) s)
 ]
 
@@ -68,26 +61,24 @@ keeps_byte (x ∷ rest) some o f = keeps_byte_at x rest o f
 
 -- ---- a string or block
 
-pub keeps_piece : (bytes : List ℕ) (n : ℕ) → BeginsPiece bytes (drop n bytes) → Keeps bytes n
-keeps_piece bytes n begun args most text (tokens, reads, m, t) =
+pub keeps_piece : (bytes : List ℕ) (n : ℕ) → after_piece bytes ≡ Some (drop n bytes) → Keeps bytes n
+keeps_piece bytes n e args most text (tokens, reads, m, t) =
+    let begun = whole bytes (drop n bytes) e in
     let front : take n bytes ≡ spelling begun.0 = append_cancel_right (take n bytes) (spelling begun.0) (drop n bytes) (take-append-drop n bytes ∙ begun.1) in
     (Whole begun.0 ∷ tokens, (drop n bytes, begun.1, (begun.2, refl), reads), m, ap (λ (z : List ℕ). z ++ text) front ∙ ap (λ (z : List ℕ). spelling begun.0 ++ z) t)
 
-pub keeps_fault : (bytes : List ℕ) (n : ℕ) → n ≡ length bytes → opens_first bytes ≡ true → ((more : List ℕ) → BeginsPiece bytes more → ⊥) → Keeps bytes n
-keeps_fault bytes n e o none args most text (tokens, reads, m, t) =
+pub keeps_fault : (bytes : List ℕ) (n : ℕ) → n ≡ length bytes → opens_first bytes ≡ true → after_piece bytes ≡ None → Keeps bytes n
+keeps_fault bytes n e o f args most text (tokens, reads, m, t) =
     let end : drop n bytes ≡ [] = drop_all n bytes (omega (arith, e)) in
     let empty : tokens ≡ [] = same_tokens anything (drop n bytes) tokens [] reads end in
     let nothing : text ≡ [] = t ∙ ap (expansion args false) empty in (
       Faulty bytes ∷ [],
-      ([], sym (append-nil bytes), (refl, o, λ more b _. none more b), refl),
+      ([], sym (append-nil bytes), (refl, o, λ more b _. none bytes more f b), refl),
       m ∙ ap (greatest false) empty,
       ap (λ (z : List ℕ). z ++ text) (take_all n bytes (omega (arith, e))) ∙ ap (λ (z : List ℕ). bytes ++ z) nothing,
     )
 
 -- ---- a placeholder
-
-placeholder_plain : (b : ℕ) → is_placeholder b ≡ true → (separates b ≡ false) × (opens b ≡ false)
-placeholder_plain b h = (grind (arith, nat_tests, h), grind (arith, nat_tests, h))
 
 pub spells_placeholder : (args : List (List ℕ)) (bytes : List ℕ) (most : ℕ) (text : List ℕ) → begins_placeholder bytes ≡ true → Spells args (drop 2 bytes) most text
     → Spells args bytes (max (slice_index bytes 1 - 48) most) (parameter args (slice_index bytes 1 - 49) ++ text)
@@ -96,53 +87,25 @@ spells_placeholder args (x ∷ []) most text h s = absurd (cc (h))
 spells_placeholder args (x ∷ y ∷ rest) most text h (tokens, reads, m, t) =
     let d : (x == 36) ≡ true = grind (arith, common_steps, h) in
     let p : is_placeholder y ≡ true = grind (arith, common_steps, h) in
-    let plain = placeholder_plain y p in
-    let e : x ≡ 36 = same_byte x 36 d in
+    let e : x ≡ 36 = eqb-true x 36 d in
     subst (λ (z : ℕ). Spells args (z ∷ y ∷ rest) (max (y - 48) most) (parameter args (y - 49) ++ text)) (sym e) (
       Byte 36 ∷ Byte y ∷ tokens,
-      (y ∷ rest, refl, (refl, refl), (rest, refl, (plain.0, plain.1), reads)),
+      (y ∷ rest, refl, (refl, refl), (rest, refl, (grind (arith, nat_tests, p), grind (arith, nat_tests, p)), reads)),
       rw p (ap (max (y - 48)) m),
       rw p (ap (λ (z : List ℕ). parameter args (y - 49) ++ z) t),
     )
 
-pub placeholder_in : (bytes : List ℕ) → begins_placeholder bytes ≡ true → (2 ≤ length bytes) × (49 ≤ slice_index bytes 1) × (slice_index bytes 1 ≤ 57)
-placeholder_in [] h = absurd (cc (h))
-placeholder_in (x ∷ []) h = absurd (cc (h))
-placeholder_in (x ∷ y ∷ rest) h =
-    let p : is_placeholder y ≡ true = grind (arith, common_steps, h) in
-    (omega arith, grind (arith, nat_tests, p), grind (arith, nat_tests, p))
-
 -- ---- the whole body
 
--- the same greatest placeholder, whatever the parameters
-same_most : (args others : List (List ℕ)) (bytes : List ℕ) (most more : ℕ) (text other : List ℕ) → Spells args bytes most text → Spells others bytes more other → most ≡ more
-same_most args others bytes most more text other s u = s.2 ∙ ap (greatest false) (same_tokens anything bytes s.0 u.0 s.1 u.1) ∙ sym u.2
+pub same_text : (args : List (List ℕ)) (bytes : List ℕ) (most more : ℕ) (text other : List ℕ) → Spells args bytes most text → Spells args bytes more other → text ≡ other
+same_text args bytes most more text other s u = s.3 ∙ ap (expansion args false) (same_tokens anything bytes s.0 u.0 s.1 u.1) ∙ sym u.3
 
-pub some_spelling : (args : List (List ℕ)) (bytes : List ℕ) → (most : ℕ) × (text : List ℕ) × Spells args bytes most text
-some_spelling args bytes =
-    let r = some_tokens anything bytes in
-    (greatest false r.0, expansion args false r.0, (r.0, r.1, refl, refl))
-
-pub expands_other : (args : List (List ℕ)) (bytes text : List ℕ) (most : ℕ) → Spells [] bytes most text → (most == length args) ≡ false → ExpandsTo bytes args (Err MacroParameterError)
-expands_other args bytes text most s f =
-    let g : (greatest false s.0 == length args) ≡ false = ap (λ (z : ℕ). z == length args) (sym s.2) ∙ f in
-    (s.0, s.1, rw g refl)
-
-pub expands_long : (args : List (List ℕ)) (bytes text other : List ℕ) (most more : ℕ) → Spells [] bytes most other → (most == length args) ≡ true → Spells args bytes more text → 65536 < length text
-    → ExpandsTo bytes args (Err TooMuchData)
-expands_long args bytes text other most more s e u lt =
-    let g : (greatest false u.0 == length args) ≡ true = ap (λ (z : ℕ). z == length args) (sym u.2 ∙ same_most args [] bytes more most text other u s) ∙ e in
-    let far : 65536 < length (expansion args false u.0) = omega (arith, lt, ap length u.3) in
-    let l : nat_lt 65536 (length (expansion args false u.0)) ≡ true = grind (arith, nat_tests, far) in
-    (u.0, u.1, rw (g, l) refl)
-
-pub expands : (args : List (List ℕ)) (bytes text other : List ℕ) (most more : ℕ) → Spells [] bytes most other → (most == length args) ≡ true → Spells args bytes more text → length text ≤ 65536
-    → ExpandsTo bytes args (Ok text)
-expands args bytes text other most more s e u le =
-    let g : (greatest false u.0 == length args) ≡ true = ap (λ (z : ℕ). z == length args) (sym u.2 ∙ same_most args [] bytes more most text other u s) ∙ e in
-    let near : length (expansion args false u.0) ≤ 65536 = omega (arith, le, ap length u.3) in
-    let l : nat_lt 65536 (length (expansion args false u.0)) ≡ false = grind (arith, nat_tests, near) in
-    (u.0, u.1, rw (g, l) (ap (λ (z : List ℕ). Ok z) u.3))
+-- what a body gives, by its greatest placeholder and the text that it spells
+pub gives : (args : List (List ℕ)) (body text other : List ℕ) (most more : ℕ) → Spells [] body most other → Spells args body more text
+    → ExpandsTo body args (if most == length args then (if nat_lt 65536 (length text) then Err TooMuchData else Ok text) else Err MacroParameterError)
+gives args body text other most more s (tokens, reads, m, t) =
+    let same : most ≡ greatest false tokens = s.2 ∙ ap (greatest false) (same_tokens anything body s.0 tokens s.1 reads) in
+    (tokens, reads, rw (same, t) refl)
 
 -- ---- the same, as the loops go
 
@@ -151,7 +114,10 @@ respelled args bytes most more text other e f s = (s.0, s.1, e ∙ s.2, f ∙ s.
 
 pub no_bytes : (bytes : List ℕ) (empty : Bool) → empty ≡ (length bytes == 0) → empty ≡ true → bytes ≡ []
 no_bytes [] empty e t = refl
-no_bytes (x ∷ bytes) empty e t = absurd (omega (arith, same_byte (length (x ∷ bytes)) 0 (sym e ∙ t)))
+no_bytes (x ∷ bytes) empty e t = absurd (omega (arith, eqb-true (length (x ∷ bytes)) 0 (sym e ∙ t)))
+
+pub spells_end : (args : List (List ℕ)) (bytes : List ℕ) (empty : Bool) → empty ≡ (length bytes == 0) → empty ≡ true → Spells args bytes 0 []
+spells_end args bytes empty e t = subst (λ (z : List ℕ). Spells args z 0 []) (sym (no_bytes bytes empty e t)) ([], refl, refl, refl)
 
 pub puts_placeholder : (args : List (List ℕ)) (bytes piece : List ℕ) → begins_placeholder bytes ≡ true → piece ≡ parameter args (slice_index bytes 1 - 49) → Puts args bytes 2 piece
 puts_placeholder args bytes piece h e most text s =
@@ -171,27 +137,6 @@ put_on args body bytes later old new piece n so_far e p d most text s =
     let all = so_far put.0 (piece ++ text) put.1 in
     let same : old ++ (piece ++ text) ≡ new ++ text = sym (append_assoc old piece text) ∙ ap (λ (z : List ℕ). z ++ text) (sym e) in
     (all.0, subst (Spells args body all.0) same all.1)
-
--- the same of its length
-pub put_length : (args : List (List ℕ)) (body bytes later piece : List ℕ) (n had has : ℕ)
-    → ((most : ℕ) (text : List ℕ) → Spells args bytes most text → (all : ℕ) × (whole : List ℕ) × Spells args body all whole × (min 65537 (had + length text) ≡ min 65537 (length whole)))
-    → has ≡ min 65537 (had + length piece) → Puts args bytes n piece → later ≡ drop n bytes
-    → (most : ℕ) (text : List ℕ) → Spells args later most text → (all : ℕ) × (whole : List ℕ) × Spells args body all whole × (min 65537 (has + length text) ≡ min 65537 (length whole))
-put_length args body bytes later piece n had has so_far e p d most text s =
-    let put = p most text (subst (λ (z : List ℕ). Spells args z most text) d s) in
-    let all = so_far put.0 (piece ++ text) put.1 in
-    let l : length (piece ++ text) ≡ length piece + length text = length-append piece text in
-    (all.0, all.1, all.2, omega (arith, e, l, all.3))
-
-same_text : (args : List (List ℕ)) (bytes : List ℕ) (most more : ℕ) (text other : List ℕ) → Spells args bytes most text → Spells args bytes more other → text ≡ other
-same_text args bytes most more text other s u = s.3 ∙ ap (expansion args false) (same_tokens anything bytes s.0 u.0 s.1 u.1) ∙ sym u.3
-
--- what was filled, where its length is good
-pub filled_is : (args : List (List ℕ)) (body text other whole : List ℕ) (most more all held : ℕ) → Spells [] body most other → (most == length args) ≡ true → Spells args body more whole
-    → held ≡ min 65537 (length whole) → held ≤ 65536 → Spells args body all text → ExpandsTo body args (Ok text)
-filled_is args body text other whole most more all held g is s l le t =
-    let same = same_text args body all more text whole t s in
-    expands args body text other most all g is t (omega (arith, l, le, ap length same))
 
 -- ---- too many parameters
 
@@ -215,11 +160,13 @@ greatest_most false (Whole piece ∷ tokens) = greatest_most false tokens
 greatest_most true (Faulty text ∷ tokens) = greatest_most false tokens
 greatest_most false (Faulty text ∷ tokens) = greatest_most false tokens
 
-apart : (m n : ℕ) → m < n → (m == n) ≡ false
-apart m n lt = grind (arith, nat_tests)
-
 -- more than nine parameters are too many for every body
 pub expands_many : (args : List (List ℕ)) (bytes : List ℕ) → 9 < length args → ExpandsTo bytes args (Err MacroParameterError)
 expands_many args bytes lt =
-    let s = some_spelling [] bytes in
-    expands_other args bytes s.1 s.0 s.2 (apart s.0 (length args) (omega (arith, s.2.2, greatest_most false s.2.0)))
+    let r = some_tokens anything bytes in
+    let most = greatest_most false r.0 in
+    let other : (greatest false r.0 == length args) ≡ false = grind (arith, nat_tests, lt, most) in
+    (r.0, r.1, rw other refl)
+
+pub some_expansion : (body : List ℕ) (args : List (List ℕ)) → (result : Result (List ℕ) ScpiError) × ExpandsTo body args result
+some_expansion body args = let r = some_tokens anything body in (outcome args r.0, (r.0, r.1, refl))

@@ -1,15 +1,19 @@
--- Headers: what their scan accepts is a header, and every header is accepted.
-use Rattle.std.proofs.Common.{◌≡◌, ℕ, ◌==◌, ◌&&◌, Bool, true, false, List, [], ◌∷◌, ◌++◌, refl, sym, ap, ◌∙◌, arith, append_assoc, inl, inr}
-use Rattle.std.proofs.lemmas.Bool.{cases_Bool}
+-- Headers: what their scan accepts is a header, every header is accepted, and its parts are found.
+use Rattle.std.proofs.Common.{◌≡◌, ℕ, ◌==◌, ◌&&◌, Bool, true, false, List, [], ◌∷◌, ◌++◌, refl, sym, ap, ◌∙◌, arith, append_assoc, inl, inr, ◌-◌, ◌<◌, not, length, take, slice_index, zero, suc, length-append}
+use Rattle.std.proofs.lemmas.Bool.{not-true, eqb-true, and_parts, cases_Bool}
 use Rattle.std.proofs.lemmas.Bool.Decides.{nat_tests}
 use Rattle.psu_lex.specs.Bytes.{is_letter}
-use Rattle.psu_lex.specs.Syntax.{is_name_byte, all_name, is_node, all_nodes, behind, ask_text, mark_text, Header, IsHeader, SpellsHeader, header_text}
+use Rattle.psu_lex.specs.Syntax.{is_name_byte, all_name, is_node, all_nodes, behind, ask_text, mark_text, Header, IsHeader, SpellsHeader, header_text, path_text}
 use Rattle.psu_lex.specs.declared.mark.Mark.{Mark}
 use Rattle.psu_lex.specs.declared.mark.Mark.TheVariants.{Star, Colon, Bare}
-use Rattle.psu_lex.specs.SyntaxScan.{is_empty, joins, is_part, is_path, is_header, mark_of}
+use Rattle.psu_lex.specs.SyntaxScan.{is_empty, joins, is_part, is_path, is_header, mark_of, behind_mark, ends_asking, without_ask}
 use Rattle.psu_lex.specs.NumberScan.{run, left}
-use Rattle.psu_lex.proofs.Quotes.{same_byte, same_head, same_tail, both}
-use Rattle.psu_lex.proofs.Runs.{every, leads, run_at, left_at}
+use Rattle.psu_lex.proofs.Runs.{same_head, same_tail, both, every, leads, run_at, left_at, every_head, every_tail, every_append, every_more}
+use Rattle.std.proofs.lemmas.List.{append-nil}
+use Rattle.std.proofs.Math.Seq.{take-append_seam}
+use Rattle.psu_lex.specs.Shown.{ShowsHeader}
+use Rattle.psu_lex.specs.declared.header.Header as rust
+use Rattle.psu_lex.proofs.WrittenData.{node_every}
 
 -- the rest of a path in whose first node a byte stands, or none yet
 abbrev Rest : Bool → Bool → List ℕ → Type 0
@@ -20,17 +24,9 @@ Rest several false text =
 
 -- ---- what is accepted is a path
 
-both_true : (a b : Bool) → (a && b) ≡ true → (a ≡ true) × (b ≡ true)
-both_true true true h = (refl, refl)
-both_true true false h = absurd (cc (h))
-both_true false b h = absurd (cc (h))
-
 empty_is : (xs : List ℕ) → is_empty xs ≡ true → xs ≡ []
 empty_is [] h = refl
 empty_is (x ∷ xs) h = absurd (cc (h))
-
-letter_name : (x : ℕ) → is_letter x ≡ true → is_name_byte x ≡ true
-letter_name x h = rw h refl
 
 asked : (several begun : Bool) (x : ℕ) (xs : List ℕ) → x ≡ 63 → (begun && is_empty xs) ≡ true → Rest several begun (x ∷ xs)
 asked several true x xs e h = ([], [], true, refl, refl, (λ f. refl), ap (λ (z : ℕ). z ∷ xs) e ∙ ap (λ (z : List ℕ). 63 ∷ z) (empty_is xs h))
@@ -38,7 +34,7 @@ asked several false x xs e h = absurd (cc (h))
 
 joined : (several begun : Bool) (x : ℕ) (xs : List ℕ) → joins begun several x ≡ true → Rest several false xs → Rest several begun (x ∷ xs)
 joined true true x xs h (node, nodes, asks, n, ns, one, e) =
-    ([], node ∷ nodes, asks, refl, rw n ns, (λ f. absurd (cc (f))), ap (λ (z : ℕ). z ∷ xs) (same_byte x 58 h) ∙ ap (λ (z : List ℕ). 58 ∷ z) (e ∙ sym (append_assoc node (behind nodes) (ask_text asks))))
+    ([], node ∷ nodes, asks, refl, rw n ns, (λ f. absurd (cc (f))), ap (λ (z : ℕ). z ∷ xs) (eqb-true x 58 h) ∙ ap (λ (z : List ℕ). 58 ∷ z) (e ∙ sym (append_assoc node (behind nodes) (ask_text asks))))
 joined true false x xs h r = absurd (cc (h))
 joined false true x xs h r = absurd (cc (h))
 joined false false x xs h r = absurd (cc (h))
@@ -51,7 +47,7 @@ path_out : (several begun : Bool) (text : List ℕ) → is_path several begun te
 path_out several true [] h = ([], [], false, refl, refl, (λ f. refl), refl)
 path_out several false [] h = absurd (cc (h))
 path_out several begun (x ∷ xs) h = elim (cases_Bool (x == 63)) [
-  | inl t ↦ asked several begun x xs (same_byte x 63 t) (rw t at h)
+  | inl t ↦ asked several begun x xs (eqb-true x 63 t) (rw t at h)
   | inr f ↦ elim (cases_Bool (joins begun several x)) [
     | inl j ↦ joined several begun x xs j (path_out several false xs (rw (f, j) at h))
     | inr g ↦ elim (cases_Bool (is_part begun x)) [
@@ -76,14 +72,14 @@ no_join false x h = refl
 over_word : (several : Bool) (word rest : List ℕ) → all_name word ≡ true → is_path several true (word ++ rest) ≡ is_path several true rest
 over_word several [] rest h = refl
 over_word several (x ∷ word) rest h =
-    let parts = both_true (is_name_byte x) (all_name word) h in
+    let parts = and_parts (is_name_byte x) (all_name word) h in
     let plain = name_plain x parts.0 in
     rw (plain.0, no_join several x plain.1, parts.0) (over_word several word rest parts.1)
 
 from_node : (several : Bool) (node rest : List ℕ) → is_node node ≡ true → is_path several false (node ++ rest) ≡ is_path several true rest
 from_node several [] rest h = absurd (cc (h))
 from_node several (x ∷ node) rest h =
-    let parts = both_true (is_letter x) (all_name node) h in
+    let parts = and_parts (is_letter x) (all_name node) h in
     rw (letter_plain x parts.0, parts.0) (over_word several node rest parts.1)
 
 at_end : (several asks : Bool) → is_path several true (ask_text asks) ≡ true
@@ -94,7 +90,7 @@ over_nodes : (several asks : Bool) (nodes : List (List ℕ)) → all_nodes nodes
 over_nodes several asks [] h one = at_end several asks
 over_nodes false asks (n ∷ ns) h one = absurd (cc (one refl))
 over_nodes true asks (n ∷ ns) h one =
-    let parts = both_true (is_node n) (all_nodes ns) h in
+    let parts = and_parts (is_node n) (all_nodes ns) h in
     ap (is_path true false) (append_assoc n (behind ns) (ask_text asks)) ∙ from_node true n (behind ns ++ ask_text asks) parts.0 ∙ over_nodes true asks ns parts.1 (λ f. absurd (cc (f)))
 
 path_in : (several asks : Bool) (node : List ℕ) (nodes : List (List ℕ)) → is_node node ≡ true → all_nodes nodes ≡ true → (several ≡ false → nodes ≡ [])
@@ -108,11 +104,11 @@ header_out [] h = absurd (cc (h))
 header_out (x ∷ xs) h = elim (cases_Bool (x == 42)) [
   | inl t ↦
       let r = path_out false false xs (rw t at h) in
-      (record { mark = Star; node = r.0; nodes = r.1; asks = r.2 }, record { node = r.3; nodes = r.4; common = λ e. r.5 refl }, ap (λ (z : ℕ). z ∷ xs) (same_byte x 42 t) ∙ ap (λ (z : List ℕ). 42 ∷ z) r.6)
+      (record { mark = Star; node = r.0; nodes = r.1; asks = r.2 }, record { node = r.3; nodes = r.4; common = λ e. r.5 refl }, ap (λ (z : ℕ). z ∷ xs) (eqb-true x 42 t) ∙ ap (λ (z : List ℕ). 42 ∷ z) r.6)
   | inr f ↦ elim (cases_Bool (x == 58)) [
     | inl t ↦
         let r = path_out true false xs (rw (f, t) at h) in
-        (record { mark = Colon; node = r.0; nodes = r.1; asks = r.2 }, record { node = r.3; nodes = r.4; common = λ e. absurd (cc (e)) }, ap (λ (z : ℕ). z ∷ xs) (same_byte x 58 t) ∙ ap (λ (z : List ℕ). 58 ∷ z) r.6)
+        (record { mark = Colon; node = r.0; nodes = r.1; asks = r.2 }, record { node = r.3; nodes = r.4; common = λ e. absurd (cc (e)) }, ap (λ (z : ℕ). z ∷ xs) (eqb-true x 58 t) ∙ ap (λ (z : List ℕ). 58 ∷ z) r.6)
     | inr g ↦
         let r = path_out true false (x ∷ xs) (rw (f, g) at h) in
         (record { mark = Bare; node = r.0; nodes = r.1; asks = r.2 }, record { node = r.3; nodes = r.4; common = λ e. absurd (cc (e)) }, r.6)
@@ -124,7 +120,7 @@ bare_first x h = (grind (arith, nat_tests, h), grind (arith, nat_tests, h))
 
 bare_in : (node rest : List ℕ) → is_node node ≡ true → is_header (node ++ rest) ≡ is_path true false (node ++ rest)
 bare_in [] rest h = absurd (cc (h))
-bare_in (x ∷ node) rest h = let plain = bare_first x ((both_true (is_letter x) (all_name node) h).0) in rw (plain.0, plain.1) refl
+bare_in (x ∷ node) rest h = let plain = bare_first x ((and_parts (is_letter x) (all_name node) h).0) in rw (plain.0, plain.1) refl
 
 header_at : (mark : Mark) (asks : Bool) (node : List ℕ) (nodes : List (List ℕ)) → is_node node ≡ true → all_nodes nodes ≡ true → (mark ≡ Star → nodes ≡ [])
     → is_header (mark_text mark ++ (node ++ (behind nodes ++ ask_text asks))) ≡ true
@@ -132,25 +128,10 @@ header_at Star asks node nodes n ns one = path_in false asks node nodes n ns (λ
 header_at Colon asks node nodes n ns one = path_in true asks node nodes n ns (λ f. absurd (cc (f)))
 header_at Bare asks node nodes n ns one = bare_in node (behind nodes ++ ask_text asks) n ∙ path_in true asks node nodes n ns (λ f. absurd (cc (f)))
 
-header_in : (h : Header) → IsHeader h → is_header (header_text h) ≡ true
-header_in h is = header_at h.mark h.asks h.node h.nodes is.node is.nodes is.common
-
 pub no_header : (text : List ℕ) → is_header text ≡ false → SpellsHeader text → ⊥
-no_header text f (h, is, e) = both (is_header text) (ap is_header e ∙ header_in h is) f
+no_header text f (h, is, e) = both (is_header text) (ap is_header e ∙ header_at h.mark h.asks h.node h.nodes is.node is.nodes is.common) f
 
 -- ---- one header
-
-name_bytes : (text : List ℕ) → all_name text ≡ true → every is_name_byte text ≡ true
-name_bytes [] h = refl
-name_bytes (x ∷ text) h =
-    let parts = both_true (is_name_byte x) (all_name text) h in
-    rw (parts.0) (name_bytes text parts.1)
-
-node_bytes : (text : List ℕ) → is_node text ≡ true → every is_name_byte text ≡ true
-node_bytes [] h = refl
-node_bytes (x ∷ text) h =
-    let parts = both_true (is_letter x) (all_name text) h in
-    rw (letter_name x parts.0) (name_bytes text parts.1)
 
 -- what stands behind a node begins with no byte of one
 behind_leads : (nodes : List (List ℕ)) (asks : Bool) → leads is_name_byte (behind nodes ++ ask_text asks) ≡ false
@@ -160,8 +141,8 @@ behind_leads (n ∷ ns) asks = refl
 
 same_node : (n m x y : List ℕ) → is_node n ≡ true → is_node m ≡ true → leads is_name_byte x ≡ false → leads is_name_byte y ≡ false → n ++ x ≡ m ++ y → (n ≡ m) × (x ≡ y)
 same_node n m x y h k f g e = (
-  sym (run_at is_name_byte n x (node_bytes n h) f) ∙ ap (run is_name_byte) e ∙ run_at is_name_byte m y (node_bytes m k) g,
-  sym (left_at is_name_byte n x (node_bytes n h) f) ∙ ap (left is_name_byte) e ∙ left_at is_name_byte m y (node_bytes m k) g,
+  sym (run_at is_name_byte n x (node_every n h) f) ∙ ap (run is_name_byte) e ∙ run_at is_name_byte m y (node_every m k) g,
+  sym (left_at is_name_byte n x (node_every n h) f) ∙ ap (left is_name_byte) e ∙ left_at is_name_byte m y (node_every m k) g,
 )
 
 same_asks : (a b : Bool) → ask_text a ≡ ask_text b → a ≡ b
@@ -179,8 +160,8 @@ same_behind [] [] a b h k e = (refl, same_asks a b e)
 same_behind [] (m ∷ ms) a b h k e = absurd (no_asks a _ e)
 same_behind (n ∷ ns) [] a b h k e = absurd (no_asks b _ (sym e))
 same_behind (n ∷ ns) (m ∷ ms) a b h k e =
-    let p = both_true (is_node n) (all_nodes ns) h in
-    let q = both_true (is_node m) (all_nodes ms) k in
+    let p = and_parts (is_node n) (all_nodes ns) h in
+    let q = and_parts (is_node m) (all_nodes ms) k in
     let front = same_node n m (behind ns ++ ask_text a) (behind ms ++ ask_text b) p.0 q.0 (behind_leads ns a) (behind_leads ms b)
     (sym (append_assoc n (behind ns) (ask_text a)) ∙ same_tail 58 58 _ _ e ∙ append_assoc m (behind ms) (ask_text b)) in
     let later = same_behind ns ms a b p.1 q.1 front.1 in
@@ -190,12 +171,12 @@ pub mark_is : (mark : Mark) (node rest : List ℕ) → is_node node ≡ true →
 mark_is Star node rest h = refl
 mark_is Colon node rest h = refl
 mark_is Bare [] rest h = absurd (cc (h))
-mark_is Bare (x ∷ node) rest h = let plain = bare_first x ((both_true (is_letter x) (all_name node) h).0) in rw (plain.0, plain.1) refl
+mark_is Bare (x ∷ node) rest h = let plain = bare_first x ((and_parts (is_letter x) (all_name node) h).0) in rw (plain.0, plain.1) refl
 
-behind_mark : (mark : Mark) (x y : List ℕ) → mark_text mark ++ x ≡ mark_text mark ++ y → x ≡ y
-behind_mark Star x y e = same_tail 42 42 x y e
-behind_mark Colon x y e = same_tail 58 58 x y e
-behind_mark Bare x y e = e
+behind_is : (mark : Mark) (text : List ℕ) → behind_mark mark (mark_text mark ++ text) ≡ text
+behind_is Star text = refl
+behind_is Colon text = refl
+behind_is Bare text = refl
 
 abbrev made : Mark → List ℕ → List (List ℕ) → Bool → Header
 made mark node nodes asks = record { mark = mark; node = node; nodes = nodes; asks = asks }
@@ -205,8 +186,72 @@ one_header h g p q e =
     let hs = behind h.nodes ++ ask_text h.asks in
     let gs = behind g.nodes ++ ask_text g.asks in
     let mark : h.mark ≡ g.mark = sym (mark_is h.mark h.node hs p.node) ∙ ap mark_of e ∙ mark_is g.mark g.node gs q.node in
-    let body : h.node ++ hs ≡ g.node ++ gs = behind_mark g.mark (h.node ++ hs) (g.node ++ gs) (ap (λ (z : Mark). mark_text z ++ (h.node ++ hs)) (sym mark) ∙ e) in
+    let body : h.node ++ hs ≡ g.node ++ gs = sym (behind_is g.mark (h.node ++ hs)) ∙ ap (behind_mark g.mark) (ap (λ (z : Mark). mark_text z ++ (h.node ++ hs)) (sym mark) ∙ e) ∙ behind_is g.mark (g.node ++ gs) in
     let front = same_node h.node g.node hs gs p.node q.node (behind_leads h.nodes h.asks) (behind_leads g.nodes g.asks) body in
     let later = same_behind h.nodes g.nodes h.asks g.asks p.nodes q.nodes front.1 in
     ap (λ (z : Mark). made z h.node h.nodes h.asks) mark ∙ ap (λ (z : List ℕ). made g.mark z h.nodes h.asks) front.0
     ∙ ap (λ (z : List (List ℕ)). made g.mark g.node z h.asks) later.0 ∙ ap (made g.mark g.node g.nodes) later.1
+
+-- ---- the last byte
+
+last_at : (x : ℕ) (xs : List ℕ) (n : ℕ) → n ≡ length xs → (slice_index (x ∷ xs) n == 63) ≡ ends_asking (x ∷ xs)
+last_at x [] zero e = refl
+last_at x [] (suc n) e = absurd (omega (arith, e))
+last_at x (y ∷ xs) zero e = absurd (omega (arith, e))
+last_at x (y ∷ xs) (suc n) e = last_at y xs n (omega (arith, e))
+
+pub last_asks : (text : List ℕ) → 0 < length text → (slice_index text (length text - 1) == 63) ≡ ends_asking text
+last_asks [] h = absurd (omega (arith, h))
+last_asks (x ∷ xs) h = last_at x xs (length (x ∷ xs) - 1) (omega arith)
+
+abbrev is_plain : ℕ → Bool
+is_plain b = not (b == 63)
+
+name_unasked : (x : ℕ) → is_name_byte x ≡ true → is_plain x ≡ true
+name_unasked x h = grind (arith, nat_tests, h)
+
+plain_end : (xs : List ℕ) → every is_plain xs ≡ true → ends_asking xs ≡ false
+plain_end [] h = refl
+plain_end (x ∷ []) h = not-true (x == 63) (every_head is_plain x [] h)
+plain_end (x ∷ y ∷ xs) h = plain_end (y ∷ xs) (every_tail is_plain x (y ∷ xs) h)
+
+asking_end : (xs : List ℕ) → ends_asking (xs ++ 63 ∷ []) ≡ true
+asking_end [] = refl
+asking_end (x ∷ []) = refl
+asking_end (x ∷ y ∷ xs) = asking_end (y ∷ xs)
+
+-- ---- the nodes
+
+pub behind_every : (test : ℕ → Bool) (nodes : List (List ℕ)) → test 58 ≡ true → ((x : ℕ) → is_name_byte x ≡ true → test x ≡ true) → all_nodes nodes ≡ true → every test (behind nodes) ≡ true
+behind_every test [] c f h = refl
+behind_every test (n ∷ ns) c f h =
+    let parts = and_parts (is_node n) (all_nodes ns) h in
+    rw c (every_append test n (behind ns) (every_more is_name_byte test n f (node_every n parts.0)) (behind_every test ns c f parts.1))
+
+path_plain : (h : Header) → IsHeader h → every is_plain (path_text h) ≡ true
+path_plain h is =
+    every_append is_plain h.node (behind h.nodes) (every_more is_name_byte is_plain h.node name_unasked (node_every h.node is.node)) (behind_every is_plain h.nodes refl name_unasked is.nodes)
+
+asked_end : (path : List ℕ) (asks : Bool) → every is_plain path ≡ true → ends_asking (path ++ ask_text asks) ≡ asks
+asked_end path true h = asking_end path
+asked_end path false h = ap ends_asking (append-nil path) ∙ plain_end path h
+
+cut_end : (path : List ℕ) (asks : Bool) → without_ask asks (path ++ ask_text asks) ≡ path
+cut_end path true =
+    let n : length (path ++ 63 ∷ []) - 1 ≡ length path = omega (arith, length-append path (63 ∷ [])) in
+    ap (λ (k : ℕ). take k (path ++ 63 ∷ [])) n ∙ take-append_seam path (63 ∷ [])
+cut_end path false = append-nil path
+
+-- ---- the same, as the code goes
+
+pub parts_shown : (shown : rust.Header) (text body : List ℕ) (mark : Mark) (asks : Bool) (h : Header) → IsHeader h → text ≡ header_text h → mark ≡ mark_of text → body ≡ behind_mark mark text
+    → asks ≡ ends_asking body → shown.text.now ≡ text → shown.mark ≡ mark → shown.nodes.now ≡ without_ask asks body → shown.asks ≡ asks → ShowsHeader shown h
+parts_shown shown text body mark asks h is e m b a st sm sn sa =
+    let path = path_text h in
+    let rest = path ++ ask_text h.asks in
+    let whole : text ≡ mark_text h.mark ++ rest = e ∙ ap (λ (z : List ℕ). mark_text h.mark ++ z) (sym (append_assoc h.node (behind h.nodes) (ask_text h.asks))) in
+    let marked : mark ≡ h.mark = m ∙ ap mark_of e ∙ mark_is h.mark h.node (behind h.nodes ++ ask_text h.asks) is.node in
+    let found : body ≡ rest = b ∙ ap (λ (z : Mark). behind_mark z text) marked ∙ ap (behind_mark h.mark) whole ∙ behind_is h.mark rest in
+    let asking : asks ≡ h.asks = a ∙ ap ends_asking found ∙ asked_end path h.asks (path_plain h is) in
+    let cut : without_ask asks body ≡ path = ap (λ (z : Bool). without_ask z body) asking ∙ ap (without_ask h.asks) found ∙ cut_end path h.asks in
+    record { text = st ∙ e; mark = sm ∙ marked; nodes = sn ∙ cut; asks = sa ∙ asking }

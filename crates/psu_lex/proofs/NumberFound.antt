@@ -6,8 +6,7 @@ use Rattle.psu_lex.specs.Bytes.{is_digit, is_letter, is_white}
 use Rattle.psu_lex.specs.declared.scpi_error.ScpiError.{ScpiError}
 use Rattle.psu_lex.specs.Number.{Sign, Exponent, Number, IsNumber, NumberGives, reading_of, ExponentHolds, sign_text, fraction_text, fraction_digits, exponent_text, number_text, mantissa}
 use Rattle.psu_lex.specs.Number.Sign.{Plus, Minus, Unsigned}
-use Rattle.psu_lex.specs.NumberScan.{run, left, sign_of, after_sign, fraction_of, after_fraction, exponent_with, exponent_from, exponent_of, after_exponent, is_nonempty, suffix_of, gap_of, end_of, excess_of, at_fraction, at_exponent, at_tail, scanned}
-use Rattle.psu_lex.proofs.Quotes.{both}
+use Rattle.psu_lex.specs.NumberScan.{run, left, sign_of, after_sign, fraction_of, after_fraction, exponent_with, exponent_from, exponent_of, after_exponent, is_nonempty, is_number, suffix_of, gap_of, end_of, excess_of, at_fraction, at_exponent, at_tail, scanned}
 use Rattle.psu_lex.proofs.Runs.{every, leads, digits_every, white_every, letters_every, every_head, every_tail, run_at, left_at, every_append, every_left, left_none, run_all, every_more}
 
 -- what may stand behind the digits of a number
@@ -18,41 +17,20 @@ is_tail b = is_white b || is_letter b
 abbrev is_body : ℕ → Bool
 is_body b = is_digit b || b == 46
 
-no_digit : (x : ℕ) → is_tail x ≡ true → is_digit x ≡ false
-no_digit x h = grind (arith, nat_tests, h)
+tail_byte : (x : ℕ) → is_tail x ≡ true → (is_digit x ≡ false) × ((x == 46) ≡ false)
+tail_byte x h = (grind (arith, nat_tests, h), grind (arith, nat_tests, h))
 
-no_point : (x : ℕ) → is_tail x ≡ true → (x == 46) ≡ false
-no_point x h = grind (arith, nat_tests, h)
+body_byte : (x : ℕ) → is_body x ≡ true → ((x == 43) ≡ false) × ((x == 45) ≡ false) × (is_white x ≡ false)
+body_byte x h = (grind (arith, nat_tests, h), grind (arith, nat_tests, h), grind (arith, nat_tests, h))
 
 no_white_letter : (x : ℕ) → is_letter x ≡ true → is_white x ≡ false
 no_white_letter x h = grind (arith, nat_tests, h)
 
-no_letter_white : (x : ℕ) → is_white x ≡ true → is_letter x ≡ false
-no_letter_white x h = grind (arith, nat_tests, h)
-
 no_white_mark : (x : ℕ) → (x == 69 || x == 101) ≡ true → is_white x ≡ false
 no_white_mark x h = grind (arith, nat_tests, h)
 
-tail_mark : (x : ℕ) → (x == 69 || x == 101) ≡ true → is_tail x ≡ true
-tail_mark x h = grind (arith, nat_tests, h)
-
 tail_white : (x : ℕ) → is_white x ≡ true → is_tail x ≡ true
 tail_white x h = rw h refl
-
-no_plus_body : (x : ℕ) → is_body x ≡ true → (x == 43) ≡ false
-no_plus_body x h = grind (arith, nat_tests, h)
-
-no_minus_body : (x : ℕ) → is_body x ≡ true → (x == 45) ≡ false
-no_minus_body x h = grind (arith, nat_tests, h)
-
-no_white_body : (x : ℕ) → is_body x ≡ true → is_white x ≡ false
-no_white_body x h = grind (arith, nat_tests, h)
-
-body_digit : (x : ℕ) → is_digit x ≡ true → is_body x ≡ true
-body_digit x h = rw h refl
-
-tail_letter : (x : ℕ) → is_letter x ≡ true → is_tail x ≡ true
-tail_letter x h = grind (arith, nat_tests, h)
 
 every_sign : (test : ℕ → Bool) (xs : List ℕ) → every test xs ≡ true → every test (after_sign xs) ≡ true
 every_sign test [] h = refl
@@ -70,12 +48,9 @@ every_first : (xs : List ℕ) → every is_tail xs ≡ true → tail_first xs �
 every_first [] h = refl
 every_first (x ∷ xs) h = every_head is_tail x xs h
 
-leads_not : (test : ℕ → Bool) (xs : List ℕ) → ((x : ℕ) → is_tail x ≡ true → test x ≡ false) → tail_first xs ≡ true → leads test xs ≡ false
-leads_not test [] f h = refl
-leads_not test (x ∷ xs) f h = f x h
-
-run_none : (test : ℕ → Bool) (xs : List ℕ) → leads test xs ≡ false → run test xs ≡ []
-run_none test xs f = run_at test [] xs refl f
+no_digits : (xs : List ℕ) → tail_first xs ≡ true → leads is_digit xs ≡ false
+no_digits [] h = refl
+no_digits (x ∷ xs) h = (tail_byte x h).0
 
 -- ---- the sign
 
@@ -84,30 +59,31 @@ sign_found Plus body h = (refl, refl, refl)
 sign_found Minus body h = (refl, refl, refl)
 sign_found Unsigned [] h = absurd (cc (h))
 sign_found Unsigned (x ∷ body) h =
-    (rw (no_plus_body x h, no_minus_body x h) refl, rw (no_plus_body x h, no_minus_body x h) refl, no_white_body x h)
+    let plain = body_byte x h in
+    (rw (plain.0, plain.1) refl, rw (plain.0, plain.1) refl, plain.2)
 
 leads_digits : (ds later : List ℕ) → 0 < length ds → every is_digit ds ≡ true → leads is_body (ds ++ later) ≡ true
 leads_digits [] later some h = absurd (omega (arith, some))
-leads_digits (d ∷ ds) later some h = body_digit d (every_head is_digit d ds h)
+leads_digits (d ∷ ds) later some h = rw (every_head is_digit d ds h) refl
 
 leads_mantissa : (whole : List ℕ) (fraction : Option (List ℕ)) (later : List ℕ) → 0 < length (whole ++ fraction_digits fraction) → every is_digit whole ≡ true
     → leads is_body (whole ++ (fraction_text fraction ++ later)) ≡ true
 leads_mantissa [] None later some h = absurd (omega (arith, some))
 leads_mantissa [] (Some ds) later some h = refl
-leads_mantissa (d ∷ whole) fraction later some h = body_digit d (every_head is_digit d whole h)
+leads_mantissa (d ∷ whole) fraction later some h = rw (every_head is_digit d whole h) refl
 
 -- ---- the fraction
 
 fraction_found : (fraction : Option (List ℕ)) (later : List ℕ) → every is_digit (fraction_digits fraction) ≡ true → tail_first later ≡ true
     → (fraction_of (fraction_text fraction ++ later) ≡ fraction) × (after_fraction (fraction_text fraction ++ later) ≡ later)
 fraction_found None [] h t = (refl, refl)
-fraction_found None (x ∷ later) h t = (rw (no_point x t) refl, rw (no_point x t) refl)
+fraction_found None (x ∷ later) h t = let point = (tail_byte x t).1 in (rw point refl, rw point refl)
 fraction_found (Some ds) later h t =
-    let stop = leads_not is_digit later no_digit t in
+    let stop = no_digits later t in
     (ap Some (run_at is_digit ds later h stop), left_at is_digit ds later h stop)
 
 fraction_first : (fraction : Option (List ℕ)) (later : List ℕ) → tail_first later ≡ true → leads is_digit (fraction_text fraction ++ later) ≡ false
-fraction_first None later t = leads_not is_digit later no_digit t
+fraction_first None later t = no_digits later t
 fraction_first (Some ds) later t = refl
 
 -- ---- the exponent
@@ -116,7 +92,7 @@ from_none : (before ys : List ℕ) → every is_tail ys ≡ true → exponent_fr
 from_none before [] h = refl
 from_none before (x ∷ ys) h =
     let inner : every is_tail (after_sign (left is_white ys)) ≡ true = every_sign is_tail (left is_white ys) (every_left is_tail is_white ys (every_tail is_tail x ys h)) in
-    let none : run is_digit (after_sign (left is_white ys)) ≡ [] = run_none is_digit (after_sign (left is_white ys)) (leads_not is_digit (after_sign (left is_white ys)) no_digit (every_first (after_sign (left is_white ys)) inner)) in
+    let none : run is_digit (after_sign (left is_white ys)) ≡ [] = run_at is_digit [] (after_sign (left is_white ys)) refl (no_digits (after_sign (left is_white ys)) (every_first (after_sign (left is_white ys)) inner)) in
     elim (cases_Bool (x == 69 || x == 101)) [
       | inl t ↦ rw (t, none) refl
       | inr f ↦ rw f refl
@@ -130,23 +106,15 @@ with_some : (before : List ℕ) (x : ℕ) (a : List ℕ) (s : Sign) (ds : List �
 with_some before x a s [] some = absurd (omega (arith, some))
 with_some before x a s (d ∷ ds) some = refl
 
-exponent_apart : (before : List ℕ) (x : ℕ) (a : List ℕ) (s : List ℕ) (ds later : List ℕ) → (before ++ x ∷ (a ++ (s ++ ds))) ++ later ≡ before ++ x ∷ (a ++ (s ++ (ds ++ later)))
-exponent_apart before x a s ds later =
-    append_assoc before (x ∷ (a ++ (s ++ ds))) later ∙ ap (λ (z : List ℕ). before ++ x ∷ z) (append_assoc a (s ++ ds) later ∙ ap (λ (z : List ℕ). a ++ z) (append_assoc s ds later))
-
 -- white space, the letter, white space, a sign and digits are found
-record Found (text : List ℕ) (before : List ℕ) (x : ℕ) (a : List ℕ) (s : Sign) (ds later : List ℕ) : Type 0 where
-  exponent : exponent_of text ≡ Some (record { before = before; letter = x; after = a; sign = s; digits = ds })
-  after : after_exponent text ≡ later
-
 exponent_some : (text before : List ℕ) (x : ℕ) (a : List ℕ) (s : Sign) (ds later : List ℕ) → text ≡ before ++ x ∷ (a ++ (sign_text s ++ (ds ++ later)))
     → every is_white before ≡ true → (x == 69 || x == 101) ≡ true → every is_white a ≡ true → every is_digit ds ≡ true → 0 < length ds → tail_first later ≡ true
-    → Found text before x a s ds later
+    → (exponent_of text ≡ Some (record { before = before; letter = x; after = a; sign = s; digits = ds })) × (after_exponent text ≡ later)
 exponent_some text before x a s ds later e b m w d some t =
     let signed = sign_text s ++ (ds ++ later) in
     let marked = x ∷ (a ++ signed) in
     let sign = sign_found s (ds ++ later) (leads_digits ds later some d) in
-    let stop = leads_not is_digit later no_digit t in
+    let stop = no_digits later t in
     let front : run is_white text ≡ before = ap (run is_white) e ∙ run_at is_white before marked b (no_white_mark x m) in
     let back : left is_white text ≡ marked = ap (left is_white) e ∙ left_at is_white before marked b (no_white_mark x m) in
     let gap : run is_white (a ++ signed) ≡ a = run_at is_white a signed w sign.2 in
@@ -155,28 +123,25 @@ exponent_some text before x a s ds later e b m w d some t =
     let rest : left is_digit (ds ++ later) ≡ later = left_at is_digit ds later d stop in
     let is : exponent_of text ≡ Some (record { before = before; letter = x; after = a; sign = s; digits = ds })
     = rw (front, back, m, gap, later_sign, sign.0, sign.1, digits) (with_some before x a s ds some) in
-    record {
-      exponent = is;
-      after = rw is (rw (back, later_sign, sign.1) rest);
-    }
+    (is, rw is (rw (back, later_sign, sign.1) rest))
 
 first_of : (before : List ℕ) (x : ℕ) (a later : List ℕ) → every is_white before ≡ true → (x == 69 || x == 101) ≡ true → tail_first ((before ++ x ∷ a) ++ later) ≡ true
-first_of [] x a later b m = tail_mark x m
+first_of [] x a later b m = grind (arith, nat_tests, m)
 first_of (y ∷ before) x a later b m = tail_white y (every_head is_white y before b)
 
 exponent_found : (exponent : Option Exponent) (later : List ℕ) → ExponentHolds exponent → every is_tail later ≡ true
     → (exponent_of (exponent_text exponent ++ later) ≡ exponent) × (after_exponent (exponent_text exponent ++ later) ≡ later) × (tail_first (exponent_text exponent ++ later) ≡ true)
 exponent_found None later h t = (exponent_none later t, rw (exponent_none later t) refl, every_first later t)
 exponent_found (Some e) later h t =
-    let found = exponent_some (exponent_text (Some e) ++ later) e.before e.letter e.after e.sign e.digits later (exponent_apart e.before e.letter e.after (sign_text e.sign) e.digits later)
+    let found = exponent_some (exponent_text (Some e) ++ later) e.before e.letter e.after e.sign e.digits later (simp append_assoc)
     (sym (white_every e.before) ∙ h.0) h.1 (sym (white_every e.after) ∙ h.2) (sym (digits_every e.digits) ∙ h.3) h.4 (every_first later t) in
-    (found.exponent, found.after, first_of e.before e.letter (e.after ++ (sign_text e.sign ++ e.digits)) later (sym (white_every e.before) ∙ h.0) h.1)
+    (found.0, found.1, first_of e.before e.letter (e.after ++ (sign_text e.sign ++ e.digits)) later (sym (white_every e.before) ∙ h.0) h.1)
 
 -- ---- the suffix and the white space round it
 
 white_no_letter : (xs : List ℕ) → every is_white xs ≡ true → leads is_letter xs ≡ false
 white_no_letter [] h = refl
-white_no_letter (x ∷ xs) h = no_letter_white x (every_head is_white x xs h)
+white_no_letter (x ∷ xs) h = grind (arith, nat_tests, every_head is_white x xs h)
 
 pub record Tail (d gap suffix rest : List ℕ) : Type 0 where
   pub suffix_is : suffix_of d ≡ suffix
@@ -211,7 +176,7 @@ tail_found gap (x ∷ s) rest g none h r =
 tail_every : (gap suffix rest : List ℕ) → every is_white gap ≡ true → every is_letter suffix ≡ true → every is_white rest ≡ true → every is_tail (gap ++ (suffix ++ rest)) ≡ true
 tail_every gap suffix rest g s r =
     every_append is_tail gap (suffix ++ rest) (every_more is_white is_tail gap tail_white g)
-    (every_append is_tail suffix rest (every_more is_letter is_tail suffix tail_letter s) (every_more is_white is_tail rest tail_white r))
+    (every_append is_tail suffix rest (every_more is_letter is_tail suffix (λ x h. grind (arith, nat_tests, h)) s) (every_more is_white is_tail rest tail_white r))
 
 -- ---- all of it
 
@@ -254,38 +219,24 @@ parts_of text n h e =
       tail = subst (λ (z : List ℕ). Tail z n.gap n.suffix n.rest) (sym at_end) (tail_found n.gap n.suffix n.rest white h.no_gap letters end);
     }
 
-abbrev made : Sign → List ℕ → Option (List ℕ) → Option Exponent → List ℕ → List ℕ → List ℕ → Number
-made s w f e g x r = record { sign = s; whole = w; fraction = f; exponent = e; gap = g; suffix = x; rest = r }
-
-same_made : (s t : Sign) (w v : List ℕ) (f d : Option (List ℕ)) (e k : Option Exponent) (g h x y r q : List ℕ)
-    → s ≡ t → w ≡ v → f ≡ d → e ≡ k → g ≡ h → x ≡ y → r ≡ q → made s w f e g x r ≡ made t v d k h y q
-same_made s t w v f d e k g h x y r q a1 a2 a3 a4 a5 a6 a7 =
-    ap (λ (z : Sign). made z w f e g x r) a1 ∙ ap (λ (z : List ℕ). made t z f e g x r) a2 ∙ ap (λ (z : Option (List ℕ)). made t v z e g x r) a3
-    ∙ ap (λ (z : Option Exponent). made t v d z g x r) a4 ∙ ap (λ (z : List ℕ). made t v d k z x r) a5 ∙ ap (λ (z : List ℕ). made t v d k h z r) a6
-    ∙ ap (λ (z : List ℕ). made t v d k h y z) a7
-
 pub scanned_is : (text : List ℕ) (n : Number) → IsNumber n → text ≡ number_text n → scanned text ≡ n
 scanned_is text n h e =
     let p = parts_of text n h e in
-    same_made _ n.sign _ n.whole _ n.fraction _ n.exponent _ n.gap _ n.suffix _ n.rest p.sign p.whole p.fraction p.exponent p.tail.gap_is p.tail.suffix_is p.tail.end_is
+    rw (p.tail.end_is, p.tail.gap_is, p.tail.suffix_is, p.exponent, p.fraction, p.whole, p.sign) refl
 
--- ---- what is no number
+-- ---- what is a number
 
-nonempty_length : (xs : List ℕ) → 0 < length xs → is_nonempty xs ≡ false → ⊥
-nonempty_length [] h f = omega (arith, h)
-nonempty_length (x ∷ xs) h f = absurd (cc (f))
+some_mantissa : (xs : List ℕ) → 0 < length xs → is_nonempty xs ≡ true
+some_mantissa [] h = absurd (omega (arith, h))
+some_mantissa (x ∷ xs) h = refl
 
-pub none_without_digits : (text whole fraction : List ℕ) → whole ≡ run is_digit (after_sign text) → fraction ≡ fraction_digits (fraction_of (at_fraction text))
-    → is_nonempty (whole ++ fraction) ≡ false → (n : Number) → IsNumber n → text ≡ number_text n → ⊥
-none_without_digits text whole fraction w f none n h e =
-    let p = parts_of text n h e in
-    let same : whole ++ fraction ≡ mantissa n = ap (λ (z : List ℕ). z ++ fraction) (w ∙ p.whole) ∙ ap (λ (z : List ℕ). n.whole ++ z) (f ∙ ap fraction_digits p.fraction) in
-    nonempty_length (mantissa n) h.some (ap is_nonempty (sym same) ∙ none)
+pub number_out : (text : List ℕ) (n : Number) → IsNumber n → text ≡ number_text n → is_number text ≡ true
+number_out text n h e =
+    let some : is_nonempty (mantissa (scanned text)) ≡ true = ap (λ (z : Number). is_nonempty (mantissa z)) (scanned_is text n h e) ∙ some_mantissa (mantissa n) h.some in
+    rw (some, (parts_of text n h e).tail.none) refl
 
-pub none_with_excess : (text : List ℕ) → is_nonempty (excess_of (at_tail text)) ≡ true → (n : Number) → IsNumber n → text ≡ number_text n → ⊥
-none_with_excess text some n h e =
-    let p = parts_of text n h e in
-    both (is_nonempty (excess_of (at_tail text))) some (ap is_nonempty p.tail.none)
+pub no_number : (text : List ℕ) → is_number text ≡ false → (n : Number) → IsNumber n → text ≡ number_text n → ⊥
+no_number text f n h e = absurd (cc (f, number_out text n h e))
 
 -- ---- one value
 
@@ -296,3 +247,6 @@ one_value text places r q (inl g) (inl h) =
 one_value text places r q (inl g) (inr h) = absurd (h.0 g.0 g.1 g.2)
 one_value text places r q (inr g) (inl h) = absurd (g.0 h.0 h.1 h.2)
 one_value text places r q (inr g) (inr h) = g.1 ∙ sym h.1
+
+pub one_number : (m n : Number) → IsNumber m → IsNumber n → number_text m ≡ number_text n → m ≡ n
+one_number m n h k e = sym (scanned_is (number_text m) m h refl) ∙ scanned_is (number_text m) n k e

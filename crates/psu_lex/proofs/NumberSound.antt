@@ -1,20 +1,18 @@
 -- What a scan of a number finds is a number, spelled as the text is.
-use Rattle.std.proofs.Common.{◌≡◌, ℕ, ◌==◌, ◌||◌, ◌<◌, Bool, true, false, List, [], ◌∷◌, ◌++◌, length, drop, refl, sym, ap, ◌∙◌, if◌then◌else◌, arith, append_assoc, inl, inr, is_none}
-use Rattle.std.proofs.lemmas.Bool.{cases_Bool}
+use Rattle.std.proofs.Common.{◌≡◌, ℕ, ◌==◌, ◌||◌, ◌<◌, Bool, true, false, not, List, [], ◌∷◌, ◌++◌, length, drop, refl, sym, ap, ◌∙◌, if◌then◌else◌, arith, append_assoc, inl, inr, is_none}
+use Rattle.std.proofs.lemmas.Bool.{eqb-true, and_parts, cases_Bool}
 use Rattle.std.proofs.lemmas.List.{append-nil}
-use Rattle.psu_lex.specs.Bytes.{starts, is_digit, is_letter, is_white, all_digits, all_white}
+use Rattle.psu_lex.specs.Bytes.{is_digit, is_letter, is_white, all_digits, all_white}
 use Rattle.psu_lex.specs.Number.{Sign, IsNumber, ExponentHolds, sign_text, fraction_text, fraction_digits, exponent_text, number_text, mantissa}
-use Rattle.psu_lex.specs.Shown.{is_minus}
-use Rattle.psu_lex.specs.NumberScan.{run, left, sign_of, after_sign, fraction_of, after_fraction, exponent_with, exponent_from, exponent_of, after_exponent, is_nonempty, suffix_of, gap_of, end_of, excess_of, at_fraction, at_exponent, at_tail, scanned}
-use Rattle.psu_lex.proofs.Quotes.{same_byte}
-use Rattle.psu_lex.proofs.Runs.{every, leads, digits_every, white_every, letters_every, run_left, run_every, left_at, every_append}
+use Rattle.psu_lex.specs.NumberScan.{run, left, sign_of, after_sign, fraction_of, after_fraction, exponent_with, exponent_from, exponent_of, after_exponent, is_nonempty, is_number, suffix_of, excess_of, at_fraction, at_exponent, at_tail, scanned}
+use Rattle.psu_lex.proofs.Runs.{run_white, every, leads, digits_every, white_every, letters_every, run_left, run_every, left_at, every_append}
 
 sign_split : (text : List ℕ) → sign_text (sign_of text) ++ after_sign text ≡ text
 sign_split [] = refl
 sign_split (x ∷ xs) = elim (cases_Bool (x == 43)) [
-  | inl t ↦ let e : x ≡ 43 = same_byte x 43 t in rw t (ap (λ (z : ℕ). z ∷ xs) (sym e))
+  | inl t ↦ let e : x ≡ 43 = eqb-true x 43 t in rw t (ap (λ (z : ℕ). z ∷ xs) (sym e))
   | inr f ↦ elim (cases_Bool (x == 45)) [
-    | inl t ↦ let e : x ≡ 45 = same_byte x 45 t in rw (f, t) (ap (λ (z : ℕ). z ∷ xs) (sym e))
+    | inl t ↦ let e : x ≡ 45 = eqb-true x 45 t in rw (f, t) (ap (λ (z : ℕ). z ∷ xs) (sym e))
     | inr g ↦ rw (f, g) refl
   ]
 ]
@@ -22,7 +20,7 @@ sign_split (x ∷ xs) = elim (cases_Bool (x == 43)) [
 fraction_split : (text : List ℕ) → fraction_text (fraction_of text) ++ after_fraction text ≡ text
 fraction_split [] = refl
 fraction_split (x ∷ xs) = elim (cases_Bool (x == 46)) [
-  | inl t ↦ let e : x ≡ 46 = same_byte x 46 t in rw t (ap (λ (z : List ℕ). 46 ∷ z) (run_left is_digit xs) ∙ ap (λ (z : ℕ). z ∷ xs) (sym e))
+  | inl t ↦ let e : x ≡ 46 = eqb-true x 46 t in rw t (ap (λ (z : List ℕ). 46 ∷ z) (run_left is_digit xs) ∙ ap (λ (z : ℕ). z ∷ xs) (sym e))
   | inr f ↦ rw f refl
 ]
 
@@ -87,15 +85,12 @@ left_stops test (x ∷ xs) = elim (cases_Bool (test x)) [
   | inr f ↦ rw f f
 ]
 
-left_twice : (test : ℕ → Bool) (xs : List ℕ) → leads test xs ≡ false → left test xs ≡ xs
-left_twice test xs f = left_at test [] xs refl f
-
 tail_split_at : (d s : List ℕ) → s ≡ suffix_of d → excess_of d ≡ []
     → (if is_nonempty s then run is_white d else []) ++ (s ++ (if is_nonempty s then run is_white (left is_letter (left is_white d)) else run is_white d)) ≡ d
 tail_split_at d [] e none =
     let y = left is_white d in
     let same : left is_letter y ≡ y = ap (λ (z : List ℕ). z ++ left is_letter y) e ∙ run_left is_letter y in
-    let gone : y ≡ [] = sym (left_twice is_white y (left_stops is_white d)) ∙ ap (left is_white) (sym same) ∙ none in
+    let gone : y ≡ [] = sym (left_at is_white [] y refl (left_stops is_white d)) ∙ ap (left is_white) (sym same) ∙ none in
     sym (append-nil (run is_white d)) ∙ ap (λ (z : List ℕ). run is_white d ++ z) (sym gone) ∙ run_left is_white d
 tail_split_at d (x ∷ s) e none =
     let y = left is_white d in
@@ -104,19 +99,9 @@ tail_split_at d (x ∷ s) e none =
     let later : (x ∷ s) ++ run is_white r ≡ y = ap (λ (z : List ℕ). (x ∷ s) ++ z) all ∙ ap (λ (z : List ℕ). z ++ r) e ∙ run_left is_letter y in
     ap (λ (z : List ℕ). run is_white d ++ z) later ∙ run_left is_white d
 
-tail_split : (d : List ℕ) → excess_of d ≡ [] → gap_of d ++ (suffix_of d ++ end_of d) ≡ d
-tail_split d none = tail_split_at d (suffix_of d) refl none
-
-white_run : (d : List ℕ) → all_white (run is_white d) ≡ true
-white_run d = white_every (run is_white d) ∙ run_every is_white d
-
 if_white : (b : Bool) (x y : List ℕ) → all_white x ≡ true → all_white y ≡ true → all_white (if b then x else y) ≡ true
 if_white true x y h k = h
 if_white false x y h k = k
-
-no_gap_at : (s d : List ℕ) → s ≡ [] → (if is_nonempty s then run is_white d else []) ≡ []
-no_gap_at [] d e = refl
-no_gap_at (x ∷ s) d e = absurd (cc (e))
 
 -- ---- all of it
 
@@ -124,41 +109,36 @@ some_length : (xs : List ℕ) → is_nonempty xs ≡ true → 0 < length xs
 some_length [] h = absurd (cc (h))
 some_length (x ∷ xs) h = omega arith
 
-pub is_number : (text : List ℕ) → is_nonempty (mantissa (scanned text)) ≡ true → IsNumber (scanned text)
-is_number text some =
+sound : (text : List ℕ) → is_nonempty (mantissa (scanned text)) ≡ true → IsNumber (scanned text)
+sound text some =
     let d = at_tail text in
     record {
       digits = digits_every (mantissa (scanned text)) ∙ every_append is_digit (run is_digit (after_sign text)) (fraction_digits (fraction_of (at_fraction text))) (run_every is_digit (after_sign text)) (fraction_every (at_fraction text));
       some = some_length (mantissa (scanned text)) some;
-      exponent = from_holds (run is_white (at_exponent text)) (left is_white (at_exponent text)) (white_run (at_exponent text));
-      gap = if_white (is_nonempty (suffix_of d)) (run is_white d) [] (white_run d) refl;
-      no_gap = λ none. no_gap_at (suffix_of d) d none;
+      exponent = from_holds (run is_white (at_exponent text)) (left is_white (at_exponent text)) (run_white (at_exponent text));
+      gap = if_white (is_nonempty (suffix_of d)) (run is_white d) [] (run_white d) refl;
+      no_gap = λ none. rw none refl;
       suffix = letters_every (suffix_of d) ∙ run_every is_letter (left is_white d);
-      rest = if_white (is_nonempty (suffix_of d)) (run is_white (left is_letter (left is_white d))) (run is_white d) (white_run (left is_letter (left is_white d))) (white_run d);
+      rest = if_white (is_nonempty (suffix_of d)) (run is_white (left is_letter (left is_white d))) (run is_white d) (run_white (left is_letter (left is_white d))) (run_white d);
     }
 
-pub is_text : (text : List ℕ) → excess_of (at_tail text) ≡ [] → text ≡ number_text (scanned text)
-is_text text none =
+spelled : (text : List ℕ) → excess_of (at_tail text) ≡ [] → text ≡ number_text (scanned text)
+spelled text none =
     let a = after_sign text in
     let b = at_fraction text in
     let c = at_exponent text in
     let d = at_tail text in
-    sym (ap (λ (z : List ℕ). sign_text (sign_of text) ++ (run is_digit a ++ (fraction_text (fraction_of b) ++ (exponent_text (exponent_of c) ++ z)))) (tail_split d none)
+    sym (ap (λ (z : List ℕ). sign_text (sign_of text) ++ (run is_digit a ++ (fraction_text (fraction_of b) ++ (exponent_text (exponent_of c) ++ z)))) (tail_split_at d (suffix_of d) refl none)
     ∙ ap (λ (z : List ℕ). sign_text (sign_of text) ++ (run is_digit a ++ (fraction_text (fraction_of b) ++ z))) (exponent_split c)
     ∙ ap (λ (z : List ℕ). sign_text (sign_of text) ++ (run is_digit a ++ z)) (fraction_split b)
     ∙ ap (λ (z : List ℕ). sign_text (sign_of text) ++ z) (run_left is_digit a)
     ∙ sign_split text)
 
-pub minus_is : (text : List ℕ) → starts 45 text ≡ is_minus (sign_of text)
-minus_is [] = refl
-minus_is (x ∷ text) = elim (cases_Bool (x == 43)) [
-  | inl t ↦ let g : (x == 45) ≡ false = (let e : x ≡ 43 = same_byte x 43 t in rw e refl) in rw (t, g) refl
-  | inr f ↦ elim (cases_Bool (x == 45)) [
-    | inl t ↦ rw (f, t) refl
-    | inr g ↦ rw (f, g) refl
-  ]
-]
+nothing : (xs : List ℕ) → not (is_nonempty xs) ≡ true → xs ≡ []
+nothing [] h = refl
+nothing (x ∷ xs) h = absurd (cc (h))
 
-pub nothing : (xs : List ℕ) → is_nonempty xs ≡ false → xs ≡ []
-nothing [] f = refl
-nothing (x ∷ xs) f = absurd (cc (f))
+pub number_in : (text : List ℕ) → is_number text ≡ true → IsNumber (scanned text) × (text ≡ number_text (scanned text))
+number_in text h =
+    let parts = and_parts (is_nonempty (mantissa (scanned text))) (not (is_nonempty (excess_of (at_tail text)))) h in
+    (sound text parts.0, spelled text (nothing (excess_of (at_tail text)) parts.1))

@@ -1,47 +1,26 @@
--- Rounding and holding.
-use Rattle.std.proofs.Common.{◌≡◌, ℕ, zero, suc, ◌+◌, ◌-◌, ◌*◌, ◌^◌, ◌<◌, ◌≤◌, min, true, List, [], ◌∷◌, ◌++◌, length, take, drop, refl, sym, ap, ◌∙◌, arith, inl, inr, add-one, slice_index}
-use Rattle.std.proofs.lemmas.Bool.{cases_lt}
+-- The value of a number: rounding, holding, digits by their place, and digits that std writes.
+use Rattle.std.proofs.Common.{◌/◌, length-drop, ◌≡◌, ℕ, zero, suc, ◌+◌, ◌-◌, ◌*◌, ◌^◌, ◌<◌, ◌≤◌, min, true, List, [], ◌∷◌, ◌++◌, length, take, drop, refl, sym, ap, ◌∙◌, arith, inl, inr, add-one, slice_index, ◌==◌, false, length-append, drop-cons, decimal, rules}
+use Rattle.std.proofs.lemmas.Bool.{cases_lt, cases_Bool}
 use Rattle.std.proofs.lemmas.Nat.{pow-add}
 use Rattle.std.proofs.lemmas.List.{take-append-drop}
 use Rattle.std.proofs.lemmas.Grind.{common_steps}
 use Rattle.std.proofs.lemmas.Bool.Decides.{nat_tests}
-use Rattle.std.proofs.Math.Nat.{mul_comm, mul_assoc, suc-mul, mul-suc, add-mul, mul-le-mul_right, div-eq_of_lt-le}
+use Rattle.std.proofs.Math.Nat.{mul-div-mul_right, one-le-pow, pow-succ', mul_comm, mul_assoc, suc-mul, mul-suc, add-mul, mul-le-mul_right, div-eq_of_lt-le}
 use Rattle.psu_lex.specs.Bytes.{value_after, all_digits}
-use Rattle.psu_lex.specs.Number.{magnitude, rounded}
-
-after_ge : (n : ℕ) (ds : List ℕ) → n ≤ value_after n ds
-after_ge n [] = omega arith
-after_ge n (d ∷ ds) = omega (arith, after_ge (10 * n + (d - 48)) ds)
-
--- holding on the way changes nothing at the end
-pub held_same : (top n : ℕ) (ds : List ℕ) → min top (value_after (min n top) ds) ≡ min top (value_after n ds)
-held_same top n ds = elim (cases_lt top n) [
-  | inr le ↦
-      let e : min n top ≡ n = omega (arith, le) in
-      ap (λ (z : ℕ). min top (value_after z ds)) e
-  | inl lt ↦
-      let e : min n top ≡ top = omega (arith, lt) in
-      let a : top ≤ value_after (min n top) ds = omega (arith, e, after_ge (min n top) ds) in
-      omega (arith, lt, a, after_ge n ds)
-]
+use Rattle.psu_lex.specs.Number.{magnitude, rounded, without_zeros}
+use Rattle.std.specs.Prelude.{nat_lt}
+use Rattle.std.proofs.lemmas.Str.Parse.{IsNumeralModel, numerals_by_fold}
+use Rattle.std.proofs.lemmas.Fmt.{digits_decimal, digits_value-decimal, length-decimal-le, decimal_nonempty}
+use Rattle.psu_lex.specs.Data.{IsBlockOf, definite_text}
 
 pub shift_step : (top w : ℕ) → min (10 * min top w) top ≡ min top (10 * w)
 shift_step top w = omega arith
-
-pub held_step : (top n : ℕ) (ds : List ℕ) (x : ℕ) → x ≡ min n top → min top (value_after x ds) ≡ min top (value_after n ds)
-held_step top n ds x e = ap (λ (z : ℕ). min top (value_after z ds)) e ∙ held_same top n ds
 
 pub power_step : (v i : ℕ) → v * 10 ^ (i + 1) ≡ 10 * (v * 10 ^ i)
 power_step v i = rw (pow-add 10 i 1) (omega (arith, mul_comm (v * 10 ^ i) 10, mul_assoc v (10 ^ i) 10))
 
 pub digits_tail : (x : ℕ) (xs : List ℕ) → all_digits (x ∷ xs) ≡ true → all_digits xs ≡ true
 digits_tail x xs h = grind (arith, common_steps, h)
-
-ten_pos : (n : ℕ) → 0 < 10 ^ n
-ten_pos zero = omega arith
-ten_pos (suc n) =
-    let e : 10 ^ suc n ≡ 10 ^ n * 10 ^ 1 = ap (λ (z : ℕ). 10 ^ z) (sym (add-one n)) ∙ pow-add 10 n 1 in
-    omega (arith, e, ten_pos n)
 
 over : (v k : ℕ) → k ≤ suc v * k
 over v k = omega (arith, suc-mul v k)
@@ -53,7 +32,7 @@ shift_end (suc v) p le =
     let a : 10 ^ (16 + (p - 16)) ≡ 10 ^ 16 * 10 ^ (p - 16) = pow-add 10 16 (p - 16) in
     let b : 16 + (p - 16) ≡ p = omega (arith, le) in
     let k : 10 ^ p ≡ 10 ^ 16 * 10 ^ (p - 16) = ap (λ (z : ℕ). 10 ^ z) (sym b) ∙ a in
-    omega (arith, k, ten_pos (p - 16), over v (10 ^ 16), over v (10 ^ p))
+    omega (arith, k, one-le-pow (p - 16) 10 (omega arith), over v (10 ^ 16), over v (10 ^ p))
 
 -- ---- rounding
 
@@ -89,7 +68,7 @@ pub rounded_shift : (v up down : ℕ) → down ≤ up → rounded (v * 10 ^ up) 
 rounded_shift v up down le =
     let a : 10 ^ up ≡ 10 ^ (up - down) * 10 ^ down = ap (λ (z : ℕ). 10 ^ z) (omega (arith, le)) ∙ pow-add 10 (up - down) down in
     let b : v * 10 ^ up ≡ v * 10 ^ (up - down) * 10 ^ down = ap (λ (z : ℕ). v * z) a ∙ sym (mul_assoc v (10 ^ (up - down)) (10 ^ down)) in
-    ap (λ (z : ℕ). rounded z (10 ^ down)) b ∙ rounded_whole (v * 10 ^ (up - down)) (10 ^ down) (ten_pos down)
+    ap (λ (z : ℕ). rounded z (10 ^ down)) b ∙ rounded_whole (v * 10 ^ (up - down)) (10 ^ down) (one-le-pow down 10 (omega arith))
 
 over_mul : (top v k : ℕ) → 0 < k → min top (min top v * k) ≡ min top (v * k)
 over_mul top v zero h = absurd (omega (arith, h))
@@ -103,15 +82,10 @@ over_mul top v (suc k) h = elim (cases_lt v top) [
 
 pub scaled_up : (digits : List ℕ) (up down h x : ℕ) → down ≤ up → h ≡ min (10 ^ 15) (value_after 0 digits) → x ≡ min (10 ^ 15) (h * 10 ^ (up - down)) → x ≡ magnitude digits up down
 scaled_up digits up down h x le e f =
-    f ∙ ap (λ (z : ℕ). min (10 ^ 15) (z * 10 ^ (up - down))) e ∙ over_mul (10 ^ 15) (value_after 0 digits) (10 ^ (up - down)) (ten_pos (up - down))
+    f ∙ ap (λ (z : ℕ). min (10 ^ 15) (z * 10 ^ (up - down))) e ∙ over_mul (10 ^ 15) (value_after 0 digits) (10 ^ (up - down)) (one-le-pow (up - down) 10 (omega arith))
     ∙ ap (λ (z : ℕ). min (10 ^ 15) z) (sym (rounded_shift (value_after 0 digits) up down le))
 
 -- ---- digits before and after a place
-
-ten_more : (n : ℕ) → 10 ^ suc n ≡ 10 * 10 ^ n
-ten_more n =
-    let e : 10 ^ suc n ≡ 10 ^ n * 10 ^ 1 = ap (λ (z : ℕ). 10 ^ z) (sym (add-one n)) ∙ pow-add 10 n 1 in
-    omega (arith, e)
 
 spread : (n d p : ℕ) → (10 * n + d) * p ≡ 10 * (n * p) + d * p
 spread n d p = add-mul (10 * n) d p ∙ ap (λ (z : ℕ). z + d * p) (mul_assoc 10 n p)
@@ -123,7 +97,7 @@ after_split n (x ∷ ds) =
     let p = 10 ^ length ds in
     let a : value_after (10 * n + d) ds ≡ (10 * n + d) * p + value_after 0 ds = after_split (10 * n + d) ds in
     let b : value_after (10 * 0 + d) ds ≡ (10 * 0 + d) * p + value_after 0 ds = after_split (10 * 0 + d) ds in
-    let t : n * 10 ^ suc (length ds) ≡ 10 * (n * p) = ap (λ (z : ℕ). n * z) (ten_more (length ds)) ∙ sym (mul_assoc n 10 p) ∙ ap (λ (z : ℕ). z * p) (mul_comm n 10) ∙ mul_assoc 10 n p in
+    let t : n * 10 ^ suc (length ds) ≡ 10 * (n * p) = ap (λ (z : ℕ). n * z) (pow-succ' 10 (length ds)) ∙ sym (mul_assoc n 10 p) ∙ ap (λ (z : ℕ). z * p) (mul_comm n 10) ∙ mul_assoc 10 n p in
     omega (arith, a, b, t, spread n d p, spread 0 d p)
 
 pub after_append : (n : ℕ) (a b : List ℕ) → value_after n (a ++ b) ≡ value_after (value_after n a) b
@@ -141,7 +115,7 @@ below_power (x ∷ ds) h =
     let r = below_power ds (digits_tail x ds h) in
     let a : value_after (10 * 0 + d) ds ≡ (10 * 0 + d) * 10 ^ length ds + value_after 0 ds = after_split (10 * 0 + d) ds in
     let m : d * 10 ^ length ds ≤ 9 * 10 ^ length ds = mul-le-mul_right (10 ^ length ds) (omega (arith, small.0, small.1)) in
-    omega (arith, a, r, m, ten_more (length ds), spread 0 d (10 ^ length ds))
+    omega (arith, a, r, m, pow-succ' 10 (length ds), spread 0 d (10 ^ length ds))
 
 pub digits_split : (n : ℕ) (ds : List ℕ) → all_digits ds ≡ true → (all_digits (take n ds) ≡ true) × (all_digits (drop n ds) ≡ true)
 digits_split zero ds h = (refl, h)
@@ -158,81 +132,91 @@ half x xs h =
     let r = below_power xs (digits_tail x xs h) in
     let a : value_after (10 * 0 + d) xs ≡ (10 * 0 + d) * p + value_after 0 xs = after_split (10 * 0 + d) xs in
     let s = spread 0 d p in
-    let t = ten_more (length xs) in (
+    let t = pow-succ' 10 (length xs) in (
       λ up. (let m : 5 * p ≤ d * p = mul-le-mul_right p (omega (arith, up)) in omega (arith, a, s, t, m)),
       λ low. (let m : d * p ≤ 4 * p = mul-le-mul_right p (omega (arith, low)) in omega (arith, a, s, t, m, r)),
     )
 
 -- ---- digits cut away
 
-less_mul : (v k u : ℕ) → 0 < u → 2 * v < k → 2 * (v * u) < k * u
-less_mul v k u h lt =
-    let m : (2 * v + 1) * u ≤ k * u = mul-le-mul_right u (omega (arith, lt)) in
-    omega (arith, m, h, add-mul (2 * v) 1 u, mul_assoc 2 v u)
-
-more_mul : (v k u : ℕ) → k ≤ 2 * v → k * u ≤ 2 * (v * u)
-more_mul v k u le =
-    let m : k * u ≤ 2 * v * u = mul-le-mul_right u le in
-    omega (arith, m, mul_assoc 2 v u)
+-- tens that multiply and divide
+rounded_tens : (v up down : ℕ) → up ≤ down → rounded (v * 10 ^ up) (10 ^ down) ≡ rounded v (10 ^ (down - up))
+rounded_tens v up down le =
+    let u = 10 ^ up in
+    let k = 10 ^ (down - up) in
+    let e : 10 ^ down ≡ k * u = ap (λ (z : ℕ). 10 ^ z) (omega (arith, le)) ∙ pow-add 10 (down - up) up in
+    let n : 2 * (v * u) + k * u ≡ (2 * v + k) * u = omega (arith, add-mul (2 * v) k u, mul_assoc 2 v u) in
+    ap (rounded (v * u)) e ∙ ap (λ (z : ℕ). z / (2 * (k * u))) n ∙ ap (λ (z : ℕ). (2 * v + k) * u / z) (sym (mul_assoc 2 k u))
+    ∙ mul-div-mul_right (2 * v + k) (2 * k) (one-le-pow up 10 (omega arith))
 
 ten_le : (m n : ℕ) → m ≤ n → 10 ^ m ≤ 10 ^ n
 ten_le m n le =
     let e : 10 ^ n ≡ 10 ^ (n - m) * 10 ^ m = ap (λ (z : ℕ). 10 ^ z) (omega (arith, le)) ∙ pow-add 10 (n - m) m in
-    let f : 1 * 10 ^ m ≤ 10 ^ (n - m) * 10 ^ m = mul-le-mul_right (10 ^ m) (omega (arith, ten_pos (n - m))) in
+    let f : 1 * 10 ^ m ≤ 10 ^ (n - m) * 10 ^ m = mul-le-mul_right (10 ^ m) (omega (arith, one-le-pow (n - m) 10 (omega arith))) in
     omega (arith, e, f)
-
-over_up : (up down : ℕ) → up ≤ down → 10 ^ down ≡ 10 ^ (down - up) * 10 ^ up
-over_up up down le = ap (λ (z : ℕ). 10 ^ z) (omega (arith, le)) ∙ pow-add 10 (down - up) up
 
 pub cut_away : (digits : List ℕ) (up down : ℕ) → all_digits digits ≡ true → up < down → length digits < down - up → 0 ≡ magnitude digits up down
 cut_away digits up down h lt short =
     let v = value_after 0 digits in
     let k = 10 ^ (down - up) in
     let b : 10 ^ suc (length digits) ≤ k = ten_le (suc (length digits)) (down - up) (omega (arith, short)) in
-    let s : 2 * v < k = omega (arith, b, ten_more (length digits), below_power digits h) in
-    let m : 2 * (v * 10 ^ up) < 10 ^ down = omega (arith, less_mul v k (10 ^ up) (ten_pos up) s, over_up up down (omega (arith, lt))) in
-    let r : rounded (0 * 10 ^ down + v * 10 ^ up) (10 ^ down) ≡ 0 = rounded_down 0 (v * 10 ^ up) (10 ^ down) m in
-    let z : 0 * 10 ^ down + v * 10 ^ up ≡ v * 10 ^ up = omega arith in
-    let r2 : rounded (v * 10 ^ up) (10 ^ down) ≡ 0 = ap (λ (n : ℕ). rounded n (10 ^ down)) (sym z) ∙ r in
-    omega (arith, r2)
+    let none : rounded v k ≡ 0 = ap (λ (n : ℕ). rounded n k) (omega arith) ∙ rounded_down 0 v k (omega (arith, b, pow-succ' 10 (length digits), below_power digits h)) in
+    omega (arith, rounded_tens v up down (omega (arith, lt)) ∙ none)
 
--- the digits before the place, and those after it
-parts_of : (digits front back : List ℕ) (up down : ℕ) → digits ≡ front ++ back → up < down → length back ≡ down - up
-    → value_after 0 digits * 10 ^ up ≡ value_after 0 front * 10 ^ down + value_after 0 back * 10 ^ up
-parts_of digits front back up down e lt n =
-    let f = value_after 0 front in
-    let b = value_after 0 back in
+-- the digits before the place, rounded by the digit at it
+pub cut : (digits : List ℕ) (up down kept : ℕ) → all_digits digits ≡ true → up < down → kept + (down - up) ≡ length digits
+    → (53 ≤ slice_index digits kept → rounded (value_after 0 digits * 10 ^ up) (10 ^ down) ≡ value_after 0 (take kept digits) + 1)
+    × (slice_index digits kept < 53 → rounded (value_after 0 digits * 10 ^ up) (10 ^ down) ≡ value_after 0 (take kept digits))
+cut digits up down kept h lt n =
+    let f = value_after 0 (take kept digits) in
+    let y = slice_index digits kept in
+    let back = drop (suc kept) digits in
+    let b = value_after 0 (y ∷ back) in
     let k = 10 ^ (down - up) in
-    let a : value_after 0 digits ≡ f * 10 ^ length back + b = ap (value_after 0) e ∙ after_append 0 front back ∙ after_split f back in
-    let a2 : value_after 0 digits ≡ f * k + b = a ∙ ap (λ (z : ℕ). f * 10 ^ z + b) n in
-    let w : f * 10 ^ down ≡ f * k * 10 ^ up = ap (λ (z : ℕ). f * z) (over_up up down (omega (arith, lt))) ∙ sym (mul_assoc f k (10 ^ up)) in
-    ap (λ (z : ℕ). z * 10 ^ up) a2 ∙ add-mul (f * k) b (10 ^ up) ∙ ap (λ (z : ℕ). z + b * 10 ^ up) (sym w)
+    let rest : drop kept digits ≡ y ∷ back = drop-cons digits kept 0 (omega (arith, n, lt)) in
+    let each : all_digits (y ∷ back) ≡ true = ap all_digits (sym rest) ∙ (digits_split kept digits h).1 in
+    let long : suc (length back) ≡ down - up = omega (arith, ap length rest, length-drop kept digits, n) in
+    let tens : 10 ^ suc (length back) ≡ k = ap (λ (z : ℕ). 10 ^ z) long in
+    let value : value_after 0 digits ≡ f * k + b
+    = ap (value_after 0) (sym (take-append-drop kept digits) ∙ ap (λ (z : List ℕ). take kept digits ++ z) rest) ∙ after_append 0 (take kept digits) (y ∷ back) ∙ after_split f (y ∷ back) ∙ ap (λ (z : ℕ). f * z + b) tens in
+    let all : rounded (value_after 0 digits * 10 ^ up) (10 ^ down) ≡ rounded (f * k + b) k = rounded_tens (value_after 0 digits) up down (omega (arith, lt)) ∙ ap (λ (z : ℕ). rounded z k) value in
+    let halves = half y back each in (
+      λ big. all ∙ rounded_up f b k (omega (arith, tens, below_power (y ∷ back) each)) (omega (arith, tens, halves.0 big)),
+      λ small. all ∙ rounded_down f b k (omega (arith, tens, halves.1 small)),
+    )
 
-pub cut_up : (digits front back : List ℕ) (up down held x : ℕ) → all_digits back ≡ true → digits ≡ front ++ back → up < down → length back ≡ down - up
-    → held ≡ min (10 ^ 15) (value_after 0 front) → 53 ≤ slice_index back 0 → x ≡ min (held + 1) (10 ^ 15) → x ≡ magnitude digits up down
-cut_up digits front [] up down held x h e lt n hd big w = absurd (omega (arith, n, lt))
-cut_up digits front (y ∷ back) up down held x h e lt n hd big w =
-    let b = value_after 0 (y ∷ back) in
-    let k : 10 ^ length (y ∷ back) ≡ 10 ^ (down - up) = ap (λ (z : ℕ). 10 ^ z) n in
-    let g : 10 ^ (down - up) ≤ 2 * b = omega (arith, k, (half y back h).0 big) in
-    let t : b < 10 ^ (down - up) = omega (arith, k, below_power (y ∷ back) h) in
-    let m : b * 10 ^ up < 10 ^ down = omega (arith, mul-le-mul_right {m = b + 1} {n = 10 ^ (down - up)} (10 ^ up) (omega (arith, t)), add-mul b 1 (10 ^ up), ten_pos up, over_up up down (omega (arith, lt))) in
-    let o : 10 ^ down ≤ 2 * (b * 10 ^ up) = omega (arith, more_mul b (10 ^ (down - up)) (10 ^ up) g, over_up up down (omega (arith, lt))) in
-    let r : rounded (value_after 0 digits * 10 ^ up) (10 ^ down) ≡ value_after 0 front + 1 =
-    ap (λ (z : ℕ). rounded z (10 ^ down)) (parts_of digits front (y ∷ back) up down e lt n) ∙ rounded_up (value_after 0 front) (b * 10 ^ up) (10 ^ down) m o in
-    omega (arith, r, hd, w)
+-- ---- digits by their place
 
-pub cut_down : (digits front back : List ℕ) (up down held : ℕ) → all_digits back ≡ true → digits ≡ front ++ back → up < down → length back ≡ down - up
-    → held ≡ min (10 ^ 15) (value_after 0 front) → slice_index back 0 < 53 → held ≡ magnitude digits up down
-cut_down digits front [] up down held h e lt n hd small = absurd (omega (arith, n, lt))
-cut_down digits front (y ∷ back) up down held h e lt n hd small =
-    let b = value_after 0 (y ∷ back) in
-    let k : 10 ^ length (y ∷ back) ≡ 10 ^ (down - up) = ap (λ (z : ℕ). 10 ^ z) n in
-    let g : 2 * b < 10 ^ (down - up) = omega (arith, k, (half y back h).1 small) in
-    let m : 2 * (b * 10 ^ up) < 10 ^ down = omega (arith, less_mul b (10 ^ (down - up)) (10 ^ up) (ten_pos up) g, over_up up down (omega (arith, lt))) in
-    let r : rounded (value_after 0 digits * 10 ^ up) (10 ^ down) ≡ value_after 0 front =
-    ap (λ (z : ℕ). rounded z (10 ^ down)) (parts_of digits front (y ∷ back) up down e lt n) ∙ rounded_down (value_after 0 front) (b * 10 ^ up) (10 ^ down) m in
-    omega (arith, r, hd)
+pub digit_in : (ds : List ℕ) (i : ℕ) → all_digits ds ≡ true → i < length ds → (48 ≤ slice_index ds i) × (slice_index ds i < 58)
+digit_in [] i h lt = absurd (omega (arith, lt))
+digit_in (x ∷ ds) zero h lt = grind (arith, nat_tests, h)
+digit_in (x ∷ ds) (suc i) h lt = digit_in ds i (grind (arith, common_steps, h)) (omega (arith, lt))
 
-pub joined : (digits front back : List ℕ) (keep : ℕ) → front ≡ take keep digits → back ≡ drop keep digits → digits ≡ front ++ back
-joined digits front back keep e f = sym (take-append-drop keep digits) ∙ ap (λ (z : List ℕ). z ++ drop keep digits) (sym e) ∙ ap (λ (z : List ℕ). front ++ z) (sym f)
+pub value_more : (ds : List ℕ) (i : ℕ) → i < length ds → value_after 0 (take (i + 1) ds) ≡ 10 * value_after 0 (take i ds) + (slice_index ds i - 48)
+value_more ds i lt =
+    let e : take (i + 1) ds ≡ take i ds ++ slice_index ds i ∷ [] = grind (arith, common_steps, lt) in
+    ap (value_after 0) e ∙ after_append 0 (take i ds) (slice_index ds i ∷ [])
+
+without_zeros_shorter : (ds : List ℕ) → length (without_zeros ds) ≤ length ds
+without_zeros_shorter [] = omega arith
+without_zeros_shorter (d ∷ ds) = elim (cases_Bool (d == 48)) [
+  | inl t ↦ let h = without_zeros_shorter ds in rw t (omega (arith, h))
+  | inr f ↦ rw f (omega arith)
+]
+
+pub few_digits : (whole fraction : List ℕ) → length whole + length fraction ≤ 255 → nat_lt 255 (length (without_zeros (whole ++ fraction))) ≡ false
+few_digits whole fraction h =
+    let k = without_zeros_shorter (whole ++ fraction) in
+    let l : length (whole ++ fraction) ≡ length whole + length fraction = length-append whole fraction in
+    grind (arith, nat_tests, h, k, l)
+
+own : IsNumeralModel (λ ds. all_digits ds ≡ true) (value_after 0)
+own = numerals_by_fold _ (search rules) value_after (search rules)
+
+-- a block as answered is a block of its bytes
+pub definite_is_block : (bytes : List ℕ) → length bytes < 10 ^ 9 → IsBlockOf (definite_text bytes) bytes
+definite_is_block bytes small =
+    let n = length bytes in
+    let fits : n < 2 ^ 64 = omega (arith, small) in
+    let short : length (decimal n) ≤ 9 = length-decimal-le 9 n (omega arith) small fits in
+    inl (decimal n, refl, (decimal_nonempty n fits, omega (arith, short), digits_decimal own n fits, sym (digits_value-decimal own n fits)))

@@ -1,9 +1,8 @@
--- The bytes in front that pass a test.
-use Rattle.std.proofs.Common.{◌≡◌, ℕ, ◌+◌, ◌&&◌, ◌<◌, ◌≤◌, Bool, true, false, List, [], ◌∷◌, ◌++◌, length, take, drop, refl, sym, ap, ◌∙◌, arith, append_assoc, inl, inr, slice_index, add-one, drop-cons}
+-- The bytes in front that pass a test, and lists that are the same.
+use Rattle.std.proofs.Common.{◌≡◌, ℕ, ◌&&◌, Bool, true, false, List, [], ◌∷◌, ◌++◌, refl, sym, ap, ◌∙◌, arith, inl, inr}
 use Rattle.std.proofs.lemmas.Bool.{cases_Bool}
-use Rattle.std.proofs.lemmas.List.{append-nil, drop_all}
+use Rattle.std.proofs.lemmas.List.{append-nil}
 use Rattle.std.proofs.lemmas.Grind.{common_steps}
-use Rattle.std.proofs.Common.{take_all}
 use Rattle.psu_lex.specs.Bytes.{is_digit, is_letter, is_white, all_digits, all_letters, all_white}
 use Rattle.psu_lex.specs.NumberScan.{run, left}
 
@@ -51,6 +50,9 @@ run_every test (x ∷ xs) = elim (cases_Bool (test x)) [
   | inr f ↦ rw f refl
 ]
 
+pub run_white : (xs : List ℕ) → all_white (run is_white xs) ≡ true
+run_white xs = white_every (run is_white xs) ∙ run_every is_white xs
+
 -- ---- the run of a text that is made of one
 
 pub run_at : (test : ℕ → Bool) (a b : List ℕ) → every test a ≡ true → leads test b ≡ false → run test (a ++ b) ≡ a
@@ -62,46 +64,6 @@ pub left_at : (test : ℕ → Bool) (a b : List ℕ) → every test a ≡ true �
 left_at test [] [] h f = refl
 left_at test [] (x ∷ b) h f = rw f refl
 left_at test (x ∷ a) b h f = rw (every_head test x a h) (left_at test a b (every_tail test x a h) f)
-
--- ---- the scan of a run
-
--- up to `at` all pass
-pub record RunsTo (test : ℕ → Bool) (text : List ℕ) (at : ℕ) : Type 0 where
-  pub front : run test text ≡ take at text ++ run test (drop at text)
-  pub back : left test text ≡ left test (drop at text)
-
-pub runs_start : (test : ℕ → Bool) (text : List ℕ) → RunsTo test text 0
-runs_start test text = record { front = refl; back = refl }
-
-next : (text : List ℕ) (at : ℕ) → at < length text → drop at text ≡ slice_index text at ∷ drop (at + 1) text
-next text at within = drop-cons text at 0 within ∙ ap (λ (n : ℕ). slice_index text at ∷ drop n text) (sym (add-one at))
-
-one_more : (text : List ℕ) (at : ℕ) → at < length text → take (at + 1) text ≡ take at text ++ slice_index text at ∷ []
-one_more text at within = grind (arith, common_steps, within)
-
-pub runs_on : (test : ℕ → Bool) (text : List ℕ) (at : ℕ) → at < length text → test (slice_index text at) ≡ true → RunsTo test text at → RunsTo test text (at + 1)
-runs_on test text at within t r =
-    let e = next text at within in
-    record {
-      front = r.front ∙ ap (λ (z : List ℕ). take at text ++ run test z) e ∙ rw t (sym (append_assoc (take at text) (slice_index text at ∷ []) (run test (drop (at + 1) text))))
-          ∙ ap (λ (z : List ℕ). z ++ run test (drop (at + 1) text)) (sym (one_more text at within));
-      back = r.back ∙ ap (left test) e ∙ rw t refl;
-    }
-
-pub runs_to : (test : ℕ → Bool) (text : List ℕ) (at : ℕ) → at < length text → test (slice_index text at) ≡ false → RunsTo test text at → (take at text ≡ run test text) × (drop at text ≡ left test text)
-runs_to test text at within f r =
-    let e = next text at within in
-    let none : run test (drop at text) ≡ [] = ap (run test) e ∙ rw f refl in
-    let all : left test (drop at text) ≡ drop at text = ap (left test) e ∙ rw f (sym e) in
-    (sym (r.front ∙ ap (λ (z : List ℕ). take at text ++ z) none ∙ append-nil (take at text)), sym (r.back ∙ all))
-
-pub runs_all : (test : ℕ → Bool) (text : List ℕ) (at n : ℕ) → length text ≤ at → n ≡ length text → RunsTo test text at → (take n text ≡ run test text) × (drop n text ≡ left test text)
-runs_all test text at n le is r =
-    let none : drop at text ≡ [] = drop_all at text le in
-    let end : drop n text ≡ [] = drop_all n text (omega (arith, is)) in
-    let front : run test text ≡ take at text = r.front ∙ ap (λ (z : List ℕ). take at text ++ run test z) none ∙ append-nil (take at text) in
-    let back : left test text ≡ [] = r.back ∙ ap (left test) none in
-    (take_all n text (omega (arith, is)) ∙ sym (take_all at text le) ∙ sym front, end ∙ sym back)
 
 -- ---- more of runs
 
@@ -126,3 +88,12 @@ run_all test xs h = ap (run test) (sym (append-nil xs)) ∙ run_at test xs [] h 
 pub every_more : (a b : ℕ → Bool) (xs : List ℕ) → ((x : ℕ) → a x ≡ true → b x ≡ true) → every a xs ≡ true → every b xs ≡ true
 every_more a b [] f h = refl
 every_more a b (x ∷ xs) f h = rw (f x (every_head a x xs h)) (every_more a b xs f (every_tail a x xs h))
+
+pub same_head : (x y : ℕ) (xs ys : List ℕ) → x ∷ xs ≡ y ∷ ys → x ≡ y
+same_head x y xs ys e = cc
+
+pub same_tail : (x y : ℕ) (xs ys : List ℕ) → x ∷ xs ≡ y ∷ ys → xs ≡ ys
+same_tail x y xs ys e = cc
+
+pub both : (b : Bool) → b ≡ true → b ≡ false → ⊥
+both b t f = absurd (cc (t, f))

@@ -1,39 +1,33 @@
--- A unit: its header, and what stands behind it.
-use Rattle.std.proofs.Common.{◌≡◌, ℕ, Bool, true, false, not, List, [], ◌∷◌, ◌++◌, refl, sym, ap, ◌∙◌, subst, arith, inl, inr, Option, Some, None, Result, Ok, Err, IfSome, IfNone}
+-- A unit: its header, what stands behind it, and whether a text is one.
+use Rattle.std.proofs.Common.{◌≡◌, ℕ, Bool, true, false, List, [], ◌∷◌, ◌++◌, refl, sym, ap, ◌∙◌, subst, arith, inl, inr, Option, Some, None, Result, Ok, Err, IfSome, IfNone, ◌⊎◌, zero, suc, ◌==◌, ◌≤◌, length, ℤ}
 use Rattle.std.proofs.lemmas.Bool.Decides.{nat_tests}
-use Rattle.std.proofs.lemmas.Grind.{common_steps}
 use Rattle.std.specs.Option.{ok_or}
-use Rattle.psu_lex.specs.Bytes.{is_white, is_dark, is_closed}
-use Rattle.psu_lex.specs.NumberScan.{run, left}
-use Rattle.psu_lex.specs.Message.{Token, Reads}
-use Rattle.psu_lex.specs.Syntax.{error_of, is_name_byte, is_node, all_nodes, behind, ask_text, mark_text, Header, IsHeader, header_text, SpellsHeader, Lists, Syntax, is_apart, UnitReads, has_high, TextGives, FaultGives}
+use Rattle.psu_lex.specs.Bytes.{is_white, is_dark, is_closed, all_white}
+use Rattle.psu_lex.specs.NumberScan.{run, left, is_number, scanned}
+use Rattle.psu_lex.specs.Message.{Part, Token, Reads}
+use Rattle.psu_lex.specs.Syntax.{error_of, is_name_byte, behind, ask_text, mark_text, Header, IsHeader, header_text, SpellsHeader, Lists, Syntax, is_apart, UnitReads, has_high, TextGives, FaultGives, SyntaxGives, Datum}
 use Rattle.psu_lex.specs.declared.mark.Mark.{Mark}
 use Rattle.psu_lex.specs.declared.mark.Mark.TheVariants.{Star, Colon, Bare}
-use Rattle.psu_lex.specs.Shown.{Shows, ShowsSyntax}
+use Rattle.psu_lex.specs.Shown.{Shows, ShowsSyntax, TailLists}
 use Rattle.psu_lex.specs.declared.unit_syntax.Syntax as rust
 use Rattle.psu_lex.specs.declared.unit_fault.UnitFault.{UnitFault}
 use Rattle.psu_lex.specs.declared.scpi_error.ScpiError.{ScpiError}
 use Rattle.psu_lex.specs.declared.scpi_error.ScpiError.TheVariants.{InvalidCharacter, SyntaxError}
-use Rattle.psu_lex.proofs.Runs.{every, leads, every_head, every_append, every_more, run_at, left_at, run_left}
-use Rattle.psu_lex.proofs.Unique.{same_tokens}
-use Rattle.psu_lex.proofs.NumberSound.{left_stops}
+use Rattle.psu_lex.proofs.Runs.{run_white, every, leads, every_head, every_append, every_more, run_at, left_at, run_left, same_head}
+use Rattle.psu_lex.proofs.Tokens.{same_tokens, some_tokens}
+use Rattle.psu_lex.proofs.NumberSound.{left_stops, number_in}
 use Rattle.psu_lex.proofs.WrittenData.{node_every}
-use Rattle.psu_lex.proofs.DataLists.{left_over, space_white, one_list}
+use Rattle.psu_lex.proofs.DataLists.{left_over, one_list, lists_in, no_list, no_tail, rest_of, tail_rest, tail_shorter}
+use Rattle.std.proofs.lemmas.Bool.{not-false, cases_Bool, eqb-false, eqb-true}
+use Rattle.psu_lex.specs.Number.{NumberGives, reading_of}
+use Rattle.psu_lex.specs.SyntaxScan.{datum_at, is_header}
+use Rattle.psu_lex.proofs.NumberFound.{no_number}
+use Rattle.psu_lex.proofs.HeaderScans.{behind_every, header_out, no_header}
 
 -- ---- a header has no white space
 
 name_dark : (x : ℕ) → is_name_byte x ≡ true → is_dark x ≡ true
 name_dark x h = grind (arith, nat_tests, h)
-
-node_dark : (node : List ℕ) → is_node node ≡ true → every is_dark node ≡ true
-node_dark node h = every_more is_name_byte is_dark node name_dark (node_every node h)
-
-behind_dark : (nodes : List (List ℕ)) → all_nodes nodes ≡ true → every is_dark (behind nodes) ≡ true
-behind_dark [] h = refl
-behind_dark (n ∷ ns) h =
-    let first : is_node n ≡ true = grind (arith, common_steps, h) in
-    let later : all_nodes ns ≡ true = grind (arith, common_steps, h) in
-    every_append is_dark n (behind ns) (node_dark n first) (behind_dark ns later)
 
 ask_dark : (asks : Bool) → every is_dark (ask_text asks) ≡ true
 ask_dark true = refl
@@ -47,24 +41,15 @@ mark_dark Bare = refl
 header_dark : (h : Header) → IsHeader h → every is_dark (header_text h) ≡ true
 header_dark h is =
     every_append is_dark (mark_text h.mark) (h.node ++ (behind h.nodes ++ ask_text h.asks)) (mark_dark h.mark)
-    (every_append is_dark h.node (behind h.nodes ++ ask_text h.asks) (node_dark h.node is.node)
-    (every_append is_dark (behind h.nodes) (ask_text h.asks) (behind_dark h.nodes is.nodes) (ask_dark h.asks)))
+    (every_append is_dark h.node (behind h.nodes ++ ask_text h.asks) (every_more is_name_byte is_dark h.node name_dark (node_every h.node is.node))
+    (every_append is_dark (behind h.nodes) (ask_text h.asks) (behind_every is_dark h.nodes refl name_dark is.nodes) (ask_dark h.asks)))
 
 spelled_dark : (text : List ℕ) → SpellsHeader text → every is_dark text ≡ true
 spelled_dark text (h, is, e) = subst (λ (z : List ℕ). every is_dark z ≡ true) (sym e) (header_dark h is)
 
-dark_white : (x : ℕ) → is_dark x ≡ true → is_white x ≡ false
-dark_white x h = grind (arith, nat_tests, h)
-
-marked_some : (mark : Mark) (node later : List ℕ) → is_node node ≡ true → mark_text mark ++ (node ++ later) ≡ [] → ⊥
-marked_some Star node later h e = absurd (cc (e))
-marked_some Colon node later h e = absurd (cc (e))
-marked_some Bare [] later h e = absurd (cc (h))
-marked_some Bare (x ∷ node) later h e = absurd (cc (e))
-
 spelled_first : (text rest : List ℕ) → SpellsHeader text → leads is_white (text ++ rest) ≡ false
-spelled_first [] rest (h, is, e) = absurd (marked_some h.mark h.node (behind h.nodes ++ ask_text h.asks) is.node (sym e))
-spelled_first (x ∷ text) rest s = dark_white x (every_head is_dark x text (spelled_dark (x ∷ text) s))
+spelled_first [] rest s = absurd (no_header [] refl s)
+spelled_first (x ∷ text) rest s = grind (arith, nat_tests, every_head is_dark x text (spelled_dark (x ∷ text) s))
 
 apart_leads : (rest : List ℕ) → is_apart rest ≡ true → leads is_dark rest ≡ false
 apart_leads [] h = refl
@@ -86,20 +71,16 @@ parts_of text s (space, rest, w, e, h, a, l) =
       rest_is = ap (left is_dark) body ∙ left_at is_dark s.header rest dark (apart_leads rest a);
     }
 
-not_dark : (b : Bool) → not b ≡ false → b ≡ true
-not_dark true f = refl
-not_dark false f = absurd (cc (f))
-
 apart_at : (rest : List ℕ) → leads is_dark rest ≡ false → is_apart rest ≡ true
 apart_at [] f = refl
-apart_at (x ∷ rest) f = not_dark (is_white x) f
+apart_at (x ∷ rest) f = not-false (is_white x) f
 
 pub unit_reads : (text header rest : List ℕ) (s : Syntax) → header ≡ run is_dark (left is_white text) → rest ≡ left is_dark (left is_white text) → SpellsHeader header → s.header ≡ header → Lists rest s.parameters
     → UnitReads text s
 unit_reads text header rest s h r spelled e l =
     let whole : text ≡ run is_white text ++ (s.header ++ rest)
     = sym (run_left is_white text) ∙ ap (λ (z : List ℕ). run is_white text ++ z) (sym (run_left is_dark (left is_white text)) ∙ ap (λ (z : List ℕ). z ++ left is_dark (left is_white text)) (sym (e ∙ h)) ∙ ap (λ (z : List ℕ). s.header ++ z) (sym r)) in
-    (run is_white text, rest, space_white text, whole, subst SpellsHeader (sym e) spelled, apart_at rest (subst (λ (z : List ℕ). leads is_dark z ≡ false) (sym r) (left_stops is_dark (left is_white text))), l)
+    (run is_white text, rest, run_white text, whole, subst SpellsHeader (sym e) spelled, apart_at rest (subst (λ (z : List ℕ). leads is_dark z ≡ false) (sym r) (left_stops is_dark (left is_white text))), l)
 
 -- ---- one syntax
 
@@ -120,11 +101,14 @@ one_gives false text r q (inl g) (inr h) = absurd (h.0 g.0 g.1)
 one_gives false text r q (inr g) (inl h) = absurd (g.0 h.0 h.1)
 one_gives false text r q (inr g) (inr h) = g.1 ∙ sym h.1
 
-pub one_result : (fault : Option UnitFault) (text : List ℕ) (r q : Result Syntax ScpiError) → FaultGives fault text r → FaultGives fault text q → r ≡ q
-one_result (Some e) text r q g h = g ∙ sym h
-one_result None text r q (tokens, reads, g) (others, more, h) =
+result_at : (fault : Option UnitFault) (text : List ℕ) (r q : Result Syntax ScpiError) → FaultGives fault text r → FaultGives fault text q → r ≡ q
+result_at (Some e) text r q g h = g ∙ sym h
+result_at None text r q (tokens, reads, g) (others, more, h) =
     let same : others ≡ tokens = same_tokens is_closed text others tokens more reads in
     one_gives (has_high tokens) text r q g (subst (λ (z : List Token). TextGives (has_high z) text q) same h)
+
+pub one_result : (unit : Part) (r q : Result Syntax ScpiError) → SyntaxGives unit r → SyntaxGives unit q → r ≡ q
+one_result unit = result_at unit.fault unit.text
 
 -- ---- the same, as the code goes
 
@@ -150,3 +134,80 @@ pub given_high : (fault : Option UnitFault) (text : List ℕ) (tokens : List Tok
 given_high fault text tokens is reads h =
     subst (λ (z : Option UnitFault). Given z text (Err InvalidCharacter)) (sym is)
     (Err InvalidCharacter, (tokens, reads, subst (λ (z : Bool). TextGives z text (Err InvalidCharacter)) (sym h) refl), refl)
+
+pub some_value : (text : List ℕ) (places : ℕ) → (value : Result ℤ ScpiError) × NumberGives text places value
+some_value text places = elim (cases_Bool (is_number text)) [
+  | inl t ↦ let n = number_in text t in (reading_of (scanned text) places, inl (scanned text, n.0, n.1, refl))
+  | inr f ↦ (Err SyntaxError, inr (no_number text f, refl))
+]
+
+-- ---- a list
+
+-- whether a list goes on with this
+abbrev GoesOn : List ℕ → Type 0
+GoesOn tail = ((more : List Datum) × TailLists tail more) ⊎ ((more : List Datum) → TailLists tail more → ⊥)
+
+no_comma : (x : ℕ) (text : List ℕ) (more : List Datum) → (x == 44) ≡ false → TailLists (x ∷ text) more → ⊥
+no_comma x text [] f l = absurd (cc (l))
+no_comma x text (d ∷ more) f (rest, e, l) = eqb-false x 44 f (same_head x 44 _ _ e)
+
+next_goes : (x : ℕ) (text : List ℕ) (r : Option (Datum × List ℕ)) → x ≡ 44 → datum_at text ≡ r → ((tail : List ℕ) → length tail ≤ length text → GoesOn tail) → GoesOn (x ∷ text)
+next_goes x text None c e again = inr (λ more l. no_tail (x ∷ text) text more (ap (λ (z : ℕ). z ∷ text) c) e l)
+next_goes x text (Some (d, tail)) c e again =
+    let comma = ap (λ (z : ℕ). z ∷ text) c in
+    elim (again tail (tail_shorter text tail d e)) [
+      | inl m ↦ inl (d ∷ m.0, (text, comma, lists_in text tail d m.0 e m.1))
+      | inr none ↦ inr (λ more l. let r = tail_rest (x ∷ text) text tail d more comma e l in none r.others r.listed)
+    ]
+
+goes_on : (n : ℕ) (tail : List ℕ) → length tail ≤ n → GoesOn tail
+goes_on n [] le = inl ([], refl)
+goes_on zero (x ∷ text) le = absurd (omega (arith, le))
+goes_on (suc n) (x ∷ text) le = elim (cases_Bool (x == 44)) [
+  | inl t ↦ next_goes x text (datum_at text) (eqb-true x 44 t) refl (λ tail shorter. goes_on n tail (omega (arith, le, shorter)))
+  | inr f ↦ inr (λ more l. no_comma x text more f l)
+]
+
+list_from : (text : List ℕ) (r : Option (Datum × List ℕ)) → all_white text ≡ false → datum_at text ≡ r → ((list : List Datum) × Lists text list) ⊎ ((list : List Datum) → Lists text list → ⊥)
+list_from text None f e = inr (λ list l. no_list text list f e l)
+list_from text (Some (d, tail)) f e = elim (goes_on (length tail) tail (omega arith)) [
+  | inl m ↦ inl (d ∷ m.0, lists_in text tail d m.0 e m.1)
+  | inr none ↦ inr (λ list l. let r = rest_of text tail d list e l in none r.others r.listed)
+]
+
+decide_list : (text : List ℕ) → ((list : List Datum) × Lists text list) ⊎ ((list : List Datum) → Lists text list → ⊥)
+decide_list text = elim (cases_Bool (all_white text)) [
+  | inl t ↦ inl ([], t)
+  | inr f ↦ list_from text (datum_at text) f refl
+]
+
+-- ---- a unit
+
+decide_unit : (text : List ℕ) → ((s : Syntax) × UnitReads text s) ⊎ ((s : Syntax) → UnitReads text s → ⊥)
+decide_unit text =
+    let header = run is_dark (left is_white text) in
+    let rest = left is_dark (left is_white text) in
+    elim (cases_Bool (is_header header)) [
+      | inr f ↦ inr (λ s u. no_header header f (subst SpellsHeader (sym (parts_of text s u).header_is) u.4))
+      | inl h ↦ elim (decide_list rest) [
+        | inl l ↦ inl (record { header = header; parameters = l.0 }, unit_reads text header rest (record { header = header; parameters = l.0 }) refl refl (header_out header h) refl l.1)
+        | inr none ↦ inr (λ s u. none s.parameters (subst (λ (z : List ℕ). Lists z s.parameters) (sym (parts_of text s u).rest_is) u.6))
+      ]
+    ]
+
+some_gives : (high : Bool) (text : List ℕ) → (r : Result Syntax ScpiError) × TextGives high text r
+some_gives true text = (Err InvalidCharacter, refl)
+some_gives false text = elim (decide_unit text) [
+  | inl s ↦ (Ok s.0, inl (s.0, s.1, refl))
+  | inr none ↦ (Err SyntaxError, inr (none, refl))
+]
+
+result_of : (fault : Option UnitFault) (text : List ℕ) → (r : Result Syntax ScpiError) × FaultGives fault text r
+result_of (Some e) text = (Err (error_of e), refl)
+result_of None text =
+    let tokens = some_tokens is_closed text in
+    let r = some_gives (has_high tokens.0) text in
+    (r.0, (tokens.0, tokens.1, r.1))
+
+pub some_result : (unit : Part) → (r : Result Syntax ScpiError) × SyntaxGives unit r
+some_result unit = result_of unit.fault unit.text

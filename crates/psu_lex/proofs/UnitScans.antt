@@ -1,40 +1,30 @@
--- What each token adds to the units, and what the scan of a unit adds.
-use Rattle.std.proofs.Common.{◌≡◌, ℕ, ◌+◌, ◌-◌, ◌<◌, ◌≤◌, Bool, true, false, List, [], ◌∷◌, ◌++◌, length, take, drop, refl, sym, ap, ◌∙◌, subst, arith, append_assoc, length-drop, Option, Some, None, slice_index, drop-cons}
-use Rattle.std.proofs.lemmas.List.{append-nil, take-append-drop, get_or-take, append_cancel_right}
+-- What each token adds to the units, and what the scans of a unit and of a transmission add.
+use Rattle.std.proofs.Common.{◌≡◌, ℕ, ◌+◌, ◌-◌, ◌<◌, ◌≤◌, Bool, true, false, List, [], ◌∷◌, ◌++◌, length, take, drop, refl, sym, ap, ◌∙◌, subst, arith, append_assoc, length-drop, Option, Some, None, slice_index, drop-cons, take_all, unwrap_or, ◌==◌, ◌||◌, ◌&&◌, inl, inr}
+use Rattle.std.proofs.lemmas.List.{append-nil, take-append-drop, get_or-take, append_cancel_right, drop_all}
 use Rattle.std.proofs.Math.Seq.{take-add}
-use Rattle.std.proofs.Common.{take_all, unwrap_or}
-use Rattle.std.proofs.lemmas.List.{drop_all}
 use Rattle.std.proofs.lemmas.Grind.{common_steps}
 use Rattle.memchr.specs.Find.{IsFirstByte, is_byte2, is_byte3}
-use Rattle.psu_lex.specs.Bytes.{opens, separates, is_closed}
-use Rattle.psu_lex.specs.Message.{opens_first, ends_unit, BeginsPiece, HasNoPiece, Makes, Part, ended, next_first, fault_of, spelling}
+use Rattle.psu_lex.specs.Bytes.{opens, separates, is_closed, all_white}
+use Rattle.psu_lex.specs.Message.{opens_first, ends_unit, BeginsPiece, HasNoPiece, Makes, Part, ended, next_first, fault_of, spelling, part, parts, Token, Reads}
 use Rattle.psu_lex.specs.declared.unit_fault.UnitFault.{UnitFault}
 use Rattle.psu_lex.specs.Message.Token.{Byte, Separator, Whole, Faulty}
-use Rattle.psu_lex.specs.Scan.{has, IsStop}
-use Rattle.psu_lex.proofs.Searches.{has_head, has_tail, has_shorter, free_before, free_all, drop-add, free_later}
-
-pub makes_byte : (first : Bool) (x : ℕ) (text rest : List ℕ) (units : List Part) → separates x ≡ false → opens x ≡ false
-    → Makes first (text ++ x ∷ []) rest units → Makes first text (x ∷ rest) units
-makes_byte first x text rest units f g m = (Byte x ∷ m.0, (rest, refl, (f, g), m.1), m.2)
+use Rattle.psu_lex.specs.Scan.{has, after_piece, IsStop}
+use Rattle.psu_lex.proofs.PieceScans.{whole}
+use Rattle.psu_lex.proofs.Searches.{has_head, has_tail, has_front, free_before, free_all, drop-add, free_later}
+use Rattle.psu_lex.specs.declared.unit.Unit as rust
+use Rattle.std.proofs.lemmas.Bool.{cases_Bool}
+use Rattle.std.proofs.Math.Bool.{or_assoc, or-false}
+use Rattle.std.proofs.lemmas.Bool.Decides.{nat_tests}
+use Rattle.psu_lex.specs.Syntax.{has_high}
+use Rattle.psu_lex.specs.SyntaxScan.{is_high}
+use Rattle.psu_lex.proofs.Tokens.{some_tokens}
 
 pub makes_run : (first : Bool) (run text rest : List ℕ) (units : List Part) → has separates run ≡ false → has opens run ≡ false
     → Makes first (text ++ run) rest units → Makes first text (run ++ rest) units
 makes_run first [] text rest units f g m = subst (λ (z : List ℕ). Makes first z rest units) (append-nil text) m
 makes_run first (x ∷ run) text rest units f g m =
-    makes_byte first x text (run ++ rest) units (has_head separates x run f) (has_head opens x run g)
-    (makes_run first run (text ++ x ∷ []) rest units (has_tail separates x run f) (has_tail opens x run g)
-    (subst (λ (z : List ℕ). Makes first z rest units) (sym (append_assoc text (x ∷ []) run)) m))
-
-pub makes_piece : (first : Bool) (text bytes more : List ℕ) (units : List Part) → (b : BeginsPiece bytes more) → is_closed more ≡ true
-    → Makes first (text ++ spelling b.0) more units → Makes first text bytes units
-makes_piece first text bytes more units b h m = (Whole b.0 ∷ m.0, (more, b.1, (b.2, h), m.1), m.2)
-
-pub makes_fault : (first : Bool) (text bytes : List ℕ) → opens_first bytes ≡ true → HasNoPiece is_closed bytes
-    → Makes first text bytes (record { text = text ++ bytes; first = first; fault = Some (fault_of bytes) } ∷ [])
-makes_fault first text bytes o n = (Faulty bytes ∷ [], ([], sym (append-nil bytes), (refl, o, n), refl), refl)
-
-pub makes_end : (first : Bool) (text : List ℕ) → Makes first text [] (ended first text)
-makes_end first text = ([], refl, refl)
+    let later = makes_run first run (text ++ x ∷ []) rest units (has_tail separates x run f) (has_tail opens x run g) (subst (λ (z : List ℕ). Makes first z rest units) (sym (append_assoc text (x ∷ []) run)) m) in
+    (Byte x ∷ later.0, (run ++ rest, refl, (has_head separates x run f, has_head opens x run g), later.1), later.2)
 
 pub makes_separator : (first : Bool) (x : ℕ) (text rest : List ℕ) (units : List Part) → separates x ≡ true
     → Makes (next_first first text x) [] rest units → Makes first text (x ∷ rest) (ended first text ++ units)
@@ -46,7 +36,7 @@ opens_at s n within h = rw (drop-cons s n 0 within) h
 -- the terminator that was found, or the end
 pub stop_at : (s : List ℕ) (r : Option ℕ) → IsFirstByte (is_byte2 59 10) s r
     → (unwrap_or r (length s) ≤ length s) × (has separates (take (unwrap_or r (length s)) s) ≡ false) × (ends_unit (drop (unwrap_or r (length s)) s) ≡ true)
-stop_at s None h = (omega arith, has_shorter separates s (length s) (length s) (omega arith) (rw (take_all (length s) s (omega arith)) (free_all separates s h)), rw (drop_all (length s) s (omega arith)) refl)
+stop_at s None h = (omega arith, rw (take_all (length s) s (omega arith)) (free_all separates s h), rw (drop_all (length s) s (omega arith)) refl)
 stop_at s (Some n) h = (omega (arith, h.0.high), free_before separates s n h, rw (drop-cons s n 0 h.0.high) h.1)
 
 -- the quote or `#` that was found before it
@@ -57,7 +47,7 @@ open_at s run n le h f =
     let t : opens (slice_index (take run s) n) ≡ true = h.1 in
     let same : take n (take run s) ≡ take n s = grind (arith, common_steps, below) in (
       omega (arith, below, le),
-      has_shorter separates s n run (omega (arith, below)) f,
+      ap (has separates) (sym same) ∙ has_front separates (take run s) n f,
       ap (has opens) (sym same) ∙ free_before opens (take run s) n h,
       opens_at s n (omega (arith, below, le)) (ap opens (sym (get_or-take run s n 0 below)) ∙ t),
     )
@@ -76,26 +66,26 @@ pub step_piece : (first : Bool) (bytes : List ℕ) (at n : ℕ) (units : List Pa
     → Makes first (take (at + n) bytes) (drop (at + n) bytes) units → Makes first (take at bytes) (drop at bytes) units
 step_piece first bytes at n units b h m =
     let text : take n (drop at bytes) ≡ spelling b.0 = append_cancel_right (take n (drop at bytes)) (spelling b.0) (drop n (drop at bytes)) (take-append-drop n (drop at bytes) ∙ b.1) in
-    makes_piece first (take at bytes) (drop at bytes) (drop n (drop at bytes)) units b h
-    (subst (λ (z : List ℕ). Makes first (take at bytes ++ z) (drop n (drop at bytes)) units) text
+    let later = subst (λ (z : List ℕ). Makes first (take at bytes ++ z) (drop n (drop at bytes)) units) text
     (subst (λ (z : List ℕ). Makes first z (drop n (drop at bytes)) units) (take-add at n bytes)
-    (subst (λ (z : List ℕ). Makes first (take (at + n) bytes) z units) (drop-add at n bytes) m)))
+    (subst (λ (z : List ℕ). Makes first (take (at + n) bytes) z units) (drop-add at n bytes) m)) in
+    (Whole b.0 ∷ later.0, (drop n (drop at bytes), b.1, (b.2, h), later.1), later.2)
 
 pub step_fault : (first : Bool) (bytes : List ℕ) (at : ℕ) → opens_first (drop at bytes) ≡ true → HasNoPiece is_closed (drop at bytes)
     → Makes first (take at bytes) (drop at bytes) (record { text = bytes; first = first; fault = Some (fault_of (drop at bytes)) } ∷ [])
 step_fault first bytes at o n =
     subst (λ (z : List ℕ). Makes first (take at bytes) (drop at bytes) (record { text = z; first = first; fault = Some (fault_of (drop at bytes)) } ∷ []))
-    (take-append-drop at bytes) (makes_fault first (take at bytes) (drop at bytes) o n)
+    (take-append-drop at bytes) (Faulty (drop at bytes) ∷ [], ([], sym (append-nil (drop at bytes)), (refl, o, n), refl), refl)
 
 -- ---- the same, as the scan of a unit goes
 
 pub unit_step : (first : Bool) (bytes piece : List ℕ) (at found n : ℕ) (units : List Part) → piece ≡ drop (at + found) bytes
-    → has separates (take found (drop at bytes)) ≡ false → has opens (take found (drop at bytes)) ≡ false → BeginsPiece piece (drop n piece) → is_closed (drop n piece) ≡ true
+    → has separates (take found (drop at bytes)) ≡ false → has opens (take found (drop at bytes)) ≡ false → after_piece piece ≡ Some (drop n piece) → is_closed (drop n piece) ≡ true
     → Makes first (take (at + (found + n)) bytes) (drop (at + (found + n)) bytes) units → Makes first (take at bytes) (drop at bytes) units
 unit_step first bytes piece at found n units e a b p h m =
     let same : at + (found + n) ≡ at + found + n = omega arith in
     step_run first bytes at found units a b
-    (step_piece first bytes (at + found) n units (subst (λ (z : List ℕ). BeginsPiece z (drop n z)) e p) (subst (λ (z : List ℕ). is_closed (drop n z) ≡ true) e h)
+    (step_piece first bytes (at + found) n units (whole _ _ (subst (λ (z : List ℕ). after_piece z ≡ Some (drop n z)) e p)) (subst (λ (z : List ℕ). is_closed (drop n z) ≡ true) e h)
     (subst (λ (z : ℕ). Makes first (take z bytes) (drop z bytes) units) same m))
 
 pub unit_fault : (first : Bool) (bytes piece : List ℕ) (at found : ℕ) (fault : UnitFault) → piece ≡ drop (at + found) bytes
@@ -145,3 +135,65 @@ stop_kept bytes at step stop s le =
       free = rw (count, drop-add at step bytes) (free_later separates (drop at bytes) (stop - at) step s.free);
       ends = s.ends;
     }
+
+pub parts_push : (us : List rust.Unit) (u : rust.Unit) → parts (us ++ u ∷ []) ≡ parts us ++ part u ∷ []
+parts_push [] u = refl
+parts_push (v ∷ us) u = ap (λ (z : List Part). part v ∷ z) (parts_push us u)
+
+pub split_end : (first : Bool) (rest text sep : List ℕ) (end : ℕ) → text ≡ take end rest → sep ≡ drop end rest → length sep ≡ 0 → Makes first (take end rest) (drop end rest) (ended first text)
+split_end first rest text [] end t s n = subst (λ (z : List ℕ). Makes first (take end rest) z (ended first text)) s (subst (λ (z : List ℕ). Makes first z [] (ended first text)) t ([], refl, refl))
+split_end first rest text (x ∷ sep) end t s n = absurd (omega (arith, n))
+
+pub split_step : (first next blank : Bool) (rest text sep later : List ℕ) (end : ℕ) (more : List Part) → text ≡ take end rest → sep ≡ drop end rest → (length sep ≡ 0 → ⊥) → ends_unit (drop end rest) ≡ true
+    → later ≡ drop 1 sep → next ≡ (slice_index sep 0 == 10 || (first && blank)) → blank ≡ all_white text → Makes next [] later more
+    → Makes first (take end rest) (drop end rest) (ended first text ++ more)
+split_step first next blank rest text [] later end more t s n u l f b m = absurd (n refl)
+split_step first next blank rest text (x ∷ sep) later end more t s n u l f b m =
+    let is : next ≡ next_first first text x = f ∙ ap (λ (z : Bool). x == 10 || (first && z)) b in
+    let sp : separates x ≡ true = subst (λ (z : List ℕ). ends_unit z ≡ true) (sym s) u in
+    subst (λ (z : List ℕ). Makes first (take end rest) z (ended first text ++ more)) s
+    (subst (λ (z : List ℕ). Makes first z (x ∷ sep) (ended first text ++ more)) t
+    (makes_separator first x text sep more sp (subst (λ (z : Bool). Makes z [] sep more) is (subst (λ (z : List ℕ). Makes next [] z more) l m))))
+
+pub ended_some : (first : Bool) (text : List ℕ) → all_white text ≡ false → ended first text ≡ record { text = text; first = first; fault = None } ∷ []
+ended_some first text h = rw h refl
+
+-- the bytes have tokens, and whether one of them is such a byte is known
+abbrev pub Tells : List ℕ → Bool → Type 0
+Tells bytes high = (tokens : List Token) × Reads is_closed bytes tokens × (high ≡ has_high tokens)
+
+tells_byte : (x : ℕ) (rest : List ℕ) (high : Bool) → opens x ≡ false → Tells rest high → Tells (x ∷ rest) (is_high x || high)
+tells_byte x rest high o (tokens, r, e) = elim (cases_Bool (separates x)) [
+  | inl s ↦ (Separator x ∷ tokens, (rest, refl, s, r), let low : is_high x ≡ false = grind (arith, nat_tests, s) in rw low e)
+  | inr f ↦ (Byte x ∷ tokens, (rest, refl, (f, o), r), ap (λ (z : Bool). is_high x || z) e)
+]
+
+tells_run : (run rest : List ℕ) (high : Bool) → has opens run ≡ false → Tells rest high → Tells (run ++ rest) (has is_high run || high)
+tells_run [] rest high o t = t
+tells_run (x ∷ run) rest high o t =
+    subst (Tells (x ∷ (run ++ rest))) (sym (or_assoc (is_high x) (has is_high run) high))
+    (tells_byte x (run ++ rest) (has is_high run || high) (has_head opens x run o) (tells_run run rest high (has_tail opens x run o) t))
+
+pub tells_piece : (bytes more : List ℕ) (high : Bool) → after_piece bytes ≡ Some more → is_closed more ≡ true → Tells more high → Tells bytes high
+tells_piece bytes more high s h (tokens, r, e) = let b = whole bytes more s in (Whole b.0 ∷ tokens, (more, b.1, (b.2, h), r), e)
+
+pub tells_fault : (bytes : List ℕ) → opens_first bytes ≡ true → HasNoPiece is_closed bytes → Tells bytes false
+tells_fault bytes o n = (Faulty bytes ∷ [], ([], sym (append-nil bytes), (refl, o, n), refl), refl)
+
+pub tells_some : (bytes : List ℕ) → (high : Bool) × Tells bytes high
+tells_some bytes = let r = some_tokens is_closed bytes in (has_high r.0, (r.0, r.1, refl))
+
+-- ---- the same, as the scan goes
+
+pub before_opening : (bytes : List ℕ) (n : ℕ) → IsFirstByte (is_byte3 34 39 35) bytes (Some n) → (has opens (take n bytes) ≡ false) × (opens_first (drop n bytes) ≡ true)
+before_opening bytes n h = (free_before opens bytes n h, opens_at bytes n h.0.high h.1)
+
+pub tells_all : (bytes : List ℕ) → IsFirstByte (is_byte3 34 39 35) bytes None → Tells bytes (has is_high bytes)
+tells_all bytes h =
+    subst (λ (z : List ℕ). Tells z (has is_high bytes)) (append-nil bytes)
+    (subst (Tells (bytes ++ [])) (or-false (has is_high bytes)) (tells_run bytes [] false (free_all opens bytes h) ([], refl, refl)))
+
+pub tells_from : (bytes : List ℕ) (n : ℕ) (high : Bool) → IsFirstByte (is_byte3 34 39 35) bytes (Some n) → Tells (drop n bytes) high → Tells bytes (has is_high (take n bytes) || high)
+tells_from bytes n high h t =
+    subst (λ (z : List ℕ). Tells z (has is_high (take n bytes) || high)) (take-append-drop n bytes)
+    (tells_run (take n bytes) (drop n bytes) high (before_opening bytes n h).0 t)

@@ -1,49 +1,53 @@
 -- Numbers and words: all up to a `,`, without the white space at its end.
-use Rattle.std.proofs.Common.{◌≡◌, ℕ, zero, suc, ◌<◌, ◌==◌, ◌||◌, ◌&&◌, Bool, true, false, List, [], ◌∷◌, ◌++◌, length, take, drop, refl, sym, ap, ◌∙◌, subst, arith, append_assoc, Option, Some, None, slice_index}
+use Rattle.std.proofs.Common.{◌≡◌, ℕ, zero, suc, ◌-◌, ◌<◌, ◌≤◌, ◌&&◌, Bool, true, false, List, [], ◌∷◌, ◌++◌, length, take, drop, refl, sym, ap, ◌∙◌, subst, arith, append_assoc, inl, inr, Option, Some, None, slice_index, take_all, drop-cons, unwrap_or}
+use Rattle.std.proofs.lemmas.Bool.{and_parts, cases_Bool}
 use Rattle.std.proofs.lemmas.Bool.Decides.{nat_tests}
 use Rattle.std.proofs.lemmas.List.{take-append-drop}
 use Rattle.std.proofs.lemmas.Grind.{common_steps}
+use Rattle.std.proofs.Math.Seq.{drop-append_seam}
+use Rattle.memchr.specs.Find.{IsFirstByte, is_byte}
 use Rattle.psu_lex.specs.Bytes.{is_white, is_digit, is_letter, all_white}
 use Rattle.psu_lex.specs.Number.{Number, IsNumber, Sign, Exponent, ExponentHolds, number_text, sign_text, fraction_text, fraction_digits, exponent_text, mantissa}
 use Rattle.psu_lex.specs.Number.Sign.{Plus, Minus, Unsigned}
-use Rattle.psu_lex.specs.NumberScan.{run, left}
+use Rattle.psu_lex.specs.NumberScan.{run, left, is_number}
+use Rattle.psu_lex.specs.Scan.{has}
 use Rattle.psu_lex.specs.Syntax.{is_name_byte, all_name, is_node, ends_in_white}
-use Rattle.psu_lex.specs.SyntaxScan.{is_uncut, is_parted, Trims, Ends, HasNone}
+use Rattle.psu_lex.specs.SyntaxScan.{is_uncut, is_parted, put_dark, trimmed, written, after_datum}
 use Rattle.psu_lex.specs.declared.datum_class.DatumClass.TheVariants.{Numeric, Character}
-use Rattle.psu_lex.proofs.Quotes.{same_head, same_tail, both}
-use Rattle.psu_lex.proofs.Runs.{every, leads, digits_every, white_every, letters_every, every_head, every_tail, every_append, every_more, run_at, run_left, run_every}
-use Rattle.psu_lex.proofs.NumberFound.{digits_parts}
+use Rattle.psu_lex.proofs.Runs.{run_white, every, leads, digits_every, white_every, letters_every, every_head, every_tail, every_append, every_more, run_at, run_all, run_left, run_every}
+use Rattle.psu_lex.proofs.Searches.{has_head, has_tail, free_before, free_all}
+use Rattle.psu_lex.proofs.NumberFound.{digits_parts, number_out}
 
 -- ---- the last byte
 
-white_tail : (x : ℕ) (xs : List ℕ) → all_white (x ∷ xs) ≡ true → all_white xs ≡ true
-white_tail x xs h = grind (arith, common_steps, h)
-
-white_ends : (y : ℕ) (b w : List ℕ) → all_white ((y ∷ b) ++ w) ≡ true → ends_in_white (y ∷ b) ≡ true
-white_ends y [] w h = grind (arith, common_steps, h)
-white_ends y (z ∷ b) w h = white_ends z b w (white_tail y (z ∷ b ++ w) h)
-
-tail_end : (x : ℕ) (a : List ℕ) → ends_in_white (x ∷ a) ≡ false → ends_in_white a ≡ false
-tail_end x [] h = refl
-tail_end x (y ∷ a) h = h
+trimmed_white : (w : List ℕ) → all_white w ≡ true → trimmed w ≡ []
+trimmed_white [] h = refl
+trimmed_white (x ∷ w) h = let p = and_parts (is_white x) (all_white w) h in rw (trimmed_white w p.1, p.0) refl
 
 -- one text, whatever white space follows it
-pub trims_same : (a b v w : List ℕ) → a ++ v ≡ b ++ w → all_white v ≡ true → all_white w ≡ true → ends_in_white a ≡ false → ends_in_white b ≡ false → a ≡ b
-trims_same [] [] v w e hv hw ha hb = refl
-trims_same [] (y ∷ b) v w e hv hw ha hb = absurd (both (ends_in_white (y ∷ b)) (white_ends y b w (ap all_white (sym e) ∙ hv)) hb)
-trims_same (x ∷ a) [] v w e hv hw ha hb = absurd (both (ends_in_white (x ∷ a)) (white_ends x a v (ap all_white e ∙ hw)) ha)
-trims_same (x ∷ a) (y ∷ b) v w e hv hw ha hb =
-    let later = trims_same a b v w (same_tail x y _ _ e) hv hw (tail_end x a ha) (tail_end y b hb) in
-    cc (same_head x y _ _ e, later)
+trimmed_is : (a w : List ℕ) → all_white w ≡ true → ends_in_white a ≡ false → trimmed (a ++ w) ≡ a
+trimmed_is [] w h d = trimmed_white w h
+trimmed_is (x ∷ []) w h d = rw (trimmed_white w h, d) refl
+trimmed_is (x ∷ y ∷ a) w h d = ap (put_dark x) (trimmed_is (y ∷ a) w h d)
 
-cancel : (a x y : List ℕ) → a ++ x ≡ a ++ y → x ≡ y
-cancel [] x y e = e
-cancel (c ∷ a) x y e = cancel a x y (same_tail c c _ _ e)
+-- the text, and the white space that is cut from it
+record Trimmed (xs text : List ℕ) : Type 0 where
+  space : List ℕ
+  whole : xs ≡ text ++ space
+  dark : ends_in_white text ≡ false
 
-pub cancel_at : (a b x y : List ℕ) → a ≡ b → a ++ x ≡ b ++ y → x ≡ y
-cancel_at a b x y s e = cancel b x y (ap (λ (z : List ℕ). z ++ x) (sym s) ∙ e)
+trimmed_more : (x : ℕ) (xs text : List ℕ) → Trimmed xs text → Trimmed (x ∷ xs) (put_dark x text)
+trimmed_more x xs [] t = elim (cases_Bool (is_white x)) [
+  | inl h ↦ rw h (record { space = x ∷ xs; whole = refl; dark = refl })
+  | inr f ↦ rw f (record { space = t.space; whole = ap (λ (z : List ℕ). x ∷ z) t.whole; dark = f })
+]
+trimmed_more x xs (y ∷ text) t = record { space = t.space; whole = ap (λ (z : List ℕ). x ∷ z) t.whole; dark = t.dark }
 
-pub last_dark : (s : List ℕ) (m : ℕ) → m < length s → is_white (slice_index s m) ≡ false → ends_in_white (take (suc m) s) ≡ false
+trimmed_parts : (xs : List ℕ) → Trimmed xs (trimmed xs)
+trimmed_parts [] = record { space = []; whole = refl; dark = refl }
+trimmed_parts (x ∷ xs) = trimmed_more x xs (trimmed xs) (trimmed_parts xs)
+
+last_dark : (s : List ℕ) (m : ℕ) → m < length s → is_white (slice_index s m) ≡ false → ends_in_white (take (suc m) s) ≡ false
 last_dark [] m within h = absurd (omega (arith, within))
 last_dark (x ∷ s) zero within h = h
 last_dark (x ∷ []) (suc m) within h = absurd (omega (arith, within))
@@ -57,21 +61,6 @@ white_uncut x h = grind (arith, nat_tests, h)
 digit_uncut : (x : ℕ) → is_digit x ≡ true → is_uncut x ≡ true
 digit_uncut x h = grind (arith, nat_tests, h)
 
-letter_uncut : (x : ℕ) → is_letter x ≡ true → is_uncut x ≡ true
-letter_uncut x h = grind (arith, nat_tests, h)
-
-mark_uncut : (x : ℕ) → (x == 69 || x == 101) ≡ true → is_uncut x ≡ true
-mark_uncut x h = grind (arith, nat_tests, h)
-
-name_uncut : (x : ℕ) → is_name_byte x ≡ true → is_uncut x ≡ true
-name_uncut x h = grind (arith, nat_tests, h)
-
-name_dark : (x : ℕ) → is_name_byte x ≡ true → is_white x ≡ false
-name_dark x h = grind (arith, nat_tests, h)
-
-letter_name : (x : ℕ) → is_letter x ≡ true → is_name_byte x ≡ true
-letter_name x h = rw h refl
-
 name_every : (xs : List ℕ) → all_name xs ≡ every is_name_byte xs
 name_every [] = refl
 name_every (x ∷ xs) = ap (λ (z : Bool). is_name_byte x && z) (name_every xs)
@@ -81,17 +70,17 @@ node_every [] h = refl
 node_every (x ∷ text) h =
     let l : is_letter x ≡ true = grind (arith, common_steps, h) in
     let later : all_name text ≡ true = grind (arith, common_steps, h) in
-    rw (letter_name x l) (sym (name_every text) ∙ later)
+    rw l (sym (name_every text) ∙ later)
 
-pub node_uncut : (text : List ℕ) → is_node text ≡ true → every is_uncut text ≡ true
-node_uncut text h = every_more is_name_byte is_uncut text name_uncut (node_every text h)
+node_uncut : (text : List ℕ) → is_node text ≡ true → every is_uncut text ≡ true
+node_uncut text h = every_more is_name_byte is_uncut text (λ x h. grind (arith, nat_tests, h)) (node_every text h)
 
 name_end : (text : List ℕ) → every is_name_byte text ≡ true → ends_in_white text ≡ false
 name_end [] h = refl
-name_end (x ∷ []) h = name_dark x (every_head is_name_byte x [] h)
+name_end (x ∷ []) h = grind (arith, nat_tests, every_head is_name_byte x [] h)
 name_end (x ∷ y ∷ text) h = name_end (y ∷ text) (every_tail is_name_byte x (y ∷ text) h)
 
-pub node_end : (text : List ℕ) → is_node text ≡ true → ends_in_white text ≡ false
+node_end : (text : List ℕ) → is_node text ≡ true → ends_in_white text ≡ false
 node_end text h = name_end text (node_every text h)
 
 sign_uncut : (s : Sign) → every is_uncut (sign_text s) ≡ true
@@ -112,13 +101,13 @@ exponent_uncut (Some e) h =
     let digits = every_more is_digit is_uncut e.digits digit_uncut (sym (digits_every e.digits) ∙ h.3) in
     let signed = every_append is_uncut (sign_text e.sign) e.digits (sign_uncut e.sign) digits in
     let after = every_append is_uncut e.after (sign_text e.sign ++ e.digits) (whites e.after h.2) signed in
-    let marked : every is_uncut (e.letter ∷ (e.after ++ (sign_text e.sign ++ e.digits))) ≡ true = rw (mark_uncut e.letter h.1) after in
+    let marked : every is_uncut (e.letter ∷ (e.after ++ (sign_text e.sign ++ e.digits))) ≡ true = (let mark : is_uncut e.letter ≡ true = grind (arith, nat_tests, h.1) in rw mark after) in
     every_append is_uncut e.before (e.letter ∷ (e.after ++ (sign_text e.sign ++ e.digits))) (whites e.before h.0) marked
 
-pub number_uncut : (n : Number) → IsNumber n → every is_uncut (number_text n) ≡ true
+number_uncut : (n : Number) → IsNumber n → every is_uncut (number_text n) ≡ true
 number_uncut n h =
     let digits = digits_parts n.whole (fraction_digits n.fraction) (sym (digits_every (mantissa n)) ∙ h.digits) in
-    let r1 = every_append is_uncut n.suffix n.rest (every_more is_letter is_uncut n.suffix letter_uncut (sym (letters_every n.suffix) ∙ h.suffix)) (whites n.rest h.rest) in
+    let r1 = every_append is_uncut n.suffix n.rest (every_more is_letter is_uncut n.suffix (λ x h. grind (arith, nat_tests, h)) (sym (letters_every n.suffix) ∙ h.suffix)) (whites n.rest h.rest) in
     let r2 = every_append is_uncut n.gap (n.suffix ++ n.rest) (whites n.gap h.gap) r1 in
     let r3 = every_append is_uncut (exponent_text n.exponent) (n.gap ++ (n.suffix ++ n.rest)) (exponent_uncut n.exponent h.exponent) r2 in
     let r4 = every_append is_uncut (fraction_text n.fraction) (exponent_text n.exponent ++ (n.gap ++ (n.suffix ++ n.rest))) (fraction_uncut n.fraction digits.1) r3 in
@@ -130,7 +119,7 @@ parted_leads [] h = refl
 parted_leads (x ∷ tail) h = rw h refl
 
 -- a text without a `,`, and the white space behind it, are all up to the `,`
-pub uncut_run : (text next : List ℕ) → every is_uncut text ≡ true → is_parted (left is_white next) ≡ true → run is_uncut (text ++ next) ≡ text ++ run is_white next
+uncut_run : (text next : List ℕ) → every is_uncut text ≡ true → is_parted (left is_white next) ≡ true → run is_uncut (text ++ next) ≡ text ++ run is_white next
 uncut_run text next h p =
     let space = run is_white next in
     let tail = left is_white next in
@@ -138,32 +127,55 @@ uncut_run text next h p =
     ap (run is_uncut) whole ∙ run_at is_uncut (text ++ space) tail
     (every_append is_uncut text space h (every_more is_white is_uncut space white_uncut (run_every is_white next))) (parted_leads tail p)
 
-pub run_white : (xs : List ℕ) → all_white (run is_white xs) ≡ true
-run_white xs = white_every (run is_white xs) ∙ run_every is_white xs
+written_found : (body text next : List ℕ) → body ≡ text ++ next → every is_uncut text ≡ true → ends_in_white text ≡ false → is_parted (left is_white next) ≡ true
+    → (written body ≡ text) × (drop (length (written body)) body ≡ next)
+written_found body text next e u d p =
+    let w : written body ≡ text = ap trimmed (ap (run is_uncut) e ∙ uncut_run text next u p) ∙ trimmed_is text (run is_white next) (run_white next) d in
+    (w, rw (w, e) (drop-append_seam text next))
 
-written_only : (body text next : List ℕ) (n : ℕ) → Trims body (take n body) → body ≡ text ++ next → every is_uncut text ≡ true → ends_in_white text ≡ false
-    → is_parted (left is_white next) ≡ true → (text ≡ take n body) × (next ≡ drop n body)
-written_only body text next n (space, r, w, d) e u f p =
-    let same : text ≡ take n body
-    = trims_same text (take n body) (run is_white next) space (sym (uncut_run text next u p) ∙ ap (run is_uncut) (sym e) ∙ r) (run_white next) w f d in
-    (same, cancel_at text (take n body) next (drop n body) same (sym e ∙ sym (take-append-drop n body)))
+pub number_found : (body text next : List ℕ) (n : Number) → body ≡ text ++ next → IsNumber n → text ≡ number_text n → ends_in_white text ≡ false → is_parted (left is_white next) ≡ true
+    → after_datum Numeric body ≡ Some next
+number_found body text next n e h k d p =
+    let w = written_found body text next e (subst (λ (z : List ℕ). every is_uncut z ≡ true) (sym k) (number_uncut n h)) d p in
+    let is : is_number (written body) ≡ true = ap is_number w.0 ∙ number_out text n h k in
+    rw is (ap (λ (z : List ℕ). Some z) w.1)
 
-pub number_ends : (body : List ℕ) (n : ℕ) (k : Number) → Trims body (take n body) → IsNumber k → take n body ≡ number_text k → Ends Numeric body n
-number_ends body n k t h e = (
-  (k, h, e, t.3),
-  λ text next s.
-      (written_only body text next n t s.0 (subst (λ (z : List ℕ). every is_uncut z ≡ true) (sym s.1.2) (number_uncut s.1.0 s.1.1)) s.1.3 s.2).1,
-)
+pub word_found : (body text next : List ℕ) → body ≡ text ++ next → is_node text ≡ true → is_parted (left is_white next) ≡ true → after_datum Character body ≡ Some next
+word_found body text next e h p =
+    let w = written_found body text next e (node_uncut text h) (node_end text h) p in
+    let is : is_node (written body) ≡ true = ap is_node w.0 ∙ h in
+    rw is (ap (λ (z : List ℕ). Some z) w.1)
 
-pub no_number : (body : List ℕ) (n : ℕ) → Trims body (take n body) → ((k : Number) → IsNumber k → take n body ≡ number_text k → ⊥) → HasNone Numeric body
-no_number body n t none text next s =
-    let same = (written_only body text next n t s.0 (subst (λ (z : List ℕ). every is_uncut z ≡ true) (sym s.1.2) (number_uncut s.1.0 s.1.1)) s.1.3 s.2).0 in
-    none s.1.0 s.1.1 (sym same ∙ s.1.2)
+-- what is written, and what follows it
+pub written_whole : (body : List ℕ) → (body ≡ written body ++ drop (length (written body)) body) × (ends_in_white (written body) ≡ false)
+written_whole body =
+    let t = trimmed_parts (run is_uncut body) in
+    let whole : body ≡ written body ++ (t.space ++ left is_uncut body)
+    = sym (run_left is_uncut body) ∙ ap (λ (z : List ℕ). z ++ left is_uncut body) t.whole ∙ append_assoc (written body) t.space (left is_uncut body) in
+    (whole ∙ ap (λ (z : List ℕ). written body ++ z) (sym (ap (drop (length (written body))) whole ∙ drop-append_seam (written body) (t.space ++ left is_uncut body))), t.dark)
 
-pub node_ends : (body : List ℕ) (n : ℕ) → Trims body (take n body) → is_node (take n body) ≡ true → Ends Character body n
-node_ends body n t h = (h, λ text next s. (written_only body text next n t s.0 (node_uncut text s.1) (node_end text s.1) s.2).1)
+-- the same, as the code goes
+has_every : (xs : List ℕ) → has (is_byte 44) xs ≡ false → every is_uncut xs ≡ true
+has_every [] h = refl
+has_every (x ∷ xs) h = rw (has_head (is_byte 44) x xs h) (has_every xs (has_tail (is_byte 44) x xs h))
 
-pub no_node : (body : List ℕ) (n : ℕ) → Trims body (take n body) → is_node (take n body) ≡ false → HasNone Character body
-no_node body n t f text next s =
-    let same = (written_only body text next n t s.0 (node_uncut text s.1) (node_end text s.1) s.2).0 in
-    both (is_node text) s.1 (ap is_node same ∙ f)
+cut_leads : (body : List ℕ) (n : ℕ) → n < length body → is_byte 44 (slice_index body n) ≡ true → leads is_uncut (drop n body) ≡ false
+cut_leads body n within h = rw (drop-cons body n 0 within) (rw h refl)
+
+pub up_to_cut : (body : List ℕ) (r : Option ℕ) → IsFirstByte (is_byte 44) body r → run is_uncut body ≡ take (unwrap_or r (length body)) body
+up_to_cut body None h = run_all is_uncut body (has_every body (free_all (is_byte 44) body h)) ∙ sym (take_all (length body) body (omega arith))
+up_to_cut body (Some n) h =
+    ap (run is_uncut) (sym (take-append-drop n body))
+    ∙ run_at is_uncut (take n body) (drop n body) (has_every (take n body) (free_before (is_byte 44) body n h)) (cut_leads body n h.0.high h.1)
+
+pub written_at : (body front : List ℕ) (m n : ℕ) → run is_uncut body ≡ take m body → front ≡ take m body → n ≤ length front → all_white (drop n front) ≡ true → ends_in_white (take n front) ≡ false
+    → take n body ≡ written body
+written_at body front m n r f le w d =
+    let same : take n front ≡ take n body = grind (arith, common_steps, f, le) in
+    sym same ∙ sym (trimmed_is (take n front) (drop n front) w d) ∙ ap trimmed (take-append-drop n front ∙ f ∙ sym r)
+
+pub dark_at : (s : List ℕ) (end : ℕ) → 0 < end → end ≤ length s → is_white (slice_index s (end - 1)) ≡ false → ends_in_white (take end s) ≡ false
+dark_at s zero some le h = absurd (omega (arith, some))
+dark_at s (suc m) some le h =
+    let e : suc m - 1 ≡ m = omega arith in
+    last_dark s m (omega (arith, le)) (subst (λ (z : ℕ). is_white (slice_index s z) ≡ false) e h)

@@ -1,5 +1,5 @@
 -- Macros: a body with its parameters put in. Source: IEEE 488.2, 10.8 (`*DMC`, placeholders).
-use Rattle.std.specs.Prelude.{◌≡◌, ℕ, ◌-◌, ◌==◌, ◌&&◌, nat_lt, max, Bool, true, false, List, [], ◌∷◌, ◌++◌, length, Result, Ok, Err, if◌then◌else◌}
+use Rattle.std.specs.Prelude.{◌≡◌, ℕ, ◌-◌, ◌==◌, ◌&&◌, nat_lt, max, Bool, true, false, List, [], ◌∷◌, ◌++◌, length, slice_index_or, Result, Ok, Err, if◌then◌else◌}
 use Rattle.psu_lex.specs.Message.{Token, text_of, Reads}
 use Rattle.psu_lex.specs.Message.Token.{Byte}
 use Rattle.psu_lex.specs.declared.scpi_error.ScpiError.{ScpiError}
@@ -11,8 +11,7 @@ is_placeholder b = nat_lt 48 b && nat_lt b 58
 
 -- the parameter of this place, from 0 on; one that is missing is empty
 abbrev pub parameter : List (List ℕ) → ℕ → List ℕ
-parameter [] k = []
-parameter (x ∷ xs) k = if k == 0 then x else parameter xs (k - 1)
+parameter args k = slice_index_or args k []
 
 -- the body with its parameters put in, where a `$` that is not written yet may stand before it;
 -- strings and blocks stay as they are, and so does a `$` before anything but a placeholder

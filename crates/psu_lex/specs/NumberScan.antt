@@ -1,7 +1,7 @@
 -- Words of the contracts inside this crate: what a scan of a number takes, from the left, as long as it can.
-use Rattle.std.specs.Prelude.{◌≡◌, ℕ, ◌==◌, ◌||◌, Bool, true, false, List, [], ◌∷◌, drop, Option, Some, None, is_none, ℤ, pos, neg_ℤ, if◌then◌else◌}
+use Rattle.std.specs.Prelude.{◌≡◌, ℕ, ◌==◌, ◌||◌, ◌&&◌, not, Bool, true, false, List, [], ◌∷◌, drop, Option, Some, None, is_none, ℤ, pos, neg_ℤ, if◌then◌else◌}
 use Rattle.psu_lex.specs.Bytes.{is_dark, is_digit, is_letter, is_white}
-use Rattle.psu_lex.specs.Number.{Sign, Exponent, Number}
+use Rattle.psu_lex.specs.Number.{Sign, Exponent, Number, mantissa}
 use Rattle.psu_lex.specs.Number.Sign.{Plus, Minus, Unsigned}
 use Rattle.psu_lex.specs.declared.class.Class.{Class}
 use Rattle.psu_lex.specs.declared.class.Class.TheVariants.{Digit, White, Dark, Letter}
@@ -98,6 +98,10 @@ scanned text = record {
   suffix = suffix_of (at_tail text);
   rest = end_of (at_tail text);
 }
+
+-- the text is a number: there is a digit before or after the point, and nothing is left over
+abbrev pub is_number : List ℕ → Bool
+is_number text = is_nonempty (mantissa (scanned text)) && not (is_nonempty (excess_of (at_tail text)))
 
 abbrev pub with_minus : Bool → ℕ → ℤ
 with_minus false n = pos n

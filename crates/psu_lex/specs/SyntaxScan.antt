@@ -1,8 +1,9 @@
 -- Words of the contracts inside this crate: what the scan of a unit's header and data has found.
-use Rattle.std.specs.Prelude.{◌≡◌, ℕ, ◌-◌, ◌==◌, ◌&&◌, not, nat_lt, Bool, true, false, List, [], ◌∷◌, ◌++◌, length, take, drop, if◌then◌else◌}
-use Rattle.psu_lex.specs.Bytes.{is_white, is_letter, is_quote, all_white}
-use Rattle.psu_lex.specs.NumberScan.{run, left}
-use Rattle.psu_lex.specs.Syntax.{is_name_byte, ends_in_white, Datum, IsDatum}
+use Rattle.std.specs.Prelude.{ℕ, ◌-◌, ◌==◌, ◌&&◌, not, nat_lt, Bool, true, false, List, [], ◌∷◌, length, take, drop, Option, Some, None, if◌then◌else◌}
+use Rattle.psu_lex.specs.Bytes.{is_white, is_letter, is_quote, starts, starts_quoted}
+use Rattle.psu_lex.specs.NumberScan.{run, left, is_number}
+use Rattle.psu_lex.specs.Scan.{after_piece}
+use Rattle.psu_lex.specs.Syntax.{is_name_byte, is_node, Datum}
 use Rattle.psu_lex.specs.declared.datum_class.DatumClass.{DatumClass}
 use Rattle.psu_lex.specs.declared.datum_class.DatumClass.TheVariants.{Numeric, Character, String, Block}
 use Rattle.psu_lex.specs.declared.mark.Mark.{Mark}
@@ -72,25 +73,40 @@ abbrev pub is_parted : List ℕ → Bool
 is_parted [] = true
 is_parted (x ∷ xs) = x == 44
 
+-- the text without the white space at its end
+abbrev pub put_dark : ℕ → List ℕ → List ℕ
+put_dark x [] = if is_white x then [] else x ∷ []
+put_dark x (y ∷ ys) = x ∷ y ∷ ys
+
+abbrev pub trimmed : List ℕ → List ℕ
+trimmed [] = []
+trimmed (x ∷ xs) = put_dark x (trimmed xs)
+
 -- the text up to the `,` or the end, without the white space at its end
-abbrev pub Trims : List ℕ → List ℕ → Type 0
-Trims body text = (space : List ℕ) × (run is_uncut body ≡ text ++ space) × (all_white space ≡ true) × (ends_in_white text ≡ false)
+abbrev pub written : List ℕ → List ℕ
+written body = trimmed (run is_uncut body)
 
--- a datum of the class is all of the body but for what follows it
-abbrev pub Splits : DatumClass → List ℕ → List ℕ → List ℕ → Type 0
-Splits class body text next = (body ≡ text ++ next) × IsDatum class text next × (is_parted (left is_white next) ≡ true)
+-- what follows a datum of the class that stands at the front
+abbrev pub after_datum : DatumClass → List ℕ → Option (List ℕ)
+after_datum Numeric body = if is_number (written body) then Some (drop (length (written body)) body) else None
+after_datum Character body = if is_node (written body) then Some (drop (length (written body)) body) else None
+after_datum String body = if starts_quoted body then after_piece body else None
+after_datum Block body = if starts 35 body then (if starts 48 (drop 1 body) then Some [] else after_piece body) else None
 
--- a datum of the class ends at n, and no other does where what follows may follow it
-abbrev pub Ends : DatumClass → List ℕ → ℕ → Type 0
-Ends class body n =
-    IsDatum class (take n body) (drop n body) × ((text next : List ℕ) → Splits class body text next → next ≡ drop n body)
+-- the datum that this is before what follows it, and what stands there behind white space
+abbrev pub parted : DatumClass → List ℕ → Option (List ℕ) → Option (Datum × List ℕ)
+parted class body None = None
+parted class body (Some next) =
+    if is_parted (left is_white next) then Some (record { class = class; text = take (length body - length next) body }, left is_white next)
+    else None
 
-abbrev pub HasNone : DatumClass → List ℕ → Type 0
-HasNone class body = (text next : List ℕ) → Splits class body text next → ⊥
+abbrev pub datum_in : List ℕ → Option (Datum × List ℕ)
+datum_in [] = None
+datum_in (x ∷ xs) = parted (class_at x) (x ∷ xs) (after_datum (class_at x) (x ∷ xs))
 
--- a datum at the front, after white space, and what follows it
-abbrev pub Begins : List ℕ → Datum → List ℕ → Type 0
-Begins text datum next = Splits datum.class (left is_white text) datum.text next
+-- the datum at the front, after white space, and what follows it, behind white space
+abbrev pub datum_at : List ℕ → Option (Datum × List ℕ)
+datum_at text = datum_in (left is_white text)
 
 -- ---- bytes
 

@@ -1,10 +1,9 @@
 // Where the data of a unit begin and end.
-ghost use Rattle.std.specs.Prelude.{ℕ, List, ◌≡◌, ◌≤◌, true, false, length, take, drop, IfSome, IfNone};
-ghost use Rattle.psu_lex.specs.Bytes.{all_white, is_white};
-ghost use Rattle.psu_lex.specs.NumberScan.{left};
+ghost use Rattle.std.specs.Prelude.{List, ◌≡◌, ◌≤◌, true, false, length, take, drop, Some, None, IfSome, IfNone};
+ghost use Rattle.psu_lex.specs.Bytes.{all_white};
 ghost use Rattle.psu_lex.specs.Syntax.{Datum as DatumData, Lists, datum_of, ends_in_white};
 ghost use Rattle.psu_lex.specs.Shown.{HoldsData, HoldsFound, TailLists};
-ghost use Rattle.psu_lex.specs.SyntaxScan.{Begins, Ends, HasNone, Trims, class_at, is_parted};
+ghost use Rattle.psu_lex.specs.SyntaxScan.{after_datum, class_at, datum_at, is_parted, written};
 ghost use Rattle.psu_lex.specs.declared.datum_class.DatumClass.TheVariants.{Numeric, Character, String, Block};
 
 use crate::class::Class;
@@ -17,6 +16,7 @@ use crate::{Data, Datum, DatumClass};
 use memchr::memchr;
 
 /// Where the white space at the end begins.
+#[tactic(auto, using(crate::proofs::WrittenData::dark_at))]
 fn dark_end(text: &[u8]) -> usize
     ensures within { result ≤ length text.now }
     ensures white { all_white (drop result text.now) ≡ true }
@@ -32,7 +32,7 @@ fn dark_end(text: &[u8]) -> usize
 /// How many bytes stand before the `,` or the end, without the white space at their end.
 fn written_end(body: &[u8]) -> usize
     ensures within { result ≤ length body.now }
-    ensures trims { Trims body.now (take result body.now) }
+    ensures written { take result body.now ≡ written body.now }
 {
     let end = memchr(b',', body).unwrap_or(body.len());
     dark_end(front(body, end))
@@ -41,8 +41,8 @@ fn written_end(body: &[u8]) -> usize
 /// How many bytes the number has that is the body up to a `,`.
 fn number_end(body: &[u8]) -> Option<usize>
     ensures within { IfSome result (λ n. n ≤ length body.now) }
-    ensures some { IfSome result (λ n. Ends Numeric body.now n) }
-    ensures none { IfNone result (HasNone Numeric body.now) }
+    ensures some { IfSome result (λ n. after_datum Numeric body.now ≡ Some (drop n body.now)) }
+    ensures none { IfNone result (after_datum Numeric body.now ≡ None) }
 {
     let end = written_end(body);
     match scan(front(body, end)) {
@@ -54,8 +54,8 @@ fn number_end(body: &[u8]) -> Option<usize>
 /// The same of a word.
 fn word_end(body: &[u8]) -> Option<usize>
     ensures within { IfSome result (λ n. n ≤ length body.now) }
-    ensures some { IfSome result (λ n. Ends Character body.now n) }
-    ensures none { IfNone result (HasNone Character body.now) }
+    ensures some { IfSome result (λ n. after_datum Character body.now ≡ Some (drop n body.now)) }
+    ensures none { IfNone result (after_datum Character body.now ≡ None) }
 {
     let end = written_end(body);
     if is_node(front(body, end)) {
@@ -68,8 +68,8 @@ fn word_end(body: &[u8]) -> Option<usize>
 /// How many bytes the string at the front has.
 fn text_end(body: &[u8]) -> Option<usize>
     ensures within { IfSome result (λ n. n ≤ length body.now) }
-    ensures some { IfSome result (λ n. Ends String body.now n) }
-    ensures none { IfNone result (HasNone String body.now) }
+    ensures some { IfSome result (λ n. after_datum String body.now ≡ Some (drop n body.now)) }
+    ensures none { IfNone result (after_datum String body.now ≡ None) }
 {
     if is_quote_byte(body) {
         whole_end(body)
@@ -81,8 +81,8 @@ fn text_end(body: &[u8]) -> Option<usize>
 /// How many bytes the block at the front has; one without a length has all.
 fn bytes_end(body: &[u8]) -> Option<usize>
     ensures within { IfSome result (λ n. n ≤ length body.now) }
-    ensures some { IfSome result (λ n. Ends Block body.now n) }
-    ensures none { IfNone result (HasNone Block body.now) }
+    ensures some { IfSome result (λ n. after_datum Block body.now ≡ Some (drop n body.now)) }
+    ensures none { IfNone result (after_datum Block body.now ≡ None) }
 {
     if !begins(body, b'#') {
         return None;
@@ -96,8 +96,8 @@ fn bytes_end(body: &[u8]) -> Option<usize>
 /// How many bytes the datum of this class has at the front.
 fn datum_end(body: &[u8], class: DatumClass) -> Option<usize>
     ensures within { IfSome result (λ n. n ≤ length body.now) }
-    ensures some { IfSome result (λ n. Ends class body.now n) }
-    ensures none { IfNone result (HasNone class body.now) }
+    ensures some { IfSome result (λ n. after_datum class body.now ≡ Some (drop n body.now)) }
+    ensures none { IfNone result (after_datum class body.now ≡ None) }
 {
     match class {
         DatumClass::Numeric => number_end(body),
@@ -129,8 +129,8 @@ fn is_parted(tail: &[u8]) -> bool
 /// The datum at the front, after white space.
 pub fn datum_at(text: &[u8]) -> Option<Found<'_>>
     ensures within { IfSome result (λ found. length found.tail.now ≤ length text.now) }
-    ensures some { IfSome result (λ found. (next : List ℕ) × Begins text.now (datum_of found.datum) next × (found.tail.now ≡ left is_white next)) }
-    ensures none { IfNone result ((datum : DatumData) (next : List ℕ) → Begins text.now datum next → ⊥) }
+    ensures some { IfSome result (λ found. datum_at text.now ≡ Some (datum_of found.datum, found.tail.now)) }
+    ensures none { IfNone result (datum_at text.now ≡ None) }
 {
     let (_, body) = run_of(text, Class::White);
     if body.is_empty() {

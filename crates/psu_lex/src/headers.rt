@@ -106,6 +106,7 @@ fn behind_mark(text: &[u8], mark: Mark) -> &[u8]
 }
 
 /// Whether a `?` is the last byte.
+#[tactic(auto, using(crate::proofs::HeaderScans::last_asks))]
 fn ends_asking(text: &[u8]) -> bool
     ensures { result ≡ ends_asking text.now }
 {

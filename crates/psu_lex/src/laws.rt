@@ -8,6 +8,7 @@ ghost use Rattle.psu_lex.specs.Syntax.{Header, IsHeader, Syntax, SyntaxGives, Un
 ghost use Rattle.psu_lex.specs.declared.scpi_error.ScpiError.{ScpiError};
 
 /// Every list of bytes has units.
+#[tactic(auto, using(crate::proofs::Tokens::some_units))]
 pub fn every_list_has_units()
     ensures { (bytes : List ℕ) → (units : List Part) × IsMessage bytes units }
 {}
@@ -33,6 +34,7 @@ pub fn one_content_of_a_datum()
 {}
 
 /// No text is written as two numbers.
+#[tactic(auto, using(crate::proofs::NumberFound::one_number))]
 pub fn one_number_of_a_text()
     ensures { (m n : Number) → IsNumber m → IsNumber n → number_text m ≡ number_text n → m ≡ n }
 {}
@@ -43,6 +45,7 @@ pub fn one_value_of_a_text()
 {}
 
 /// Every text gives a value, or an error in its place.
+#[tactic(auto, using(crate::proofs::UnitParts::some_value))]
 pub fn every_text_gives_a_value()
     ensures { (text : List ℕ) (places : ℕ) → (value : Result ℤ ScpiError) × NumberGives text places value }
 {}
@@ -53,16 +56,19 @@ pub fn one_syntax_of_a_text()
 {}
 
 /// No header has other nodes, or asks where it does not.
+#[tactic(auto, using(crate::proofs::HeaderScans::one_header))]
 pub fn one_header_of_a_text()
     ensures { (header other : Header) → IsHeader header → IsHeader other → header_text header ≡ header_text other → header ≡ other }
 {}
 
 /// No unit gives two results.
+#[tactic(auto, using(crate::proofs::UnitParts::one_result))]
 pub fn one_syntax_of_a_unit()
     ensures { (unit : Part) (result other : Result Syntax ScpiError) → SyntaxGives unit result → SyntaxGives unit other → result ≡ other }
 {}
 
 /// Every unit gives a result.
+#[tactic(auto, using(crate::proofs::UnitParts::some_result))]
 pub fn every_unit_has_a_syntax()
     ensures { (unit : Part) → (result : Result Syntax ScpiError) × SyntaxGives unit result }
 {}
@@ -73,6 +79,7 @@ pub fn one_expansion_of_a_body()
 {}
 
 /// Every body has an expansion, or an error in its place.
+#[tactic(auto, using(crate::proofs::Expansions::some_expansion))]
 pub fn every_body_has_an_expansion()
     ensures { (body : List ℕ) (args : List (List ℕ)) → (result : Result (List ℕ) ScpiError) × ExpandsTo body args result }
 {}

@@ -21,6 +21,7 @@ fn next_stop(bytes: &[u8], at: usize) -> usize
 
 /// The same for a later place, where the stop from `at` on is known: it is looked for again only
 /// where the step has gone over it, so that no byte is looked at twice.
+#[tactic(auto, using(crate::proofs::UnitScans::stop_kept))]
 fn later_stop(bytes: &[u8], at: usize, step: usize, stop: usize) -> usize
     requires known { IsStop bytes.now at stop }
     requires within { at + step ≤ length bytes.now }

@@ -1,8 +1,8 @@
 // The parts of a number in a text.
-ghost use Rattle.std.specs.Prelude.{ℕ, List, [], ◌≡◌, ◌==◌, ◌||◌, ◌++◌, length, IfSome, IfNone};
-ghost use Rattle.psu_lex.specs.Number.{Number, IsNumber, fraction_digits, number_text};
+ghost use Rattle.std.specs.Prelude.{ℕ, List, [], ◌≡◌, ◌==◌, ◌||◌, ◌++◌, true, false, length, IfSome, IfNone};
+ghost use Rattle.psu_lex.specs.Number.{fraction_digits};
 ghost use Rattle.psu_lex.specs.Shown.{ShowsNumber};
-ghost use Rattle.psu_lex.specs.NumberScan.{ShowsPower, after_exponent, after_fraction, after_sign, belongs, excess_of, exponent_of, fraction_of, is_nonempty, left, run, scanned, suffix_of};
+ghost use Rattle.psu_lex.specs.NumberScan.{ShowsPower, after_exponent, after_fraction, after_sign, belongs, excess_of, exponent_of, fraction_of, is_nonempty, is_number, left, run, scanned, suffix_of};
 
 use crate::class::Class;
 use crate::pieces::{after, begins, front};
@@ -88,8 +88,8 @@ fn has_digit(whole: &[u8], fraction: &[u8]) -> bool
 /// The number that the text is, if it is one.
 #[inline(always)]
 pub fn scan(text: &[u8]) -> Option<Written<'_>>
-    ensures some { IfSome result (λ shown. ShowsNumber shown (scanned text.now) × IsNumber (scanned text.now) × (text.now ≡ number_text (scanned text.now))) }
-    ensures none { IfNone result ((n : Number) → IsNumber n → text.now ≡ number_text n → ⊥) }
+    ensures some { IfSome result (λ shown. ShowsNumber shown (scanned text.now) × (is_number text.now ≡ true)) }
+    ensures none { IfNone result (is_number text.now ≡ false) }
 {
     let (whole, rest) = run_of(behind_sign(text), Class::Digit);
     let (fraction, rest) = fraction_at(rest);

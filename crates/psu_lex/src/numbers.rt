@@ -6,7 +6,6 @@ ghost use Rattle.psu_lex.specs.NumberScan.{with_minus};
 ghost use Rattle.psu_lex.specs.Shown.{ShowsNumber};
 
 use crate::ScpiError;
-use crate::number_scan::scan;
 use crate::pieces::front;
 use crate::written::Written;
 
@@ -89,6 +88,7 @@ fn significant(whole: &[u8], fraction: &[u8]) -> usize
 }
 
 /// Whether the mantissa has more than 255 digits, leading zeros not counted.
+#[tactic(auto, using(crate::proofs::Rounding::few_digits))]
 fn is_too_long(whole: &[u8], fraction: &[u8]) -> bool
     ensures { result ≡ nat_lt 255 (length (without_zeros (whole.now ++ fraction.now))) }
 {
@@ -158,7 +158,7 @@ fn reading(shown: &Written<'_>, places: u8) -> Result<i64, ScpiError>
 pub fn number(text: &[u8], places: u8) -> Result<i64, ScpiError>
     ensures { NumberGives text.now places result }
 {
-    let Some(shown) = scan(text) else {
+    let Some(shown) = Written::of(text) else {
         return Err(ScpiError::SyntaxError);
     };
     reading(&shown, places)

@@ -1,7 +1,8 @@
 // Where a string or a block ends.
-ghost use Rattle.std.specs.Prelude.{ℕ, List, ◌≡◌, ◌+◌, ◌-◌, ◌≤◌, ◌<◌, ◌∷◌, ◌++◌, true, false, length, take, drop, IfSome, IfNone, OnSome};
+ghost use Rattle.std.specs.Prelude.{ℕ, ◌≡◌, ◌-◌, ◌≤◌, ◌<◌, true, false, length, take, drop, Some, None, IfSome, IfNone};
 ghost use Rattle.psu_lex.specs.Bytes.{all_digits, ends_in_newline, is_closed, is_quote, starts, starts_quoted, value_after};
-ghost use Rattle.psu_lex.specs.Message.{opens_first, BeginsPiece, EndsString, HasNoPiece};
+ghost use Rattle.psu_lex.specs.Message.{HasNoPiece};
+ghost use Rattle.psu_lex.specs.Scan.{after_block, after_piece, after_string};
 
 use crate::class::is_white;
 use memchr::memchr2;
@@ -45,12 +46,19 @@ pub fn is_quote_byte(bytes: &[u8]) -> bool
     begins(bytes, b'"') || begins(bytes, b'\'')
 }
 
+/// Whether the byte is a quote.
+fn is_quote(byte: u8) -> bool
+    ensures { result ≡ is_quote byte }
+{
+    byte == b'"' || byte == b'\''
+}
+
 /// How many bytes of the text, which begins after a quote, belong to its string.
 pub fn string_end(text: &[u8], quote: u8) -> Option<usize>
     requires { is_quote quote ≡ true }
     ensures within { IfSome result (λ n. n ≤ length text.now) }
-    ensures some { IfSome result (λ n. EndsString quote text.now (drop n text.now)) }
-    ensures none { IfNone result ((more : List ℕ) → EndsString quote text.now more → ⊥) }
+    ensures some { IfSome result (λ n. after_string false quote text.now ≡ Some (drop n text.now)) }
+    ensures none { IfNone result (after_string false quote text.now ≡ None) }
 {
     let mut rest = text;
     while let Some(at) = memchr2(quote, b'\n', rest) {
@@ -102,6 +110,7 @@ fn closes(text: &[u8]) -> bool
     true
 }
 
+#[tactic(auto, using(crate::proofs::PieceScans::last_byte))]
 fn ends_line(text: &[u8]) -> bool
     ensures { result ≡ ends_in_newline text.now }
 {
@@ -111,14 +120,12 @@ fn ends_line(text: &[u8]) -> bool
 /// How many bytes of the text, which begins after a `#`, belong to its block.
 pub fn block_end(text: &[u8]) -> Option<usize>
     ensures within { IfSome result (λ n. n ≤ length text.now) }
-    ensures some { IfSome result (λ n. BeginsPiece (35 ∷ text.now) (drop n text.now)) }
-    ensures none { IfNone result ((more : List ℕ) → BeginsPiece (35 ∷ text.now) more → ⊥) }
+    ensures some { IfSome result (λ n. after_block text.now ≡ Some (drop n text.now)) }
+    ensures none { IfNone result (after_block text.now ≡ None) }
 {
-    if text.is_empty() {
+    let Some((&first, rest)) = text.split_first() else {
         return None;
-    }
-    let first = text[0];
-    let rest = after(text, 1);
+    };
     if first == b'0' {
         if ends_line(rest) {
             return Some(rest.len());
@@ -140,35 +147,31 @@ pub fn block_end(text: &[u8]) -> Option<usize>
     if length > content.len() {
         return None;
     }
-    Some(1 + count + length)
+    Some(1 + (count + length))
 }
 
 /// How many bytes the string or block at the front has.
 pub fn whole_end(bytes: &[u8]) -> Option<usize>
-    requires { opens_first bytes.now ≡ true }
     ensures within { IfSome result (λ n. (0 < n) × (n ≤ length bytes.now)) }
-    ensures some { IfSome result (λ n. BeginsPiece bytes.now (drop n bytes.now)) }
-    ensures none { IfNone result ((more : List ℕ) → BeginsPiece bytes.now more → ⊥) }
+    ensures some { IfSome result (λ n. after_piece bytes.now ≡ Some (drop n bytes.now)) }
+    ensures none { IfNone result (after_piece bytes.now ≡ None) }
 {
-    let rest = after(bytes, 1);
-    if bytes[0] == b'#' {
-        match block_end(rest) {
-            Some(length) => Some(length + 1),
-            None => None,
-        }
-    } else {
-        match string_end(rest, bytes[0]) {
-            Some(length) => Some(length + 1),
-            None => None,
-        }
+    let Some((&first, rest)) = bytes.split_first() else {
+        return None;
+    };
+    if first == b'#' {
+        return Some(1 + block_end(rest)?);
     }
+    if is_quote(first) {
+        return Some(1 + string_end(rest, first)?);
+    }
+    None
 }
 
 /// The same, where what follows is as it must be in a message.
 pub fn piece_end(bytes: &[u8]) -> Option<usize>
-    requires { opens_first bytes.now ≡ true }
     ensures within { IfSome result (λ n. (0 < n) × (n ≤ length bytes.now)) }
-    ensures some { IfSome result (λ n. BeginsPiece bytes.now (drop n bytes.now) × (is_closed (drop n bytes.now) ≡ true)) }
+    ensures some { IfSome result (λ n. after_piece bytes.now ≡ Some (drop n bytes.now) × (is_closed (drop n bytes.now) ≡ true)) }
     ensures none { IfNone result (HasNoPiece is_closed bytes.now) }
 {
     match whole_end(bytes) {

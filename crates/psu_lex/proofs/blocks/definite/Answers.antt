@@ -1,6 +1,6 @@
 use Rattle.std.proofs.Common.{rules, sym, subst, ◌≡◌, List, ℕ}
 use Rattle.psu_lex.specs.Data.{IsBlockOf, definite_text}
-use Rattle.psu_lex.proofs.Digits.{definite_is_block}
+use Rattle.psu_lex.proofs.Rounding.{definite_is_block}
 use Rattle.psu_lex.proofs.blocks.definite.Goals as goal
 
 pub returns-clause-read : goal.returns-clause-read

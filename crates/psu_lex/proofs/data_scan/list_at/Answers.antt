@@ -1,6 +1,6 @@
 use Rattle.std.proofs.Common.{refl, sym, ◌∙◌, ◌∷◌, []}
 use Rattle.psu_lex.specs.Syntax.{datum_of}
-use Rattle.psu_lex.proofs.DataLists.{lists_of, no_list, rest_of, some_listed}
+use Rattle.psu_lex.proofs.DataLists.{tail_parted, lists_in, no_list, rest_of, some_datum}
 use Rattle.psu_lex.proofs.data_scan.list_at.Goals as goal
 
 pub returns-then-is_blank-clause-some : goal.returns-then-is_blank-clause-some
@@ -11,14 +11,16 @@ returns-in_default-clause-none c = λ list. no_list c.args.text.now list (sym c.
 
 pub returns-then-not-goes_on-clause-none : goal.returns-then-not-goes_on-clause-none
 returns-then-not-goes_on-clause-none c = λ list l.
-    let found = c.in-Some.ensures.some in
-    let some = some_listed c.args.text.now list (sym c.is_blank.ensures ∙ c.if-is_blank.false) l in
-    let k = rest_of c.args.text.now (datum_of c.in-Some.found.datum) found.0 c.in-Some.found.tail.now (some.0 ∷ some.1) found.1 found.2 some.2 in
+    let k = rest_of c.args.text.now c.in-Some.found.tail.now (datum_of c.in-Some.found.datum) list c.in-Some.ensures.some l in
     c.goes_on.ensures.no c.if-not-goes_on.true k.others k.listed
 
 pub returns-clause-some : goal.returns-clause-some
 returns-clause-some c =
-    let found = c.in-Some.ensures.some in
+    let text = c.args.text.now in
+    let tail = c.in-Some.found.tail.now in
     let datum = datum_of c.in-Some.found.datum in
     let more = c.goes_on.ensures.yes c.if-not-goes_on.false in
-    (datum ∷ more.0, lists_of c.args.text.now c.in-Some.found.tail.now datum found.0 more.0 found.1 found.2 more.1, (more.0, refl, (found.0, found.1.1), more.1))
+    (datum ∷ more.0, lists_in text tail datum more.0 c.in-Some.ensures.some more.1, (more.0, refl, some_datum text tail datum c.in-Some.ensures.some, more.1))
+
+pub goes_on-requires : goal.goes_on-requires
+goes_on-requires c = tail_parted c.args.text.now c.in-Some.found.tail.now (datum_of c.in-Some.found.datum) c.in-Some.ensures.some

@@ -1,6 +1,5 @@
 use Rattle.std.proofs.Common.{refl, sym, ◌∙◌}
-use Rattle.psu_lex.proofs.HeaderScans.{header_out, no_header}
-use Rattle.psu_lex.proofs.HeaderParts.{parts_shown}
+use Rattle.psu_lex.proofs.HeaderScans.{header_out, no_header, parts_shown}
 use Rattle.psu_lex.proofs.headers.header_of.Goals as goal
 
 pub returns-then-not-is_header-clause-none : goal.returns-then-not-is_header-clause-none

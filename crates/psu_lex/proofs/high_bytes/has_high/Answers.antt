@@ -3,7 +3,7 @@ use Rattle.psu_lex.specs.Message.{HasNoPiece}
 use Rattle.psu_lex.specs.Bytes.{is_closed}
 use Rattle.psu_lex.specs.Scan.{has}
 use Rattle.psu_lex.specs.SyntaxScan.{is_high}
-use Rattle.psu_lex.proofs.HighBytes.{Tells, tells_all, tells_from, tells_some, tells_fault, tells_piece, before_opening}
+use Rattle.psu_lex.proofs.UnitScans.{Tells, tells_all, tells_from, tells_some, tells_fault, tells_piece, before_opening}
 use Rattle.psu_lex.proofs.high_bytes.has_high.Goals as goal
 
 pub returns-in_default : goal.returns-in_default

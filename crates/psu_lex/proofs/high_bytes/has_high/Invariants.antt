@@ -1,5 +1,5 @@
 use Rattle.std.proofs.Common.{Bool, length}
-use Rattle.psu_lex.proofs.HighBytes.{Tells}
+use Rattle.psu_lex.proofs.UnitScans.{Tells}
 use Rattle.psu_lex.proofs.high_bytes.has_high.Given as goal
 
 -- all has such a byte exactly where the rest has one

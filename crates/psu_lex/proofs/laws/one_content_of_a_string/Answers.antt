@@ -1,5 +1,5 @@
-use Rattle.psu_lex.proofs.StringData.{one_content}
+use Rattle.psu_lex.proofs.PieceScans.{one_string}
 use Rattle.psu_lex.proofs.laws.one_content_of_a_string.Goals as goal
 
 pub returns : goal.returns
-returns c = one_content
+returns c = one_string

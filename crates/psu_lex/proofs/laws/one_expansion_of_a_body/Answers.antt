@@ -1,6 +1,6 @@
 use Rattle.std.proofs.Common.{sym, ap, ◌∙◌}
 use Rattle.psu_lex.specs.Macros.{anything, outcome}
-use Rattle.psu_lex.proofs.Unique.{same_tokens}
+use Rattle.psu_lex.proofs.Tokens.{same_tokens}
 use Rattle.psu_lex.proofs.laws.one_expansion_of_a_body.Goals as goal
 
 pub returns : goal.returns

@@ -1,7 +1,7 @@
 use Rattle.std.proofs.Common.{sym, ap, ◌∙◌, [], true}
 use Rattle.psu_lex.specs.Bytes.{is_closed}
 use Rattle.psu_lex.specs.Message.{units_of}
-use Rattle.psu_lex.proofs.Unique.{same_tokens}
+use Rattle.psu_lex.proofs.Tokens.{same_tokens}
 use Rattle.psu_lex.proofs.laws.one_list_of_units.Goals as goal
 
 pub returns : goal.returns

@@ -1,7 +1,7 @@
 use Rattle.std.proofs.Common.{ℕ, List, [], ◌++◌, map, sym, subst}
 use Rattle.std.proofs.lemmas.List.{append-nil}
 use Rattle.psu_lex.specs.MacroScan.{Spells}
-use Rattle.psu_lex.proofs.Expansions.{spells_end, no_bytes, put_on}
+use Rattle.psu_lex.proofs.Expansions.{spells_end, put_on}
 use Rattle.psu_lex.proofs.macros.filled.Goals as goal
 
 pub loop-rest-init : goal.loop-rest-init
@@ -16,6 +16,5 @@ loop-rest-preserved g c =
 pub returns : goal.returns
 returns g c =
     let args = map (λ arg. arg.now) c.args.args.now in
-    let gone = no_bytes c.loop-rest.rest.now c.is_empty.result c.is_empty.ensures c.loop-rest-test.false in
-    let all = c.loop-rest.invariant 0 [] (subst (λ (z : List ℕ). Spells args z 0 []) (sym gone) (spells_end args)) in
+    let all = c.loop-rest.invariant 0 [] (spells_end args c.loop-rest.rest.now c.is_empty.result c.is_empty.ensures c.loop-rest-test.false) in
     (all.0, subst (Spells args c.args.body.now all.0) (append-nil c.loop-rest.list.items) all.1)

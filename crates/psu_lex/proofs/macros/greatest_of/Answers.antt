@@ -1,6 +1,6 @@
 use Rattle.std.proofs.Common.{◌≡◌, ℕ, List, [], ◌-◌, max, sym, ◌∙◌, refl, subst, arith, slice_index}
 use Rattle.psu_lex.specs.MacroScan.{Spells}
-use Rattle.psu_lex.proofs.Expansions.{spells_end, spells_placeholder, respelled, no_bytes}
+use Rattle.psu_lex.proofs.Expansions.{spells_end, spells_placeholder, respelled}
 use Rattle.psu_lex.proofs.macros.greatest_of.Goals as goal
 
 pub loop-rest-init : goal.loop-rest-init
@@ -20,6 +20,5 @@ loop-rest-preserved c = λ most text s.
 
 pub returns : goal.returns
 returns c =
-    let gone = no_bytes c.loop-rest.rest.now c.is_empty.result c.is_empty.ensures c.loop-rest-test.false in
-    let all = c.loop-rest.invariant 0 [] (subst (λ (z : List ℕ). Spells [] z 0 []) (sym gone) (spells_end [])) in
+    let all = c.loop-rest.invariant 0 [] (spells_end [] c.loop-rest.rest.now c.is_empty.result c.is_empty.ensures c.loop-rest-test.false) in
     (all.0, respelled [] c.args.body.now _ c.loop-rest.most all.0 all.0 (omega arith) refl all.1)

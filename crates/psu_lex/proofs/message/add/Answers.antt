@@ -1,6 +1,6 @@
 use Rattle.std.proofs.Common.{sym, ◌∙◌, ap, List, ◌++◌}
 use Rattle.psu_lex.specs.Message.{Part, parts}
-use Rattle.psu_lex.proofs.SplitScans.{parts_push, ended_some}
+use Rattle.psu_lex.proofs.UnitScans.{parts_push, ended_some}
 use Rattle.psu_lex.proofs.message.add.Goals as goal
 
 pub returns-clause-added : goal.returns-clause-added

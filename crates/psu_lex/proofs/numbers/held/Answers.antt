@@ -1,5 +1,5 @@
 use Rattle.std.proofs.Common.{◌≤◌, ◌<◌, ◌++◌, length, arith, length-append, sym, subst, ℕ}
-use Rattle.psu_lex.proofs.NumberValue.{digit_in, value_more}
+use Rattle.psu_lex.proofs.Rounding.{digit_in, value_more}
 use Rattle.psu_lex.proofs.numbers.held.Goals as goal
 
 pub overflow_sub-digit : goal.overflow_sub-digit

@@ -1,8 +1,6 @@
-use Rattle.std.proofs.Common.{◌≡◌, ◌<◌, ◌+◌, ◌-◌, ◌++◌, ◌^◌, min, length, take, drop, take_all, arith, length-append, length-drop, sym, ap, ◌∙◌, List, ℕ}
-use Rattle.std.proofs.lemmas.List.{take-append-drop}
+use Rattle.std.proofs.Common.{◌+◌, ◌-◌, ◌++◌, ◌^◌, min, length, take_all, arith, length-append, ap, ◌∙◌, List, ℕ}
 use Rattle.psu_lex.specs.Bytes.{value_after}
-use Rattle.psu_lex.proofs.Rounding.{scaled_up, cut_away, cut_up, cut_down, digits_split}
-use Rattle.psu_lex.proofs.NumberValue.{first_dropped}
+use Rattle.psu_lex.proofs.Rounding.{scaled_up, cut_away, cut}
 use Rattle.psu_lex.proofs.numbers.scaled.Goals as goal
 
 pub returns-then-up-down : goal.returns-then-up-down
@@ -21,19 +19,13 @@ returns-then-digit_at-ge53 c =
     let ds = c.args.whole.now ++ c.args.fraction.now in
     let long = length-append c.args.whole.now c.args.fraction.now in
     let kept = length c.args.whole.now + length c.args.fraction.now - (c.args.down - c.args.up) in
-    let lt : c.args.up < c.args.down = omega (arith, c.if-up-down.false) in
-    let back : length (drop kept ds) ≡ c.args.down - c.args.up = omega (arith, length-drop kept ds, long, c.if-cut-total.false) in
-    let first = first_dropped ds kept (omega (arith, long, c.if-cut-total.false, lt)) in
-    cut_up ds (take kept ds) (drop kept ds) c.args.up c.args.down c.held-value.result c.min.result ((digits_split kept ds c.requires).1) (sym (take-append-drop kept ds)) lt back
-    c.held-value.ensures (omega (arith, first, c.digit_at.ensures, c.if-digit_at-ge53.true)) c.min.ensures
+    let parts = cut ds c.args.up c.args.down kept c.requires (omega (arith, c.if-up-down.false)) (omega (arith, long, c.if-cut-total.false, c.if-up-down.false)) in
+    omega (arith, parts.0 (omega (arith, c.digit_at.ensures, c.if-digit_at-ge53.true)), c.held-value.ensures, c.min.ensures)
 
 pub returns-else-digit_at-ge53 : goal.returns-else-digit_at-ge53
 returns-else-digit_at-ge53 c =
     let ds = c.args.whole.now ++ c.args.fraction.now in
     let long = length-append c.args.whole.now c.args.fraction.now in
     let kept = length c.args.whole.now + length c.args.fraction.now - (c.args.down - c.args.up) in
-    let lt : c.args.up < c.args.down = omega (arith, c.if-up-down.false) in
-    let back : length (drop kept ds) ≡ c.args.down - c.args.up = omega (arith, length-drop kept ds, long, c.if-cut-total.false) in
-    let first = first_dropped ds kept (omega (arith, long, c.if-cut-total.false, lt)) in
-    cut_down ds (take kept ds) (drop kept ds) c.args.up c.args.down c.held-value.result ((digits_split kept ds c.requires).1) (sym (take-append-drop kept ds)) lt back
-    c.held-value.ensures (omega (arith, first, c.digit_at.ensures, c.if-digit_at-ge53.false))
+    let parts = cut ds c.args.up c.args.down kept c.requires (omega (arith, c.if-up-down.false)) (omega (arith, long, c.if-cut-total.false, c.if-up-down.false)) in
+    omega (arith, parts.1 (omega (arith, c.digit_at.ensures, c.if-digit_at-ge53.false)), c.held-value.ensures)

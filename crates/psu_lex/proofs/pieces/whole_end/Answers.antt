@@ -1,11 +1,6 @@
-use Rattle.psu_lex.proofs.PieceScans.{block_whole, string_whole, string_whole_in}
+use Rattle.std.proofs.Common.{sym, ◌∙◌}
+use Rattle.psu_lex.proofs.Searches.{string_in}
 use Rattle.psu_lex.proofs.pieces.whole_end.Goals as goal
 
-pub returns-in-None-string_end-clause-none : goal.returns-in-None-string_end-clause-none
-returns-in-None-string_end-clause-none c = λ more b. c.in-None-string_end.ensures.none more (string_whole c.args.bytes.now c.after-rest.result.now more c.requires c.if-bytes-eq35.false c.after-rest.ensures b)
-
-pub returns-in-None-clause-none : goal.returns-in-None-clause-none
-returns-in-None-clause-none c = λ more b. c.in-None.ensures.none more (block_whole c.args.bytes.now c.after-rest.result.now more c.requires c.if-bytes-eq35.true c.after-rest.ensures b)
-
-pub returns-in-Some-string_end-clause-some : goal.returns-in-Some-string_end-clause-some
-returns-in-Some-string_end-clause-some c = string_whole_in c.args.bytes.now c.after-rest.result.now c.in-Some-string_end.length c.requires c.if-bytes-eq35.false c.after-rest.ensures c.in-Some-string_end.ensures.some
+pub returns-then-is_quote-clause-some : goal.returns-then-is_quote-clause-some
+returns-then-is_quote-clause-some c = string_in c.args.bytes.now c.in-Some.rest.now c.in-Some.field-0-0.now _ c.in-Some.ensures.cases.0 c.if-first-eq35.false (sym c.is_quote.ensures ∙ c.if-is_quote.true) c.in_ok-string_end.ensures.some

@@ -1,8 +1,0 @@
-use Rattle.std.proofs.Common.{inl}
-use Rattle.psu_lex.specs.NumberScan.{scanned}
-use Rattle.psu_lex.proofs.numbers.number.Goals as goal
-
-pub returns : goal.returns
-returns c =
-    let found = c.in-Some.ensures.some in
-    inl (scanned c.args.text.now, found.1, found.2, c.reading.ensures (scanned c.args.text.now) found.1 found.0)
