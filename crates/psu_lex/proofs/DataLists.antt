@@ -82,9 +82,6 @@ first_of Block text more h = first_of_piece Block text more h
 
 -- ---- what follows a datum is left
 
-no_zero : (n : ℕ) → 0 < n → (48 + n == 48) ≡ false
-no_zero n h = grind (arith, nat_tests)
-
 as_string : (body : List ℕ) → starts_quoted body ≡ true → after_datum String body ≡ after_piece body
 as_string body t = rw t refl
 
@@ -99,7 +96,8 @@ quoted_found body next (Open content) c e w = absurd (cc (c))
 block_found : (body next : List ℕ) (p : Piece) → class_of p ≡ Block → body ≡ spelling p ++ next → IsWholeIn p next → after_datum Block body ≡ Some next
 block_found body next (Quoted q content) c e w = absurd (cc (c))
 block_found body next (Counted d content) c e w =
-    as_block body (ap (starts 35) e) (ap (λ (z : List ℕ). starts 48 (drop 1 z)) e ∙ no_zero (length d) w.0) ∙ ap after_piece e ∙ found (Counted d content) next w
+    let other : (48 + length d == 48) ≡ false = grind (arith, nat_tests, w.0) in
+    as_block body (ap (starts 35) e) (ap (λ (z : List ℕ). starts 48 (drop 1 z)) e ∙ other) ∙ ap after_piece e ∙ found (Counted d content) next w
 block_found body next (Open content) c e w = rw e (ap (λ (z : List ℕ). Some z) (sym w))
 
 datum_found : (class : DatumClass) (body text next : List ℕ) → body ≡ text ++ next → IsDatum class text next → is_parted (left is_white next) ≡ true → after_datum class body ≡ Some next
@@ -167,7 +165,8 @@ begun_found text d next (e, h, p) =
     let after : after_datum d.class (d.text ++ next) ≡ Some next = datum_found d.class (d.text ++ next) d.text next refl h p in
     let n : length (d.text ++ next) - length next ≡ length d.text = omega (arith, length-append d.text next) in
     let cut : parted d.class (d.text ++ next) (after_datum d.class (d.text ++ next)) ≡ Some (d, left is_white next) = rw (after, p, n, take-append_seam d.text next) refl in
-    ap datum_in (e ∙ body) ∙ ap (λ (c : DatumClass). parted c (x ∷ (xs ++ next)) (after_datum c (x ∷ (xs ++ next)))) (sym class) ∙ ap (λ (z : List ℕ). parted d.class z (after_datum d.class z)) (sym body) ∙ cut
+    ap datum_in (e ∙ body) ∙ ap (λ (c : DatumClass). parted c (x ∷ (xs ++ next)) (after_datum c (x ∷ (xs ++ next)))) (sym class)
+    ∙ ap (λ (z : List ℕ). parted d.class z (after_datum d.class z)) (sym body) ∙ cut
 
 front_is : (body text next : List ℕ) → body ≡ text ++ next → take (length body - length next) body ≡ text
 front_is body text next e =

@@ -47,17 +47,14 @@ spells_dollar args rest most text f (tokens, reads, m, t) =
     let later = dollar_text args rest tokens f reads in
     (Byte 36 ∷ tokens, (rest, refl, (refl, refl), reads), m ∙ later.0, ap (λ (z : List ℕ). 36 ∷ z) t ∙ later.1)
 
-keeps_byte_at : (x : ℕ) (rest : List ℕ) → opens x ≡ false → begins_placeholder (x ∷ rest) ≡ false → Keeps (x ∷ rest) 1
-keeps_byte_at x rest o f args most text s = elim (cases_Bool (x == 36)) [
+pub keeps_byte : (bytes : List ℕ) → 0 < length bytes → opens_first bytes ≡ false → begins_placeholder bytes ≡ false → Keeps bytes 1
+keeps_byte [] some o f args most text s = absurd (omega (arith, some))
+keeps_byte (x ∷ rest) some o f args most text s = elim (cases_Bool (x == 36)) [
   | inr d ↦ spells_byte args x rest most text o d s
   | inl t ↦
       let e : x ≡ 36 = eqb-true x 36 t in
       subst (λ (z : ℕ). Spells args (z ∷ rest) most (z ∷ text)) (sym e) (spells_dollar args rest most text (subst (λ (z : ℕ). begins_placeholder (z ∷ rest) ≡ false) e f) s)
 ]
-
-pub keeps_byte : (bytes : List ℕ) → 0 < length bytes → opens_first bytes ≡ false → begins_placeholder bytes ≡ false → Keeps bytes 1
-keeps_byte [] some o f = absurd (omega (arith, some))
-keeps_byte (x ∷ rest) some o f = keeps_byte_at x rest o f
 
 -- ---- a string or block
 

@@ -1,5 +1,5 @@
 -- Headers: what their scan accepts is a header, every header is accepted, and its parts are found.
-use Rattle.std.proofs.Common.{◌≡◌, ℕ, ◌==◌, ◌&&◌, Bool, true, false, List, [], ◌∷◌, ◌++◌, refl, sym, ap, ◌∙◌, arith, append_assoc, inl, inr, ◌-◌, ◌<◌, not, length, take, slice_index, zero, suc, length-append}
+use Rattle.std.proofs.Common.{◌≡◌, ℕ, ◌==◌, ◌&&◌, Bool, true, false, List, [], ◌∷◌, ◌++◌, refl, sym, ap, ◌∙◌, arith, append_assoc, inl, inr, ◌-◌, not, length, take, slice_index, suc, length-append}
 use Rattle.std.proofs.lemmas.Bool.{not-true, eqb-true, and_parts, cases_Bool}
 use Rattle.std.proofs.lemmas.Bool.Decides.{nat_tests}
 use Rattle.psu_lex.specs.Bytes.{is_letter}
@@ -103,12 +103,18 @@ pub header_out : (text : List ℕ) → is_header text ≡ true → SpellsHeader 
 header_out [] h = absurd (cc (h))
 header_out (x ∷ xs) h = elim (cases_Bool (x == 42)) [
   | inl t ↦
-      let r = path_out false false xs (rw t at h) in
-      (record { mark = Star; node = r.0; nodes = r.1; asks = r.2 }, record { node = r.3; nodes = r.4; common = λ e. r.5 refl }, ap (λ (z : ℕ). z ∷ xs) (eqb-true x 42 t) ∙ ap (λ (z : List ℕ). 42 ∷ z) r.6)
+      let r = path_out false false xs (rw t at h) in (
+        record { mark = Star; node = r.0; nodes = r.1; asks = r.2 },
+        record { node = r.3; nodes = r.4; common = λ e. r.5 refl },
+        ap (λ (z : ℕ). z ∷ xs) (eqb-true x 42 t) ∙ ap (λ (z : List ℕ). 42 ∷ z) r.6,
+      )
   | inr f ↦ elim (cases_Bool (x == 58)) [
     | inl t ↦
-        let r = path_out true false xs (rw (f, t) at h) in
-        (record { mark = Colon; node = r.0; nodes = r.1; asks = r.2 }, record { node = r.3; nodes = r.4; common = λ e. absurd (cc (e)) }, ap (λ (z : ℕ). z ∷ xs) (eqb-true x 58 t) ∙ ap (λ (z : List ℕ). 58 ∷ z) r.6)
+        let r = path_out true false xs (rw (f, t) at h) in (
+          record { mark = Colon; node = r.0; nodes = r.1; asks = r.2 },
+          record { node = r.3; nodes = r.4; common = λ e. absurd (cc (e)) },
+          ap (λ (z : ℕ). z ∷ xs) (eqb-true x 58 t) ∙ ap (λ (z : List ℕ). 58 ∷ z) r.6,
+        )
     | inr g ↦
         let r = path_out true false (x ∷ xs) (rw (f, g) at h) in
         (record { mark = Bare; node = r.0; nodes = r.1; asks = r.2 }, record { node = r.3; nodes = r.4; common = λ e. absurd (cc (e)) }, r.6)
@@ -186,7 +192,8 @@ one_header h g p q e =
     let hs = behind h.nodes ++ ask_text h.asks in
     let gs = behind g.nodes ++ ask_text g.asks in
     let mark : h.mark ≡ g.mark = sym (mark_is h.mark h.node hs p.node) ∙ ap mark_of e ∙ mark_is g.mark g.node gs q.node in
-    let body : h.node ++ hs ≡ g.node ++ gs = sym (behind_is g.mark (h.node ++ hs)) ∙ ap (behind_mark g.mark) (ap (λ (z : Mark). mark_text z ++ (h.node ++ hs)) (sym mark) ∙ e) ∙ behind_is g.mark (g.node ++ gs) in
+    let body : h.node ++ hs ≡ g.node ++ gs
+    = sym (behind_is g.mark (h.node ++ hs)) ∙ ap (behind_mark g.mark) (ap (λ (z : Mark). mark_text z ++ (h.node ++ hs)) (sym mark) ∙ e) ∙ behind_is g.mark (g.node ++ gs) in
     let front = same_node h.node g.node hs gs p.node q.node (behind_leads h.nodes h.asks) (behind_leads g.nodes g.asks) body in
     let later = same_behind h.nodes g.nodes h.asks g.asks p.nodes q.nodes front.1 in
     ap (λ (z : Mark). made z h.node h.nodes h.asks) mark ∙ ap (λ (z : List ℕ). made g.mark z h.nodes h.asks) front.0
@@ -194,15 +201,12 @@ one_header h g p q e =
 
 -- ---- the last byte
 
-last_at : (x : ℕ) (xs : List ℕ) (n : ℕ) → n ≡ length xs → (slice_index (x ∷ xs) n == 63) ≡ ends_asking (x ∷ xs)
-last_at x [] zero e = refl
-last_at x [] (suc n) e = absurd (omega (arith, e))
-last_at x (y ∷ xs) zero e = absurd (omega (arith, e))
-last_at x (y ∷ xs) (suc n) e = last_at y xs n (omega (arith, e))
-
-pub last_asks : (text : List ℕ) → 0 < length text → (slice_index text (length text - 1) == 63) ≡ ends_asking text
-last_asks [] h = absurd (omega (arith, h))
-last_asks (x ∷ xs) h = last_at x xs (length (x ∷ xs) - 1) (omega arith)
+pub last_asks : (text : List ℕ) → (slice_index text (length text - 1) == 63) ≡ ends_asking text
+last_asks [] = refl
+last_asks (x ∷ []) = refl
+last_asks (x ∷ y ∷ xs) =
+    let later : length (x ∷ y ∷ xs) - 1 ≡ suc (length (y ∷ xs) - 1) = omega arith in
+    rw later (last_asks (y ∷ xs))
 
 abbrev is_plain : ℕ → Bool
 is_plain b = not (b == 63)

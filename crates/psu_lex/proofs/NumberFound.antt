@@ -1,5 +1,5 @@
 -- A text that is a number is scanned as that number.
-use Rattle.std.proofs.Common.{◌≡◌, ℕ, ◌==◌, ◌||◌, ◌<◌, Bool, true, false, List, [], ◌∷◌, ◌++◌, length, refl, sym, ap, ◌∙◌, subst, arith, append_assoc, inl, inr, Option, Some, None, Result, ℤ}
+use Rattle.std.proofs.Common.{◌≡◌, ℕ, ◌==◌, ◌||◌, ◌<◌, Bool, true, false, List, [], ◌∷◌, ◌++◌, length, length-append, refl, sym, ap, ◌∙◌, subst, arith, append_assoc, inl, inr, Option, Some, None, Result, ℤ}
 use Rattle.std.proofs.lemmas.Bool.{cases_Bool}
 use Rattle.std.proofs.lemmas.Bool.Decides.{nat_tests}
 use Rattle.psu_lex.specs.Bytes.{is_digit, is_letter, is_white}
@@ -62,10 +62,6 @@ sign_found Unsigned (x ∷ body) h =
     let plain = body_byte x h in
     (rw (plain.0, plain.1) refl, rw (plain.0, plain.1) refl, plain.2)
 
-leads_digits : (ds later : List ℕ) → 0 < length ds → every is_digit ds ≡ true → leads is_body (ds ++ later) ≡ true
-leads_digits [] later some h = absurd (omega (arith, some))
-leads_digits (d ∷ ds) later some h = rw (every_head is_digit d ds h) refl
-
 leads_mantissa : (whole : List ℕ) (fraction : Option (List ℕ)) (later : List ℕ) → 0 < length (whole ++ fraction_digits fraction) → every is_digit whole ≡ true
     → leads is_body (whole ++ (fraction_text fraction ++ later)) ≡ true
 leads_mantissa [] None later some h = absurd (omega (arith, some))
@@ -92,7 +88,8 @@ from_none : (before ys : List ℕ) → every is_tail ys ≡ true → exponent_fr
 from_none before [] h = refl
 from_none before (x ∷ ys) h =
     let inner : every is_tail (after_sign (left is_white ys)) ≡ true = every_sign is_tail (left is_white ys) (every_left is_tail is_white ys (every_tail is_tail x ys h)) in
-    let none : run is_digit (after_sign (left is_white ys)) ≡ [] = run_at is_digit [] (after_sign (left is_white ys)) refl (no_digits (after_sign (left is_white ys)) (every_first (after_sign (left is_white ys)) inner)) in
+    let none : run is_digit (after_sign (left is_white ys)) ≡ []
+    = run_at is_digit [] (after_sign (left is_white ys)) refl (no_digits (after_sign (left is_white ys)) (every_first (after_sign (left is_white ys)) inner)) in
     elim (cases_Bool (x == 69 || x == 101)) [
       | inl t ↦ rw (t, none) refl
       | inr f ↦ rw f refl
@@ -113,7 +110,7 @@ exponent_some : (text before : List ℕ) (x : ℕ) (a : List ℕ) (s : Sign) (ds
 exponent_some text before x a s ds later e b m w d some t =
     let signed = sign_text s ++ (ds ++ later) in
     let marked = x ∷ (a ++ signed) in
-    let sign = sign_found s (ds ++ later) (leads_digits ds later some d) in
+    let sign = sign_found s (ds ++ later) (leads_mantissa ds None later (omega (arith, some, length-append ds [])) d) in
     let stop = no_digits later t in
     let front : run is_white text ≡ before = ap (run is_white) e ∙ run_at is_white before marked b (no_white_mark x m) in
     let back : left is_white text ≡ marked = ap (left is_white) e ∙ left_at is_white before marked b (no_white_mark x m) in

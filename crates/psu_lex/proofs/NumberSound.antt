@@ -1,6 +1,6 @@
 -- What a scan of a number finds is a number, spelled as the text is.
 use Rattle.std.proofs.Common.{◌≡◌, ℕ, ◌==◌, ◌||◌, ◌<◌, Bool, true, false, not, List, [], ◌∷◌, ◌++◌, length, drop, refl, sym, ap, ◌∙◌, if◌then◌else◌, arith, append_assoc, inl, inr, is_none}
-use Rattle.std.proofs.lemmas.Bool.{eqb-true, and_parts, cases_Bool}
+use Rattle.std.proofs.lemmas.Bool.{cond_both, eqb-true, and_parts, cases_Bool}
 use Rattle.std.proofs.lemmas.List.{append-nil}
 use Rattle.psu_lex.specs.Bytes.{is_digit, is_letter, is_white, all_digits, all_white}
 use Rattle.psu_lex.specs.Number.{Sign, IsNumber, ExponentHolds, sign_text, fraction_text, fraction_digits, exponent_text, number_text, mantissa}
@@ -99,10 +99,6 @@ tail_split_at d (x ∷ s) e none =
     let later : (x ∷ s) ++ run is_white r ≡ y = ap (λ (z : List ℕ). (x ∷ s) ++ z) all ∙ ap (λ (z : List ℕ). z ++ r) e ∙ run_left is_letter y in
     ap (λ (z : List ℕ). run is_white d ++ z) later ∙ run_left is_white d
 
-if_white : (b : Bool) (x y : List ℕ) → all_white x ≡ true → all_white y ≡ true → all_white (if b then x else y) ≡ true
-if_white true x y h k = h
-if_white false x y h k = k
-
 -- ---- all of it
 
 some_length : (xs : List ℕ) → is_nonempty xs ≡ true → 0 < length xs
@@ -116,10 +112,11 @@ sound text some =
       digits = digits_every (mantissa (scanned text)) ∙ every_append is_digit (run is_digit (after_sign text)) (fraction_digits (fraction_of (at_fraction text))) (run_every is_digit (after_sign text)) (fraction_every (at_fraction text));
       some = some_length (mantissa (scanned text)) some;
       exponent = from_holds (run is_white (at_exponent text)) (left is_white (at_exponent text)) (run_white (at_exponent text));
-      gap = if_white (is_nonempty (suffix_of d)) (run is_white d) [] (run_white d) refl;
+      gap = cond_both (is_nonempty (suffix_of d)) (run is_white d) [] (λ (z : List ℕ). all_white z ≡ true) (λ some. run_white d) (λ none. refl);
       no_gap = λ none. rw none refl;
       suffix = letters_every (suffix_of d) ∙ run_every is_letter (left is_white d);
-      rest = if_white (is_nonempty (suffix_of d)) (run is_white (left is_letter (left is_white d))) (run is_white d) (run_white (left is_letter (left is_white d))) (run_white d);
+      rest = cond_both (is_nonempty (suffix_of d)) (run is_white (left is_letter (left is_white d))) (run is_white d) (λ (z : List ℕ). all_white z ≡ true)
+          (λ some. run_white (left is_letter (left is_white d))) (λ none. run_white d);
     }
 
 spelled : (text : List ℕ) → excess_of (at_tail text) ≡ [] → text ≡ number_text (scanned text)

@@ -217,15 +217,12 @@ one_datum text bytes others b o = sym (datum_is text bytes b) ∙ datum_is text 
 
 -- ---- the last byte
 
-last_at : (x : ℕ) (xs : List ℕ) (n : ℕ) → n ≡ length xs → (slice_index (x ∷ xs) n == 10) ≡ ends_in_newline (x ∷ xs)
-last_at x [] zero e = refl
-last_at x [] (suc n) e = absurd (omega (arith, e))
-last_at x (y ∷ xs) zero e = absurd (omega (arith, e))
-last_at x (y ∷ xs) (suc n) e = last_at y xs n (omega (arith, e))
-
-pub last_byte : (text : List ℕ) → 0 < length text → (slice_index text (length text - 1) == 10) ≡ ends_in_newline text
-last_byte [] h = absurd (omega (arith, h))
-last_byte (x ∷ xs) h = last_at x xs (length (x ∷ xs) - 1) (omega arith)
+pub last_byte : (text : List ℕ) → (slice_index text (length text - 1) == 10) ≡ ends_in_newline text
+last_byte [] = refl
+last_byte (x ∷ []) = refl
+last_byte (x ∷ y ∷ xs) =
+    let later : length (x ∷ y ∷ xs) - 1 ≡ suc (length (y ∷ xs) - 1) = omega arith in
+    rw later (last_byte (y ∷ xs))
 
 -- ---- a string that is all of a text
 
@@ -263,7 +260,8 @@ not_all_at rest bytes end le s other f (inl (digits, e, w)) =
     eqb-false end (length rest) other (omega (arith, le, ap length left, length-drop end rest))
 not_all_at rest bytes end le s other f (inr (more, e, w)) = both (starts 48 rest) (ap (λ (z : List ℕ). starts 48 (drop 1 z)) e) f
 
-pub not_all : (text rest bytes : List ℕ) (end : ℕ) → text ≡ 35 ∷ rest → end ≤ length rest → after_block rest ≡ Some (drop end rest) → (end == length rest || starts 48 rest) ≡ false → IsBlockOf text bytes → ⊥
+pub not_all : (text rest bytes : List ℕ) (end : ℕ) → text ≡ 35 ∷ rest → end ≤ length rest → after_block rest ≡ Some (drop end rest)
+    → (end == length rest || starts 48 rest) ≡ false → IsBlockOf text bytes → ⊥
 not_all text rest bytes end e le s f b =
     let parts = or_parts (end == length rest) (starts 48 rest) f in
     not_all_at rest bytes end le s parts.0 parts.1 (subst (λ (z : List ℕ). IsBlockOf z bytes) e b)

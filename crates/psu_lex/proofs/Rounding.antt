@@ -178,7 +178,8 @@ cut digits up down kept h lt n =
     let long : suc (length back) ≡ down - up = omega (arith, ap length rest, length-drop kept digits, n) in
     let tens : 10 ^ suc (length back) ≡ k = ap (λ (z : ℕ). 10 ^ z) long in
     let value : value_after 0 digits ≡ f * k + b
-    = ap (value_after 0) (sym (take-append-drop kept digits) ∙ ap (λ (z : List ℕ). take kept digits ++ z) rest) ∙ after_append 0 (take kept digits) (y ∷ back) ∙ after_split f (y ∷ back) ∙ ap (λ (z : ℕ). f * z + b) tens in
+    = ap (value_after 0) (sym (take-append-drop kept digits) ∙ ap (λ (z : List ℕ). take kept digits ++ z) rest)
+    ∙ after_append 0 (take kept digits) (y ∷ back) ∙ after_split f (y ∷ back) ∙ ap (λ (z : ℕ). f * z + b) tens in
     let all : rounded (value_after 0 digits * 10 ^ up) (10 ^ down) ≡ rounded (f * k + b) k = rounded_tens (value_after 0 digits) up down (omega (arith, lt)) ∙ ap (λ (z : ℕ). rounded z k) value in
     let halves = half y back each in (
       λ big. all ∙ rounded_up f b k (omega (arith, tens, below_power (y ∷ back) each)) (omega (arith, tens, halves.0 big)),

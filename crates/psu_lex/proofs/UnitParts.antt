@@ -79,8 +79,10 @@ pub unit_reads : (text header rest : List ℕ) (s : Syntax) → header ≡ run i
     → UnitReads text s
 unit_reads text header rest s h r spelled e l =
     let whole : text ≡ run is_white text ++ (s.header ++ rest)
-    = sym (run_left is_white text) ∙ ap (λ (z : List ℕ). run is_white text ++ z) (sym (run_left is_dark (left is_white text)) ∙ ap (λ (z : List ℕ). z ++ left is_dark (left is_white text)) (sym (e ∙ h)) ∙ ap (λ (z : List ℕ). s.header ++ z) (sym r)) in
-    (run is_white text, rest, run_white text, whole, subst SpellsHeader (sym e) spelled, apart_at rest (subst (λ (z : List ℕ). leads is_dark z ≡ false) (sym r) (left_stops is_dark (left is_white text))), l)
+    = sym (run_left is_white text)
+    ∙ ap (λ (z : List ℕ). run is_white text ++ z) (sym (run_left is_dark (left is_white text)) ∙ ap (λ (z : List ℕ). z ++ left is_dark (left is_white text)) (sym (e ∙ h)) ∙ ap (λ (z : List ℕ). s.header ++ z) (sym r)) in
+    let apart = apart_at rest (subst (λ (z : List ℕ). leads is_dark z ≡ false) (sym r) (left_stops is_dark (left is_white text))) in
+    (run is_white text, rest, run_white text, whole, subst SpellsHeader (sym e) spelled, apart, l)
 
 -- ---- one syntax
 

@@ -23,7 +23,8 @@ pub makes_run : (first : Bool) (run text rest : List ℕ) (units : List Part) �
     → Makes first (text ++ run) rest units → Makes first text (run ++ rest) units
 makes_run first [] text rest units f g m = subst (λ (z : List ℕ). Makes first z rest units) (append-nil text) m
 makes_run first (x ∷ run) text rest units f g m =
-    let later = makes_run first run (text ++ x ∷ []) rest units (has_tail separates x run f) (has_tail opens x run g) (subst (λ (z : List ℕ). Makes first z rest units) (sym (append_assoc text (x ∷ []) run)) m) in
+    let later = makes_run first run (text ++ x ∷ []) rest units (has_tail separates x run f) (has_tail opens x run g)
+    (subst (λ (z : List ℕ). Makes first z rest units) (sym (append_assoc text (x ∷ []) run)) m) in
     (Byte x ∷ later.0, (run ++ rest, refl, (has_head separates x run f, has_head opens x run g), later.1), later.2)
 
 pub makes_separator : (first : Bool) (x : ℕ) (text rest : List ℕ) (units : List Part) → separates x ≡ true
@@ -38,19 +39,6 @@ pub stop_at : (s : List ℕ) (r : Option ℕ) → IsFirstByte (is_byte2 59 10) s
     → (unwrap_or r (length s) ≤ length s) × (has separates (take (unwrap_or r (length s)) s) ≡ false) × (ends_unit (drop (unwrap_or r (length s)) s) ≡ true)
 stop_at s None h = (omega arith, rw (take_all (length s) s (omega arith)) (free_all separates s h), rw (drop_all (length s) s (omega arith)) refl)
 stop_at s (Some n) h = (omega (arith, h.0.high), free_before separates s n h, rw (drop-cons s n 0 h.0.high) h.1)
-
--- the quote or `#` that was found before it
-pub open_at : (s : List ℕ) (run n : ℕ) → run ≤ length s → IsFirstByte (is_byte3 34 39 35) (take run s) (Some n) → has separates (take run s) ≡ false
-    → (n < length s) × (has separates (take n s) ≡ false) × (has opens (take n s) ≡ false) × (opens_first (drop n s) ≡ true)
-open_at s run n le h f =
-    let below : n < run = grind (arith, common_steps, h.0.high) in
-    let t : opens (slice_index (take run s) n) ≡ true = h.1 in
-    let same : take n (take run s) ≡ take n s = grind (arith, common_steps, below) in (
-      omega (arith, below, le),
-      ap (has separates) (sym same) ∙ has_front separates (take run s) n f,
-      ap (has opens) (sym same) ∙ free_before opens (take run s) n h,
-      opens_at s n (omega (arith, below, le)) (ap opens (sym (get_or-take run s n 0 below)) ∙ t),
-    )
 
 -- ---- steps over a transmission
 
@@ -109,9 +97,17 @@ unit_stop first bytes at stop units s f m =
 pub piece_at : (bytes run : List ℕ) (at stop n : ℕ) → IsStop bytes at stop → run ≡ take (stop - at) (drop at bytes) → IsFirstByte (is_byte3 34 39 35) run (Some n)
     → (at + n < length bytes) × (has separates (take n (drop at bytes)) ≡ false) × (has opens (take n (drop at bytes)) ≡ false) × (opens_first (drop (at + n) bytes) ≡ true)
 piece_at bytes run at stop n s e h =
-    let le : stop - at ≤ length (drop at bytes) = omega (arith, length-drop at bytes, s.low, s.high) in
-    let found = open_at (drop at bytes) (stop - at) n le (subst (λ (z : List ℕ). IsFirstByte (is_byte3 34 39 35) z (Some n)) e h) s.free in
-    (omega (arith, found.0, length-drop at bytes), found.1, found.2, subst (λ (z : List ℕ). opens_first z ≡ true) (sym (drop-add at n bytes)) found.3)
+    let rest = drop at bytes in
+    let le : stop - at ≤ length rest = omega (arith, length-drop at bytes, s.low, s.high) in
+    let first = subst (λ (z : List ℕ). IsFirstByte (is_byte3 34 39 35) z (Some n)) e h in
+    let below : n < stop - at = grind (arith, common_steps, first.0.high) in
+    let same : take n (take (stop - at) rest) ≡ take n rest = grind (arith, common_steps, below) in
+    let opened : opens (slice_index rest n) ≡ true = ap opens (sym (get_or-take (stop - at) rest n 0 below)) ∙ first.1 in (
+      omega (arith, below, le, length-drop at bytes),
+      ap (has separates) (sym same) ∙ has_front separates (take (stop - at) rest) n s.free,
+      ap (has opens) (sym same) ∙ free_before opens (take (stop - at) rest) n first,
+      subst (λ (z : List ℕ). opens_first z ≡ true) (sym (drop-add at n bytes)) (opens_at rest n (omega (arith, below, le)) opened),
+    )
 
 -- a search from `at` on finds the stop
 pub stop_found : (bytes rest : List ℕ) (at n : ℕ) (r : Option ℕ) → at ≤ length bytes → rest ≡ drop at bytes → IsFirstByte (is_byte2 59 10) rest r → n ≡ unwrap_or r (length rest)

@@ -1,12 +1,12 @@
 -- Words of the contracts inside this crate: what a scan has found so far.
 use Rattle.std.specs.Prelude.{◌≡◌, ℕ, ◌+◌, ◌-◌, ◌≤◌, ◌==◌, ◌||◌, ◌&&◌, nat_lt, nat_le, Bool, true, false, List, [], ◌∷◌, length, take, drop, slice_index, Option, Some, None, if◌then◌else◌}
+use Rattle.std.specs.List.{list_any}
 use Rattle.psu_lex.specs.Bytes.{all_digits, ends_in_newline, is_quote, separates, starts_quoted, value_after}
 use Rattle.psu_lex.specs.Message.{ends_unit}
 
 -- some byte passes the test
 abbrev pub has : (ℕ → Bool) → List ℕ → Bool
-has test [] = false
-has test (x ∷ xs) = test x || has test xs
+has test bytes = list_any test bytes
 
 -- the first separator from `at` on stands at `stop`, or there is none and `stop` is the end
 pub record IsStop (bytes : List ℕ) (at stop : ℕ) : Type 0 where

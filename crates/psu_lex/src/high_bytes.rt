@@ -13,12 +13,7 @@ use memchr::memchr3;
 fn is_high(run: &[u8]) -> bool
     ensures { result ≡ has is_high run.now }
 {
-    for byte in run {
-        if *byte > 126 {
-            return true;
-        }
-    }
-    false
+    run.iter().any(|byte| *byte > 126)
 }
 
 /// Whether a byte of 127 or more stands outside strings and blocks.

@@ -82,7 +82,10 @@ fn tail_at(text: &[u8]) -> (&[u8], bool)
 fn has_digit(whole: &[u8], fraction: &[u8]) -> bool
     ensures { result ≡ is_nonempty (whole.now ++ fraction.now) }
 {
-    !whole.is_empty() || !fraction.is_empty()
+    match whole.split_first() {
+        Some(_) => true,
+        None => !fraction.is_empty(),
+    }
 }
 
 /// The number that the text is, if it is one.

@@ -12,13 +12,19 @@ pub returns-then-length-gt-MOST-clause-err : goal.returns-then-length-gt-MOST-cl
 returns-then-length-gt-MOST-clause-err g c =
     let whole = c.length_of-length.ensures in
     let far : nat_lt 65536 (length whole.1) ≡ true = lt-ltb 65536 (length whole.1) (omega (arith, whole.3, c.if-length-gt-MOST.true)) in
-    inr (rw (enough c.args.args.now c.greatest_of.result c.if-greatest_of-args.false, far) at (gives (map (λ arg. arg.now) c.args.args.now) c.args.body.now whole.1 c.greatest_of.ensures.0 c.greatest_of.result whole.0 c.greatest_of.ensures.1 whole.2))
+    inr (rw (enough c.args.args.now c.greatest_of.result c.if-greatest_of-args.false, far)
+    at (gives (map (λ arg. arg.now) c.args.args.now) c.args.body.now whole.1 c.greatest_of.ensures.0 c.greatest_of.result whole.0 c.greatest_of.ensures.1 whole.2))
 
 pub returns-in-Err-clause-err : goal.returns-in-Err-clause-err
 returns-in-Err-clause-err g c =
     let whole = c.length_of-length.ensures in
     let near : nat_lt 65536 (length whole.1) ≡ false = le-ltb 65536 (length whole.1) (omega (arith, whole.3, c.if-length-gt-MOST.false)) in
-    inl (refl, whole.1, rw (enough c.args.args.now c.greatest_of.result c.if-greatest_of-args.false, near) at (gives (map (λ arg. arg.now) c.args.args.now) c.args.body.now whole.1 c.greatest_of.ensures.0 c.greatest_of.result whole.0 c.greatest_of.ensures.1 whole.2))
+    inl (
+      refl,
+      whole.1,
+      rw (enough c.args.args.now c.greatest_of.result c.if-greatest_of-args.false, near)
+          at (gives (map (λ arg. arg.now) c.args.args.now) c.args.body.now whole.1 c.greatest_of.ensures.0 c.greatest_of.result whole.0 c.greatest_of.ensures.1 whole.2),
+    )
 
 pub returns-in-Ok-clause-ok : goal.returns-in-Ok-clause-ok
 returns-in-Ok-clause-ok g c =
@@ -27,4 +33,5 @@ returns-in-Ok-clause-ok g c =
     let text = c.in-Ok.ensures in
     let same = same_text args c.args.body.now text.0 whole.0 c.in-Ok.text whole.1 text.1 whole.2 in
     let near : nat_lt 65536 (length c.in-Ok.text) ≡ false = le-ltb 65536 (length c.in-Ok.text) (omega (arith, whole.3, ap length same, c.if-length-gt-MOST.false)) in
-    rw (enough c.args.args.now c.greatest_of.result c.if-greatest_of-args.false, near) at (gives args c.args.body.now c.in-Ok.text c.greatest_of.ensures.0 c.greatest_of.result text.0 c.greatest_of.ensures.1 text.1)
+    rw (enough c.args.args.now c.greatest_of.result c.if-greatest_of-args.false, near)
+    at (gives args c.args.body.now c.in-Ok.text c.greatest_of.ensures.0 c.greatest_of.result text.0 c.greatest_of.ensures.1 text.1)

@@ -14,7 +14,8 @@ pub returns-then-not-begins-clause-some : goal.returns-then-not-begins-clause-so
 returns-then-not-begins-clause-some c =
     let next = c.after-next.result.now in
     sym c.loop-at.invariant.same ∙ quote_at c.args.quote c.loop-at.rest.now c.in-Some.at c.in-Some.ensures c.if-rest-at-eq10.false ∙ ap (after_string true c.args.quote) (sym c.after-next.ensures)
-    ∙ string_ends c.args.quote next (sym c.begins.ensures ∙ c.if-not-begins.true) ∙ ap Some (sym (suffix c.args.text.now next (c.loop-at.invariant.n + (c.in-Some.at + 1)) (grind (arith, common_steps))))
+    ∙ string_ends c.args.quote next (sym c.begins.ensures ∙ c.if-not-begins.true)
+    ∙ ap Some (sym (suffix c.args.text.now next (c.loop-at.invariant.n + (c.in-Some.at + 1)) (grind (arith, common_steps))))
 
 pub loop-at-preserved : goal.loop-at-preserved
 loop-at-preserved c =
@@ -22,7 +23,8 @@ loop-at-preserved c =
     let at = c.in-Some.at in
     record {
       n = n + (at + 1 + 1);
-      rest = c.after-rest.ensures ∙ ap (drop 1) (c.after-next.ensures ∙ ap (drop (at + 1)) c.loop-at.invariant.rest) ∙ sym (drop-add (at + 1) 1 (drop n c.args.text.now)) ∙ sym (drop-add n (at + 1 + 1) c.args.text.now);
+      rest = c.after-rest.ensures ∙ ap (drop 1) (c.after-next.ensures ∙ ap (drop (at + 1)) c.loop-at.invariant.rest)
+          ∙ sym (drop-add (at + 1) 1 (drop n c.args.text.now)) ∙ sym (drop-add n (at + 1 + 1) c.args.text.now);
       same = ap (after_string false c.args.quote) c.after-rest.ensures ∙ sym (goes_on c.args.quote c.after-next.result.now (sym c.begins.ensures ∙ c.if-not-begins.false))
           ∙ ap (after_string true c.args.quote) c.after-next.ensures ∙ sym (quote_at c.args.quote c.loop-at.rest.now at c.in-Some.ensures c.if-rest-at-eq10.false) ∙ c.loop-at.invariant.same;
     }
