@@ -5,9 +5,9 @@ use Rattle.psu_pages.specs.Free.{Marks}
 use Rattle.psu_pages.specs.Image.{Head, head_at, pages_of}
 use Rattle.psu_pages.specs.declared.open_cause.OpenCause.TheVariants.{Device}
 use Rattle.psu_pages.specs.Finding.{AreFit, IsFit}
-use Rattle.psu_pages.proofs.Filling.{take_all}
+use Rattle.std.proofs.lemmas.List.{take_all, take-map, get_or-map, length-map}
 use Rattle.psu_pages.proofs.Quiet.{quiet_none, quiet_runs}
-use Rattle.psu_pages.proofs.Scanning.{fit_none, fit_more, fit_next, map_take, map_at, map_length, map_more}
+use Rattle.psu_pages.proofs.Scanning.{fit_none, fit_more, fit_next, map_more}
 use Rattle.psu_pages.proofs.scan.scan.Goals as goal
 
 pub loop-name-init : goal.loop-name-init
@@ -32,9 +32,9 @@ returns-in-Ok-None-clause-none g c = λ h none can.
     let names = c.args.names.now in
     let all = map (head_at image) names in
     let i = l.name-index in
-    let so : AreFit c.args.limit (take i all) l.free = subst (λ (hs : List Head). AreFit c.args.limit hs l.free) (l.invariant.found h ∙ map_take (head_at image) i names) l.invariant.fit in
-    let fit = fit_next c.args.limit all i (head_at image 0) l.free (omega (arith, c.loop-name-test.true, map_length (head_at image) names)) can so in
-    let is : get_or all i (head_at image 0) ≡ head_at (d.state l.disk).bytes (get_or names i 0) = map_at (head_at image) names i 0 (head_at image 0) c.loop-name-test.true ∙ ap (λ (x : List ℕ). head_at x (get_or names i 0)) (sym (l.invariant.seen h)) in
+    let so : AreFit c.args.limit (take i all) l.free = subst (λ (hs : List Head). AreFit c.args.limit hs l.free) (l.invariant.found h ∙ sym (take-map (head_at image) i names)) l.invariant.fit in
+    let fit = fit_next c.args.limit all i (head_at image 0) l.free (omega (arith, c.loop-name-test.true, length-map names (head_at image))) can so in
+    let is : get_or all i (head_at image 0) ≡ head_at (d.state l.disk).bytes (get_or names i 0) = get_or-map (head_at image) names i 0 (head_at image 0) c.loop-name-test.true ∙ ap (λ (x : List ℕ). head_at x (get_or names i 0)) (sym (l.invariant.seen h)) in
     c.in-Ok-None.ensures.none h (ap is_some c.in-Ok-None.field-0-is) (subst (IsFit l.free) is fit)
 
 pub returns-in-Ok-None-clause-time : goal.returns-in-Ok-None-clause-time
