@@ -4,21 +4,12 @@ use Rattle.std.specs.List.{AllByRecursion}
 use Rattle.psu_disk.specs.Disk.{Range}
 use Rattle.psu_pages.specs.declared.root.Root.{Root}
 use Rattle.psu_pages.specs.declared.choose.Chosen.{Chosen}
-use Rattle.psu_pages.specs.declared.open_cause.OpenCause.{OpenCause}
-use Rattle.psu_pages.specs.declared.open_cause.OpenCause.TheVariants.{Device, NoRoot, BadRoot, BadVersion, Memory}
 use Rattle.psu_pages.specs.Image.{gate_at, Counts, version_in, names_in, Head, heads_in, IsHead, IsKnown, AreShort, IsInPool, AreApart, taken, keys, words}
 use Rattle.psu_pages.specs.Shown.{items_in, Shows, Bears}
 use Rattle.psu_pages.specs.Free.{IsRoster}
-use Rattle.psu_pages.specs.Finding.{IsChosen, HasGates, HasGoodWords, HasReadableRoot, HasBadRoot, CanStand, page_of, IsRefusal, IsScanCause}
+use Rattle.psu_pages.specs.Finding.{IsChosen, HasGates, HasGoodWords, HasReadableRoot, HasBadRoot, CanStand, page_of}
 use Rattle.psu_pages.proofs.Bearing.{counting_is}
 use Rattle.psu_pages.proofs.Choosing.{picked_counts, picked_number, picked_shut, picked_lower, some_root, on_page}
-
-pub scan_refused : (image : List ℕ) (cause : OpenCause) → IsScanCause cause → IsRefusal image cause
-scan_refused image Device is = tt
-scan_refused image NoRoot is = absurd is
-scan_refused image BadRoot is = absurd is
-scan_refused image BadVersion is = absurd is
-scan_refused image Memory is = tt
 
 -- heads that are fit, few, cheap and of distinct keys
 pub roster_of : (limit : ℕ) (heads : List Head) → CanStand limit heads → length heads ≤ 240 → length (taken heads) ≤ limit → AreApart (keys heads) → IsRoster limit heads

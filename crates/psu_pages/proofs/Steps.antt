@@ -3,7 +3,7 @@ use Rattle.std.proofs.Common.{◌≡◌, ⊎_elim, inl, inr, ℕ, zero, suc, ◌
 use Rattle.std.specs.List.{AllByRecursion}
 use Rattle.std.proofs.lemmas.Bool.{cases_lt}
 use Rattle.std.proofs.lemmas.List.{take_more, length-take-le, drop-drop}
-use Rattle.psu_disk.specs.Disk.{DiskState, Left, Range, Holds, SameBut, Follows, LeavesOnly, Elapses}
+use Rattle.psu_disk.specs.Disk.{Range, Holds, SameBut, Follows, LeavesOnly, Elapses}
 use Rattle.psu_disk.specs.Moments.{started, goes_on, and_then, weaken}
 use Rattle.psu_disk.specs.Ranges.{range_same, range_written}
 use Rattle.psu_pages.specs.Image.{page_in, IsNone, AreApart}
@@ -54,12 +54,11 @@ module _ (page at n : ℕ) (is : at ≡ 512 * page) (long : n ≡ 512) where
   pub follows_one : (old new : List ℕ → Type 0) → Follows (SameBut at n) old new → Follows (Misses (page ∷ [])) old new
   follows_one old new step x l = let from = step x l in (from.0, from.1, one from.0 x from.2)
 
-  pub run_one : {D : Type 0} (moment : D → ℕ) (left_since : D → ℕ → List ℕ → Type 0) (state : D → DiskState) (old new : D) → ((x : List ℕ) → left_since old (moment old) x → Left (state old) x)
-      → Follows (SameBut at n) (Left (state old)) (Left (state new)) → Elapses (moment old) (moment new) (left_since old) (left_since new) (Left (state new))
-      → LeavesOnly moment left_since old new (Reaches (Misses (page ∷ [])) (Left (state old)))
-  run_one moment left_since state old new only_now step time =
-      goes_on moment left_since old old new (Reaches (Misses (page ∷ [])) (Left (state old))) (Left (state new))
-      (started moment left_since old (Reaches (Misses (page ∷ [])) (Left (state old))) (λ x l. (x, only_now x l, misses_refl (page ∷ []) x))) time (follows_one (Left (state old)) (Left (state new)) step)
+  pub run_one : {D : Type 0} {moment : D → ℕ} {left_since : D → ℕ → List ℕ → Type 0} {old new : D} {before after : List ℕ → Type 0} → ((x : List ℕ) → left_since old (moment old) x → before x)
+      → Follows (SameBut at n) before after → Elapses (moment old) (moment new) (left_since old) (left_since new) after → LeavesOnly moment left_since old new (Reaches (Misses (page ∷ [])) before)
+  run_one {D} {moment} {left_since} {old} {new} {before} {after} only_now step time =
+      goes_on moment left_since old old new (Reaches (Misses (page ∷ [])) before) after
+      (started moment left_since old (Reaches (Misses (page ∷ [])) before) (λ x l. (x, only_now x l, misses_refl (page ∷ []) x))) time (follows_one before after step)
 
   pub written_one : (bytes x y : List ℕ) → at + length bytes ≤ length x → length bytes ≡ 512 → Holds at bytes x y → page_in page y ≡ bytes
   written_one bytes x y fits whole holds = ap (λ (a : ℕ). Range a 512 y) (sym is) ∙ ap (λ (m : ℕ). Range at m y) (sym whole) ∙ range_written at bytes x y fits holds

@@ -1,14 +1,8 @@
 use Rattle.std.proofs.Common.{◌≤◌, ℕ, List, ◌∷◌, [], length, get_or, take, sym, ◌∙◌, ap, arith, subst}
 use Rattle.std.proofs.lemmas.List.{take_more}
 use Rattle.psu_pages.specs.Image.{Head, AreShort, key_most}
-use Rattle.psu_pages.proofs.Lists.{all_at, all_join}
+use Rattle.psu_pages.proofs.Lists.{all_join}
 use Rattle.psu_pages.proofs.checks.are_short.Goals as goal
-
-pub returns-then-key-most-clause-no : goal.returns-then-key-most-clause-no
-returns-then-key-most-clause-no g c = λ no short.
-    let heads = c.args.heads.now in
-    let is = ap (λ (l : List ℕ). length l) (c.key.ensures ∙ ap (λ (h : Head). h.key) c.head-item.is) in
-    omega (arith, c.if-key-most.true, is, c.loop-head.invariant.0, all_at (λ (h : Head). length h.key ≤ key_most c.args.version) heads c.loop-head.head-index c.head-item.result c.loop-head-test.true short)
 
 pub loop-head-preserved : goal.loop-head-preserved
 loop-head-preserved g c =

@@ -5,7 +5,7 @@ use Rattle.psu_pages.specs.Image.{head_at, heads_in, words, Head, AreApart, AreS
 use Rattle.psu_pages.specs.Finding.{AreFit, CanStand}
 use Rattle.psu_pages.proofs.Numbers.{length_words}
 use Rattle.psu_pages.proofs.Quiet.{quiet_runs}
-use Rattle.psu_pages.proofs.Opening.{HasChosen, scan_refused, roster_of, gates, readable, bad_root, named, bears, stand}
+use Rattle.psu_pages.proofs.Opening.{HasChosen, roster_of, gates, readable, bad_root, named, bears, stand}
 use Rattle.psu_pages.proofs.open.look.Given.{Over}
 use Rattle.psu_pages.proofs.open.look.Goals.{In-Ok, After-scan, In-Ok-Some}
 use Rattle.psu_pages.proofs.open.look.Goals as goal
@@ -36,9 +36,6 @@ returns-in_default-clause-memory g c = λ h memory. readable (has g (goal.at.ret
 pub returns-in-Err-scan-clause-memory : goal.returns-in-Err-scan-clause-memory
 returns-in-Err-scan-clause-memory g c = λ h memory. readable (has g (goal.at.returns-in-Err-scan-clause-memory g c).In-Ok h)
 
-pub returns-in-Err-scan-clause-refused : goal.returns-in-Err-scan-clause-refused
-returns-in-Err-scan-clause-refused g c = λ h. scan_refused (g.D.Disk.state c.args.disk.now).bytes c.in-Err-scan.cause c.in-Err-scan.ensures.cause
-
 pub returns-in-Ok-None-clause-refused : goal.returns-in-Ok-None-clause-refused
 returns-in-Ok-None-clause-refused g c = λ h.
     let d = g.D.Disk in
@@ -61,9 +58,7 @@ returns-then-not-stand_together-clause-refused g c = λ h.
     (subst (λ (hs : List Head). length (taken hs) ≤ chosen.limit) heads shows.cost) (subst (λ (hs : List Head). AreApart (keys hs)) heads shows.distinct))
 
 pub returns-then-not-stand_together-clause-time : goal.returns-then-not-stand_together-clause-time
-returns-then-not-stand_together-clause-time g c = λ h t.
-    let d = g.D.Disk in
-    quiet_runs d.state d.moment d.left_since c.args.disk.now c.read_roots.new.disk c.scan.new.disk (c.read_roots.ensures.time h t) (c.read_roots.ensures.left h) (c.scan.ensures.time h t)
+returns-then-not-stand_together-clause-time g c = λ h t. quiet_runs (c.read_roots.ensures.time h t) (c.read_roots.ensures.left h) (c.scan.ensures.time h t)
 
 pub returns-clause-roster : goal.returns-clause-roster
 returns-clause-roster g c =
@@ -86,13 +81,5 @@ returns-clause-found g c = λ h.
 pub returns-clause-gates : goal.returns-clause-gates
 returns-clause-gates g c = λ h. gates (has g (goal.at.returns-clause-gates g c).In-Ok h)
 
-pub returns-clause-synced : goal.returns-clause-synced
-returns-clause-synced g c = λ h x l. c.in_ok-roots.ensures.synced h x (c.scan.ensures.left h x l) ∙ sym (c.scan.ensures.seen h)
-
-pub returns-clause-left : goal.returns-clause-left
-returns-clause-left g c = λ h x l. c.read_roots.ensures.left h x (c.scan.ensures.left h x l)
-
 pub returns-clause-time : goal.returns-clause-time
-returns-clause-time g c = λ h t.
-    let d = g.D.Disk in
-    quiet_runs d.state d.moment d.left_since c.args.disk.now c.read_roots.new.disk c.scan.new.disk (c.read_roots.ensures.time h t) (c.read_roots.ensures.left h) (c.scan.ensures.time h t)
+returns-clause-time g c = λ h t. quiet_runs (c.read_roots.ensures.time h t) (c.read_roots.ensures.left h) (c.scan.ensures.time h t)

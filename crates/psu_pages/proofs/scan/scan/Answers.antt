@@ -12,7 +12,6 @@ use Rattle.psu_pages.proofs.scan.scan.Goals as goal
 
 pub loop-name-init : goal.loop-name-init
 loop-name-init g c =
-    let d = g.D.Disk in
     record {
       extent = refl;
       works = refl;
@@ -21,7 +20,7 @@ loop-name-init g c =
       found = λ h. c.in_ok-heads.ensures.items;
       seen = λ h. refl;
       left = λ h x l. l;
-      time = λ h t. quiet_none d.state d.moment d.left_since c.args.disk.now (g.met.D.Disk.only_now t c.args.disk.now);
+      time = λ h t. quiet_none (g.met.D.Disk.only_now t c.args.disk.now);
     }
 
 pub returns-in-Ok-None-clause-none : goal.returns-in-Ok-None-clause-none
@@ -38,10 +37,7 @@ returns-in-Ok-None-clause-none g c = λ h none can.
     c.in-Ok-None.ensures.none h (ap is_some c.in-Ok-None.field-0-is) (subst (IsFit l.free) is fit)
 
 pub returns-in-Ok-None-clause-time : goal.returns-in-Ok-None-clause-time
-returns-in-Ok-None-clause-time g c = λ h t.
-    let d = g.D.Disk in
-    let l = c.loop-name in
-    quiet_runs d.state d.moment d.left_since c.args.disk.now l.disk c.read_head.new.disk (l.invariant.time h t) (l.invariant.left h) (c.read_head.ensures.time h t)
+returns-in-Ok-None-clause-time g c = λ h t. quiet_runs (c.loop-name.invariant.time h t) (c.loop-name.invariant.left h) (c.read_head.ensures.time h t)
 
 pub loop-name-preserved : goal.loop-name-preserved
 loop-name-preserved g c =
@@ -66,7 +62,7 @@ loop-name-preserved g c =
           ∙ sym (map_more (head_at image) names i 0 c.loop-name-test.true);
       seen = λ h. c.read_head.ensures.seen h ∙ l.invariant.seen h;
       left = λ h x i. l.invariant.left h x (c.read_head.ensures.left h x i);
-      time = λ h t. quiet_runs d.state d.moment d.left_since c.args.disk.now l.disk c.read_head.new.disk (l.invariant.time h t) (l.invariant.left h) (c.read_head.ensures.time h t);
+      time = λ h t. quiet_runs (l.invariant.time h t) (l.invariant.left h) (c.read_head.ensures.time h t);
     }
 
 pub returns-in-Err-clause-device : goal.returns-in-Err-clause-device
@@ -78,22 +74,12 @@ pub returns-in-Err-clause-quiet : goal.returns-in-Err-clause-quiet
 returns-in-Err-clause-quiet g c = λ not_device. c.in-Err.ensures.quiet not_device ∙ c.loop-name.invariant.works
 
 pub returns-in-Err-clause-time : goal.returns-in-Err-clause-time
-returns-in-Err-clause-time g c = λ h t.
-    let d = g.D.Disk in
-    let l = c.loop-name in
-    quiet_runs d.state d.moment d.left_since c.args.disk.now l.disk c.read_head.new.disk (l.invariant.time h t) (l.invariant.left h) (c.read_head.ensures.time h t)
+returns-in-Err-clause-time g c = λ h t. quiet_runs (c.loop-name.invariant.time h t) (c.loop-name.invariant.left h) (c.read_head.ensures.time h t)
 
 pub returns-in_err-add-clause-time : goal.returns-in_err-add-clause-time
-returns-in_err-add-clause-time g c = λ h t.
-    let d = g.D.Disk in
-    let l = c.loop-name in
-    quiet_runs d.state d.moment d.left_since c.args.disk.now l.disk c.read_head.new.disk (l.invariant.time h t) (l.invariant.left h) (c.read_head.ensures.time h t)
+returns-in_err-add-clause-time g c = λ h t. quiet_runs (c.loop-name.invariant.time h t) (c.loop-name.invariant.left h) (c.read_head.ensures.time h t)
 
 pub returns-clause-found : goal.returns-clause-found
 returns-clause-found g c = λ h.
-    let d = g.D.Disk in
     let l = c.loop-name in
-    l.invariant.found h ∙ ap (map (head_at (d.state c.args.disk.now).bytes)) (take_all l.name-index c.args.names.now (omega (arith, c.loop-name-test.false)))
-
-pub returns-clause-many : goal.returns-clause-many
-returns-clause-many g c = omega (arith, c.loop-name.invariant.many, c.loop-name-test.false, c.loop-name.auto.name-index-end)
+    l.invariant.found h ∙ ap (map (head_at (g.D.Disk.state c.args.disk.now).bytes)) (take_all l.name-index c.args.names.now (omega (arith, c.loop-name-test.false)))

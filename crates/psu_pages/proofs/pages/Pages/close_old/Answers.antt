@@ -1,13 +1,12 @@
-use Rattle.std.proofs.Common.{◌<◌, ℕ, List, length, sym, ◌∙◌, arith, subst}
-use Rattle.std.specs.List.{AllByRecursion}
+use Rattle.std.proofs.Common.{List, sym, ◌∙◌, arith, subst}
 use Rattle.psu_disk.specs.Disk.{SameBut}
 use Rattle.psu_disk.specs.Moments.{started}
-use Rattle.psu_pages.specs.Free.{AreClaimed, IsRoster}
+use Rattle.psu_pages.specs.Free.{IsRoster}
 use Rattle.psu_pages.specs.Image.{other, gate_at, taken, pages_of, Head, IsNone, AreClear}
 use Rattle.psu_pages.specs.Shown.{items_in, Bears}
 use Rattle.psu_pages.proofs.Lists.{clear_swap}
 use Rattle.psu_pages.proofs.Marking.{claimed_beside}
-use Rattle.psu_pages.proofs.Planning.{pool_within, none_root}
+use Rattle.psu_pages.proofs.Planning.{none_root}
 use Rattle.psu_pages.proofs.Publishing.{Keeps, closing, shut_zero, still_left, still_run, still_shown, still_bears}
 use Rattle.psu_pages.proofs.pages.Pages.close_old.Given.{Over}
 use Rattle.psu_pages.proofs.pages.Pages.close_old.Goals.{After-set_gate}
@@ -30,20 +29,11 @@ returns-in_default-clause-time g c = λ h t.
     let p = c.args.self.now in
     started d.moment d.left_since p.disk (Bears p.root p.version p.limit p.number p.heads.items (items_in p.root (d.state p.disk).bytes)) (λ x l. p.bears h c.requires.sure x (g.met.D.Disk.only_now t p.disk x l))
 
-pub hand_over-requires-clause-there : goal.hand_over-requires-clause-there
-hand_over-requires-clause-there g c = let p = c.args.self.now in subst (λ (hs : List Head). AllByRecursion (λ (page : ℕ). page < length p.free) (taken hs)) (sym c.deref.ensures.value) (pool_within p.limit (length p.free) (taken p.older.items) p.sized p.older_roster.pool)
-
-pub hand_over-requires-clause-heads_there : goal.hand_over-requires-clause-heads_there
-hand_over-requires-clause-heads_there g c = let p = c.args.self.now in subst (λ (hs : List Head). AllByRecursion (λ (page : ℕ). page < length p.free) (taken hs)) (sym c.deref-2.ensures.value) (pool_within p.limit (length p.free) (taken p.heads.items) p.sized p.roster.pool)
-
 pub returns-in_err-set_gate-clause-left : goal.returns-in_err-set_gate-clause-left
 returns-in_err-set_gate-clause-left g c = λ h. still_left (keeps g (goal.at.returns-in_err-set_gate-clause-left g c).After-set_gate h)
 
 pub returns-in_err-set_gate-clause-time : goal.returns-in_err-set_gate-clause-time
 returns-in_err-set_gate-clause-time g c = λ h t. still_run (keeps g (goal.at.returns-in_err-set_gate-clause-time g c).After-set_gate h) (rw (← c.other.ensures) (c.set_gate.ensures.time h t))
-
-pub returns-in_err-set_gate-clause-touched : goal.returns-in_err-set_gate-clause-touched
-returns-in_err-set_gate-clause-touched g c = λ h. rw (← c.other.ensures) (c.set_gate.ensures.left h)
 
 pub returns-in_err-set_gate-clause-touched_time : goal.returns-in_err-set_gate-clause-touched_time
 returns-in_err-set_gate-clause-touched_time g c = λ h t. rw (← c.other.ensures) (c.set_gate.ensures.time h t)
@@ -54,20 +44,11 @@ returns-clause-left g c = λ h. still_left (keeps g (goal.at.returns-clause-left
 pub returns-clause-time : goal.returns-clause-time
 returns-clause-time g c = λ h t. still_run (keeps g (goal.at.returns-clause-time g c).After-set_gate h) (rw (← c.other.ensures) (c.set_gate.ensures.time h t))
 
-pub returns-clause-touched : goal.returns-clause-touched
-returns-clause-touched g c = λ h. rw (← c.other.ensures) (c.set_gate.ensures.left h)
-
 pub returns-clause-touched_time : goal.returns-clause-touched_time
 returns-clause-touched_time g c = λ h t. rw (← c.other.ensures) (c.set_gate.ensures.time h t)
 
-pub returns-clause-zero : goal.returns-clause-zero
-returns-clause-zero g c = λ h two. rw (← c.other.ensures) (c.in_ok-set_gate.ensures.done h)
-
 pub returns-clause-shown : goal.returns-clause-shown
 returns-clause-shown g c = λ h. still_shown (keeps g (goal.at.returns-clause-shown g c).After-set_gate h)
-
-pub invariant_of-self-2-clause-sized : goal.invariant_of-self-2-clause-sized
-invariant_of-self-2-clause-sized g c = let p = c.args.self.now in c.hand_over.ensures.size ∙ p.sized
 
 pub invariant_of-self-2-clause-first_kept : goal.invariant_of-self-2-clause-first_kept
 invariant_of-self-2-clause-first_kept g c =
@@ -79,19 +60,10 @@ invariant_of-self-2-clause-second_kept g c =
     let p = c.args.self.now in
     c.hand_over.ensures.others 1 (subst (λ (hs : List Head). IsNone (taken hs) 1) (sym c.deref.ensures.value) (none_root p.limit (taken p.older.items) 1 (omega arith) p.older_roster.pool)) ∙ p.second_kept
 
-pub invariant_of-self-2-clause-claimed : goal.invariant_of-self-2-clause-claimed
-invariant_of-self-2-clause-claimed g c = subst (λ (hs : List Head). AreClaimed c.hand_over.new.free (taken hs)) c.deref-2.ensures.value c.hand_over.ensures.kept
-
 pub invariant_of-self-2-clause-older_roster : goal.invariant_of-self-2-clause-older_roster
 invariant_of-self-2-clause-older_roster g c =
     let p = c.args.self.now in
     subst (IsRoster p.limit) (sym c.clear.ensures.items) (record { each = tt; pool = tt; apart = tt; count = omega arith; cost = omega arith; distinct = tt })
-
-pub invariant_of-self-2-clause-older_claimed : goal.invariant_of-self-2-clause-older_claimed
-invariant_of-self-2-clause-older_claimed g c = subst (λ (hs : List Head). AreClaimed c.hand_over.new.free (taken hs)) (sym c.clear.ensures.items) tt
-
-pub invariant_of-self-2-clause-none_older : goal.invariant_of-self-2-clause-none_older
-invariant_of-self-2-clause-none_older g c = λ one. c.clear.ensures.items
 
 pub invariant_of-self-2-clause-bears : goal.invariant_of-self-2-clause-bears
 invariant_of-self-2-clause-bears g c = λ h sure. still_bears (keeps g (goal.at.invariant_of-self-2-clause-bears g c).After-set_gate h)

@@ -30,9 +30,6 @@ claim_all-requires-clause-free g c = free g c
 pub claim_all-requires-clause-apart : goal.claim_all-requires-clause-apart
 claim_all-requires-clause-apart g c = apart g c
 
-pub invariant_of-self-clause-sized : goal.invariant_of-self-clause-sized
-invariant_of-self-clause-sized g c = let p = c.args.self.now in c.claim_all.ensures.size ∙ p.sized
-
 pub invariant_of-self-clause-first_kept : goal.invariant_of-self-clause-first_kept
 invariant_of-self-clause-first_kept g c = let p = c.args.self.now in (kept g (goal.at.invariant_of-self-clause-first_kept g c).After-claim_all (0 ∷ []) (p.first_kept, tt)).0
 

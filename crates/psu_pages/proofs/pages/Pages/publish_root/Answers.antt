@@ -2,7 +2,7 @@ use Rattle.std.proofs.Common.{◌≡◌, ◌≢◌, ◌+◌, ℕ, List, ◌∷�
 use Rattle.psu_disk.specs.Ranges.{reads_left}
 use Rattle.psu_pages.specs.declared.root.Root.{Root}
 use Rattle.psu_pages.specs.declared.standing.Standing.TheVariants.{One, Both, Unsure}
-use Rattle.psu_pages.specs.Free.{AreClaimed, IsRoster}
+use Rattle.psu_pages.specs.Free.{AreClaimed}
 use Rattle.psu_pages.specs.Image.{other, taken, Head}
 use Rattle.psu_pages.specs.Shown.{items_in, EachBears, EachShut}
 use Rattle.psu_pages.specs.Spelling.{IsReady, filled, said, names}
@@ -32,14 +32,8 @@ ready g c h =
       is_told = record { told_is = told g c; number_fits = c.requires.number; roster = c.requires.roster; there = c.requires.there h };
     }
 
-pub invariant_of-self-2-clause-roster : goal.invariant_of-self-2-clause-roster
-invariant_of-self-2-clause-roster g c = let p = c.args.self.now in subst (λ v. IsRoster p.limit v.items) (sym c.replace.ensures.after) c.requires.roster
-
 pub invariant_of-self-2-clause-claimed : goal.invariant_of-self-2-clause-claimed
 invariant_of-self-2-clause-claimed g c = let p = c.args.self.now in subst (λ v. AreClaimed p.free (taken v.items)) (sym c.replace.ensures.after) c.requires.claimed
-
-pub invariant_of-self-2-clause-older_roster : goal.invariant_of-self-2-clause-older_roster
-invariant_of-self-2-clause-older_roster g c = let p = c.args.self.now in subst (λ v. IsRoster p.limit v.items) (sym c.replace.ensures.value) p.roster
 
 pub invariant_of-self-2-clause-older_claimed : goal.invariant_of-self-2-clause-older_claimed
 invariant_of-self-2-clause-older_claimed g c = let p = c.args.self.now in subst (λ v. AreClaimed p.free (taken v.items)) (sym c.replace.ensures.value) p.claimed

@@ -4,9 +4,6 @@ use Rattle.psu_pages.proofs.Marking.{claimed_still}
 use Rattle.psu_pages.proofs.Planning.{none_root}
 use Rattle.psu_pages.proofs.pages.Pages.unplan.Goals as goal
 
-pub invariant_of-self-clause-sized : goal.invariant_of-self-clause-sized
-invariant_of-self-clause-sized g c = let p = c.args.self.now in c.free_head.ensures.size ∙ p.sized
-
 pub invariant_of-self-clause-first_kept : goal.invariant_of-self-clause-first_kept
 invariant_of-self-clause-first_kept g c = let p = c.args.self.now in c.free_head.ensures.others 0 (none_root p.limit (pages_of c.args.head) 0 (omega arith) c.requires.pool) ∙ p.first_kept
 
