@@ -40,9 +40,6 @@ all_remove P (y ∷ xs) zero all = all.1
 all_remove P (y ∷ xs) (suc i) all = (all.0, all_remove P xs i all.1)
 
 -- one entry more
-pub entries_more : (entries : List Entry) (e : Entry) → items_in (entries ++ e ∷ []) ≡ items_in entries ++ item_in e ∷ []
-entries_more entries e = map-append item_in entries (e ∷ [])
-
 -- the entries of a map that stands are of it
 entries_of : (before : List Item) (entries : List Entry) → AllByRecursion (λ (i : Item). get before i.key ≡ Some i.value) (items_in entries) → AllByRecursion (IsOf before) entries
 entries_of before [] own = tt

@@ -32,9 +32,6 @@ pub either_run : {D : Type 0} (G : Ghosts D) (version number limit : ℕ) (befor
     → LeavesOnly (Ghosts.moment G) (Ghosts.left_since G) old last (IsEither limit before target)
 either_run G version number limit before target old last run = weaken (Ghosts.moment G) (Ghosts.left_since G) old last (IsEitherRoot version number limit before target) (IsEither limit before target) run (to_either version number limit before target)
 
-pub can_back : {D A : Type 0} {G : Ghosts D} (pages : Pages D A G) (m : List Item) (seen : MapOn D) (batch : List Edit) → on_pages pages m ≡ seen → CanHold seen.limit (changed seen.items batch) → CanHold pages.limit (changed m batch)
-can_back {D} pages m seen batch is can = subst (λ (s : MapOn D). CanHold s.limit (changed s.items batch)) (sym is) can
-
 pub number_back : {D A : Type 0} {G : Ghosts D} (pages : Pages D A G) (m : List Item) (seen : MapOn D) → on_pages pages m ≡ seen → pages.number ≡ seen.number
 number_back {D} pages m seen is = ap (λ (s : MapOn D). s.number) is
 

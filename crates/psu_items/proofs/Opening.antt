@@ -20,14 +20,6 @@ use Rattle.psu_items.specs.Finding.{SameRoots, IsOldOrSame, cause_of_pages}
 use Rattle.psu_items.proofs.Standing.{stands_at}
 use Rattle.psu_items.proofs.Taking.{BearsOf, Closes}
 
-pub ok_map : {T E : Type 0} (r : Result T E) (P Q : T → Type 0) → ((x : T) → P x → Q x) → IfOk r P → IfOk r Q
-ok_map (Ok x) P Q f p = f x p
-ok_map (Err e) P Q f p = tt
-
-pub ok_both : {T E : Type 0} (r : Result T E) (P Q : T → Type 0) → IfOk r P → IfOk r Q → IfOk r (λ x. P x × Q x)
-ok_both (Ok x) P Q p q = (p, q)
-ok_both (Err e) P Q p q = tt
-
 pub err_any : {T E : Type 0} (r : Result T E) (P : E → Type 0) → ((e : E) → P e) → IfErr r P
 err_any (Ok x) P f = tt
 err_any (Err e) P f = f e
