@@ -5,7 +5,6 @@ use Rattle.psu_disk.specs.Moments.{weaken}
 use Rattle.psu_disk.specs.declared.disk.Disk.{Ghosts}
 use Rattle.psu_items.specs.Map.{Item}
 use Rattle.psu_items.specs.Batch.{Edit, changed}
-use Rattle.psu_items.specs.Capacity.{CanHold}
 use Rattle.psu_items.specs.Image.{IsEither, IsEitherRoot}
 use Rattle.psu_items.specs.Plan.{Planned}
 use Rattle.psu_items.specs.Standing.{KeepsMap, MapOn, on_pages}
