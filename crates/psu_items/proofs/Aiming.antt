@@ -1,7 +1,7 @@
 -- The entries of a target, edit by edit.
-use Rattle.std.proofs.Common.{◌≡◌, ℕ, zero, suc, ◌<◌, Bool, true, false, List, [], ◌∷◌, ◌++◌, length, map, set, get_or, Option, Some, refl, sym, ◌∙◌, ap, subst, arith}
+use Rattle.std.proofs.Common.{◌≡◌, ℕ, zero, suc, ◌<◌, Bool, true, false, List, [], ◌∷◌, length, map, set, get_or, Option, Some, refl, sym, ◌∙◌, ap, subst, arith}
 use Rattle.std.specs.List.{insert, remove, AllByRecursion}
-use Rattle.std.proofs.lemmas.List.{length-map, map-append, map-set}
+use Rattle.std.proofs.lemmas.List.{length-map, map-set}
 use Rattle.psu_pages.proofs.Lists.{all_at}
 use Rattle.psu_items.specs.Map.{Item, get, put, without, IsSorted}
 use Rattle.psu_items.specs.Place.{key_at, IsAt, IsGap}
@@ -40,9 +40,6 @@ all_remove P (y ∷ xs) zero all = all.1
 all_remove P (y ∷ xs) (suc i) all = (all.0, all_remove P xs i all.1)
 
 -- one entry more
-pub entries_more : (entries : List Entry) (e : Entry) → items_in (entries ++ e ∷ []) ≡ items_in entries ++ item_in e ∷ []
-entries_more entries e = map-append item_in entries (e ∷ [])
-
 -- the entries of a map that stands are of it
 entries_of : (before : List Item) (entries : List Entry) → AllByRecursion (λ (i : Item). get before i.key ≡ Some i.value) (items_in entries) → AllByRecursion (IsOf before) entries
 entries_of before [] own = tt

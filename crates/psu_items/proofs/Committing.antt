@@ -4,8 +4,7 @@ use Rattle.psu_disk.specs.Disk.{Left, Follows, LeavesOnly, HasFailed}
 use Rattle.psu_disk.specs.Moments.{started, weaken}
 use Rattle.psu_disk.specs.declared.disk.Disk.{Ghosts}
 use Rattle.psu_items.specs.Map.{Item}
-use Rattle.psu_items.specs.Capacity.{CanHold, IsMapOf}
-use Rattle.psu_items.specs.Batch.{Edit, changed}
+use Rattle.psu_items.specs.Capacity.{IsMapOf}
 use Rattle.psu_pages.specs.declared.pages.Pages.{Pages}
 use Rattle.psu_pages.specs.declared.root.Root.{Root}
 use Rattle.psu_pages.specs.Outcome.{HasSameRoots}
@@ -31,9 +30,6 @@ to_either version number limit before target x (inr is) = inr is.stands
 pub either_run : {D : Type 0} (G : Ghosts D) (version number limit : ℕ) (before target : List Item) (old last : D) → LeavesOnly (Ghosts.moment G) (Ghosts.left_since G) old last (IsEitherRoot version number limit before target)
     → LeavesOnly (Ghosts.moment G) (Ghosts.left_since G) old last (IsEither limit before target)
 either_run G version number limit before target old last run = weaken (Ghosts.moment G) (Ghosts.left_since G) old last (IsEitherRoot version number limit before target) (IsEither limit before target) run (to_either version number limit before target)
-
-pub can_back : {D A : Type 0} {G : Ghosts D} (pages : Pages D A G) (m : List Item) (seen : MapOn D) (batch : List Edit) → on_pages pages m ≡ seen → CanHold seen.limit (changed seen.items batch) → CanHold pages.limit (changed m batch)
-can_back {D} pages m seen batch is can = subst (λ (s : MapOn D). CanHold s.limit (changed s.items batch)) (sym is) can
 
 pub number_back : {D A : Type 0} {G : Ghosts D} (pages : Pages D A G) (m : List Item) (seen : MapOn D) → on_pages pages m ≡ seen → pages.number ≡ seen.number
 number_back {D} pages m seen is = ap (λ (s : MapOn D). s.number) is

@@ -7,9 +7,6 @@ cost_first [] n d lt = absurd (omega arith)
 cost_first (i ∷ items) zero d lt = refl
 cost_first (i ∷ items) (suc n) d lt = cost_first items n d (omega arith)
 
-pub cost_left : (items : List Item) (n next size : ℕ) (i d : Item) → n < length items → next ≡ suc n → i ≡ get_or items n d → size ≡ length i.value → cost (drop n items) ≡ (1 + (size + 511) / 512) + cost (drop next items)
-cost_left items n next size i d lt e is len = rw (e, len, is) (cost_first items n d lt)
-
 pub cost_none : (items : List Item) (n : ℕ) → length items ≤ n → cost (drop n items) ≡ 0
 cost_none [] zero le = refl
 cost_none [] (suc n) le = refl

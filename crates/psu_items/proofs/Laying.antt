@@ -9,8 +9,8 @@ use Rattle.psu_pages.specs.declared.pages.Pages.{Pages}
 use Rattle.psu_pages.specs.Image.{Head, IsNone, AreApart, AreClear, pages_of, taken, keys}
 use Rattle.psu_pages.specs.Free.{is_free, AreClaimed}
 use Rattle.psu_pages.specs.Outcome.{IsPlanned, HasSameRoots}
-use Rattle.psu_pages.proofs.Lists.{all_at, all_map, all_left, all_right, all_join, apart_left, apart_right, apart_join, apart_clear, clear_swap, clear_by}
-use Rattle.psu_pages.proofs.Taken.{taken_all, taken_apart, taken-append, clear_none, clear_join}
+use Rattle.psu_pages.proofs.Lists.{all_at, all_map, all_left, all_right, all_join, apart_left, apart_right, apart_join, apart_clear, clear_none, clear_swap, clear_by}
+use Rattle.psu_pages.proofs.Taken.{taken_all, taken_apart, taken-append, clear_join}
 use Rattle.psu_pages.proofs.Taken.{keys-append as head_keys-append}
 use Rattle.psu_items.specs.declared.slot.Slot.{Slot}
 use Rattle.psu_items.specs.Layout.{IsOneOf, heads_of, keys_in, value_of, value_at, IsSlotFor, IsSlot, AreSlots}

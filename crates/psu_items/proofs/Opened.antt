@@ -5,7 +5,7 @@ use Rattle.psu_disk.specs.Ranges.{reads_left}
 use Rattle.psu_disk.specs.declared.disk.Disk.{Ghosts}
 use Rattle.psu_items.specs.Map.{Item, IsSorted}
 use Rattle.psu_items.specs.Capacity.{IsMapOf}
-use Rattle.psu_items.specs.declared.refused.Refused.{Refused}
+use Rattle.psu_pages.specs.declared.refused.Refused.{Refused}
 use Rattle.psu_pages.specs.declared.pages.Pages.{Pages}
 use Rattle.psu_pages.specs.Shown.{items_in, Bears}
 use Rattle.psu_items.specs.Image.{listed, counting, number_in, version_in, Stands, EachStands}

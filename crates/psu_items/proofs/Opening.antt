@@ -1,12 +1,12 @@
 -- What is found at an opening, and what it leaves.
-use Rattle.std.proofs.Common.{◌≡◌, inl, inr, ⊎_elim, ℕ, List, Result, Ok, Err, IfOk, IfErr, map, refl, sym, ◌∙◌, ap, subst, arith}
+use Rattle.std.proofs.Common.{◌≡◌, inl, inr, ⊎_elim, ℕ, List, Result, Ok, Err, IfErr, map, refl, sym, ◌∙◌, ap, subst, arith}
 use Rattle.psu_disk.specs.Disk.{DiskState, Left, Only, SameBut, LeavesOnly}
 use Rattle.psu_disk.specs.Moments.{and_then, weaken}
 use Rattle.psu_disk.specs.Ranges.{reads_left}
 use Rattle.psu_disk.specs.declared.disk.Disk.{Ghosts}
 use Rattle.psu_items.specs.Map.{Item, IsSorted}
 use Rattle.psu_items.specs.Capacity.{IsMapOf}
-use Rattle.psu_pages.specs.declared.open_cause.OpenCause.{OpenCause as PagesCause}
+use Rattle.psu_pages.specs.declared.open_cause.OpenCause.{OpenCause}
 use Rattle.psu_pages.specs.declared.open_cause.OpenCause.TheVariants.{Device, NoRoot, BadRoot, BadVersion, Memory}
 use Rattle.psu_pages.specs.declared.pages.Pages.{Pages}
 use Rattle.psu_pages.specs.declared.root.Root.{Root}
@@ -16,17 +16,9 @@ use Rattle.psu_pages.specs.Shown as shown
 use Rattle.psu_pages.specs.Finding as finding
 use Rattle.psu_pages.proofs.Bearing.{counting_is}
 use Rattle.psu_items.specs.Image.{as_item, listed, counting, RootHolds, Stands, EachStands, IsEither, EachIsEither, IsRefusal, HasReadableRoot}
-use Rattle.psu_items.specs.Finding.{SameRoots, IsOldOrSame, cause_of_pages}
+use Rattle.psu_items.specs.Finding.{SameRoots, IsOldOrSame}
 use Rattle.psu_items.proofs.Standing.{stands_at}
 use Rattle.psu_items.proofs.Taking.{BearsOf, Closes}
-
-pub ok_map : {T E : Type 0} (r : Result T E) (P Q : T → Type 0) → ((x : T) → P x → Q x) → IfOk r P → IfOk r Q
-ok_map (Ok x) P Q f p = f x p
-ok_map (Err e) P Q f p = tt
-
-pub ok_both : {T E : Type 0} (r : Result T E) (P Q : T → Type 0) → IfOk r P → IfOk r Q → IfOk r (λ x. P x × Q x)
-ok_both (Ok x) P Q p q = (p, q)
-ok_both (Err e) P Q p q = tt
 
 pub err_any : {T E : Type 0} (r : Result T E) (P : E → Type 0) → ((e : E) → P e) → IfErr r P
 err_any (Ok x) P f = tt
@@ -53,7 +45,7 @@ still_either disk limit before target all x (inl left) = all x left
 still_either disk limit before target all x (inr same) = ⊎_elim (λ st. inl (same_stands disk.bytes x limit before same st)) (λ st. inr (same_stands disk.bytes x limit target same st)) (all disk.bytes (reads_left disk))
 
 -- why pages aren't opened is why the store isn't
-pub pages_refused : (image : List ℕ) (cause : PagesCause) → finding.IsRefusal image cause → IsRefusal image (cause_of_pages cause)
+pub pages_refused : (image : List ℕ) (cause : OpenCause) → finding.IsRefusal image cause → IsRefusal image cause
 pages_refused image Device why = tt
 pages_refused image NoRoot why = why
 pages_refused image BadRoot why = record {

@@ -8,8 +8,8 @@ use Rattle.std.proofs.Math.Logic.{∥∥₁_elim}
 use Rattle.std.specs.Cmp.Lexicographic.{pointwise}
 use Rattle.psu_disk.specs.Disk.{DiskState, Left}
 use Rattle.psu_disk.specs.Ranges.{reads_left}
-use Rattle.psu_items.specs.declared.open_cause.OpenCause.{OpenCause}
-use Rattle.psu_items.specs.declared.open_cause.OpenCause.TheVariants as Unopened
+use Rattle.psu_pages.specs.declared.open_cause.OpenCause.{OpenCause}
+use Rattle.psu_pages.specs.declared.open_cause.OpenCause.TheVariants as Unopened
 use Rattle.psu_items.specs.Map.{Item, item_of}
 use Rattle.psu_items.specs.CapacityLaws.{IsSorted-IsProp}
 use Rattle.psu_pages.specs.declared.root.Root.{Root}

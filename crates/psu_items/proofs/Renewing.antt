@@ -5,7 +5,6 @@ use Rattle.psu_disk.specs.Moments.{weaken}
 use Rattle.psu_disk.specs.declared.disk.Disk.{Ghosts}
 use Rattle.psu_items.specs.Map.{Item}
 use Rattle.psu_items.specs.Batch.{Edit, changed}
-use Rattle.psu_items.specs.Capacity.{CanHold}
 use Rattle.psu_items.specs.Image.{IsEither, IsEitherRoot}
 use Rattle.psu_items.specs.Plan.{Planned}
 use Rattle.psu_items.specs.Standing.{KeepsMap, MapOn, on_pages}
@@ -31,9 +30,6 @@ module _ (m found : List Item) (batch edits : List Edit) (map_is : found ≡ m) 
 
   pub weakly_called : (limit : ℕ) (x : List ℕ) → IsEither limit found (changed found edits) x → IsEither limit m (changed m batch) x
   weakly_called limit x e = subst (λ (es : List Edit). IsEither limit m (changed m es) x) edits_are (subst (λ (f : List Item). IsEither limit f (changed f edits) x) map_is e)
-
-  pub can_called : (limit : ℕ) → CanHold limit (changed m batch) → CanHold limit (changed found edits)
-  can_called limit can = subst (λ (es : List Edit). CanHold limit (changed found es)) (sym edits_are) (subst (λ (f : List Item). CanHold limit (changed f batch)) (sym map_is) can)
 
   pub target_called : changed found edits ≡ changed m batch
   target_called = ap (λ (f : List Item). changed f edits) map_is ∙ ap (changed m) edits_are

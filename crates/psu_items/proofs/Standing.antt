@@ -69,6 +69,3 @@ module _ {D A : Type 0} {G : Ghosts D} (pages : Pages D A G) (m : List Item) (sh
 
   pub pages_as : Ghosts.honest G → (image : List ℕ) → Left (Ghosts.state G pages.disk) image → StandsAs pages.version pages.number image pages.limit m
   pages_as h image left = bears_as pages.root pages.version pages.limit pages.number pages.heads.items _ m image shows.sorted (shows.holds h) (pages.bears h (surely pages.standing shows.one) image left)
-
-  pub seen_on_disk : (seen : MapOn D) → on_pages pages m ≡ seen → Ghosts.honest G → IsOnDisk (Ghosts.state G) seen
-  seen_on_disk seen is h = subst (IsOnDisk (Ghosts.state G)) is (pages_on_disk h)

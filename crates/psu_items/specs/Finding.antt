@@ -2,10 +2,8 @@
 use Rattle.std.specs.Prelude.{◌≡◌, ℕ, ◌⊎◌, List}
 use Rattle.psu_disk.specs.Disk.{DiskState, Left, SameBut}
 use Rattle.psu_items.specs.Map.{Item}
-use Rattle.psu_items.specs.declared.open_cause.OpenCause.{OpenCause}
-use Rattle.psu_items.specs.declared.open_cause.OpenCause.TheVariants.{Device, NoRoot, BadRoot, BadVersion, Memory}
-use Rattle.psu_pages.specs.declared.open_cause.OpenCause.{OpenCause as PagesCause}
-use Rattle.psu_pages.specs.declared.open_cause.OpenCause.TheVariants as unopened
+use Rattle.psu_pages.specs.declared.open_cause.OpenCause.{OpenCause}
+use Rattle.psu_pages.specs.declared.open_cause.OpenCause.TheVariants.{Device, Memory}
 use Rattle.psu_pages.specs.declared.page_fault.PageFault.{PageFault}
 use Rattle.psu_pages.specs.declared.page_fault.PageFault.TheVariants as unread
 use Rattle.psu_pages.specs.declared.root.Root.{Root}
@@ -22,14 +20,6 @@ pub record SameRoots (y x : List ℕ) : Type 0 where
 -- an image is one from before, or the root that counted when it was read counts in it
 abbrev pub IsOldOrSame : DiskState → List ℕ → Type 0
 IsOldOrSame old image = Left old image ⊎ SameRoots old.bytes image
-
--- why a disk isn't opened, by why its pages aren't
-abbrev pub cause_of_pages : PagesCause → OpenCause
-cause_of_pages unopened.Device = Device
-cause_of_pages unopened.NoRoot = NoRoot
-cause_of_pages unopened.BadRoot = BadRoot
-cause_of_pages unopened.BadVersion = BadVersion
-cause_of_pages unopened.Memory = Memory
 
 -- why a disk isn't opened, by why its pages aren't read, for which none are claimed
 abbrev pub IsUnread : PageFault → OpenCause → Type 0

@@ -3,8 +3,8 @@ use Rattle.std.specs.Prelude.{◌≡◌, ℕ, ◌+◌, ◌⊎◌, List, map, ⊤
 use Rattle.psu_disk.specs.Disk.{DiskState, Left}
 use Rattle.psu_items.specs.Map.{Item, item_of, IsSorted}
 use Rattle.psu_items.specs.Capacity.{IsMapOf}
-use Rattle.psu_items.specs.declared.open_cause.OpenCause.{OpenCause}
-use Rattle.psu_items.specs.declared.open_cause.OpenCause.TheVariants.{Device, NoRoot, BadRoot, BadVersion, Memory}
+use Rattle.psu_pages.specs.declared.open_cause.OpenCause.{OpenCause}
+use Rattle.psu_pages.specs.declared.open_cause.OpenCause.TheVariants.{Device, NoRoot, BadRoot, BadVersion, Memory}
 use Rattle.psu_pages.specs.declared.root.Root.{Root}
 use Rattle.psu_pages.specs.Image as pages
 use Rattle.psu_pages.specs.Shown as shown

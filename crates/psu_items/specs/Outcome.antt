@@ -3,12 +3,8 @@ use Rattle.std.specs.Prelude.{◌≡◌, ◌+◌, ◌≤◌, ◌^◌, List, ⊤,
 use Rattle.psu_disk.specs.Disk.{HasFailed}
 use Rattle.psu_disk.specs.declared.disk.Disk.{Ghosts}
 use Rattle.psu_items.specs.Batch.{Edit, changed}
-use Rattle.psu_items.specs.declared.format_fault.FormatFault.{FormatFault}
-use Rattle.psu_items.specs.declared.format_fault.FormatCause.{FormatCause}
-use Rattle.psu_items.specs.declared.format_fault.FormatCause.TheVariants.{Device, Memory}
-use Rattle.psu_items.specs.declared.refused.Refused.{Refused}
-use Rattle.psu_pages.specs.declared.format_fault.FormatCause.{FormatCause as PagesCause}
-use Rattle.psu_pages.specs.declared.format_fault.FormatCause.TheVariants as unformatted
+use Rattle.psu_pages.specs.declared.format_fault.FormatFault.{FormatFault}
+use Rattle.psu_pages.specs.declared.refused.Refused.{Refused}
 use Rattle.psu_items.specs.Standing.{MapOn}
 use Rattle.psu_items.specs.declared.broken.Broken.{Broken}
 use Rattle.psu_items.specs.declared.broken.BrokenCause.TheVariants as broken_cause
@@ -26,11 +22,6 @@ formatted_disk (Err e) = e.disk
 abbrev pub opened_disk : {D : Type 0} → Result (MapOn D) (Refused D) → D
 opened_disk (Ok store) = store.disk
 opened_disk (Err e) = e.disk
-
--- why a disk isn't formatted, by why its pages aren't
-abbrev pub cause_of_format : PagesCause → FormatCause
-cause_of_format unformatted.Device = Device
-cause_of_format unformatted.Memory = Memory
 
 -- the disk that a commit hands on
 abbrev pub disk_of : {D A : Type 0} {G : Ghosts D} → Commit D A G → D

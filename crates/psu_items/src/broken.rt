@@ -9,8 +9,9 @@ ghost use Rattle.psu_items.specs.Recovered.{recovered_disk};
 ghost use Rattle.psu_items.specs.Standing.{IsOnDisk};
 ghost use Rattle.psu_items.specs.declared.broken.BrokenCause.TheVariants.{Device, Strange, Memory};
 
-use crate::{Batch, Items, OpenCause, Store};
+use crate::{Batch, Items, Store};
 use psu_disk::Disk;
+use psu_pages::OpenCause;
 use std::alloc::Allocator;
 
 /// Why a store is broken.

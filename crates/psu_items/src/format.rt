@@ -1,13 +1,12 @@
 //! A disk that is laid out anew.
 ghost use Rattle.std.specs.Prelude.{◌≡◌, ◌+◌, ◌*◌, ◌≤◌, [], IfOk, IfErr};
 ghost use Rattle.psu_disk.specs.Disk.{HasFailed};
-ghost use Rattle.psu_items.specs.Outcome.{cause_of_format};
 ghost use Rattle.psu_items.specs.Standing.{IsOnDisk};
-ghost use Rattle.psu_items.specs.declared.format_fault.FormatCause.TheVariants.{Device as NotWritten, Memory as NoMemory};
+ghost use Rattle.psu_pages.specs.declared.format_fault.FormatCause.TheVariants.{Device as NotWritten, Memory as NoMemory};
 
-use crate::{FormatCause, FormatFault, Items, Store};
+use crate::{Items, Store};
 use psu_disk::Disk;
-use psu_pages::{FormatCause as PagesCause, Pages};
+use psu_pages::{FormatFault, Pages};
 use std::alloc::Allocator;
 
 impl<D: Disk, A: Allocator + Copy> Store<D, A> {
@@ -32,20 +31,7 @@ impl<D: Disk, A: Allocator + Copy> Store<D, A> {
                 pages,
                 items: Items::new(alloc),
             }),
-            Err(fault) => Err(FormatFault {
-                cause: cause_of(fault.cause),
-                disk: fault.disk,
-            }),
+            Err(fault) => Err(fault),
         }
-    }
-}
-
-// The cause in the words of a store.
-fn cause_of(cause: PagesCause) -> FormatCause
-    ensures { result ≡ cause_of_format cause }
-{
-    match cause {
-        PagesCause::Device => FormatCause::Device,
-        PagesCause::Memory => FormatCause::Memory,
     }
 }

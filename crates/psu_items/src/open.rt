@@ -8,17 +8,17 @@ ghost use Rattle.psu_pages.specs.Shown.{items_in, Bears};
 ghost use Rattle.psu_pages.specs.Writing.{Reaches};
 ghost use Rattle.psu_pages.specs.Outcome.{HasClosed};
 ghost use Rattle.psu_items.specs.Image.{listed, counting, number_in, version_in, EachStands, Stands, IsRefusal, HasReadableRoot};
-ghost use Rattle.psu_items.specs.Finding.{IsOldOrSame, cause_of_pages, IsUnread};
+ghost use Rattle.psu_items.specs.Finding.{IsOldOrSame, IsUnread};
 ghost use Rattle.psu_items.specs.Outcome.{opened_disk};
 ghost use Rattle.psu_items.specs.Standing.{IsOnDisk, IsSpare};
-ghost use Rattle.psu_items.specs.declared.open_cause.OpenCause.TheVariants.{Device, Memory};
+ghost use Rattle.psu_pages.specs.declared.open_cause.OpenCause.TheVariants.{Device, Memory};
 ghost use Rattle.psu_pages.specs.declared.page_fault.PageFault.TheVariants as PageFault;
 ghost use Rattle.psu_pages.specs.declared.standing.Standing.TheVariants.{One, Unsure};
 
 use crate::read::read_items;
-use crate::{Items, OpenCause, Refused, Store};
+use crate::{Items, Store};
 use psu_disk::Disk;
-use psu_pages::{OpenCause as PagesCause, PageFault, Pages};
+use psu_pages::{OpenCause, PageFault, Pages, Refused};
 use std::alloc::Allocator;
 
 impl<D: Disk, A: Allocator + Copy> Store<D, A> {
@@ -53,10 +53,7 @@ impl<D: Disk, A: Allocator + Copy> Store<D, A> {
     {
         match Pages::open(alloc, disk) {
             Ok(pages) => take_up(alloc, pages),
-            Err(refused) => Err(Refused {
-                cause: cause_of(refused.cause),
-                disk: refused.disk,
-            }),
+            Err(refused) => Err(refused),
         }
     }
 }
@@ -128,19 +125,6 @@ fn read_back<D: Disk, A: Allocator + Copy>(
     let items = read_items(alloc, pages)?;
     pages.close_old()?;
     Ok(items)
-}
-
-// Why pages aren't opened, in the words of a store.
-fn cause_of(cause: PagesCause) -> OpenCause
-    ensures { result ≡ cause_of_pages cause }
-{
-    match cause {
-        PagesCause::Device => OpenCause::Device,
-        PagesCause::NoRoot => OpenCause::NoRoot,
-        PagesCause::BadRoot => OpenCause::BadRoot,
-        PagesCause::BadVersion => OpenCause::BadVersion,
-        PagesCause::Memory => OpenCause::Memory,
-    }
 }
 
 // Why pages aren't read. To read claims none.

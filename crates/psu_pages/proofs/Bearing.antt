@@ -56,10 +56,6 @@ pub counts_beside : (moved : Root) (x : List ℕ) → gate (other moved) x ≡ 1
 counts_beside First x is_open lower = record { open_gate = is_open; highest = lower }
 counts_beside Second x is_open lower = record { open_gate = is_open; highest = lower }
 
-pub lower_beside : (moved : Root) (x : List ℕ) → Counts (other moved) x → gate moved x ≡ 165 → number_in moved x < number_in (other moved) x
-lower_beside First x counts = counts.highest
-lower_beside Second x counts = counts.highest
-
 -- the disk has room for two roots, and for the pages of what is said
 module _ (root : Root) (version limit number : ℕ) (heads : List Head) (items : List Item) (x : List ℕ) (says : Says root version limit number heads items x) where
   pub room : 1024 ≤ length x

@@ -13,7 +13,7 @@ use Rattle.psu_pages.specs.declared.open_cause.OpenCause.{OpenCause}
 use Rattle.psu_pages.specs.declared.open_cause.OpenCause.TheVariants.{Device, NoRoot, BadRoot, BadVersion, Memory}
 use Rattle.psu_pages.specs.Image.{other, gate_at, gate, mark, mark_in, version_in, IsKnown, limit_in, number_in, count_in, Counts, counting}
 use Rattle.psu_pages.specs.Shown.{Shows}
-use Rattle.psu_pages.specs.Finding.{open_number, of_root, IsPickedIn, IsNonePicked, HasGoodWords, IsSound, IsUnsound, page_of, HasNoRoot, IsChoiceRefusal, IsChoiceCause}
+use Rattle.psu_pages.specs.Finding.{open_number, of_root, IsPickedIn, IsNonePicked, HasGoodWords, IsSound, IsUnsound, page_of, HasNoRoot, IsChoiceRefusal}
 use Rattle.psu_pages.proofs.Places.{gate_low, range_inside}
 use Rattle.psu_pages.proofs.Bearing.{counting_is}
 
@@ -160,18 +160,3 @@ module _ (root : Root) (x page : List ℕ) (size : 1024 ≤ length x) (is : page
           version = subst (λ (r : Root). IsKnown (version_in r x) → ⊥) is (λ known. none.1 (subst IsKnown (sym version_is) known));
         }
     unsound Memory counts none = absurd none
-
--- what a choice is refused for
-pub none_cause : (first second : Option ℕ) (cause : OpenCause) → IsNonePicked first second cause → IsChoiceCause cause
-none_cause first second Device none = none
-none_cause first second NoRoot none = tt
-none_cause first second BadRoot none = tt
-none_cause first second BadVersion none = tt
-none_cause first second Memory none = none
-
-pub unsound_cause : (words : Words) (size : ℕ) (cause : OpenCause) → IsUnsound words size cause → IsChoiceCause cause
-unsound_cause words size Device none = none
-unsound_cause words size NoRoot none = tt
-unsound_cause words size BadRoot none = tt
-unsound_cause words size BadVersion none = tt
-unsound_cause words size Memory none = none

@@ -14,7 +14,6 @@ pub mod Quiet
 pub mod Planning
 pub mod Taken
 pub mod Publishing
-pub mod Pooling
 pub mod Scanning
 pub mod Choosing
 pub mod Formatting

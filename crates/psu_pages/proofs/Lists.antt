@@ -58,31 +58,29 @@ pub apart_more : {X : Type 0} (xs : List X) (x : X) → AreApart xs → IsNone x
 apart_more [] x apart none = (tt, tt)
 apart_more {X} (y ∷ xs) x apart none = (all_join (λ (z : X). y ≢ z) xs (x ∷ []) apart.0 (λ same. none.0 (sym same), tt), apart_more xs x apart.1 none.1)
 
--- two lists, of which none of the one is one of the other
+-- none of the one is one of the other: the first of them, the rest, and either way round
+clear_first : (x : ℕ) (xs ys : List ℕ) → AreClear (x ∷ xs) ys → IsNone ys x
+clear_first x xs = all_map (IsNone (x ∷ xs)) (λ (y : ℕ). x ≢ y) (λ y none same. none.0 (sym same))
+
+clear_rest : (x : ℕ) (xs ys : List ℕ) → AreClear (x ∷ xs) ys → AreClear xs ys
+clear_rest x xs = all_map (IsNone (x ∷ xs)) (IsNone xs) (λ y none. none.1)
+
+pub clear_swap : (xs ys : List ℕ) → AreClear xs ys → AreClear ys xs
+clear_swap [] ys clear = tt
+clear_swap (x ∷ xs) ys clear = (clear_first x xs ys clear, clear_swap xs ys (clear_rest x xs ys clear))
+
+pub clear_none : (pages : List ℕ) → AreClear [] pages
+clear_none [] = tt
+clear_none (p ∷ pages) = (tt, clear_none pages)
+
+-- two lists, of which none of the one is one of the other, and back
 pub apart_join : (xs ys : List ℕ) → AreApart xs → AreApart ys → AreClear xs ys → AreApart (xs ++ ys)
 apart_join [] ys a b clear = b
-apart_join (x ∷ xs) ys a b clear = (all_join (λ (z : ℕ). x ≢ z) xs ys a.0 (firsts ys clear), apart_join xs ys a.1 b (rests ys clear))
-  where
-    firsts : (ys : List ℕ) → AreClear (x ∷ xs) ys → AllByRecursion (λ (z : ℕ). x ≢ z) ys
-    firsts [] clear = tt
-    firsts (y ∷ ys) clear = (λ same. clear.0.0 (sym same), firsts ys clear.1)
+apart_join (x ∷ xs) ys a b clear = (all_join (λ (z : ℕ). x ≢ z) xs ys a.0 (clear_first x xs ys clear), apart_join xs ys a.1 b (clear_rest x xs ys clear))
 
-    rests : (ys : List ℕ) → AreClear (x ∷ xs) ys → AreClear xs ys
-    rests [] clear = tt
-    rests (y ∷ ys) clear = (clear.0.1, rests ys clear.1)
-
--- and back
 pub apart_clear : (xs ys : List ℕ) → AreApart (xs ++ ys) → AreClear xs ys
-apart_clear [] ys apart = all ys
-  where
-    all : (ys : List ℕ) → AreClear [] ys
-    all [] = tt
-    all (y ∷ ys) = (tt, all ys)
-apart_clear (x ∷ xs) ys apart = add ys (all_right (λ (z : ℕ). x ≢ z) xs ys apart.0) (apart_clear xs ys apart.1)
-  where
-    add : (ys : List ℕ) → AllByRecursion (λ (z : ℕ). x ≢ z) ys → AreClear xs ys → AreClear (x ∷ xs) ys
-    add [] a b = tt
-    add (y ∷ ys) a b = ((λ same. a.0 (sym same), b.0), add ys a.1 b.1)
+apart_clear [] ys apart = clear_none ys
+apart_clear (x ∷ xs) ys apart = clear_swap ys (x ∷ xs) (all_right (λ (z : ℕ). x ≢ z) xs ys apart.0, clear_swap xs ys (apart_clear xs ys apart.1))
 
 -- elements that differ in what a test says of them are apart
 pub none_by : {X B : Type 0} (f : X → B) (a b : B) → (a ≡ b → ⊥) → (xs : List X) (x : X) → AllByRecursion (λ (y : X). f y ≡ a) xs → f x ≡ b → IsNone xs x
@@ -92,22 +90,3 @@ none_by f a b differ (y ∷ xs) x all is = (λ same. differ (sym all.0 ∙ ap f 
 pub clear_by : {B : Type 0} (f : ℕ → B) (a b : B) → (a ≡ b → ⊥) → (xs ys : List ℕ) → AllByRecursion (λ (y : ℕ). f y ≡ a) xs → AllByRecursion (λ (y : ℕ). f y ≡ b) ys → AreClear xs ys
 clear_by f a b differ xs [] all others = tt
 clear_by f a b differ xs (y ∷ ys) all others = (none_by f a b differ xs y all others.0, clear_by f a b differ xs ys all others.1)
-
-pub clear_right : (pages xs ys : List ℕ) → AreClear pages (xs ++ ys) → AreClear pages ys
-clear_right pages xs ys = all_right (IsNone pages) xs ys
-
-pub clear_left : (pages xs ys : List ℕ) → AreClear pages (xs ++ ys) → AreClear pages xs
-clear_left pages xs ys = all_left (IsNone pages) xs ys
-
--- none of the one is one of the other, either way round
-pub clear_swap : (xs ys : List ℕ) → AreClear xs ys → AreClear ys xs
-clear_swap [] ys clear = tt
-clear_swap (x ∷ xs) ys clear = (firsts ys clear, clear_swap xs ys (rests ys clear))
-  where
-    firsts : (ys : List ℕ) → AreClear (x ∷ xs) ys → IsNone ys x
-    firsts [] clear = tt
-    firsts (y ∷ ys) clear = (λ same. clear.0.0 (sym same), firsts ys clear.1)
-
-    rests : (ys : List ℕ) → AreClear (x ∷ xs) ys → AreClear xs ys
-    rests [] clear = tt
-    rests (y ∷ ys) clear = (clear.0.1, rests ys clear.1)

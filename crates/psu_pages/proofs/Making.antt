@@ -1,9 +1,9 @@
 -- A root whose pages are written shows what was spelled.
-use Rattle.std.proofs.Common.{◌≡◌, ◌⊎◌, inl, inr, ℕ, zero, suc, ◌+◌, ◌*◌, ◌-◌, ◌^◌, ◌<◌, ◌≤◌, List, [], ◌∷◌, ◌++◌, length, take, drop, map, replicate, refl, sym, ◌∙◌, ap, subst, append_assoc, arith, length-drop}
+use Rattle.std.proofs.Common.{◌≡◌, ◌⊎◌, inl, inr, ℕ, ◌+◌, ◌*◌, ◌-◌, ◌^◌, ◌<◌, ◌≤◌, List, [], ◌∷◌, ◌++◌, length, take, drop, map, replicate, refl, sym, ◌∙◌, ap, subst, append_assoc, arith, length-drop}
 use Rattle.std.specs.List.{AllByRecursion}
 use Rattle.std.specs.Int.{w16, w64, from_be_bytes}
 use Rattle.std.proofs.Math.Seq.{take-append_seam, take-append-add}
-use Rattle.std.proofs.lemmas.List.{length-take-le, take-append-drop, append-nil}
+use Rattle.std.proofs.lemmas.List.{take_all, length-take-le, take-append-drop, append-nil}
 use Rattle.std.proofs.lemmas.Bool.{cases_lt}
 use Rattle.std.proofs.lemmas.Nat.{from_be_bytes-to_be_bytes_2, from_be_bytes-to_be_bytes_8}
 use Rattle.psu_disk.specs.Disk.{Range}
@@ -43,12 +43,6 @@ value_again x (page ∷ pages) value written fits = by_length (value_again x pag
         ap (λ (b : List ℕ). take (length value) (b ++ rest)) page_is
         ∙ ap (take (length value)) (append_assoc value zeros rest)
         ∙ take-append_seam value (zeros ++ rest)
-      where
-        take_all : (n : ℕ) (l : List ℕ) → length l ≤ n → take n l ≡ l
-        take_all zero [] le = refl
-        take_all (suc n) [] le = refl
-        take_all zero (a ∷ l) le = absurd (omega (arith, le))
-        take_all (suc n) (a ∷ l) le = ap (λ (r : List ℕ). a ∷ r) (take_all n l (omega (arith, le)))
 
 -- a head and its item, once their pages are written
 module _ (x : List ℕ) (head : Head) (value : List ℕ) (is : IsHead head) (fits : AllByRecursion (λ (n : ℕ). n < 2 ^ 16) head.pages) (size : head.size ≡ length value)

@@ -178,9 +178,6 @@ pub claimed_still : (mark : Bool) (marked pages : List ℕ) (old new : List Bool
 claimed_still mark marked [] old new so claimed clear = tt
 claimed_still mark marked (p ∷ pages) old new so claimed clear = (so.others p clear.0 ∙ claimed.0, claimed_still mark marked pages old new so claimed.1 clear.1)
 
-pub none_page : (pages : List ℕ) (page : ℕ) (free : List Bool) (a b : Bool) → (a ≡ b → ⊥) → AllByRecursion (λ (p : ℕ). is_free free p ≡ a) pages → is_free free page ≡ b → IsNone pages page
-none_page pages page free a b differ all is = none_by (is_free free) a b differ pages page all is
-
 -- what a page that is claimed with others before it was
 pub was_free : (pages : List ℕ) (page : ℕ) (old mid : List Bool) → Marks false pages old mid → is_free mid page ≡ true → IsNone pages page
 was_free pages page old mid so is = none_by (is_free mid) false true (λ same. cc) pages page so.marked is

@@ -3,7 +3,7 @@ use Rattle.std.proofs.Common.{◌≡◌, ℕ, zero, suc, ◌+◌, ◌*◌, ◌<�
 use Rattle.std.specs.List.{AllByRecursion, remove}
 use Rattle.psu_pages.specs.Image.{IsInPool, IsNone, AreApart}
 use Rattle.psu_pages.specs.Free.{is_free, free_pages, Marks, AreClaimed}
-use Rattle.psu_pages.proofs.Lists.{all_map, all_take, apart_take, clear_by, none_by}
+use Rattle.psu_pages.proofs.Lists.{all_map, all_take, apart_take, clear_by}
 use Rattle.psu_pages.proofs.Marking.{free_apart, free_are, claimed_still}
 
 -- a free page is none of the roots'
@@ -32,9 +32,6 @@ first_and_rest (p ∷ pages) rest at le is last = ap (λ (q : ℕ). q ∷ rest) 
 
 -- pages that were claimed stay so while free ones are claimed
 module _ (pages : List ℕ) (old new : List Bool) (free : AllByRecursion (λ (p : ℕ). is_free old p ≡ true) pages) (claims : Marks false pages old new) where
-  pub kept_one : (page : ℕ) → is_free old page ≡ false → is_free new page ≡ false
-  kept_one page was = claims.others page (none_by (is_free old) true false (λ same. cc) pages page free was) ∙ was
-
   pub kept_claimed : (others : List ℕ) → AreClaimed old others → AreClaimed new others
   kept_claimed others were = claimed_still false pages others old new claims were (clear_by (is_free old) true false (λ same. cc) pages others free were)
 

@@ -1,5 +1,5 @@
 -- What stands on pages goes on to stand, or gives way to what is published.
-use Rattle.std.proofs.Common.{◌≡◌, ℕ, suc, ◌+◌, ◌-◌, ◌*◌, ◌^◌, ◌<◌, ◌≤◌, List, [], ◌∷◌, ◌++◌, length, take, drop, replicate, refl, sym, ◌∙◌, ap, subst, arith}
+use Rattle.std.proofs.Common.{◌≡◌, ℕ, suc, ◌+◌, ◌-◌, ◌*◌, ◌^◌, ◌<◌, ◌≤◌, List, [], ◌∷◌, ◌++◌, length, take, drop, replicate, sym, ◌∙◌, ap, subst, arith}
 use Rattle.std.specs.List.{AllByRecursion}
 use Rattle.psu_disk.specs.Disk.{DiskState, Left, SameBut, Only, Follows, LeavesOnly}
 use Rattle.psu_disk.specs.Moments.{weaken}
@@ -37,75 +37,54 @@ written_still limit pages x y head value fits pool its clear misses written =
       item_is = ap (λ (b : List ℕ). item_of head.key (take head.size b)) (bytes_same x y head.pages same.1) ∙ written.item_is;
     }
 
+-- each image that a call may leave shows the items from before it
+pub record Keeps {D : Type 0} (state : D → DiskState) (root : Root) (version limit number : ℕ) (heads : List Head) (change : List ℕ → List ℕ → Type 0) (old new : D) : Type 0 where
+  pub each : (x y : List ℕ) → Left (state old) x → change x y → Bears root version limit number heads (items_in root (state old).bytes) y
+  pub step : Follows change (Left (state old)) (Left (state new))
+  pub seen : change (state old).bytes (state new).bytes
+
+module _ {D : Type 0} {state : D → DiskState} {root : Root} {version limit number : ℕ} {heads : List Head} {change : List ℕ → List ℕ → Type 0} {old new : D} (keeps : Keeps state root version limit number heads change old new) where
+  pub still_left : (x : List ℕ) → Left (state new) x → Bears root version limit number heads (items_in root (state old).bytes) x
+  still_left x l = let from = keeps.step x l in keeps.each from.0 x from.1 from.2
+
+  pub still_run : {moment : D → ℕ} {left_since : D → ℕ → List ℕ → Type 0} → LeavesOnly moment left_since old new (Reaches change (Left (state old)))
+      → LeavesOnly moment left_since old new (Bears root version limit number heads (items_in root (state old).bytes))
+  still_run {moment} {left_since} run = weaken moment left_since old new (Reaches change (Left (state old))) (Bears root version limit number heads (items_in root (state old).bytes)) run (λ x reach. keeps.each reach.0 x reach.1 reach.2)
+
+  pub still_shown : items_in root (state new).bytes ≡ items_in root (state old).bytes
+  still_shown = (keeps.each (state old).bytes (state new).bytes (reads_left (state old)) keeps.seen).says.items_are
+
+  pub still_bears : EachBears (state new) root version limit number heads (items_in root (state new).bytes)
+  still_bears x l = subst (λ (items : List Item). Bears root version limit number heads items x) (sym still_shown) (still_left x l)
+
 -- pages are written that the root that counts doesn't name
-module _ {D : Type 0} (state : D → DiskState) (root : Root) (version limit number : ℕ) (heads : List Head) (pages : List ℕ) (pool : AllByRecursion (IsInPool limit) pages) (clear : AreClear pages (taken heads)) (old : D)
+module _ {D : Type 0} (state : D → DiskState) (root : Root) (version limit number : ℕ) (heads : List Head) (pages : List ℕ) (old : D) (pool : AllByRecursion (IsInPool limit) pages) (clear : AreClear pages (taken heads))
     (bears : EachBears (state old) root version limit number heads (items_in root (state old).bytes)) where
-  abbrev low : AllByRecursion (λ (page : ℕ). 2 ≤ page) pages
-  low = pool_low limit pages pool
+  pub missed : (x y : List ℕ) → Left (state old) x → Misses pages x y → Bears root version limit number heads (items_in root (state old).bytes) y
+  missed x y l misses = bears_missed root version limit number heads (items_in root (state old).bytes) pages x y (pool_low limit pages pool) clear misses (bears x l)
 
-  abbrev pub shown : List Item
-  shown = items_in root (state old).bytes
+  pub lower_missed : (new : D) → Follows (Misses pages) (Left (state old)) (Left (state new)) → (r : Root) (n : ℕ) → EachLower (state old) r n → EachLower (state new) r n
+  lower_missed new step r n lower x l =
+      let from = step x l in
+      let items = items_in root (state old).bytes in
+      omega (arith, lower from.0 from.1, number_missed root version limit number heads items pages from.0 x (pool_low limit pages pool) clear from.2 (room root version limit number heads items from.0 (bears from.0 from.1).says) r)
 
-  still : (x : List ℕ) → Reaches (Misses pages) (Left (state old)) x → Bears root version limit number heads shown x
-  still x reach = bears_missed root version limit number heads shown pages reach.0 x low clear reach.2 (bears reach.0 reach.1)
-
-  pub run_still : (moment : D → ℕ) (left_since : D → ℕ → List ℕ → Type 0) (new : D) → LeavesOnly moment left_since old new (Reaches (Misses pages) (Left (state old))) → LeavesOnly moment left_since old new (Bears root version limit number heads shown)
-  run_still moment left_since new run = weaken moment left_since old new (Reaches (Misses pages) (Left (state old))) (Bears root version limit number heads shown) run still
-
-  module _ (new : D) (step : Follows (Misses pages) (Left (state old)) (Left (state new))) (seen : Misses pages (state old).bytes (state new).bytes) where
-    pub left_still : (x : List ℕ) → Left (state new) x → Bears root version limit number heads shown x
-    left_still x l = still x (step x l)
-
-    pub shown_still : items_in root (state new).bytes ≡ shown
-    shown_still = (still (state new).bytes ((state old).bytes, reads_left (state old), seen)).says.items_are
-
-    pub bears_still : EachBears (state new) root version limit number heads (items_in root (state new).bytes)
-    bears_still x l = subst (λ (items : List Item). Bears root version limit number heads items x) (sym shown_still) (left_still x l)
-
-    pub shut_still : (r : Root) → EachShut (state old) r → EachShut (state new) r
-    shut_still r shut x l is = let from = step x l in shut from.0 from.1 (sym (gate_missed pages from.0 x low from.2 r) ∙ is)
-
-    pub lower_still : (r : Root) (n : ℕ) → EachLower (state old) r n → EachLower (state new) r n
-    lower_still r n lower x l =
-        let from = step x l in
-        let size : 1024 ≤ length from.0 = room root version limit number heads shown from.0 (bears from.0 from.1).says in
-        omega (arith, lower from.0 from.1, number_missed root version limit number heads shown pages from.0 x low clear from.2 size r)
+pub shut_missed : (limit : ℕ) (pages : List ℕ) (old new : DiskState) → AllByRecursion (IsInPool limit) pages → Follows (Misses pages) (Left old) (Left new) → (r : Root) → EachShut old r → EachShut new r
+shut_missed limit pages old new pool step r shut x l is = let from = step x l in shut from.0 from.1 (sym (gate_missed pages from.0 x (pool_low limit pages pool) from.2 r) ∙ is)
 
 -- what is told begins after the gate
 pub told_filled : (bytes : List ℕ) → drop 1 (filled 512 (0 ∷ bytes)) ≡ filled 511 bytes
-told_filled bytes = none (bytes ++ replicate (512 - suc (length bytes)) 0) ∙ ap (λ (n : ℕ). bytes ++ replicate n 0) (let same : 512 - suc (length bytes) ≡ 511 - length bytes = omega arith in same)
-  where
-    none : (l : List ℕ) → drop 0 l ≡ l
-    none [] = refl
-    none (b ∷ l) = refl
+told_filled bytes = ap (λ (n : ℕ). bytes ++ replicate n 0) (let same : 512 - suc (length bytes) ≡ 511 - length bytes = omega arith in same)
 
 -- the older gate closes
-module _ {D : Type 0} (state : D → DiskState) (root : Root) (version limit number : ℕ) (heads : List Head) (old : D)
-    (bears : EachBears (state old) root version limit number heads (items_in root (state old).bytes)) (lower : EachLower (state old) (other root) number) where
-  abbrev pub shown_before : List Item
-  shown_before = items_in root (state old).bytes
+pub closing : (state : DiskState) (root : Root) (version limit number : ℕ) (heads : List Head) (items : List Item) → EachBears state root version limit number heads items → EachLower state (other root) number
+    → (x y : List ℕ) → Left state x → SameBut (gate_at (other root)) 1 x y → Bears root version limit number heads items y
+closing state root version limit number heads items bears lower x y l but =
+    let was = bears x l in
+    let less : number_in (other root) y < number = omega (arith, lower x l, number_gate (other root) x y but (room root version limit number heads items x was.says)) in
+    subst (λ (r : Root). Bears r version limit number heads items y) (other_other root)
+    (bears_lower (other root) version limit number heads items (gate_at (other root)) 1 (omega arith) (omega arith) x y but less
+    (subst (λ (r : Root). Bears r version limit number heads items x) (sym (other_other root)) was))
 
-  closing : (x : List ℕ) → Reaches (SameBut (gate_at (other root)) 1) (Left (state old)) x → Bears root version limit number heads shown_before x
-  closing x reach =
-      let was = bears reach.0 reach.1 in
-      let size : 1024 ≤ length reach.0 = room root version limit number heads shown_before reach.0 was.says in
-      let less : number_in (other root) x < number = omega (arith, lower reach.0 reach.1, number_gate (other root) reach.0 x reach.2 size) in
-      subst (λ (r : Root). Bears r version limit number heads shown_before x) (other_other root)
-      (bears_lower (other root) version limit number heads shown_before (gate_at (other root)) 1 (omega arith) (omega arith) reach.0 x reach.2 less
-      (subst (λ (r : Root). Bears r version limit number heads shown_before reach.0) (sym (other_other root)) was))
-
-  pub run_closing : (moment : D → ℕ) (left_since : D → ℕ → List ℕ → Type 0) (new : D) → LeavesOnly moment left_since old new (Reaches (SameBut (gate_at (other root)) 1) (Left (state old))) → LeavesOnly moment left_since old new (Bears root version limit number heads shown_before)
-  run_closing moment left_since new run = weaken moment left_since old new (Reaches (SameBut (gate_at (other root)) 1) (Left (state old))) (Bears root version limit number heads shown_before) run closing
-
-  module _ (new : D) (step : Follows (SameBut (gate_at (other root)) 1) (Left (state old)) (Left (state new))) (seen : SameBut (gate_at (other root)) 1 (state old).bytes (state new).bytes) where
-    pub left_closing : (x : List ℕ) → Left (state new) x → Bears root version limit number heads shown_before x
-    left_closing x l = closing x (step x l)
-
-    pub shown_closing : items_in root (state new).bytes ≡ shown_before
-    shown_closing = (closing (state new).bytes ((state old).bytes, reads_left (state old), seen)).says.items_are
-
-    pub bears_closing : EachBears (state new) root version limit number heads (items_in root (state new).bytes)
-    bears_closing x l = subst (λ (items : List Item). Bears root version limit number heads items x) (sym shown_closing) (left_closing x l)
-
-    pub shut_closing : Only (state new) → gate (other root) (state new).bytes ≡ 0 → EachShut (state new) (other root)
-    shut_closing only zero x l is = absurd (omega (arith, subst (λ (y : List ℕ). gate (other root) y ≡ 0) (sym (only x l)) zero, is))
+pub shut_zero : (state : DiskState) (root : Root) → Only state → gate root state.bytes ≡ 0 → EachShut state root
+shut_zero state root only zero x l is = absurd (omega (arith, subst (λ (y : List ℕ). gate root y ≡ 0) (sym (only x l)) zero, is))

@@ -1,7 +1,7 @@
 -- Pages read one by one.
 use Rattle.std.proofs.Common.{◌≡◌, ℕ, zero, suc, ◌+◌, ◌<◌, List, [], ◌∷◌, ◌++◌, length, get_or, take, refl, sym, ◌∙◌, ap, append_assoc, arith}
 use Rattle.std.proofs.lemmas.List.{append-nil, take_more}
-use Rattle.psu_disk.specs.Disk.{DiskState, Left, LeavesOnly}
+use Rattle.psu_disk.specs.Disk.{LeavesOnly}
 use Rattle.psu_disk.specs.Moments.{started, and_then}
 use Rattle.psu_pages.specs.Image.{page_in, bytes_in, Head}
 use Rattle.psu_pages.specs.Spelling.{names}
@@ -14,13 +14,13 @@ bytes-append image (p ∷ pages) page = ap (λ (b : List ℕ). page_in p image +
 pub bytes_more : (image pages : List ℕ) (i d : ℕ) → i < length pages → bytes_in image (take (i + 1) pages) ≡ bytes_in image (take i pages) ++ page_in (get_or pages i d) image
 bytes_more image pages i d lt = ap (bytes_in image) (take_more pages i d lt) ∙ bytes-append image (take i pages) (get_or pages i d)
 
--- two runs of calls that change nothing
-module _ {D : Type 0} (state : D → DiskState) (moment : D → ℕ) (left_since : D → ℕ → List ℕ → Type 0) (old : D) where
-  pub quiet_none : ((x : List ℕ) → left_since old (moment old) x → Left (state old) x) → LeavesOnly moment left_since old old (Left (state old))
-  quiet_none only_now = started moment left_since old (Left (state old)) only_now
+-- a run of no calls, and one run after another
+pub quiet_none : {D : Type 0} {moment : D → ℕ} {left_since : D → ℕ → List ℕ → Type 0} {old : D} {now : List ℕ → Type 0} → ((x : List ℕ) → left_since old (moment old) x → now x) → LeavesOnly moment left_since old old now
+quiet_none {D} {moment} {left_since} {old} {now} = started moment left_since old now
 
-  pub quiet_runs : (mid new : D) → LeavesOnly moment left_since old mid (Left (state old)) → ((x : List ℕ) → Left (state mid) x → Left (state old) x) → LeavesOnly moment left_since mid new (Left (state mid)) → LeavesOnly moment left_since old new (Left (state old))
-  quiet_runs mid new first fewer second = and_then moment left_since old mid new (Left (state old)) (Left (state mid)) first second fewer
+pub quiet_runs : {D : Type 0} {moment : D → ℕ} {left_since : D → ℕ → List ℕ → Type 0} {old mid new : D} {first second : List ℕ → Type 0}
+    → LeavesOnly moment left_since old mid first → ((x : List ℕ) → second x → first x) → LeavesOnly moment left_since mid new second → LeavesOnly moment left_since old new first
+quiet_runs {D} {moment} {left_since} {old} {mid} {new} {first} {second} run fewer more = and_then moment left_since old mid new first second run more fewer
 
 -- the name of one head more
 pub length-names : (heads : List Head) → length (names heads) ≡ length heads

@@ -1,8 +1,8 @@
 -- Heads are read one by one.
-use Rattle.std.proofs.Common.{◌≡◌, ◌≢◌, ℕ, zero, suc, ◌+◌, ◌<◌, Bool, true, false, List, [], ◌∷◌, ◌++◌, length, get_or, take, map, refl, sym, ◌∙◌, ap, subst, arith}
+use Rattle.std.proofs.Common.{◌≡◌, ◌≢◌, ℕ, ◌+◌, ◌<◌, Bool, true, false, List, [], ◌∷◌, ◌++◌, length, get_or, take, map, sym, ◌∙◌, ap, subst, arith}
 use Rattle.std.specs.Prelude.{slice_set}
 use Rattle.std.specs.List.{AllByRecursion}
-use Rattle.std.proofs.lemmas.List.{append-nil, take_more}
+use Rattle.std.proofs.lemmas.List.{append-nil, take_more, map-append}
 use Rattle.psu_pages.specs.Image.{Head, IsHead, IsInPool, IsNone, AreApart, AreClear, pages_of, taken}
 use Rattle.psu_pages.specs.Free.{is_free, Marks, AreClaimed, IsPool}
 use Rattle.psu_pages.specs.Finding.{IsFit, CanStand, AreFit}
@@ -70,24 +70,5 @@ fit_next limit heads i d free lt can so = record {
     both (p ∷ pages) pool clear = (so.rest p pool.0 clear.0, both pages pool.1 clear.1)
 
 -- of a list that is mapped
-pub map_take : {X Y : Type 0} (f : X → Y) (i : ℕ) (xs : List X) → map f (take i xs) ≡ take i (map f xs)
-map_take f zero [] = refl
-map_take f (suc i) [] = refl
-map_take f zero (x ∷ xs) = refl
-map_take {X} {Y} f (suc i) (x ∷ xs) = ap (λ (l : List Y). f x ∷ l) (map_take f i xs)
-
-pub map_at : {X Y : Type 0} (f : X → Y) (xs : List X) (i : ℕ) (d : X) (e : Y) → i < length xs → get_or (map f xs) i e ≡ f (get_or xs i d)
-map_at f [] i d e lt = absurd (omega (arith, lt))
-map_at f (x ∷ xs) zero d e lt = refl
-map_at f (x ∷ xs) (suc i) d e lt = map_at f xs i d e (omega (arith, lt))
-
-pub map_length : {X Y : Type 0} (f : X → Y) (xs : List X) → length (map f xs) ≡ length xs
-map_length f [] = refl
-map_length f (x ∷ xs) = ap suc (map_length f xs)
-
-map-append_one : {X Y : Type 0} (f : X → Y) (xs : List X) (x : X) → map f (xs ++ x ∷ []) ≡ map f xs ++ f x ∷ []
-map-append_one f [] x = refl
-map-append_one {X} {Y} f (y ∷ xs) x = ap (λ (l : List Y). f y ∷ l) (map-append_one f xs x)
-
 pub map_more : {X Y : Type 0} (f : X → Y) (xs : List X) (i : ℕ) (d : X) → i < length xs → map f (take (i + 1) xs) ≡ map f (take i xs) ++ f (get_or xs i d) ∷ []
-map_more f xs i d lt = ap (map f) (take_more xs i d lt) ∙ map-append_one f (take i xs) (get_or xs i d)
+map_more f xs i d lt = ap (map f) (take_more xs i d lt) ∙ map-append f (take i xs) (get_or xs i d ∷ [])

@@ -2,15 +2,14 @@
 use Rattle.std.proofs.Common.{◌≡◌, ⊎_elim, inl, inr, ℕ, zero, suc, ◌+◌, ◌*◌, ◌<◌, ◌≤◌, ◌⊎◌, List, [], ◌∷◌, ◌++◌, length, get_or, take, drop, refl, sym, ◌∙◌, ap, subst, arith}
 use Rattle.std.specs.List.{AllByRecursion}
 use Rattle.std.proofs.lemmas.Bool.{cases_lt}
-use Rattle.std.proofs.lemmas.List.{take_more, length-take-le}
-use Rattle.psu_disk.specs.Disk.{DiskState, Left, Range, Holds, SameBut, Follows, LeavesOnly, Elapses}
+use Rattle.std.proofs.lemmas.List.{take_more, length-take-le, drop-drop}
+use Rattle.psu_disk.specs.Disk.{Range, Holds, SameBut, Follows, LeavesOnly, Elapses}
 use Rattle.psu_disk.specs.Moments.{started, goes_on, and_then, weaken}
 use Rattle.psu_disk.specs.Ranges.{range_same, range_written}
 use Rattle.psu_pages.specs.Image.{page_in, IsNone, AreApart}
 use Rattle.psu_pages.specs.Writing.{Draft, IsOutside, Misses, Reaches, AreWritten}
 use Rattle.psu_pages.specs.Spelling.{draft_of, value_drafts}
 use Rattle.psu_pages.proofs.Lists.{all_join, all_at, all_take, none_before}
-use Rattle.psu_pages.proofs.Filling.{drop_both}
 
 pub misses_refl : (pages x : List ℕ) → Misses pages x x
 misses_refl pages x = record { size = refl; same = λ k out. refl }
@@ -55,38 +54,33 @@ module _ (page at n : ℕ) (is : at ≡ 512 * page) (long : n ≡ 512) where
   pub follows_one : (old new : List ℕ → Type 0) → Follows (SameBut at n) old new → Follows (Misses (page ∷ [])) old new
   follows_one old new step x l = let from = step x l in (from.0, from.1, one from.0 x from.2)
 
-  pub run_one : {D : Type 0} (moment : D → ℕ) (left_since : D → ℕ → List ℕ → Type 0) (state : D → DiskState) (old new : D) → ((x : List ℕ) → left_since old (moment old) x → Left (state old) x)
-      → Follows (SameBut at n) (Left (state old)) (Left (state new)) → Elapses (moment old) (moment new) (left_since old) (left_since new) (Left (state new))
-      → LeavesOnly moment left_since old new (Reaches (Misses (page ∷ [])) (Left (state old)))
-  run_one moment left_since state old new only_now step time =
-      goes_on moment left_since old old new (Reaches (Misses (page ∷ [])) (Left (state old))) (Left (state new))
-      (started moment left_since old (Reaches (Misses (page ∷ [])) (Left (state old))) (λ x l. (x, only_now x l, misses_refl (page ∷ []) x))) time (follows_one (Left (state old)) (Left (state new)) step)
+  pub run_one : {D : Type 0} {moment : D → ℕ} {left_since : D → ℕ → List ℕ → Type 0} {old new : D} {before after : List ℕ → Type 0} → ((x : List ℕ) → left_since old (moment old) x → before x)
+      → Follows (SameBut at n) before after → Elapses (moment old) (moment new) (left_since old) (left_since new) after → LeavesOnly moment left_since old new (Reaches (Misses (page ∷ [])) before)
+  run_one {D} {moment} {left_since} {old} {new} {before} {after} only_now step time =
+      goes_on moment left_since old old new (Reaches (Misses (page ∷ [])) before) after
+      (started moment left_since old (Reaches (Misses (page ∷ [])) before) (λ x l. (x, only_now x l, misses_refl (page ∷ []) x))) time (follows_one before after step)
 
   pub written_one : (bytes x y : List ℕ) → at + length bytes ≤ length x → length bytes ≡ 512 → Holds at bytes x y → page_in page y ≡ bytes
   written_one bytes x y fits whole holds = ap (λ (a : ℕ). Range a 512 y) (sym is) ∙ ap (λ (m : ℕ). Range at m y) (sym whole) ∙ range_written at bytes x y fits holds
 
--- what one run may change, and then another
-module _ (pages : List ℕ) where
-  pub follows_both : (old mid new : List ℕ → Type 0) → Follows (Misses pages) old mid → Follows (Misses pages) mid new → Follows (Misses pages) old new
-  follows_both old mid new first second x l =
+-- what one run may change, and then another that changes no more
+module _ (pages : List ℕ) {others : List ℕ} (weaker : (x y : List ℕ) → Misses others x y → Misses pages x y) {old : List ℕ → Type 0} where
+  pub follows_weaker : {new : List ℕ → Type 0} → Follows (Misses others) old new → Follows (Misses pages) old new
+  follows_weaker step x l = let from = step x l in (from.0, from.1, weaker from.0 x from.2)
+
+  pub follows_on : {start : List ℕ → Type 0} {new : List ℕ → Type 0} → Follows (Misses pages) start old → Follows (Misses others) old new → Follows (Misses pages) start new
+  follows_on first second x l =
       let from = second x l in
-      let start = first from.0 from.1 in
-      (start.0, start.1, misses_trans pages start.0 from.0 x start.2 from.2)
+      let begin = first from.0 from.1 in
+      (begin.0, begin.1, misses_trans pages begin.0 from.0 x begin.2 (weaker from.0 x from.2))
 
-  pub follows_weaker : (others : List ℕ) (old new : List ℕ → Type 0) → ((x y : List ℕ) → Misses others x y → Misses pages x y) → Follows (Misses others) old new → Follows (Misses pages) old new
-  follows_weaker others old new weaker step x l = let from = step x l in (from.0, from.1, weaker from.0 x from.2)
+  module _ {D : Type 0} {moment : D → ℕ} {left_since : D → ℕ → List ℕ → Type 0} {from to : D} (run : LeavesOnly moment left_since from to (Reaches (Misses others) old)) where
+    pub run_weaker : LeavesOnly moment left_since from to (Reaches (Misses pages) old)
+    run_weaker = weaken moment left_since from to (Reaches (Misses others) old) (Reaches (Misses pages) old) run (λ x reach. (reach.0, reach.1, weaker reach.0 x reach.2))
 
-  module _ {D : Type 0} (moment : D → ℕ) (left_since : D → ℕ → List ℕ → Type 0) (state : D → DiskState) where
-    pub run_none : (old : D) → ((x : List ℕ) → left_since old (moment old) x → Left (state old) x) → LeavesOnly moment left_since old old (Reaches (Misses pages) (Left (state old)))
-    run_none old only_now = started moment left_since old (Reaches (Misses pages) (Left (state old))) (λ x l. (x, only_now x l, misses_refl pages x))
-
-    pub run_weaker : (others : List ℕ) (old new : D) → ((x y : List ℕ) → Misses others x y → Misses pages x y) → LeavesOnly moment left_since old new (Reaches (Misses others) (Left (state old))) → LeavesOnly moment left_since old new (Reaches (Misses pages) (Left (state old)))
-    run_weaker others old new weaker run = weaken moment left_since old new (Reaches (Misses others) (Left (state old))) (Reaches (Misses pages) (Left (state old))) run (λ x reach. (reach.0, reach.1, weaker reach.0 x reach.2))
-
-    pub run_both : (old mid new : D) → LeavesOnly moment left_since old mid (Reaches (Misses pages) (Left (state old))) → Follows (Misses pages) (Left (state old)) (Left (state mid))
-        → LeavesOnly moment left_since mid new (Reaches (Misses pages) (Left (state mid))) → LeavesOnly moment left_since old new (Reaches (Misses pages) (Left (state old)))
-    run_both old mid new first so_far second = and_then moment left_since old mid new (Reaches (Misses pages) (Left (state old))) (Reaches (Misses pages) (Left (state mid))) first second
-        (λ x reach. let start = so_far reach.0 reach.1 in (start.0, start.1, misses_trans pages start.0 reach.0 x start.2 reach.2))
+    pub run_on : {start : D} {first : List ℕ → Type 0} → LeavesOnly moment left_since start from (Reaches (Misses pages) first) → Follows (Misses pages) first old → LeavesOnly moment left_since start to (Reaches (Misses pages) first)
+    run_on {start} {first} before so_far = and_then moment left_since start from to (Reaches (Misses pages) first) (Reaches (Misses others) old) before run
+        (λ x reach. let begin = so_far reach.0 reach.1 in (begin.0, begin.1, misses_trans pages begin.0 reach.0 x begin.2 (weaker reach.0 x reach.2)))
 
 -- pages that are written stay while another one is
 pub drafts_stay : (pages value : List ℕ) (page : ℕ) (x y : List ℕ) → AllByRecursion (λ (p : ℕ). 512 * p + 512 ≤ length x) pages → IsNone pages page → Misses (page ∷ []) x y → AreWritten (value_drafts pages value) x → AreWritten (value_drafts pages value) y
@@ -96,16 +90,12 @@ drafts_stay (p ∷ pages) value page x y fits none misses written =
 
 -- one page more of a value
 drafts_end : (pages value : List ℕ) (page n : ℕ) → n ≡ length pages → value_drafts (pages ++ page ∷ []) value ≡ value_drafts pages value ++ draft_of page (take 512 (drop (512 * n) value)) ∷ []
-drafts_end [] value page n is = ap (λ (v : List ℕ). draft_of page (take 512 v) ∷ []) (sym (ap (λ (m : ℕ). drop m value) (let none : 512 * n ≡ 0 = omega (arith, is) in none) ∙ whole value))
-  where
-    whole : (v : List ℕ) → drop 0 v ≡ v
-    whole [] = refl
-    whole (b ∷ v) = refl
+drafts_end [] value page n is = ap (λ (v : List ℕ). draft_of page (take 512 v) ∷ []) (sym (ap (λ (m : ℕ). drop m value) (let none : 512 * n ≡ 0 = omega (arith, is) in none)))
 drafts_end (p ∷ pages) value page zero is = absurd (omega (arith, is))
 drafts_end (p ∷ pages) value page (suc n) is =
     ap (λ (l : List Draft). draft_of p (take 512 value) ∷ l)
     (drafts_end pages (drop 512 value) page n (omega (arith, is))
-    ∙ ap (λ (v : List ℕ). value_drafts pages (drop 512 value) ++ draft_of page (take 512 v) ∷ []) (sym (ap (λ (m : ℕ). drop m value) (let same : 512 * suc n ≡ 512 + 512 * n = omega arith in same) ∙ drop_both 512 (512 * n) value)))
+    ∙ ap (λ (v : List ℕ). value_drafts pages (drop 512 value) ++ draft_of page (take 512 v) ∷ []) (sym (ap (λ (m : ℕ). drop m value) (let same : 512 * suc n ≡ 512 + 512 * n = omega arith in same) ∙ sym (drop-drop (512 * n) 512 value))))
 
 pub written_more : (pages value rest : List ℕ) (i d : ℕ) (x y : List ℕ) → i < length pages → AreApart pages → AllByRecursion (λ (p : ℕ). 512 * p + 512 ≤ length x) pages → rest ≡ drop (512 * i) value
     → Misses (get_or pages i d ∷ []) x y → page_in (get_or pages i d) y ≡ (let draft = draft_of (get_or pages i d) (take 512 rest) in draft.bytes)
@@ -122,4 +112,4 @@ written_more pages value rest i d x y lt apart fits is misses here so_far =
     (here, tt))
 
 pub rest_more : (i : ℕ) (value rest after : List ℕ) → rest ≡ drop (512 * i) value → after ≡ drop 512 rest → after ≡ drop (512 * (i + 1)) value
-rest_more i value rest after is next = next ∙ ap (drop 512) is ∙ sym (drop_both (512 * i) 512 value) ∙ ap (λ (m : ℕ). drop m value) (let same : 512 * i + 512 ≡ 512 * (i + 1) = omega arith in same)
+rest_more i value rest after is next = next ∙ ap (drop 512) is ∙ drop-drop 512 (512 * i) value ∙ ap (λ (m : ℕ). drop m value) (let same : 512 * i + 512 ≡ 512 * (i + 1) = omega arith in same)

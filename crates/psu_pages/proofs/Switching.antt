@@ -6,12 +6,12 @@ use Rattle.psu_disk.specs.Moments.{and_then, weaken}
 use Rattle.psu_disk.specs.Ranges.{reads_left}
 use Rattle.psu_pages.specs.declared.root.Root.{Root}
 use Rattle.psu_pages.specs.Image.{other, gate_at, gate, number_in, page_in, Head, head_on, head_at, taken, pages_of, IsInPool}
-use Rattle.psu_pages.specs.Shown.{Item, item_in, Says, Bears, EachBears, EachShut, EachLower, BearsEither}
-use Rattle.psu_pages.specs.Spelling.{names, IsTold}
+use Rattle.psu_pages.specs.Shown.{Item, item_in, Says, Bears, EachBears, EachLower, BearsEither}
+use Rattle.psu_pages.specs.Spelling.{names, IsReady}
 use Rattle.psu_pages.specs.Writing.{Reaches}
 use Rattle.psu_pages.proofs.Lists.{all_right}
 use Rattle.psu_pages.proofs.Keeping.{on_disk, pages_moved, shown_same}
-use Rattle.psu_pages.proofs.Making.{ready}
+use Rattle.psu_pages.proofs.Making.{ready as root_says}
 use Rattle.psu_pages.proofs.Bearing.{bears_shut, bears_opened, lower_opened, opens}
 
 -- heads that stand on their pages, read by name
@@ -36,81 +36,91 @@ wider at from n m x y low high but = record { size = but.size; below = λ k lt. 
 page_trans : (at n : ℕ) (x y z : List ℕ) → SameBut at n x y → SameBut at n y z → SameBut at n x z
 page_trans at n x y z first second = record { size = second.size ∙ first.size; below = λ k lt. second.below k lt ∙ first.below k lt; above = λ k le. second.above k le ∙ first.above k le }
 
-module _ {D : Type 0} (state : D → DiskState) (moment : D → ℕ) (left_since : D → ℕ → List ℕ → Type 0) (next : Root) (start one : D) where
-  -- no page but the next root's is written
-  pub touched_said : Follows (SameBut (gate_at next + 1) 511) (Left (state start)) (Left (state one)) → Follows (SameBut (gate_at next) 512) (Left (state start)) (Left (state one))
+-- what a root says was written and made sure of, and then its gate
+pub record HasSaid (next : Root) (told : List ℕ) (start one : DiskState) : Type 0 where
+  pub but : SameBut (gate_at next + 1) 511 start.bytes one.bytes
+  pub says : Range (gate_at next + 1) 511 one.bytes ≡ told
+  pub only : Only one
+
+pub record HasOpened (next : Root) (one two : DiskState) : Type 0 where
+  pub but : SameBut (gate_at next) 1 one.bytes two.bytes
+  pub is_open : gate next two.bytes ≡ 165
+  pub only : Only two
+
+-- no page but the next root's is written
+module _ (next : Root) {old : List ℕ → Type 0} where
+  pub touched_said : {new : List ℕ → Type 0} → Follows (SameBut (gate_at next + 1) 511) old new → Follows (SameBut (gate_at next) 512) old new
   touched_said step x l = let from = step x l in (from.0, from.1, wider (gate_at next) (gate_at next + 1) 511 512 from.0 x (omega arith) (omega arith) from.2)
 
-  pub touched_opened : (two : D) → Follows (SameBut (gate_at next + 1) 511) (Left (state start)) (Left (state one)) → Follows (SameBut (gate_at next) 1) (Left (state one)) (Left (state two)) → Follows (SameBut (gate_at next) 512) (Left (state start)) (Left (state two))
-  touched_opened two first second x l =
-      let from = second x l in
-      let begin = touched_said first from.0 from.1 in
-      (begin.0, begin.1, page_trans (gate_at next) 512 begin.0 from.0 x begin.2 (wider (gate_at next) (gate_at next) 1 512 from.0 x (omega arith) (omega arith) from.2))
-
-  pub run_touched : LeavesOnly moment left_since start one (Reaches (SameBut (gate_at next + 1) 511) (Left (state start))) → LeavesOnly moment left_since start one (Reaches (SameBut (gate_at next) 512) (Left (state start)))
-  run_touched run = weaken moment left_since start one (Reaches (SameBut (gate_at next + 1) 511) (Left (state start))) (Reaches (SameBut (gate_at next) 512) (Left (state start))) run
-      (λ x reach. (reach.0, reach.1, wider (gate_at next) (gate_at next + 1) 511 512 reach.0 x (omega arith) (omega arith) reach.2))
-
-  pub run_touched_opened : (two : D) → Follows (SameBut (gate_at next + 1) 511) (Left (state start)) (Left (state one)) → LeavesOnly moment left_since start one (Reaches (SameBut (gate_at next + 1) 511) (Left (state start)))
-      → LeavesOnly moment left_since one two (Reaches (SameBut (gate_at next) 1) (Left (state one))) → LeavesOnly moment left_since start two (Reaches (SameBut (gate_at next) 512) (Left (state start)))
-  run_touched_opened two step first second = and_then moment left_since start one two (Reaches (SameBut (gate_at next) 512) (Left (state start))) (Reaches (SameBut (gate_at next) 1) (Left (state one))) (run_touched first) second
-      (λ x reach.
+  also : {mid : List ℕ → Type 0} → Follows (SameBut (gate_at next + 1) 511) old mid → (x : List ℕ) → Reaches (SameBut (gate_at next) 1) mid x → Reaches (SameBut (gate_at next) 512) old x
+  also step x reach =
       let begin = touched_said step reach.0 reach.1 in
-      (begin.0, begin.1, page_trans (gate_at next) 512 begin.0 reach.0 x begin.2 (wider (gate_at next) (gate_at next) 1 512 reach.0 x (omega arith) (omega arith) reach.2)))
+      (begin.0, begin.1, page_trans (gate_at next) 512 begin.0 reach.0 x begin.2 (wider (gate_at next) (gate_at next) 1 512 reach.0 x (omega arith) (omega arith) reach.2))
 
-  module _ (version limit n : ℕ) (before heads : List Head) (items : List Item) (told : List ℕ) (bears : EachBears (state start) (other next) version limit n before items) (shut : EachShut (state start) next) (is_told : IsTold limit (n + 1) heads told (state start).bytes) where
-    abbrev pub target : List Item
-    target = map (item_in (state start).bytes) heads
+  pub touched_opened : {mid new : List ℕ → Type 0} → Follows (SameBut (gate_at next + 1) 511) old mid → Follows (SameBut (gate_at next) 1) mid new → Follows (SameBut (gate_at next) 512) old new
+  touched_opened first second x l = also first x (second x l)
 
-    -- while what the next root says is written
-    still : (y x : List ℕ) → Left (state start) y → SameBut (gate_at next + 1) 511 y x → Bears (other next) version limit n before items x
-    still y x l but = bears_shut next version limit n before items (gate_at next + 1) 511 (omega arith) (omega arith) y x but (λ is. shut y l (sym (but.below (gate_at next) (omega arith)) ∙ is)) (bears y l)
+  module _ {D : Type 0} {moment : D → ℕ} {left_since : D → ℕ → List ℕ → Type 0} {start one : D} (first : LeavesOnly moment left_since start one (Reaches (SameBut (gate_at next + 1) 511) old)) where
+    pub run_touched : LeavesOnly moment left_since start one (Reaches (SameBut (gate_at next) 512) old)
+    run_touched = weaken moment left_since start one (Reaches (SameBut (gate_at next + 1) 511) old) (Reaches (SameBut (gate_at next) 512) old) first
+        (λ x reach. (reach.0, reach.1, wider (gate_at next) (gate_at next + 1) 511 512 reach.0 x (omega arith) (omega arith) reach.2))
 
-    still_either : (x : List ℕ) → Reaches (SameBut (gate_at next + 1) 511) (Left (state start)) x → BearsEither next version limit n before items heads target x
-    still_either x reach = inl (still reach.0 x reach.1 reach.2)
+    pub run_touched_opened : {mid : List ℕ → Type 0} {two : D} → Follows (SameBut (gate_at next + 1) 511) old mid → LeavesOnly moment left_since one two (Reaches (SameBut (gate_at next) 1) mid)
+        → LeavesOnly moment left_since start two (Reaches (SameBut (gate_at next) 512) old)
+    run_touched_opened {mid} {two} step second = and_then moment left_since start one two (Reaches (SameBut (gate_at next) 512) old) (Reaches (SameBut (gate_at next) 1) mid) run_touched second (also step)
 
-    pub left_said : Follows (SameBut (gate_at next + 1) 511) (Left (state start)) (Left (state one)) → (x : List ℕ) → Left (state one) x → BearsEither next version limit n before items heads target x
-    left_said step x l = still_either x (step x l)
+module _ {start : DiskState} {next : Root} {version limit n : ℕ} {before heads : List Head} {items : List Item} {told : List ℕ} (ready : IsReady start next version limit n before heads items told) where
+  -- what holds of each moment of a switch
+  abbrev pub IsEach : List ℕ → Type 0
+  IsEach = BearsEither next version limit n before items heads (map (item_in start.bytes) heads)
 
-    pub run_said : LeavesOnly moment left_since start one (Reaches (SameBut (gate_at next + 1) 511) (Left (state start))) → LeavesOnly moment left_since start one (BearsEither next version limit n before items heads target)
-    run_said run = weaken moment left_since start one (Reaches (SameBut (gate_at next + 1) 511) (Left (state start))) (BearsEither next version limit n before items heads target) run still_either
+  -- while what the next root says is written
+  still : (y x : List ℕ) → Left start y → SameBut (gate_at next + 1) 511 y x → Bears (other next) version limit n before items x
+  still y x l but = bears_shut next version limit n before items (gate_at next + 1) 511 (omega arith) (omega arith) y x but (λ is. ready.shut y l (sym (but.below (gate_at next) (omega arith)) ∙ is)) (ready.bears y l)
 
-    -- once it is made sure of
-    module _ (but : SameBut (gate_at next + 1) 511 (state start).bytes (state one).bytes) (says : Range (gate_at next + 1) 511 (state one).bytes ≡ told) (only : Only (state one)) where
-      at_start : Bears (other next) version limit n before items (state start).bytes
-      at_start = bears (state start).bytes (reads_left (state start))
+  pub left_said : {new : List ℕ → Type 0} → Follows (SameBut (gate_at next + 1) 511) (Left start) new → (x : List ℕ) → new x → IsEach x
+  left_said step x l = let from = step x l in inl (still from.0 x from.1 from.2)
 
-      room : 512 * (2 + 2 * limit) ≤ length (state start).bytes
-      room = at_start.says.shows.room
+  pub run_said : {D : Type 0} {moment : D → ℕ} {left_since : D → ℕ → List ℕ → Type 0} {old one : D} → LeavesOnly moment left_since old one (Reaches (SameBut (gate_at next + 1) 511) (Left start)) → LeavesOnly moment left_since old one IsEach
+  run_said {D} {moment} {left_since} {old} {one} run = weaken moment left_since old one (Reaches (SameBut (gate_at next + 1) 511) (Left start)) IsEach run (λ x reach. inl (still reach.0 x reach.1 reach.2))
 
-      same : AllByRecursion (λ (page : ℕ). page_in page (state one).bytes ≡ page_in page (state start).bytes) (taken heads)
-      same = pages_moved next (gate_at next + 1) 511 (omega arith) (omega arith) (state start).bytes (state one).bytes but (taken heads) (on_disk limit (length (state start).bytes) (taken heads) room is_told.roster.pool)
+  -- once it is made sure of
+  module _ {one : DiskState} (said : HasSaid next told start one) where
+    at_start : Bears (other next) version limit n before items start.bytes
+    at_start = ready.bears start.bytes (reads_left start)
 
-      pub says_one : Says next 2 limit (n + 1) heads target (state one).bytes
-      says_one =
-          let shows = at_start.says.shows in
-          let roster = is_told.roster in
-          ready next limit (n + 1) heads target (state one).bytes shows.limit_least shows.limit_most is_told.number_fits (omega (arith, room, but.size))
-          (omega (arith, length-names heads, roster.count)) (names_low limit heads shows.limit_most roster.pool) roster.each roster.pool roster.apart roster.cost roster.distinct
-          (says ∙ is_told.told_is) (there_by_name (state start).bytes (state one).bytes heads same is_told.there) (shown_same (state start).bytes (state one).bytes heads same)
+    room : 512 * (2 + 2 * limit) ≤ length start.bytes
+    room = at_start.says.shows.room
 
-      bears_one : Bears (other next) version limit n before items (state one).bytes
-      bears_one = still (state start).bytes (state one).bytes (reads_left (state start)) but
+    same : AllByRecursion (λ (page : ℕ). page_in page one.bytes ≡ page_in page start.bytes) (taken heads)
+    same = pages_moved next (gate_at next + 1) 511 (omega arith) (omega arith) start.bytes one.bytes said.but (taken heads) (on_disk limit (length start.bytes) (taken heads) room ready.is_told.roster.pool)
 
-      opening : (y x : List ℕ) → Left (state one) y → SameBut (gate_at next) 1 y x → BearsEither next version limit n before items heads target x
-      opening y x l gate = opens next version limit n before heads items target (state one).bytes x bears_one says_one (subst (λ (z : List ℕ). SameBut (gate_at next) 1 z x) (only y l) gate)
+    says_one : Says next 2 limit (n + 1) heads (map (item_in start.bytes) heads) one.bytes
+    says_one =
+        let shows = at_start.says.shows in
+        let told = ready.is_told in
+        let roster = told.roster in
+        root_says next limit (n + 1) heads (map (item_in start.bytes) heads) one.bytes shows.limit_least shows.limit_most told.number_fits (omega (arith, room, said.but.size))
+        (omega (arith, length-names heads, roster.count)) (names_low limit heads shows.limit_most roster.pool) roster.each roster.pool roster.apart roster.cost roster.distinct
+        (said.says ∙ told.told_is) (there_by_name start.bytes one.bytes heads same told.there) (shown_same start.bytes one.bytes heads same)
 
-      pub left_opened : (two : D) → Follows (SameBut (gate_at next) 1) (Left (state one)) (Left (state two)) → (x : List ℕ) → Left (state two) x → BearsEither next version limit n before items heads target x
-      left_opened two step x l = let from = step x l in opening from.0 x from.1 from.2
+    bears_one : Bears (other next) version limit n before items one.bytes
+    bears_one = still start.bytes one.bytes (reads_left start) said.but
 
-      pub run_opened : (two : D) → LeavesOnly moment left_since start one (BearsEither next version limit n before items heads target) → LeavesOnly moment left_since one two (Reaches (SameBut (gate_at next) 1) (Left (state one)))
-          → LeavesOnly moment left_since start two (BearsEither next version limit n before items heads target)
-      run_opened two run second = and_then moment left_since start one two (BearsEither next version limit n before items heads target) (Reaches (SameBut (gate_at next) 1) (Left (state one))) run second
-          (λ x reach. opening reach.0 x reach.1 reach.2)
+    opening : (x : List ℕ) → Reaches (SameBut (gate_at next) 1) (Left one) x → IsEach x
+    opening x reach = opens next version limit n before heads items (map (item_in start.bytes) heads) one.bytes x bears_one says_one (subst (λ (z : List ℕ). SameBut (gate_at next) 1 z x) (said.only reach.0 reach.1) reach.2)
 
-      module _ (two : D) (gate_but : SameBut (gate_at next) 1 (state one).bytes (state two).bytes) (is_open : gate next (state two).bytes ≡ 165) (only_two : Only (state two)) where
-        pub borne : EachBears (state two) next 2 limit (n + 1) heads target
-        borne x l = subst (Bears next 2 limit (n + 1) heads target) (sym (only_two x l)) (bears_opened next version limit n before heads items target (state one).bytes (state two).bytes bears_one says_one gate_but is_open)
+    pub left_opened : {new : List ℕ → Type 0} → Follows (SameBut (gate_at next) 1) (Left one) new → (x : List ℕ) → new x → IsEach x
+    left_opened step x l = opening x (step x l)
 
-        pub lower : EachLower (state two) (other next) (n + 1)
-        lower x l = subst (λ (z : List ℕ). number_in (other next) z < n + 1) (sym (only_two x l)) (lower_opened next version limit n before heads items target (state one).bytes (state two).bytes bears_one says_one gate_but)
+    pub run_opened : {D : Type 0} {moment : D → ℕ} {left_since : D → ℕ → List ℕ → Type 0} {old mid two : D} → LeavesOnly moment left_since old mid (Reaches (SameBut (gate_at next + 1) 511) (Left start))
+        → LeavesOnly moment left_since mid two (Reaches (SameBut (gate_at next) 1) (Left one)) → LeavesOnly moment left_since old two IsEach
+    run_opened {D} {moment} {left_since} {old} {mid} {two} first second = and_then moment left_since old mid two IsEach (Reaches (SameBut (gate_at next) 1) (Left one)) (run_said first) second opening
+
+    module _ {two : DiskState} (opened : HasOpened next one two) where
+      pub borne : EachBears two next 2 limit (n + 1) heads (map (item_in start.bytes) heads)
+      borne x l = subst (Bears next 2 limit (n + 1) heads (map (item_in start.bytes) heads)) (sym (opened.only x l))
+          (bears_opened next version limit n before heads items (map (item_in start.bytes) heads) one.bytes two.bytes bears_one says_one opened.but opened.is_open)
+
+      pub lower : EachLower two (other next) (n + 1)
+      lower x l = subst (λ (z : List ℕ). number_in (other next) z < n + 1) (sym (opened.only x l)) (lower_opened next version limit n before heads items (map (item_in start.bytes) heads) one.bytes two.bytes bears_one says_one opened.but)

@@ -3,7 +3,7 @@ use Rattle.std.proofs.Common.{◌≡◌, ◌≢◌, ℕ, zero, suc, ◌+◌, ◌
 use Rattle.std.specs.List.{AllByRecursion}
 use Rattle.std.proofs.lemmas.List.{take_more, append-nil}
 use Rattle.psu_pages.specs.Image.{Head, IsNone, AreApart, AreClear, pages_of, taken, keys}
-use Rattle.psu_pages.proofs.Lists.{all_left, all_right, all_join, apart_left, apart_right, apart_clear}
+use Rattle.psu_pages.proofs.Lists.{all_left, all_right, all_join, apart_left, apart_right, apart_clear, clear_none}
 
 pub taken_all : (P : ℕ → Type 0) (heads : List Head) (i : ℕ) (d : Head) → i < length heads → AllByRecursion P (taken heads) → AllByRecursion P (pages_of (get_or heads i d))
 taken_all P [] i d lt all = absurd (omega (arith, lt))
@@ -14,10 +14,6 @@ pub taken_apart : (heads : List Head) (i : ℕ) (d : Head) → i < length heads 
 taken_apart [] i d lt apart = absurd (omega (arith, lt))
 taken_apart (h ∷ heads) zero d lt apart = apart_left (pages_of h) (taken heads) apart
 taken_apart (h ∷ heads) (suc i) d lt apart = taken_apart heads i d (omega (arith, lt)) (apart_right (pages_of h) (taken heads) apart)
-
-pub clear_none : (pages : List ℕ) → AreClear [] pages
-clear_none [] = tt
-clear_none (p ∷ pages) = (tt, clear_none pages)
 
 pub clear_join : (xs ys pages : List ℕ) → AreClear xs pages → AreClear ys pages → AreClear (xs ++ ys) pages
 clear_join xs ys [] a b = tt

@@ -1,8 +1,11 @@
 -- The bytes that are written for roots and heads.
-use Rattle.std.specs.Prelude.{◌≡◌, ℕ, ◌-◌, ◌<◌, ◌^◌, List, [], ◌∷◌, ◌++◌, length, take, drop, replicate, map}
+use Rattle.std.specs.Prelude.{◌≡◌, ℕ, ◌+◌, ◌-◌, ◌<◌, ◌^◌, List, [], ◌∷◌, ◌++◌, length, take, drop, replicate, map}
 use Rattle.std.specs.Int.{w16, w32, w64, to_be_bytes}
 use Rattle.std.specs.List.{AllByRecursion}
-use Rattle.psu_pages.specs.Image.{mark, Head, head_at}
+use Rattle.psu_disk.specs.Disk.{DiskState}
+use Rattle.psu_pages.specs.declared.root.Root.{Root}
+use Rattle.psu_pages.specs.Image.{mark, other, Head, head_at}
+use Rattle.psu_pages.specs.Shown.{Item, EachBears, EachShut}
 use Rattle.psu_pages.specs.Free.{IsRoster}
 use Rattle.psu_pages.specs.Writing.{Draft}
 
@@ -50,3 +53,9 @@ pub record IsTold (limit number : ℕ) (heads : List Head) (told image : List �
   pub number_fits : number < 2 ^ 64
   pub roster : IsRoster limit heads
   pub there : AllByRecursion (λ (head : Head). head_at image head.at ≡ head) heads
+
+-- before a switch: the other root counts and says this, the next one's gate is closed, and there is what to say of the heads
+pub record IsReady (disk : DiskState) (next : Root) (version limit number : ℕ) (before heads : List Head) (items : List Item) (told : List ℕ) : Type 0 where
+  pub bears : EachBears disk (other next) version limit number before items
+  pub shut : EachShut disk next
+  pub is_told : IsTold limit (number + 1) heads told disk.bytes

@@ -18,7 +18,7 @@ use crate::switch::switch;
 use crate::version::VERSION;
 use crate::writing::write_item;
 use crate::{Head, PageFault, Pages, Standing};
-use psu_disk::{Disk, DiskFault};
+use psu_disk::Disk;
 use std::alloc::Allocator;
 use std::mem;
 
@@ -52,13 +52,11 @@ impl<D: Disk, A: Allocator + Copy> Pages<D, A> {
         ensures touched { D.honest → Follows (Misses (pages_of head.now)) (Left (D.state self.old.disk)) (Left (D.state self.new.disk)) }
         ensures touched_time { D.honest → D.tells → LeavesOnly D.moment D.left_since self.old.disk self.new.disk (Reaches (Misses (pages_of head.now)) (Left (D.state self.old.disk))) }
     {
-        match write_item(&mut self.disk, head, value) {
-            Ok(()) => Ok(()),
-            Err(DiskFault) => {
-                self.standing = Standing::Unsure;
-                Err(PageFault::Device)
-            }
-        }
+        let standing = self.standing;
+        self.standing = Standing::Unsure;
+        write_item(&mut self.disk, head, value)?;
+        self.standing = standing;
+        Ok(())
     }
 
     /// Makes a root of version 2 count that names these heads, in the place of the one that counts, whatever the version of that one.
@@ -90,20 +88,14 @@ impl<D: Disk, A: Allocator + Copy> Pages<D, A> {
     {
         let next = self.root.other();
         let page = spell_root(self.limit, self.number + 1, &heads);
-        match switch(&mut self.disk, next, page.after_gate()) {
-            Ok(()) => {
-                self.root = next;
-                self.version = VERSION;
-                self.number += 1;
-                self.standing = Standing::Both;
-                self.older = mem::replace(&mut self.heads, heads);
-                Ok(())
-            }
-            Err(DiskFault) => {
-                self.standing = Standing::Unsure;
-                Err(PageFault::Device)
-            }
-        }
+        self.standing = Standing::Unsure;
+        switch(&mut self.disk, next, page.after_gate())?;
+        self.root = next;
+        self.version = VERSION;
+        self.number += 1;
+        self.standing = Standing::Both;
+        self.older = mem::replace(&mut self.heads, heads);
+        Ok(())
     }
 
     /// Closes the gate of the older root where it stands open, and gives up the pages that it alone names.
@@ -129,20 +121,14 @@ impl<D: Disk, A: Allocator + Copy> Pages<D, A> {
         ensures touched { D.honest → Follows (SameBut (gate_at (other self.old.root)) 1) (Left (D.state self.old.disk)) (Left (D.state self.new.disk)) }
         ensures touched_time { D.honest → D.tells → LeavesOnly D.moment D.left_since self.old.disk self.new.disk (Reaches (SameBut (gate_at (other self.old.root)) 1) (Left (D.state self.old.disk))) }
     {
-        if self.standing == Standing::One {
+        let Standing::Both = self.standing else {
             return Ok(());
-        }
-        match set_gate(&mut self.disk, self.root.other(), CLOSED) {
-            Ok(()) => {
-                hand_over(&mut self.free, &self.older, &self.heads);
-                self.older.clear();
-                self.standing = Standing::One;
-                Ok(())
-            }
-            Err(DiskFault) => {
-                self.standing = Standing::Unsure;
-                Err(PageFault::Device)
-            }
-        }
+        };
+        self.standing = Standing::Unsure;
+        set_gate(&mut self.disk, self.root.other(), CLOSED)?;
+        hand_over(&mut self.free, &self.older, &self.heads);
+        self.older.clear();
+        self.standing = Standing::One;
+        Ok(())
     }
 }

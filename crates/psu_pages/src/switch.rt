@@ -3,8 +3,8 @@ ghost use Rattle.std.specs.Prelude.{◌≡◌, ◌+◌, ◌≤◌, ◌∷◌, Li
 ghost use Rattle.psu_disk.specs.Disk.{Left, SameBut, Follows, LeavesOnly, HasCause};
 ghost use Rattle.psu_pages.specs.Finding.{page_of};
 ghost use Rattle.psu_pages.specs.Image.{Head, gate_at, other};
-ghost use Rattle.psu_pages.specs.Shown.{Item, item_in, EachBears, EachShut, EachLower, BearsEither};
-ghost use Rattle.psu_pages.specs.Spelling.{IsTold};
+ghost use Rattle.psu_pages.specs.Shown.{Item, item_in, EachBears, EachLower, BearsEither};
+ghost use Rattle.psu_pages.specs.Spelling.{IsReady};
 ghost use Rattle.psu_pages.specs.Writing.{Reaches};
 
 use crate::Root;
@@ -20,16 +20,16 @@ pub fn switch<D: Disk>(disk: &mut D, next: Root, told: &[u8]) -> Result<(), Disk
 
     ensures spelled { D.honest → OnOk result (page_of next (D.state disk.new).bytes ≡ 165 ∷ told.now) }
     ensures borne { D.honest → (version limit number : ℕ) (before heads : List Head) (items : List Item)
-        → EachBears (D.state disk.old) (other next) version limit number before items → EachShut (D.state disk.old) next → IsTold limit (number + 1) heads told.now (D.state disk.old).bytes
+        → IsReady (D.state disk.old) next version limit number before heads items told.now
         → OnOk result (EachBears (D.state disk.new) next 2 limit (number + 1) heads (map (item_in (D.state disk.old).bytes) heads)) }
     ensures lower { D.honest → (version limit number : ℕ) (before heads : List Head) (items : List Item)
-        → EachBears (D.state disk.old) (other next) version limit number before items → EachShut (D.state disk.old) next → IsTold limit (number + 1) heads told.now (D.state disk.old).bytes
+        → IsReady (D.state disk.old) next version limit number before heads items told.now
         → OnOk result (EachLower (D.state disk.new) (other next) (number + 1)) }
     ensures left { D.honest → (version limit number : ℕ) (before heads : List Head) (items : List Item)
-        → EachBears (D.state disk.old) (other next) version limit number before items → EachShut (D.state disk.old) next → IsTold limit (number + 1) heads told.now (D.state disk.old).bytes
+        → IsReady (D.state disk.old) next version limit number before heads items told.now
         → (image : List ℕ) → Left (D.state disk.new) image → BearsEither next version limit number before items heads (map (item_in (D.state disk.old).bytes) heads) image }
     ensures time { D.honest → D.tells → (version limit number : ℕ) (before heads : List Head) (items : List Item)
-        → EachBears (D.state disk.old) (other next) version limit number before items → EachShut (D.state disk.old) next → IsTold limit (number + 1) heads told.now (D.state disk.old).bytes
+        → IsReady (D.state disk.old) next version limit number before heads items told.now
         → LeavesOnly D.moment D.left_since disk.old disk.new (BearsEither next version limit number before items heads (map (item_in (D.state disk.old).bytes) heads)) }
 
     // No other page is written.

@@ -6,8 +6,8 @@ use Rattle.psu_disk.specs.Ranges.{reads_left}
 use Rattle.psu_disk.specs.declared.disk.Disk.{Ghosts}
 use Rattle.psu_items.specs.Map.{Item}
 use Rattle.psu_items.specs.Image.{HasReadableRoot, Stands, EachStands, IsRefusal}
-use Rattle.psu_items.specs.declared.open_cause.OpenCause.{OpenCause}
-use Rattle.psu_items.specs.declared.open_cause.OpenCause.TheVariants as refused
+use Rattle.psu_pages.specs.declared.open_cause.OpenCause.{OpenCause}
+use Rattle.psu_pages.specs.declared.open_cause.OpenCause.TheVariants as refused
 use Rattle.psu_items.specs.Standing.{MapOn}
 use Rattle.psu_items.proofs.Fitting.{stands_by_version, stands_readable, stands_rooted, stands_within}
 use Rattle.psu_items.proofs.Standing.{one_stands}

@@ -3,8 +3,8 @@ use Rattle.std.specs.Prelude.{◌≡◌, ℕ, ◌+◌, ◌≤◌, ◌^◌, List}
 use Rattle.psu_disk.specs.Disk.{HasFailed}
 use Rattle.psu_items.specs.Map.{Item}
 use Rattle.psu_items.specs.Image.{counting, number_in, Stands, HasNoRoot, HasBadRoot, HasOtherVersion, HasReadableRoot}
-use Rattle.psu_items.specs.declared.open_cause.OpenCause.{OpenCause}
-use Rattle.psu_items.specs.declared.open_cause.OpenCause.TheVariants as refused
+use Rattle.psu_pages.specs.declared.open_cause.OpenCause.{OpenCause}
+use Rattle.psu_pages.specs.declared.open_cause.OpenCause.TheVariants as refused
 use Rattle.psu_exec.specs.Headline.{AreBad}
 use Rattle.psu_exec.specs.declared.power_fault.PowerCause.{PowerCause}
 use Rattle.psu_exec.specs.declared.power_fault.PowerCause.TheVariants as power

@@ -2,8 +2,8 @@
 use Rattle.std.specs.Prelude.{◌≡◌, ℕ, ◌==◌, true, if◌then◌else◌, List, [], ◌∷◌, length, map, ⊤}
 use Rattle.psu_items.specs.Map.{Item, cost}
 use Rattle.psu_items.specs.Image.{counting, number_in, version_in, HasReadableRoot, Stands, IsRefusal}
-use Rattle.psu_items.specs.declared.open_cause.OpenCause.{OpenCause}
-use Rattle.psu_items.specs.declared.open_cause.OpenCause.TheVariants as opening
+use Rattle.psu_pages.specs.declared.open_cause.OpenCause.{OpenCause}
+use Rattle.psu_pages.specs.declared.open_cause.OpenCause.TheVariants as opening
 use Rattle.psu_nv.specs.Contents.{items_of, fits, IsContents, Contents}
 use Rattle.psu_nv.specs.declared.file_kind.FileKind.{FileKind}
 use Rattle.psu_nv.specs.declared.file_kind.FileKind.TheVariants as kind

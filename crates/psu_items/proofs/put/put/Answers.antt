@@ -1,16 +1,21 @@
-use Rattle.std.proofs.Common.{◌≡◌, ◌∙◌, ℕ, true, sym, subst, arith}
+use Rattle.std.proofs.Common.{◌≡◌, ◌∙◌, ℕ, List, true, sym, subst, arith}
 use Rattle.std.specs.List.{AllByRecursion}
-use Rattle.psu_disk.specs.Disk.{HasFailed}
+use Rattle.psu_disk.specs.Disk.{Left, SameBut, Follows, LeavesOnly, HasFailed}
 use Rattle.psu_pages.specs.Outcome.{IsPlanned}
-use Rattle.psu_items.specs.Image.{listed}
+use Rattle.psu_items.specs.Image.{listed, IsEitherRoot}
 use Rattle.psu_items.specs.Target.{aimed}
 use Rattle.psu_items.proofs.Opening.{err_any}
 use Rattle.psu_items.proofs.Putting.{heads_there, heads_list, as_many, from_bears, run_one, from_either, run_two, from_two, run_three, shown_last}
-use Rattle.psu_disk.specs.Disk.{SameBut}
 use Rattle.psu_pages.specs.Image.{gate_at, other}
+use Rattle.psu_pages.specs.Writing.{Reaches}
 use Rattle.psu_items.specs.Layout.{heads_of}
+use Rattle.psu_items.specs.Map.{Item}
+use Rattle.psu_items.specs.Standing.{ShowsMap}
+use Rattle.psu_items.specs.Writing.{SameBehind}
 use Rattle.psu_items.proofs.Sparing.{spare_closed, spare_published}
 use Rattle.psu_items.proofs.Behind.{but_behind, behind_step, behind_step_run, behind_on, behind_run}
+use Rattle.psu_items.proofs.put.put.Given.{Over}
+use Rattle.psu_items.proofs.put.put.Goals.{After-publish_root, After-close_old}
 use Rattle.psu_items.proofs.put.put.Goals as goal
 
 pub write_slots-requires-clause-planned : goal.write_slots-requires-clause-planned
@@ -42,149 +47,120 @@ returns-in_err-close_old-clause-device g c =
     let d = g.D.Disk in
     err_any _ _ (λ e. subst (λ (n : ℕ). HasFailed n (d.failures (let p = c.close_old.new.self in p.disk))) (c.in_ok-publish_root.ensures.works ∙ c.in_ok-write_slots.ensures.works) c.in_err-close_old.ensures.device.1)
 
-pub returns-in_err-publish_root-clause-left : goal.returns-in_err-publish_root-clause-left
-returns-in_err-publish_root-clause-left g c = λ h before shows x l.
+-- the heads that are published stand for the target
+are : (g : Over) (c : After-publish_root g) → g.D.Disk.honest → let mid = c.write_slots.new.pages in listed (g.D.Disk.state mid.disk).bytes c.name_heads.result.items ≡ aimed c.args.target.now
+are g c h =
     let d = g.D.Disk in
     let old = c.args.pages.now in
     let mid = c.write_slots.new.pages in
-    let target = (aimed c.args.target.now) in
-    let heads = c.name_heads.result.items in
-    let are : listed (d.state mid.disk).bytes heads ≡ target = heads_list (d.state old.disk).bytes (d.state mid.disk).bytes target c.args.layout.slots.items c.deref.result.now heads c.deref.ensures.value c.name_heads.ensures (c.requires.kept h) (c.in_ok-write_slots.ensures.written h) c.requires.sorted c.requires.keys in
-    from_either old mid before target h shows c.write_slots.ensures.same (c.write_slots.ensures.shown h) c.requires.sorted heads are x (c.publish_root.ensures.left h x l)
+    heads_list (d.state old.disk).bytes (d.state mid.disk).bytes (aimed c.args.target.now) c.args.layout.slots.items c.deref.result.now c.name_heads.result.items c.deref.ensures.value c.name_heads.ensures (c.requires.kept h) (c.in_ok-write_slots.ensures.written h) c.requires.sorted c.requires.keys
+
+-- once they are published
+left : (g : Over) (c : After-close_old g) → g.D.Disk.honest → (let mid = c.write_slots.new.pages in listed (g.D.Disk.state mid.disk).bytes c.name_heads.result.items ≡ aimed c.args.target.now)
+    → let old = c.args.pages.now in (before : List Item) → ShowsMap old before → (x : List ℕ) → Left (g.D.Disk.state (let last = c.close_old.new.self in last.disk)) x → IsEitherRoot old.version old.number old.limit before (aimed c.args.target.now) x
+left g c h e before shows x l =
+    from_two c.args.pages.now c.write_slots.new.pages before (aimed c.args.target.now) h shows c.write_slots.ensures.same (c.write_slots.ensures.shown h) c.requires.sorted c.name_heads.result.items e c.publish_root.new.self c.in_ok-publish_root.ensures.published c.publish_root.ensures.limit (c.in_ok-publish_root.ensures.shown h) x (c.close_old.ensures.left h x l)
+
+time : (g : Over) (c : After-close_old g) → g.D.Disk.honest → g.D.Disk.tells → (let mid = c.write_slots.new.pages in listed (g.D.Disk.state mid.disk).bytes c.name_heads.result.items ≡ aimed c.args.target.now)
+    → let old = c.args.pages.now in (before : List Item) → ShowsMap old before → LeavesOnly g.D.Disk.moment g.D.Disk.left_since old.disk (let last = c.close_old.new.self in last.disk) (IsEitherRoot old.version old.number old.limit before (aimed c.args.target.now))
+time g c h t e before shows =
+    run_three c.args.pages.now c.write_slots.new.pages before (aimed c.args.target.now) h shows c.write_slots.ensures.same (c.write_slots.ensures.shown h) c.requires.sorted c.name_heads.result.items e c.publish_root.new.self c.in_ok-publish_root.ensures.published c.publish_root.ensures.limit (c.in_ok-publish_root.ensures.shown h) (let p = c.close_old.new.self in p.disk) (c.write_slots.ensures.time h t) (c.publish_root.ensures.time h t) (c.close_old.ensures.time h t)
+
+-- what lies behind the pool stays
+published_behind : (g : Over) (c : After-publish_root g) → g.D.Disk.honest
+    → let old = c.args.pages.now in Follows (SameBehind old.limit) (Left (g.D.Disk.state old.disk)) (Left (g.D.Disk.state (let two = c.publish_root.new.self in two.disk)))
+published_behind g c h =
+    let d = g.D.Disk in
+    let old = c.args.pages.now in
+    let mid = c.write_slots.new.pages in
+    let two = c.publish_root.new.self in
+    behind_on d old.limit old.disk mid.disk (c.write_slots.ensures.behind h) two.disk (behind_step d old.limit mid.disk (SameBut (gate_at (other mid.root)) 512) (λ x y b. but_behind old.limit (other mid.root) 512 x y (omega arith) b) two.disk (c.publish_root.ensures.touched h))
+
+published_time : (g : Over) (c : After-publish_root g) → g.D.Disk.honest → g.D.Disk.tells
+    → let d = g.D.Disk in let old = c.args.pages.now in LeavesOnly d.moment d.left_since old.disk (let two = c.publish_root.new.self in two.disk) (Reaches (SameBehind old.limit) (Left (d.state old.disk)))
+published_time g c h t =
+    let d = g.D.Disk in
+    let old = c.args.pages.now in
+    let mid = c.write_slots.new.pages in
+    let two = c.publish_root.new.self in
+    behind_run d old.limit old.disk mid.disk (c.write_slots.ensures.behind h) two.disk (c.write_slots.ensures.behind_time h t) (behind_step_run d old.limit mid.disk (SameBut (gate_at (other mid.root)) 512) (λ x y b. but_behind old.limit (other mid.root) 512 x y (omega arith) b) two.disk (c.publish_root.ensures.touched_time h t))
+
+pub returns-in_err-publish_root-clause-left : goal.returns-in_err-publish_root-clause-left
+returns-in_err-publish_root-clause-left g c = λ h before shows x l.
+    let at = goal.at.returns-in_err-publish_root-clause-left g c in
+    from_either c.args.pages.now c.write_slots.new.pages before (aimed c.args.target.now) h shows c.write_slots.ensures.same (c.write_slots.ensures.shown h) c.requires.sorted c.name_heads.result.items (are g at.After-publish_root h) x (c.publish_root.ensures.left h x l)
 
 pub returns-in_err-publish_root-clause-time : goal.returns-in_err-publish_root-clause-time
 returns-in_err-publish_root-clause-time g c = λ h t before shows.
-    let d = g.D.Disk in
-    let old = c.args.pages.now in
-    let mid = c.write_slots.new.pages in
-    let target = (aimed c.args.target.now) in
-    let heads = c.name_heads.result.items in
-    let are : listed (d.state mid.disk).bytes heads ≡ target = heads_list (d.state old.disk).bytes (d.state mid.disk).bytes target c.args.layout.slots.items c.deref.result.now heads c.deref.ensures.value c.name_heads.ensures (c.requires.kept h) (c.in_ok-write_slots.ensures.written h) c.requires.sorted c.requires.keys in
-    run_two old mid before target h shows c.write_slots.ensures.same (c.write_slots.ensures.shown h) c.requires.sorted heads are (let p = c.publish_root.new.self in p.disk) (c.write_slots.ensures.time h t) (c.publish_root.ensures.time h t)
-
-pub returns-in_err-close_old-clause-left : goal.returns-in_err-close_old-clause-left
-returns-in_err-close_old-clause-left g c = λ h before shows x l.
-    let d = g.D.Disk in
-    let old = c.args.pages.now in
-    let mid = c.write_slots.new.pages in
-    let target = (aimed c.args.target.now) in
-    let heads = c.name_heads.result.items in
-    let are : listed (d.state mid.disk).bytes heads ≡ target = heads_list (d.state old.disk).bytes (d.state mid.disk).bytes target c.args.layout.slots.items c.deref.result.now heads c.deref.ensures.value c.name_heads.ensures (c.requires.kept h) (c.in_ok-write_slots.ensures.written h) c.requires.sorted c.requires.keys in
-    from_two old mid before target h shows c.write_slots.ensures.same (c.write_slots.ensures.shown h) c.requires.sorted heads are c.publish_root.new.self c.in_ok-publish_root.ensures.published c.publish_root.ensures.limit (c.in_ok-publish_root.ensures.shown h) x (c.close_old.ensures.left h x l)
-
-pub returns-in_err-close_old-clause-time : goal.returns-in_err-close_old-clause-time
-returns-in_err-close_old-clause-time g c = λ h t before shows.
-    let d = g.D.Disk in
-    let old = c.args.pages.now in
-    let mid = c.write_slots.new.pages in
-    let target = (aimed c.args.target.now) in
-    let heads = c.name_heads.result.items in
-    let are : listed (d.state mid.disk).bytes heads ≡ target = heads_list (d.state old.disk).bytes (d.state mid.disk).bytes target c.args.layout.slots.items c.deref.result.now heads c.deref.ensures.value c.name_heads.ensures (c.requires.kept h) (c.in_ok-write_slots.ensures.written h) c.requires.sorted c.requires.keys in
-    run_three old mid before target h shows c.write_slots.ensures.same (c.write_slots.ensures.shown h) c.requires.sorted heads are c.publish_root.new.self c.in_ok-publish_root.ensures.published c.publish_root.ensures.limit (c.in_ok-publish_root.ensures.shown h) (let p = c.close_old.new.self in p.disk) (c.write_slots.ensures.time h t) (c.publish_root.ensures.time h t) (c.close_old.ensures.time h t)
-
-pub returns-clause-left : goal.returns-clause-left
-returns-clause-left g c = λ h before shows x l.
-    let d = g.D.Disk in
-    let old = c.args.pages.now in
-    let mid = c.write_slots.new.pages in
-    let target = (aimed c.args.target.now) in
-    let heads = c.name_heads.result.items in
-    let are : listed (d.state mid.disk).bytes heads ≡ target = heads_list (d.state old.disk).bytes (d.state mid.disk).bytes target c.args.layout.slots.items c.deref.result.now heads c.deref.ensures.value c.name_heads.ensures (c.requires.kept h) (c.in_ok-write_slots.ensures.written h) c.requires.sorted c.requires.keys in
-    from_two old mid before target h shows c.write_slots.ensures.same (c.write_slots.ensures.shown h) c.requires.sorted heads are c.publish_root.new.self c.in_ok-publish_root.ensures.published c.publish_root.ensures.limit (c.in_ok-publish_root.ensures.shown h) x (c.close_old.ensures.left h x l)
-
-pub returns-clause-time : goal.returns-clause-time
-returns-clause-time g c = λ h t before shows.
-    let d = g.D.Disk in
-    let old = c.args.pages.now in
-    let mid = c.write_slots.new.pages in
-    let target = (aimed c.args.target.now) in
-    let heads = c.name_heads.result.items in
-    let are : listed (d.state mid.disk).bytes heads ≡ target = heads_list (d.state old.disk).bytes (d.state mid.disk).bytes target c.args.layout.slots.items c.deref.result.now heads c.deref.ensures.value c.name_heads.ensures (c.requires.kept h) (c.in_ok-write_slots.ensures.written h) c.requires.sorted c.requires.keys in
-    run_three old mid before target h shows c.write_slots.ensures.same (c.write_slots.ensures.shown h) c.requires.sorted heads are c.publish_root.new.self c.in_ok-publish_root.ensures.published c.publish_root.ensures.limit (c.in_ok-publish_root.ensures.shown h) (let p = c.close_old.new.self in p.disk) (c.write_slots.ensures.time h t) (c.publish_root.ensures.time h t) (c.close_old.ensures.time h t)
-
-pub returns-clause-shows : goal.returns-clause-shows
-returns-clause-shows g c = record {
-  one = c.in_ok-close_old.ensures.closed.standing;
-  sorted = c.requires.sorted;
-  holds = λ h.
-      let d = g.D.Disk in
-      let old = c.args.pages.now in
-      let mid = c.write_slots.new.pages in
-      let target = (aimed c.args.target.now) in
-      let heads = c.name_heads.result.items in
-      let are : listed (d.state mid.disk).bytes heads ≡ target = heads_list (d.state old.disk).bytes (d.state mid.disk).bytes target c.args.layout.slots.items c.deref.result.now heads c.deref.ensures.value c.name_heads.ensures (c.requires.kept h) (c.in_ok-write_slots.ensures.written h) c.requires.sorted c.requires.keys in
-      shown_last mid c.publish_root.new.self c.close_old.new.self target heads are (c.in_ok-publish_root.ensures.shown h) (c.in_ok-close_old.ensures.shown h);
-}
+    let at = goal.at.returns-in_err-publish_root-clause-time g c in
+    run_two c.args.pages.now c.write_slots.new.pages before (aimed c.args.target.now) h shows c.write_slots.ensures.same (c.write_slots.ensures.shown h) c.requires.sorted c.name_heads.result.items (are g at.After-publish_root h) (let p = c.publish_root.new.self in p.disk) (c.write_slots.ensures.time h t) (c.publish_root.ensures.time h t)
 
 pub returns-in_err-publish_root-clause-behind : goal.returns-in_err-publish_root-clause-behind
-returns-in_err-publish_root-clause-behind g c = λ h.
-    let d = g.D.Disk in
-    let old = c.args.pages.now in
-    let mid = c.write_slots.new.pages in
-    let two = c.publish_root.new.self in
-    let step = behind_step d old.limit mid.disk (SameBut (gate_at (other mid.root)) 512) (λ x y b. but_behind old.limit (other mid.root) 512 x y (omega arith) b) two.disk (c.publish_root.ensures.touched h) in
-    let to_two = behind_on d old.limit old.disk mid.disk (c.write_slots.ensures.behind h) two.disk step in
-    to_two
+returns-in_err-publish_root-clause-behind g c = published_behind g (goal.at.returns-in_err-publish_root-clause-behind g c).After-publish_root
 
 pub returns-in_err-publish_root-clause-behind_time : goal.returns-in_err-publish_root-clause-behind_time
-returns-in_err-publish_root-clause-behind_time g c = λ h t.
-    let d = g.D.Disk in
-    let old = c.args.pages.now in
-    let mid = c.write_slots.new.pages in
-    let two = c.publish_root.new.self in
-    let step = behind_step d old.limit mid.disk (SameBut (gate_at (other mid.root)) 512) (λ x y b. but_behind old.limit (other mid.root) 512 x y (omega arith) b) two.disk (c.publish_root.ensures.touched h) in
-    let to_two = behind_on d old.limit old.disk mid.disk (c.write_slots.ensures.behind h) two.disk step in
-    let run = behind_step_run d old.limit mid.disk (SameBut (gate_at (other mid.root)) 512) (λ x y b. but_behind old.limit (other mid.root) 512 x y (omega arith) b) two.disk (c.publish_root.ensures.touched_time h t) in
-    let run_two = behind_run d old.limit old.disk mid.disk (c.write_slots.ensures.behind h) two.disk (c.write_slots.ensures.behind_time h t) run in
-    run_two
+returns-in_err-publish_root-clause-behind_time g c = published_time g (goal.at.returns-in_err-publish_root-clause-behind_time g c).After-publish_root
+
+pub returns-in_err-close_old-clause-left : goal.returns-in_err-close_old-clause-left
+returns-in_err-close_old-clause-left g c = λ h.
+    let at = goal.at.returns-in_err-close_old-clause-left g c in
+    left g at.After-close_old h (are g at.After-publish_root h)
+
+pub returns-in_err-close_old-clause-time : goal.returns-in_err-close_old-clause-time
+returns-in_err-close_old-clause-time g c = λ h t.
+    let at = goal.at.returns-in_err-close_old-clause-time g c in
+    time g at.After-close_old h t (are g at.After-publish_root h)
 
 pub returns-in_err-close_old-clause-behind : goal.returns-in_err-close_old-clause-behind
 returns-in_err-close_old-clause-behind g c = λ h.
     let d = g.D.Disk in
     let old = c.args.pages.now in
-    let mid = c.write_slots.new.pages in
     let two = c.publish_root.new.self in
-    let step = behind_step d old.limit mid.disk (SameBut (gate_at (other mid.root)) 512) (λ x y b. but_behind old.limit (other mid.root) 512 x y (omega arith) b) two.disk (c.publish_root.ensures.touched h) in
-    let to_two = behind_on d old.limit old.disk mid.disk (c.write_slots.ensures.behind h) two.disk step in
     let last = c.close_old.new.self in
-    behind_on d old.limit old.disk two.disk to_two last.disk (behind_step d old.limit two.disk (SameBut (gate_at (other two.root)) 1) (λ x y b. but_behind old.limit (other two.root) 1 x y (omega arith) b) last.disk (c.close_old.ensures.touched h))
+    behind_on d old.limit old.disk two.disk (published_behind g (goal.at.returns-in_err-close_old-clause-behind g c).After-publish_root h) last.disk (behind_step d old.limit two.disk (SameBut (gate_at (other two.root)) 1) (λ x y b. but_behind old.limit (other two.root) 1 x y (omega arith) b) last.disk (c.close_old.ensures.touched h))
 
 pub returns-in_err-close_old-clause-behind_time : goal.returns-in_err-close_old-clause-behind_time
 returns-in_err-close_old-clause-behind_time g c = λ h t.
     let d = g.D.Disk in
     let old = c.args.pages.now in
-    let mid = c.write_slots.new.pages in
     let two = c.publish_root.new.self in
-    let step = behind_step d old.limit mid.disk (SameBut (gate_at (other mid.root)) 512) (λ x y b. but_behind old.limit (other mid.root) 512 x y (omega arith) b) two.disk (c.publish_root.ensures.touched h) in
-    let to_two = behind_on d old.limit old.disk mid.disk (c.write_slots.ensures.behind h) two.disk step in
-    let run = behind_step_run d old.limit mid.disk (SameBut (gate_at (other mid.root)) 512) (λ x y b. but_behind old.limit (other mid.root) 512 x y (omega arith) b) two.disk (c.publish_root.ensures.touched_time h t) in
-    let run_two = behind_run d old.limit old.disk mid.disk (c.write_slots.ensures.behind h) two.disk (c.write_slots.ensures.behind_time h t) run in
     let last = c.close_old.new.self in
-    behind_run d old.limit old.disk two.disk to_two last.disk run_two (behind_step_run d old.limit two.disk (SameBut (gate_at (other two.root)) 1) (λ x y b. but_behind old.limit (other two.root) 1 x y (omega arith) b) last.disk (c.close_old.ensures.touched_time h t))
+    let at = (goal.at.returns-in_err-close_old-clause-behind_time g c).After-publish_root in
+    behind_run d old.limit old.disk two.disk (published_behind g at h) last.disk (published_time g at h t) (behind_step_run d old.limit two.disk (SameBut (gate_at (other two.root)) 1) (λ x y b. but_behind old.limit (other two.root) 1 x y (omega arith) b) last.disk (c.close_old.ensures.touched_time h t))
+
+pub returns-clause-left : goal.returns-clause-left
+returns-clause-left g c = λ h.
+    let at = goal.at.returns-clause-left g c in
+    left g at.After-close_old h (are g at.After-publish_root h)
+
+pub returns-clause-time : goal.returns-clause-time
+returns-clause-time g c = λ h t.
+    let at = goal.at.returns-clause-time g c in
+    time g at.After-close_old h t (are g at.After-publish_root h)
 
 pub returns-clause-behind : goal.returns-clause-behind
 returns-clause-behind g c = λ h.
     let d = g.D.Disk in
     let old = c.args.pages.now in
-    let mid = c.write_slots.new.pages in
     let two = c.publish_root.new.self in
-    let step = behind_step d old.limit mid.disk (SameBut (gate_at (other mid.root)) 512) (λ x y b. but_behind old.limit (other mid.root) 512 x y (omega arith) b) two.disk (c.publish_root.ensures.touched h) in
-    let to_two = behind_on d old.limit old.disk mid.disk (c.write_slots.ensures.behind h) two.disk step in
     let last = c.close_old.new.self in
-    behind_on d old.limit old.disk two.disk to_two last.disk (behind_step d old.limit two.disk (SameBut (gate_at (other two.root)) 1) (λ x y b. but_behind old.limit (other two.root) 1 x y (omega arith) b) last.disk (c.close_old.ensures.touched h))
+    behind_on d old.limit old.disk two.disk (published_behind g (goal.at.returns-clause-behind g c).After-publish_root h) last.disk (behind_step d old.limit two.disk (SameBut (gate_at (other two.root)) 1) (λ x y b. but_behind old.limit (other two.root) 1 x y (omega arith) b) last.disk (c.close_old.ensures.touched h))
 
 pub returns-clause-behind_time : goal.returns-clause-behind_time
 returns-clause-behind_time g c = λ h t.
     let d = g.D.Disk in
     let old = c.args.pages.now in
-    let mid = c.write_slots.new.pages in
     let two = c.publish_root.new.self in
-    let step = behind_step d old.limit mid.disk (SameBut (gate_at (other mid.root)) 512) (λ x y b. but_behind old.limit (other mid.root) 512 x y (omega arith) b) two.disk (c.publish_root.ensures.touched h) in
-    let to_two = behind_on d old.limit old.disk mid.disk (c.write_slots.ensures.behind h) two.disk step in
-    let run = behind_step_run d old.limit mid.disk (SameBut (gate_at (other mid.root)) 512) (λ x y b. but_behind old.limit (other mid.root) 512 x y (omega arith) b) two.disk (c.publish_root.ensures.touched_time h t) in
-    let run_two = behind_run d old.limit old.disk mid.disk (c.write_slots.ensures.behind h) two.disk (c.write_slots.ensures.behind_time h t) run in
     let last = c.close_old.new.self in
-    behind_run d old.limit old.disk two.disk to_two last.disk run_two (behind_step_run d old.limit two.disk (SameBut (gate_at (other two.root)) 1) (λ x y b. but_behind old.limit (other two.root) 1 x y (omega arith) b) last.disk (c.close_old.ensures.touched_time h t))
+    let at = (goal.at.returns-clause-behind_time g c).After-publish_root in
+    behind_run d old.limit old.disk two.disk (published_behind g at h) last.disk (published_time g at h t) (behind_step_run d old.limit two.disk (SameBut (gate_at (other two.root)) 1) (λ x y b. but_behind old.limit (other two.root) 1 x y (omega arith) b) last.disk (c.close_old.ensures.touched_time h t))
+
+pub returns-clause-shows : goal.returns-clause-shows
+returns-clause-shows g c = record {
+  one = c.in_ok-close_old.ensures.closed.standing;
+  sorted = c.requires.sorted;
+  holds = λ h. shown_last c.write_slots.new.pages c.publish_root.new.self c.close_old.new.self (aimed c.args.target.now) c.name_heads.result.items (are g (goal.at.returns-clause-shows g c).After-publish_root h) (c.in_ok-publish_root.ensures.shown h) (c.in_ok-close_old.ensures.shown h);
+}
 
 pub returns-clause-spare : goal.returns-clause-spare
 returns-clause-spare g c =

@@ -24,7 +24,7 @@ loop-at-init g c =
       standing = refl;
       seen = λ h. refl;
       left = λ h x l. l;
-      time = λ h t. quiet_none d.state d.moment d.left_since p.disk (g.met.D.Disk.only_now t p.disk);
+      time = λ h t. quiet_none (g.met.D.Disk.only_now t p.disk);
     }
 
 pub loop-at-preserved : goal.loop-at-preserved
@@ -44,7 +44,7 @@ loop-at-preserved g c =
       standing = e.standing ∙ l.invariant.standing;
       seen = λ h. e.seen h ∙ l.invariant.seen h;
       left = λ h x i. l.invariant.left h x (e.left h x i);
-      time = λ h t. quiet_runs d.state d.moment d.left_since old.disk mid.disk new.disk (l.invariant.time h t) (l.invariant.left h) (e.time h t);
+      time = λ h t. quiet_runs (l.invariant.time h t) (l.invariant.left h) (e.time h t);
     }
 
 pub returns-in_err-read_item-clause-time : goal.returns-in_err-read_item-clause-time
@@ -54,7 +54,7 @@ returns-in_err-read_item-clause-time g c = λ h t.
     let old = c.args.pages.now in
     let mid = l.pages in
     let new = c.read_item.new.pages in
-    quiet_runs d.state d.moment d.left_since old.disk mid.disk new.disk (l.invariant.time h t) (l.invariant.left h) (c.read_item.ensures.time h t)
+    quiet_runs (l.invariant.time h t) (l.invariant.left h) (c.read_item.ensures.time h t)
 
 pub returns-clause-found : goal.returns-clause-found
 returns-clause-found g c = λ h.

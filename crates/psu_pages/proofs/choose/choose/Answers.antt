@@ -1,7 +1,7 @@
 use Rattle.std.proofs.Common.{◌≡◌, ℕ, Option, sym, ◌∙◌, subst}
 use Rattle.psu_pages.specs.declared.root.Root.TheVariants.{First, Second}
 use Rattle.psu_pages.specs.Finding.{open_number, IsPicked, IsNonePicked, IsPickedIn, IsSound, IsUnsound}
-use Rattle.psu_pages.proofs.Choosing.{unpicked, number_on, picked_counts, version_is, limit_is, count_is, good_words, unsound, none_cause, unsound_cause}
+use Rattle.psu_pages.proofs.Choosing.{unpicked, number_on, picked_counts, version_is, limit_is, count_is, good_words, unsound}
 use Rattle.psu_pages.proofs.choose.choose.Goals as goal
 
 pub returns-in-Err-clause-refused : goal.returns-in-Err-clause-refused
@@ -34,9 +34,3 @@ returns-clause-chosen c = λ x are sized.
       limit = sym (limit_is p.root x c.page.result.now are.size page w.result w.ensures.mark w.ensures.version w.ensures.limit w.ensures.count);
       count = sym (count_is p.root x c.page.result.now are.size page w.result w.ensures.mark w.ensures.version w.ensures.limit w.ensures.count);
     }
-
-pub returns-in-Err-clause-cause : goal.returns-in-Err-clause-cause
-returns-in-Err-clause-cause c = none_cause c.open_number.result c.open_number-2.result c.in-Err.cause c.in-Err.ensures.none
-
-pub returns-in-Err-check-clause-cause : goal.returns-in-Err-check-clause-cause
-returns-in-Err-check-clause-cause c = unsound_cause c.words_on-words.result c.args.size c.in-Err-check.cause c.in-Err-check.ensures.unsound

@@ -12,9 +12,6 @@ returns-clause-spelled g c = λ h.
     page_gated First 165 c.args.told.now (d.state c.say.new.disk).bytes (d.state c.set_gate-3.new.disk).bytes
     (omega (arith, c.requires.roots, c.say.ensures.extent, c.set_gate-2.ensures.extent, c.set_gate.ensures.extent, g.met.D.Disk.sized h c.say.new.disk)) (c.in_ok-say.ensures.says h) (c.set_gate-3.ensures.seen h) (c.in_ok-set_gate-3.ensures.done h)
 
-pub returns-clause-zero : goal.returns-clause-zero
-returns-clause-zero g c = λ h. (c.set_gate-3.ensures.seen h).above 512 (omega arith) ∙ (c.say.ensures.seen h).above 512 (omega arith) ∙ c.in_ok-set_gate-2.ensures.done h
-
 pub returns-clause-borne : goal.returns-clause-borne
 returns-clause-borne g c = λ h limit number is_told least most room image left.
     let d = g.D.Disk in

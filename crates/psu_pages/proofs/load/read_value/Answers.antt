@@ -19,5 +19,5 @@ loop-page-preserved g c =
           ∙ sym (bytes_more image pages l.page-index 0 c.loop-page-test.true);
       seen = λ h. c.read_page.ensures.seen h ∙ l.invariant.seen h;
       left = λ h x i. l.invariant.left h x (c.read_page.ensures.left h x i);
-      time = λ h t. quiet_runs d.state d.moment d.left_since c.args.disk.now l.disk c.read_page.new.disk (l.invariant.time h t) (l.invariant.left h) (c.read_page.ensures.time h t);
+      time = λ h t. quiet_runs (l.invariant.time h t) (l.invariant.left h) (c.read_page.ensures.time h t);
     }

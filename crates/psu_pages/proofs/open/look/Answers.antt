@@ -1,71 +1,64 @@
 use Rattle.std.proofs.Common.{◌≡◌, ◌≤◌, ℕ, List, length, map, sym, ◌∙◌, ap, arith, subst}
 use Rattle.std.specs.Prelude.{is_some}
 use Rattle.psu_disk.specs.Disk.{Range}
-use Rattle.psu_pages.specs.Image.{head_at, words, Head, AreApart, AreShort, keys, taken}
-use Rattle.psu_pages.specs.Finding.{AreRoots, AreFit, IsChosen, CanStand}
+use Rattle.psu_pages.specs.Image.{head_at, heads_in, words, Head, AreApart, AreShort, keys, taken}
+use Rattle.psu_pages.specs.Finding.{AreFit, CanStand}
 use Rattle.psu_pages.proofs.Numbers.{length_words}
 use Rattle.psu_pages.proofs.Quiet.{quiet_runs}
-use Rattle.psu_pages.proofs.Opening.{scan_refused, roster_of, gates, readable, bad_root, can_stand, short, within, distinct, bears}
+use Rattle.psu_pages.proofs.Opening.{HasChosen, roster_of, gates, readable, bad_root, named, bears, stand}
+use Rattle.psu_pages.proofs.open.look.Given.{Over}
+use Rattle.psu_pages.proofs.open.look.Goals.{In-Ok, After-scan, In-Ok-Some}
 use Rattle.psu_pages.proofs.open.look.Goals as goal
 
-pub returns-in_default-clause-memory : goal.returns-in_default-clause-memory
-returns-in_default-clause-memory g c = λ h memory.
-    let d = g.D.Disk in
-    let image = (d.state c.args.disk.now).bytes in
-    let are : AreRoots c.in_ok-roots.roots image = c.in_ok-roots.ensures.found h in
+has : (g : Over) (c : In-Ok g) → g.D.Disk.honest → HasChosen (g.D.Disk.state c.args.disk.now).bytes c.in-Ok.chosen
+has g c h =
+    let image = (g.D.Disk.state c.args.disk.now).bytes in
+    let are = c.in_ok-roots.ensures.found h in
     let sized : length image ≡ c.size.result = g.met.D.Disk.sized h c.args.disk.now ∙ sym (c.size.ensures ∙ c.read_roots.ensures.extent) in
-    let is : IsChosen image c.in-Ok.chosen = c.in-Ok.ensures.chosen image are sized in
-    readable image are.size c.in-Ok.chosen is
+    record { size = are.size; is = c.in-Ok.ensures.chosen image are sized }
+
+names_are : (g : Over) (c : After-scan g) → c.deref.result.now ≡ words c.in-Ok.chosen.count (Range 18 480 c.page.result.now)
+names_are g c = c.deref.ensures.value ∙ c.in-Ok-read_words.ensures
+
+heads_are : (g : Over) (c : After-scan g) → g.D.Disk.honest → let image = (g.D.Disk.state c.args.disk.now).bytes in HasChosen image c.in-Ok.chosen → map (head_at image) c.deref.result.now ≡ heads_in c.in-Ok.chosen.root image
+heads_are g c h is =
+    let image = (g.D.Disk.state c.args.disk.now).bytes in
+    ap (map (head_at image)) (named is c.page.result.now c.deref.result.now (c.page.ensures.value image (c.in_ok-roots.ensures.found h)) (names_are g c))
+
+read : (g : Over) (c : In-Ok-Some g) → g.D.Disk.honest → c.in-Ok-Some.found.heads.items ≡ map (head_at (g.D.Disk.state c.args.disk.now).bytes) c.deref.result.now
+read g c h =
+    let heads : c.in-Ok-Some.found.heads.items ≡ map (head_at (g.D.Disk.state c.read_roots.new.disk).bytes) c.deref.result.now = rw c.in-Ok-Some.field-0-is at (c.in-Ok-Some.ensures.found h) in
+    heads ∙ ap (λ (x : List ℕ). map (head_at x) c.deref.result.now) (c.read_roots.ensures.seen h)
+
+pub returns-in_default-clause-memory : goal.returns-in_default-clause-memory
+returns-in_default-clause-memory g c = λ h memory. readable (has g (goal.at.returns-in_default-clause-memory g c).In-Ok h)
 
 pub returns-in-Err-scan-clause-memory : goal.returns-in-Err-scan-clause-memory
-returns-in-Err-scan-clause-memory g c = λ h memory.
-    let d = g.D.Disk in
-    let image = (d.state c.args.disk.now).bytes in
-    let are : AreRoots c.in_ok-roots.roots image = c.in_ok-roots.ensures.found h in
-    let sized : length image ≡ c.size.result = g.met.D.Disk.sized h c.args.disk.now ∙ sym (c.size.ensures ∙ c.read_roots.ensures.extent) in
-    let is : IsChosen image c.in-Ok.chosen = c.in-Ok.ensures.chosen image are sized in
-    readable image are.size c.in-Ok.chosen is
-
-pub returns-in-Err-scan-clause-refused : goal.returns-in-Err-scan-clause-refused
-returns-in-Err-scan-clause-refused g c = λ h. scan_refused (g.D.Disk.state c.args.disk.now).bytes c.in-Err-scan.cause c.in-Err-scan.ensures.cause
+returns-in-Err-scan-clause-memory g c = λ h memory. readable (has g (goal.at.returns-in-Err-scan-clause-memory g c).In-Ok h)
 
 pub returns-in-Ok-None-clause-refused : goal.returns-in-Ok-None-clause-refused
 returns-in-Ok-None-clause-refused g c = λ h.
     let d = g.D.Disk in
     let image = (d.state c.args.disk.now).bytes in
-    let are : AreRoots c.in_ok-roots.roots image = c.in_ok-roots.ensures.found h in
-    let sized : length image ≡ c.size.result = g.met.D.Disk.sized h c.args.disk.now ∙ sym (c.size.ensures ∙ c.read_roots.ensures.extent) in
-    let is : IsChosen image c.in-Ok.chosen = c.in-Ok.ensures.chosen image are sized in
-    let names : c.deref.result.now ≡ words c.in-Ok.chosen.count (Range 18 480 c.page.result.now) = c.deref.ensures.value ∙ c.in-Ok-read_words.ensures in
-    let page = c.page.ensures.value image are in
-    let seen = c.read_roots.ensures.seen h in
-    bad_root image are.size c.in-Ok.chosen is (λ shows.
-    c.in-Ok-None.ensures.none h (ap is_some c.in-Ok-None.field-0-is) (subst (λ (x : List ℕ). CanStand c.in-Ok.chosen.limit (map (head_at x) c.deref.result.now)) (sym seen) (can_stand image are.size c.in-Ok.chosen is c.page.result.now c.deref.result.now page names shows)))
+    let root = c.in-Ok.chosen.root in
+    let limit = c.in-Ok.chosen.limit in
+    let at = goal.at.returns-in-Ok-None-clause-refused g c in
+    let is = has g at.In-Ok h in
+    bad_root is (λ shows.
+    c.in-Ok-None.ensures.none h (ap is_some c.in-Ok-None.field-0-is) (subst (λ (x : List ℕ). CanStand limit (map (head_at x) c.deref.result.now)) (sym (c.read_roots.ensures.seen h)) (subst (CanStand limit) (sym (heads_are g at.After-scan h is)) (stand root image limit shows))))
 
 pub returns-then-not-stand_together-clause-refused : goal.returns-then-not-stand_together-clause-refused
 returns-then-not-stand_together-clause-refused g c = λ h.
-    let d = g.D.Disk in
-    let image = (d.state c.args.disk.now).bytes in
-    let are : AreRoots c.in_ok-roots.roots image = c.in_ok-roots.ensures.found h in
-    let sized : length image ≡ c.size.result = g.met.D.Disk.sized h c.args.disk.now ∙ sym (c.size.ensures ∙ c.read_roots.ensures.extent) in
-    let is : IsChosen image c.in-Ok.chosen = c.in-Ok.ensures.chosen image are sized in
-    let names : c.deref.result.now ≡ words c.in-Ok.chosen.count (Range 18 480 c.page.result.now) = c.deref.ensures.value ∙ c.in-Ok-read_words.ensures in
-    let page = c.page.ensures.value image are in
-    let seen = c.read_roots.ensures.seen h in
-    let read : c.in-Ok-Some.found.heads.items ≡ map (head_at (d.state c.read_roots.new.disk).bytes) c.deref.result.now = rw c.in-Ok-Some.field-0-is at (c.in-Ok-Some.ensures.found h) in
-    let heads : c.in-Ok-Some.found.heads.items ≡ map (head_at image) c.deref.result.now = read ∙ ap (λ (x : List ℕ). map (head_at x) c.deref.result.now) seen in
-    let hs = c.in-Ok-Some.found.heads.items in
-    let value = c.deref-2.ensures.value in
-    bad_root image are.size c.in-Ok.chosen is (λ shows.
-    c.stand_together.ensures.no c.if-not-stand_together.true
-    (subst (AreShort c.in-Ok.chosen.version) (sym value) (short image are.size c.in-Ok.chosen is c.page.result.now c.deref.result.now page names hs heads shows))
-    (subst (λ (l : List Head). length (taken l) ≤ c.in-Ok.chosen.limit) (sym value) (within image are.size c.in-Ok.chosen is c.page.result.now c.deref.result.now page names hs heads shows))
-    (subst (λ (l : List Head). AreApart (keys l)) (sym value) (distinct image are.size c.in-Ok.chosen is c.page.result.now c.deref.result.now page names hs heads shows)))
+    let at = goal.at.returns-then-not-stand_together-clause-refused g c in
+    let is = has g at.In-Ok h in
+    let chosen = c.in-Ok.chosen in
+    let heads = sym (c.deref-2.ensures.value ∙ read g at.In-Ok-Some h ∙ heads_are g at.After-scan h is) in
+    bad_root is (λ shows.
+    c.stand_together.ensures.no c.if-not-stand_together.true (subst (AreShort chosen.version) heads (subst (λ (v : ℕ). AreShort v (heads_in chosen.root (g.D.Disk.state c.args.disk.now).bytes)) is.is.version shows.short))
+    (subst (λ (hs : List Head). length (taken hs) ≤ chosen.limit) heads shows.cost) (subst (λ (hs : List Head). AreApart (keys hs)) heads shows.distinct))
 
 pub returns-then-not-stand_together-clause-time : goal.returns-then-not-stand_together-clause-time
-returns-then-not-stand_together-clause-time g c = λ h t.
-    let d = g.D.Disk in
-    quiet_runs d.state d.moment d.left_since c.args.disk.now c.read_roots.new.disk c.scan.new.disk (c.read_roots.ensures.time h t) (c.read_roots.ensures.left h) (c.scan.ensures.time h t)
+returns-then-not-stand_together-clause-time g c = λ h t. quiet_runs (c.read_roots.ensures.time h t) (c.read_roots.ensures.left h) (c.scan.ensures.time h t)
 
 pub returns-clause-roster : goal.returns-clause-roster
 returns-clause-roster g c =
@@ -74,41 +67,19 @@ returns-clause-roster g c =
     let fit : AreFit c.in-Ok.chosen.limit hs found.free = rw c.in-Ok-Some.field-0-is at c.in-Ok-Some.ensures.fit in
     let many : length hs ≡ length c.deref.result.now = rw c.in-Ok-Some.field-0-is at c.in-Ok-Some.ensures.many in
     let yes = c.if-not-stand_together.false in
-    roster_of c.in-Ok.chosen.limit hs fit.can_stand (omega (arith, many, ap (λ (l : List ℕ). length l) (c.deref.ensures.value ∙ c.in-Ok-read_words.ensures), length_words c.in-Ok.chosen.count (Range 18 480 c.page.result.now), c.in-Ok.ensures.limit.3))
+    let names = names_are g (goal.at.returns-clause-roster g c).After-scan in
+    roster_of c.in-Ok.chosen.limit hs fit.can_stand (omega (arith, many, ap (λ (l : List ℕ). length l) names, length_words c.in-Ok.chosen.count (Range 18 480 c.page.result.now), c.in-Ok.ensures.limit.3))
     (subst (λ (l : List Head). length (taken l) ≤ c.in-Ok.chosen.limit) c.deref-2.ensures.value (c.stand_together.ensures.within yes))
     (subst (λ (l : List Head). AreApart (keys l)) c.deref-2.ensures.value (c.stand_together.ensures.distinct yes))
 
 pub returns-clause-found : goal.returns-clause-found
 returns-clause-found g c = λ h.
-    let d = g.D.Disk in
-    let image = (d.state c.args.disk.now).bytes in
-    let are : AreRoots c.in_ok-roots.roots image = c.in_ok-roots.ensures.found h in
-    let sized : length image ≡ c.size.result = g.met.D.Disk.sized h c.args.disk.now ∙ sym (c.size.ensures ∙ c.read_roots.ensures.extent) in
-    let is : IsChosen image c.in-Ok.chosen = c.in-Ok.ensures.chosen image are sized in
-    let names : c.deref.result.now ≡ words c.in-Ok.chosen.count (Range 18 480 c.page.result.now) = c.deref.ensures.value ∙ c.in-Ok-read_words.ensures in
-    let page = c.page.ensures.value image are in
-    let seen = c.read_roots.ensures.seen h in
-    let read : c.in-Ok-Some.found.heads.items ≡ map (head_at (d.state c.read_roots.new.disk).bytes) c.deref.result.now = rw c.in-Ok-Some.field-0-is at (c.in-Ok-Some.ensures.found h) in
-    let heads : c.in-Ok-Some.found.heads.items ≡ map (head_at image) c.deref.result.now = read ∙ ap (λ (x : List ℕ). map (head_at x) c.deref.result.now) seen in
-    bears image are.size c.in-Ok.chosen is c.page.result.now c.deref.result.now page names c.in-Ok-Some.found.heads.items heads (returns-clause-roster g c)
-    (subst (AreShort c.in-Ok.chosen.version) c.deref-2.ensures.value (c.stand_together.ensures.short c.if-not-stand_together.false))
+    let at = goal.at.returns-clause-found g c in
+    let is = has g at.In-Ok h in
+    bears is c.in-Ok-Some.found.heads.items (sym (read g at.In-Ok-Some h ∙ heads_are g at.After-scan h is)) (returns-clause-roster g c) (subst (AreShort c.in-Ok.chosen.version) c.deref-2.ensures.value (c.stand_together.ensures.short c.if-not-stand_together.false))
 
 pub returns-clause-gates : goal.returns-clause-gates
-returns-clause-gates g c = λ h.
-    let d = g.D.Disk in
-    let image = (d.state c.args.disk.now).bytes in
-    let are : AreRoots c.in_ok-roots.roots image = c.in_ok-roots.ensures.found h in
-    let sized : length image ≡ c.size.result = g.met.D.Disk.sized h c.args.disk.now ∙ sym (c.size.ensures ∙ c.read_roots.ensures.extent) in
-    let is : IsChosen image c.in-Ok.chosen = c.in-Ok.ensures.chosen image are sized in
-    gates image are.size c.in-Ok.chosen is
-
-pub returns-clause-synced : goal.returns-clause-synced
-returns-clause-synced g c = λ h x l. c.in_ok-roots.ensures.synced h x (c.scan.ensures.left h x l) ∙ sym (c.scan.ensures.seen h)
-
-pub returns-clause-left : goal.returns-clause-left
-returns-clause-left g c = λ h x l. c.read_roots.ensures.left h x (c.scan.ensures.left h x l)
+returns-clause-gates g c = λ h. gates (has g (goal.at.returns-clause-gates g c).In-Ok h)
 
 pub returns-clause-time : goal.returns-clause-time
-returns-clause-time g c = λ h t.
-    let d = g.D.Disk in
-    quiet_runs d.state d.moment d.left_since c.args.disk.now c.read_roots.new.disk c.scan.new.disk (c.read_roots.ensures.time h t) (c.read_roots.ensures.left h) (c.scan.ensures.time h t)
+returns-clause-time g c = λ h t. quiet_runs (c.read_roots.ensures.time h t) (c.read_roots.ensures.left h) (c.scan.ensures.time h t)

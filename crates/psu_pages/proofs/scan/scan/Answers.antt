@@ -1,28 +1,14 @@
-use Rattle.std.proofs.Common.{◌≡◌, ◌++◌, ◌∷◌, [], ℕ, List, false, length, get_or, take, map, refl, sym, ◌∙◌, ap, subst, arith, Err, length-append}
+use Rattle.std.proofs.Common.{◌≡◌, ◌++◌, ◌∷◌, [], ℕ, List, false, length, get_or, take, map, sym, ◌∙◌, ap, subst, arith, Err, length-append}
 use Rattle.psu_disk.specs.Disk.{HasFailed}
 use Rattle.std.specs.Prelude.{is_some}
 use Rattle.psu_pages.specs.Free.{Marks}
 use Rattle.psu_pages.specs.Image.{Head, head_at, pages_of}
 use Rattle.psu_pages.specs.declared.open_cause.OpenCause.TheVariants.{Device}
 use Rattle.psu_pages.specs.Finding.{AreFit, IsFit}
-use Rattle.psu_pages.proofs.Filling.{take_all}
-use Rattle.psu_pages.proofs.Quiet.{quiet_none, quiet_runs}
-use Rattle.psu_pages.proofs.Scanning.{fit_none, fit_more, fit_next, map_take, map_at, map_length, map_more}
+use Rattle.std.proofs.lemmas.List.{take_all, take-map, get_or-map, length-map}
+use Rattle.psu_pages.proofs.Quiet.{quiet_runs}
+use Rattle.psu_pages.proofs.Scanning.{fit_more, fit_next, map_more}
 use Rattle.psu_pages.proofs.scan.scan.Goals as goal
-
-pub loop-name-init : goal.loop-name-init
-loop-name-init g c =
-    let d = g.D.Disk in
-    record {
-      extent = refl;
-      works = refl;
-      many = ap (λ (hs : List Head). length hs) c.in_ok-heads.ensures.items;
-      fit = subst (λ (hs : List Head). AreFit c.args.limit hs c.in_ok-free.free) (sym c.in_ok-heads.ensures.items) (fit_none c.args.limit c.in_ok-free.free c.in_ok-free.ensures);
-      found = λ h. c.in_ok-heads.ensures.items;
-      seen = λ h. refl;
-      left = λ h x l. l;
-      time = λ h t. quiet_none d.state d.moment d.left_since c.args.disk.now (g.met.D.Disk.only_now t c.args.disk.now);
-    }
 
 pub returns-in-Ok-None-clause-none : goal.returns-in-Ok-None-clause-none
 returns-in-Ok-None-clause-none g c = λ h none can.
@@ -32,16 +18,13 @@ returns-in-Ok-None-clause-none g c = λ h none can.
     let names = c.args.names.now in
     let all = map (head_at image) names in
     let i = l.name-index in
-    let so : AreFit c.args.limit (take i all) l.free = subst (λ (hs : List Head). AreFit c.args.limit hs l.free) (l.invariant.found h ∙ map_take (head_at image) i names) l.invariant.fit in
-    let fit = fit_next c.args.limit all i (head_at image 0) l.free (omega (arith, c.loop-name-test.true, map_length (head_at image) names)) can so in
-    let is : get_or all i (head_at image 0) ≡ head_at (d.state l.disk).bytes (get_or names i 0) = map_at (head_at image) names i 0 (head_at image 0) c.loop-name-test.true ∙ ap (λ (x : List ℕ). head_at x (get_or names i 0)) (sym (l.invariant.seen h)) in
+    let so : AreFit c.args.limit (take i all) l.free = subst (λ (hs : List Head). AreFit c.args.limit hs l.free) (l.invariant.found h ∙ sym (take-map (head_at image) i names)) l.invariant.fit in
+    let fit = fit_next c.args.limit all i (head_at image 0) l.free (omega (arith, c.loop-name-test.true, length-map names (head_at image))) can so in
+    let is : get_or all i (head_at image 0) ≡ head_at (d.state l.disk).bytes (get_or names i 0) = get_or-map (head_at image) names i 0 (head_at image 0) c.loop-name-test.true ∙ ap (λ (x : List ℕ). head_at x (get_or names i 0)) (sym (l.invariant.seen h)) in
     c.in-Ok-None.ensures.none h (ap is_some c.in-Ok-None.field-0-is) (subst (IsFit l.free) is fit)
 
 pub returns-in-Ok-None-clause-time : goal.returns-in-Ok-None-clause-time
-returns-in-Ok-None-clause-time g c = λ h t.
-    let d = g.D.Disk in
-    let l = c.loop-name in
-    quiet_runs d.state d.moment d.left_since c.args.disk.now l.disk c.read_head.new.disk (l.invariant.time h t) (l.invariant.left h) (c.read_head.ensures.time h t)
+returns-in-Ok-None-clause-time g c = λ h t. quiet_runs (c.loop-name.invariant.time h t) (c.loop-name.invariant.left h) (c.read_head.ensures.time h t)
 
 pub loop-name-preserved : goal.loop-name-preserved
 loop-name-preserved g c =
@@ -66,7 +49,7 @@ loop-name-preserved g c =
           ∙ sym (map_more (head_at image) names i 0 c.loop-name-test.true);
       seen = λ h. c.read_head.ensures.seen h ∙ l.invariant.seen h;
       left = λ h x i. l.invariant.left h x (c.read_head.ensures.left h x i);
-      time = λ h t. quiet_runs d.state d.moment d.left_since c.args.disk.now l.disk c.read_head.new.disk (l.invariant.time h t) (l.invariant.left h) (c.read_head.ensures.time h t);
+      time = λ h t. quiet_runs (l.invariant.time h t) (l.invariant.left h) (c.read_head.ensures.time h t);
     }
 
 pub returns-in-Err-clause-device : goal.returns-in-Err-clause-device
@@ -78,22 +61,12 @@ pub returns-in-Err-clause-quiet : goal.returns-in-Err-clause-quiet
 returns-in-Err-clause-quiet g c = λ not_device. c.in-Err.ensures.quiet not_device ∙ c.loop-name.invariant.works
 
 pub returns-in-Err-clause-time : goal.returns-in-Err-clause-time
-returns-in-Err-clause-time g c = λ h t.
-    let d = g.D.Disk in
-    let l = c.loop-name in
-    quiet_runs d.state d.moment d.left_since c.args.disk.now l.disk c.read_head.new.disk (l.invariant.time h t) (l.invariant.left h) (c.read_head.ensures.time h t)
+returns-in-Err-clause-time g c = λ h t. quiet_runs (c.loop-name.invariant.time h t) (c.loop-name.invariant.left h) (c.read_head.ensures.time h t)
 
 pub returns-in_err-add-clause-time : goal.returns-in_err-add-clause-time
-returns-in_err-add-clause-time g c = λ h t.
-    let d = g.D.Disk in
-    let l = c.loop-name in
-    quiet_runs d.state d.moment d.left_since c.args.disk.now l.disk c.read_head.new.disk (l.invariant.time h t) (l.invariant.left h) (c.read_head.ensures.time h t)
+returns-in_err-add-clause-time g c = λ h t. quiet_runs (c.loop-name.invariant.time h t) (c.loop-name.invariant.left h) (c.read_head.ensures.time h t)
 
 pub returns-clause-found : goal.returns-clause-found
 returns-clause-found g c = λ h.
-    let d = g.D.Disk in
     let l = c.loop-name in
-    l.invariant.found h ∙ ap (map (head_at (d.state c.args.disk.now).bytes)) (take_all l.name-index c.args.names.now (omega (arith, c.loop-name-test.false)))
-
-pub returns-clause-many : goal.returns-clause-many
-returns-clause-many g c = omega (arith, c.loop-name.invariant.many, c.loop-name-test.false, c.loop-name.auto.name-index-end)
+    l.invariant.found h ∙ ap (map (head_at (g.D.Disk.state c.args.disk.now).bytes)) (take_all l.name-index c.args.names.now (omega (arith, c.loop-name-test.false)))

@@ -1,5 +1,5 @@
 use Rattle.std.proofs.Common.{sym, arith}
-use Rattle.psu_pages.proofs.Filling.{take_all, drop_all}
+use Rattle.std.proofs.lemmas.List.{take_all, drop_all}
 use Rattle.psu_pages.proofs.writing.first_page.Goals as goal
 
 pub returns-then-bytes-lt512-clause-first : goal.returns-then-bytes-lt512-clause-first

@@ -1,10 +1,11 @@
 use Rattle.std.proofs.Common.{◌≡◌, ℕ, List, [], ◌∷◌, sym, ◌∙◌, ap, subst, arith, length}
-use Rattle.psu_disk.specs.Disk.{Left}
 use Rattle.psu_pages.specs.Image.{page_in, pages_of}
 use Rattle.psu_pages.specs.Spelling.{filled, value_drafts}
 use Rattle.psu_pages.specs.Writing.{Misses, AreWritten}
 use Rattle.psu_pages.proofs.Making.{item_written}
-use Rattle.psu_pages.proofs.Steps.{misses_first, misses_rest, page_stays, follows_both, follows_weaker, run_both, run_weaker}
+use Rattle.psu_pages.proofs.Steps.{misses_first, misses_rest, page_stays, follows_weaker, follows_on, run_weaker, run_on}
+use Rattle.psu_pages.proofs.writing.write_item.Given.{Over}
+use Rattle.psu_pages.proofs.writing.write_item.Goals.{After-write_value}
 use Rattle.psu_pages.proofs.writing.write_item.Goals as goal
 
 pub returns-clause-spelled : goal.returns-clause-spelled
@@ -25,34 +26,26 @@ returns-clause-written g c = λ h.
     let d = g.D.Disk in
     item_written (d.state c.write_value.new.disk).bytes c.args.head.now c.args.value.now c.requires.is_head c.requires.low (sym c.requires.size) (returns-clause-spelled g c h)
 
+first : (g : Over) (c : After-write_value g) (x y : List ℕ) → Misses (c.at.result ∷ []) x y → Misses (pages_of c.args.head.now) x y
+first g c x y misses = let head = c.args.head.now in misses_first head.at head.pages x y (subst (λ (p : ℕ). Misses (p ∷ []) x y) c.at.ensures misses)
+
+rest : (g : Over) (c : After-write_value g) (x y : List ℕ) → Misses c.pages.result.now x y → Misses (pages_of c.args.head.now) x y
+rest g c x y misses = let head = c.args.head.now in misses_rest head.at head.pages x y (subst (λ (ps : List ℕ). Misses ps x y) c.pages.ensures misses)
+
 pub returns-in_err-write_value-clause-time : goal.returns-in_err-write_value-clause-time
 returns-in_err-write_value-clause-time g c = λ h t.
-    let d = g.D.Disk in
-    let head = c.args.head.now in
-    let first = λ (x y : List ℕ) (m : Misses (c.at.result ∷ []) x y). misses_first head.at head.pages x y (subst (λ (p : ℕ). Misses (p ∷ []) x y) c.at.ensures m) in
-    let rest = λ (x y : List ℕ) (m : Misses c.pages.result.now x y). misses_rest head.at head.pages x y (subst (λ (ps : List ℕ). Misses ps x y) c.pages.ensures m) in
-    run_both (pages_of head) d.moment d.left_since d.state c.args.disk.now c.write_page.new.disk c.write_value.new.disk
-    (run_weaker (pages_of head) d.moment d.left_since d.state (c.at.result ∷ []) c.args.disk.now c.write_page.new.disk first (c.write_page.ensures.time h t))
-    (follows_weaker (pages_of head) (c.at.result ∷ []) (Left (d.state c.args.disk.now)) (Left (d.state c.write_page.new.disk)) first (c.write_page.ensures.left h))
-    (run_weaker (pages_of head) d.moment d.left_since d.state c.pages.result.now c.write_page.new.disk c.write_value.new.disk rest (c.write_value.ensures.time h t))
-
-pub returns-clause-left : goal.returns-clause-left
-returns-clause-left g c = λ h.
-    let d = g.D.Disk in
-    let head = c.args.head.now in
-    let first = λ (x y : List ℕ) (m : Misses (c.at.result ∷ []) x y). misses_first head.at head.pages x y (subst (λ (p : ℕ). Misses (p ∷ []) x y) c.at.ensures m) in
-    let rest = λ (x y : List ℕ) (m : Misses c.pages.result.now x y). misses_rest head.at head.pages x y (subst (λ (ps : List ℕ). Misses ps x y) c.pages.ensures m) in
-    follows_both (pages_of head) (Left (d.state c.args.disk.now)) (Left (d.state c.write_page.new.disk)) (Left (d.state c.write_value.new.disk))
-    (follows_weaker (pages_of head) (c.at.result ∷ []) (Left (d.state c.args.disk.now)) (Left (d.state c.write_page.new.disk)) first (c.write_page.ensures.left h))
-    (follows_weaker (pages_of head) c.pages.result.now (Left (d.state c.write_page.new.disk)) (Left (d.state c.write_value.new.disk)) rest (c.write_value.ensures.left h))
+    let pages = pages_of c.args.head.now in
+    let at = (goal.at.returns-in_err-write_value-clause-time g c).After-write_value in
+    run_on pages (rest g at) (c.write_value.ensures.time h t) (run_weaker pages (first g at) (c.write_page.ensures.time h t)) (follows_weaker pages (first g at) (c.write_page.ensures.left h))
 
 pub returns-clause-time : goal.returns-clause-time
 returns-clause-time g c = λ h t.
-    let d = g.D.Disk in
-    let head = c.args.head.now in
-    let first = λ (x y : List ℕ) (m : Misses (c.at.result ∷ []) x y). misses_first head.at head.pages x y (subst (λ (p : ℕ). Misses (p ∷ []) x y) c.at.ensures m) in
-    let rest = λ (x y : List ℕ) (m : Misses c.pages.result.now x y). misses_rest head.at head.pages x y (subst (λ (ps : List ℕ). Misses ps x y) c.pages.ensures m) in
-    run_both (pages_of head) d.moment d.left_since d.state c.args.disk.now c.write_page.new.disk c.write_value.new.disk
-    (run_weaker (pages_of head) d.moment d.left_since d.state (c.at.result ∷ []) c.args.disk.now c.write_page.new.disk first (c.write_page.ensures.time h t))
-    (follows_weaker (pages_of head) (c.at.result ∷ []) (Left (d.state c.args.disk.now)) (Left (d.state c.write_page.new.disk)) first (c.write_page.ensures.left h))
-    (run_weaker (pages_of head) d.moment d.left_since d.state c.pages.result.now c.write_page.new.disk c.write_value.new.disk rest (c.write_value.ensures.time h t))
+    let pages = pages_of c.args.head.now in
+    let at = (goal.at.returns-clause-time g c).After-write_value in
+    run_on pages (rest g at) (c.write_value.ensures.time h t) (run_weaker pages (first g at) (c.write_page.ensures.time h t)) (follows_weaker pages (first g at) (c.write_page.ensures.left h))
+
+pub returns-clause-left : goal.returns-clause-left
+returns-clause-left g c = λ h.
+    let pages = pages_of c.args.head.now in
+    let at = (goal.at.returns-clause-left g c).After-write_value in
+    follows_on pages (rest g at) (follows_weaker pages (first g at) (c.write_page.ensures.left h)) (c.write_value.ensures.left h)

@@ -12,10 +12,8 @@ returns-clause-written g c = λ h.
 
 pub returns-in_err-write-clause-time : goal.returns-in_err-write-clause-time
 returns-in_err-write-clause-time g c = λ h t.
-    let d = g.D.Disk in
-    run_one c.args.at _ (length c.bytes.result.now) (ap (λ (p : ℕ). 512 * p) c.from.ensures) c.bytes.ensures.whole d.moment d.left_since d.state c.args.disk.now c.write.new.self (g.met.D.Disk.only_now t c.args.disk.now) (c.write.ensures.left h) (c.write.ensures.time t)
+    run_one c.args.at _ (length c.bytes.result.now) (ap (λ (p : ℕ). 512 * p) c.from.ensures) c.bytes.ensures.whole (g.met.D.Disk.only_now t c.args.disk.now) (c.write.ensures.left h) (c.write.ensures.time t)
 
 pub returns-clause-time : goal.returns-clause-time
 returns-clause-time g c = λ h t.
-    let d = g.D.Disk in
-    run_one c.args.at _ (length c.bytes.result.now) (ap (λ (p : ℕ). 512 * p) c.from.ensures) c.bytes.ensures.whole d.moment d.left_since d.state c.args.disk.now c.write.new.self (g.met.D.Disk.only_now t c.args.disk.now) (c.write.ensures.left h) (c.write.ensures.time t)
+    run_one c.args.at _ (length c.bytes.result.now) (ap (λ (p : ℕ). 512 * p) c.from.ensures) c.bytes.ensures.whole (g.met.D.Disk.only_now t c.args.disk.now) (c.write.ensures.left h) (c.write.ensures.time t)

@@ -1,26 +1,21 @@
-use Rattle.std.proofs.Common.{◌≡◌, ◌*◌, ◌+◌, ◌≤◌, ℕ, [], ◌∷◌, ◌∙◌, ap, arith, length, get_or, rules}
+use Rattle.std.proofs.Common.{◌≡◌, ◌*◌, ◌+◌, ◌≤◌, ℕ, ◌∙◌, ap, arith, length, rules}
 use Rattle.std.specs.List.{AllByRecursion}
-use Rattle.psu_disk.specs.Disk.{Left}
 use Rattle.psu_pages.specs.Spelling.{filled}
 use Rattle.psu_pages.proofs.Lists.{all_map}
-use Rattle.psu_pages.proofs.Steps.{misses_trans, misses_one, follows_both, follows_weaker, run_both, run_weaker, written_more, rest_more}
+use Rattle.psu_pages.proofs.Steps.{misses_trans, misses_one, follows_on, run_on, written_more, rest_more}
 use Rattle.psu_pages.proofs.writing.write_value.Goals as goal
 
 pub returns-in_err-write_page-clause-left : goal.returns-in_err-write_page-clause-left
 returns-in_err-write_page-clause-left g c = λ h.
-    let d = g.D.Disk in
-    let l = c.loop-page in
     let pages = c.args.pages.now in
-    follows_both pages (Left (d.state c.args.disk.now)) (Left (d.state l.disk)) (Left (d.state c.write_page.new.disk)) (l.invariant.left h)
-    (follows_weaker pages (get_or pages l.page-index 0 ∷ []) (Left (d.state l.disk)) (Left (d.state c.write_page.new.disk)) (λ x y. misses_one pages l.page-index 0 x y c.loop-page-test.true) (c.write_page.ensures.left h))
+    let l = c.loop-page in
+    follows_on pages (λ x y. misses_one pages l.page-index 0 x y c.loop-page-test.true) (l.invariant.left h) (c.write_page.ensures.left h)
 
 pub returns-in_err-write_page-clause-time : goal.returns-in_err-write_page-clause-time
 returns-in_err-write_page-clause-time g c = λ h t.
-    let d = g.D.Disk in
-    let l = c.loop-page in
     let pages = c.args.pages.now in
-    run_both pages d.moment d.left_since d.state c.args.disk.now l.disk c.write_page.new.disk (l.invariant.time h t) (l.invariant.left h)
-    (run_weaker pages d.moment d.left_since d.state (get_or pages l.page-index 0 ∷ []) l.disk c.write_page.new.disk (λ x y. misses_one pages l.page-index 0 x y c.loop-page-test.true) (c.write_page.ensures.time h t))
+    let l = c.loop-page in
+    run_on pages (λ x y. misses_one pages l.page-index 0 x y c.loop-page-test.true) (c.write_page.ensures.time h t) (l.invariant.time h t) (l.invariant.left h)
 
 pub loop-page-preserved : goal.loop-page-preserved
 loop-page-preserved g c =
@@ -39,8 +34,6 @@ loop-page-preserved g c =
           written_more pages c.args.value.now l.rest.now i 0 (d.state l.disk).bytes (d.state c.write_page.new.disk).bytes lt c.requires.apart fits l.invariant.rest (c.write_page.ensures.seen h)
           (c.in_ok-write_page.ensures.written h ∙ ap (filled 512) (c.of.ensures ∙ c.first_page.ensures.first)) (l.invariant.written h);
       seen = λ h. misses_trans pages _ _ _ (l.invariant.seen h) (misses_one pages i 0 _ _ lt (c.write_page.ensures.seen h));
-      left = λ h. follows_both pages (Left (d.state c.args.disk.now)) (Left (d.state l.disk)) (Left (d.state c.write_page.new.disk)) (l.invariant.left h)
-          (follows_weaker pages (get_or pages i 0 ∷ []) (Left (d.state l.disk)) (Left (d.state c.write_page.new.disk)) (λ x y. misses_one pages i 0 x y lt) (c.write_page.ensures.left h));
-      time = λ h t. run_both pages d.moment d.left_since d.state c.args.disk.now l.disk c.write_page.new.disk (l.invariant.time h t) (l.invariant.left h)
-          (run_weaker pages d.moment d.left_since d.state (get_or pages i 0 ∷ []) l.disk c.write_page.new.disk (λ x y. misses_one pages i 0 x y lt) (c.write_page.ensures.time h t));
+      left = λ h. follows_on pages (λ x y. misses_one pages i 0 x y lt) (l.invariant.left h) (c.write_page.ensures.left h);
+      time = λ h t. run_on pages (λ x y. misses_one pages i 0 x y lt) (c.write_page.ensures.time h t) (l.invariant.time h t) (l.invariant.left h);
     }

@@ -1,8 +1,8 @@
 use Rattle.std.proofs.Common.{◌≡◌, ◌∙◌, ℕ, true, List, refl, sym, ap, subst, Result, Ok, Err, IfOk, IfErr}
 use Rattle.psu_items.specs.Map.{Item, cost}
 use Rattle.psu_items.specs.Image.{EachStands, HasReadableRoot, IsRefusal, Stands}
-use Rattle.psu_items.specs.declared.open_cause.OpenCause.{OpenCause}
-use Rattle.psu_items.specs.declared.open_cause.OpenCause.TheVariants as opening
+use Rattle.psu_pages.specs.declared.open_cause.OpenCause.{OpenCause}
+use Rattle.psu_pages.specs.declared.open_cause.OpenCause.TheVariants as opening
 use Rattle.psu_items.proofs.Fitting.{stands_readable}
 use Rattle.psu_nv.specs.Contents.{items_of, fits, Contents}
 use Rattle.psu_exec.specs.declared.power_fault.PowerCause.{PowerCause}

@@ -1,7 +1,8 @@
 use Rattle.std.proofs.Common.{◌≡◌, inl, ◌∙◌, ◌+◌, ◌≤◌, ℕ, List, Err, refl, sym, ap, subst, arith}
+use Rattle.psu_disk.specs.Disk.{Left, LeavesOnly}
 use Rattle.psu_items.specs.Map.{Item}
 use Rattle.psu_items.specs.Batch.{Edit, changed}
-use Rattle.psu_items.specs.Image.{IsEither, Stands}
+use Rattle.psu_items.specs.Image.{IsEither, IsEitherRoot, Stands}
 use Rattle.psu_items.specs.Layout.{HaveKept}
 use Rattle.psu_items.specs.Plan.{Planned}
 use Rattle.psu_items.specs.Standing.{on_pages}
@@ -10,6 +11,8 @@ use Rattle.psu_items.proofs.Committing.{not_true, none_run, to_either, either_ru
 use Rattle.psu_items.proofs.Renewing.{map_called, edits_called, either_called, weakly_called, time_called, target_called, view_again, keeps_called}
 use Rattle.psu_items.proofs.Behind.{behind_none, behind_still}
 use Rattle.psu_items.proofs.Retaining.{each_kept}
+use Rattle.psu_items.proofs.store.Store.commit.Given.{Over}
+use Rattle.psu_items.proofs.store.Store.commit.Goals.{After-renew}
 use Rattle.psu_items.proofs.store.Store.commit.Goals as goal
 
 -- ---- it is worn
@@ -61,6 +64,28 @@ returns-in-Err-clause-behind g c = λ h. let s = c.self.inside in rw (← c.self
 pub returns-in-Err-clause-behind_time : goal.returns-in-Err-clause-behind_time
 returns-in-Err-clause-behind_time g c = λ h t. let s = c.self.inside in rw (← c.self.view_is) (behind_still g.D.Disk s.pages.limit s.pages.disk (g.met.D.Disk.only_now t s.pages.disk))
 
+-- ---- what the map was and is, once it is written anew
+
+map_is : (g : Over) (c : After-renew g) → c.pairs.result.now ≡ (let s = c.self.inside in s.items)
+map_is g c = let s = c.self.inside in map_called s.items c.pairs.result.now c.args.batch c.edits.result.now c.in-Ok.plan c.in-Ok.ensures.ok c.pairs.ensures.all c.edits.ensures
+
+edits_are : (g : Over) (c : After-renew g) → c.edits.result.now ≡ c.args.batch
+edits_are g c = let s = c.self.inside in edits_called s.items c.pairs.result.now c.args.batch c.edits.result.now c.in-Ok.plan c.in-Ok.ensures.ok c.pairs.ensures.all c.edits.ensures
+
+roots : (g : Over) (c : After-renew g) → g.D.Disk.honest → (x : List ℕ) → Left (g.D.Disk.state (let p = c.renew.new.pages in p.disk)) x
+    → let s = c.self.inside in IsEitherRoot s.pages.version s.pages.number s.pages.limit s.items (changed s.items c.args.batch) x
+roots g c h x l = let s = c.self.inside in either_called s.items c.pairs.result.now c.args.batch c.edits.result.now (map_is g c) (edits_are g c) s.pages.version s.pages.number s.pages.limit x (c.renew.ensures.left h x l)
+
+roots_time : (g : Over) (c : After-renew g) → g.D.Disk.honest → g.D.Disk.tells
+    → let s = c.self.inside in LeavesOnly g.D.Disk.moment g.D.Disk.left_since s.pages.disk (let p = c.renew.new.pages in p.disk) (IsEitherRoot s.pages.version s.pages.number s.pages.limit s.items (changed s.items c.args.batch))
+roots_time g c h t =
+    let s = c.self.inside in
+    time_called s.items c.pairs.result.now c.args.batch c.edits.result.now (map_is g c) (edits_are g c) g.D.Disk s.pages.version s.pages.number s.pages.limit s.pages.disk (let p = c.renew.new.pages in p.disk) (c.renew.ensures.time h t)
+
+time : (g : Over) (c : After-renew g) → g.D.Disk.honest → g.D.Disk.tells
+    → let s = c.self.inside in LeavesOnly g.D.Disk.moment g.D.Disk.left_since s.pages.disk (let p = c.renew.new.pages in p.disk) (IsEither s.pages.limit s.items (changed s.items c.args.batch))
+time g c h t = let s = c.self.inside in either_run g.D.Disk s.pages.version s.pages.number s.pages.limit s.items (changed s.items c.args.batch) s.pages.disk (let p = c.renew.new.pages in p.disk) (roots_time g c h t)
+
 -- ---- the map is written
 
 pub renew-requires-clause-number : goal.renew-requires-clause-number
@@ -73,35 +98,20 @@ pub returns-in-Ok-renew-clause-worn : goal.returns-in-Ok-renew-clause-worn
 returns-in-Ok-renew-clause-worn g c = λ w. absurd (not_true (c.if-is_worn.ensures.1 w))
 
 pub returns-in-Ok-renew-clause-roots : goal.returns-in-Ok-renew-clause-roots
-returns-in-Ok-renew-clause-roots g c = λ h x l.
-    let s = c.self.inside in
-    let map_is = map_called s.items c.pairs.result.now c.args.batch c.edits.result.now c.in-Ok.plan c.in-Ok.ensures.ok c.pairs.ensures.all c.edits.ensures in
-    let edits_are = edits_called s.items c.pairs.result.now c.args.batch c.edits.result.now c.in-Ok.plan c.in-Ok.ensures.ok c.pairs.ensures.all c.edits.ensures in
-    rw (← c.self.view_is) (either_called s.items c.pairs.result.now c.args.batch c.edits.result.now map_is edits_are s.pages.version s.pages.number s.pages.limit x
-    (c.renew.ensures.left h x l))
+returns-in-Ok-renew-clause-roots g c = λ h x l. rw (← c.self.view_is) (roots g (goal.at.returns-in-Ok-renew-clause-roots g c).After-renew h x l)
 
 pub returns-in-Ok-renew-clause-roots_time : goal.returns-in-Ok-renew-clause-roots_time
-returns-in-Ok-renew-clause-roots_time g c = λ h t.
-    let s = c.self.inside in
-    let map_is = map_called s.items c.pairs.result.now c.args.batch c.edits.result.now c.in-Ok.plan c.in-Ok.ensures.ok c.pairs.ensures.all c.edits.ensures in
-    let edits_are = edits_called s.items c.pairs.result.now c.args.batch c.edits.result.now c.in-Ok.plan c.in-Ok.ensures.ok c.pairs.ensures.all c.edits.ensures in
-    rw (← c.self.view_is) (time_called s.items c.pairs.result.now c.args.batch c.edits.result.now map_is edits_are g.D.Disk s.pages.version s.pages.number s.pages.limit s.pages.disk (let p = c.renew.new.pages in p.disk) (c.renew.ensures.time h t))
+returns-in-Ok-renew-clause-roots_time g c = λ h t. rw (← c.self.view_is) (roots_time g (goal.at.returns-in-Ok-renew-clause-roots_time g c).After-renew h t)
 
 pub returns-in-Ok-renew-clause-time : goal.returns-in-Ok-renew-clause-time
-returns-in-Ok-renew-clause-time g c = λ h t.
-    let s = c.self.inside in
-    let map_is = map_called s.items c.pairs.result.now c.args.batch c.edits.result.now c.in-Ok.plan c.in-Ok.ensures.ok c.pairs.ensures.all c.edits.ensures in
-    let edits_are = edits_called s.items c.pairs.result.now c.args.batch c.edits.result.now c.in-Ok.plan c.in-Ok.ensures.ok c.pairs.ensures.all c.edits.ensures in
-    rw (← c.self.view_is) (either_run g.D.Disk s.pages.version s.pages.number s.pages.limit s.items (changed s.items c.args.batch) s.pages.disk (let p = c.renew.new.pages in p.disk)
-    (time_called s.items c.pairs.result.now c.args.batch c.edits.result.now map_is edits_are g.D.Disk s.pages.version s.pages.number s.pages.limit s.pages.disk (let p = c.renew.new.pages in p.disk) (c.renew.ensures.time h t)))
+returns-in-Ok-renew-clause-time g c = λ h t. rw (← c.self.view_is) (time g (goal.at.returns-in-Ok-renew-clause-time g c).After-renew h t)
 
 pub returns-in-Ok-renew-clause-heads : goal.returns-in-Ok-renew-clause-heads
 returns-in-Ok-renew-clause-heads g c = λ h.
     let s = c.self.inside in
-    let map_is = map_called s.items c.pairs.result.now c.args.batch c.edits.result.now c.in-Ok.plan c.in-Ok.ensures.ok c.pairs.ensures.all c.edits.ensures in
-    let edits_are = edits_called s.items c.pairs.result.now c.args.batch c.edits.result.now c.in-Ok.plan c.in-Ok.ensures.ok c.pairs.ensures.all c.edits.ensures in
+    let at = (goal.at.returns-in-Ok-renew-clause-heads g c).After-renew in
     let new = c.renew.new.pages in
-    let have = subst (λ (edits : List Edit). HaveKept edits s.items (let p = s.pages in p.heads.items) new.heads.items) edits_are (subst (λ (m : List Item). HaveKept c.edits.result.now m (let p = s.pages in p.heads.items) new.heads.items) map_is c.in-Ok-renew.ensures.heads) in
+    let have = subst (λ (edits : List Edit). HaveKept edits s.items (let p = s.pages in p.heads.items) new.heads.items) (edits_are g at) (subst (λ (m : List Item). HaveKept c.edits.result.now m (let p = s.pages in p.heads.items) new.heads.items) (map_is g at) c.in-Ok-renew.ensures.heads) in
     rw (← c.self.view_is) (each_kept h s.pages new s.items (changed c.pairs.result.now c.edits.result.now) c.self.invariant.shows c.in-Ok-renew.ensures.keeps.shows c.args.batch have)
 
 pub returns-in-Ok-renew-clause-behind : goal.returns-in-Ok-renew-clause-behind
@@ -112,9 +122,6 @@ returns-in-Ok-renew-clause-behind_time g c = λ h t. rw (← c.self.view_is) (c.
 
 pub returns-in-Ok-renew-clause-stands_stored : goal.returns-in-Ok-renew-clause-stands_stored
 returns-in-Ok-renew-clause-stands_stored g c =
-    let s = c.self.inside in
-    let map_is = map_called s.items c.pairs.result.now c.args.batch c.edits.result.now c.in-Ok.plan c.in-Ok.ensures.ok c.pairs.ensures.all c.edits.ensures in
-    let edits_are = edits_called s.items c.pairs.result.now c.args.batch c.edits.result.now c.in-Ok.plan c.in-Ok.ensures.ok c.pairs.ensures.all c.edits.ensures in
     let target : c.made.result ≡ changed c.pairs.result.now c.edits.result.now = c.made.ensures ∙ ap (λ (m : List Item). changed m (let p = c.in-Ok.plan in p.edits)) (sym c.pairs.ensures.all) ∙ ap (changed c.pairs.result.now) (sym c.edits.ensures) in
     let kept = keeps_called c.renew.new.pages c.made.result (changed c.pairs.result.now c.edits.result.now) c.in-Ok-renew.ensures.keeps target in
     pages_on_disk c.renew.new.pages c.made.result kept.shows
@@ -122,11 +129,10 @@ returns-in-Ok-renew-clause-stands_stored g c =
 pub returns-in-Ok-renew-clause-left_stored : goal.returns-in-Ok-renew-clause-left_stored
 returns-in-Ok-renew-clause-left_stored g c = λ h x l.
     let s = c.self.inside in
-    let map_is = map_called s.items c.pairs.result.now c.args.batch c.edits.result.now c.in-Ok.plan c.in-Ok.ensures.ok c.pairs.ensures.all c.edits.ensures in
-    let edits_are = edits_called s.items c.pairs.result.now c.args.batch c.edits.result.now c.in-Ok.plan c.in-Ok.ensures.ok c.pairs.ensures.all c.edits.ensures in
+    let at = (goal.at.returns-in-Ok-renew-clause-left_stored g c).After-renew in
     let last = c.renew.new.pages in
     let stands : Stands x last.limit (changed c.pairs.result.now c.edits.result.now) = pages_stand last (changed c.pairs.result.now c.edits.result.now) c.in-Ok-renew.ensures.keeps.shows h x l in
-    rw (← c.self.view_is) (subst (λ (n : ℕ). Stands x n (changed s.items c.args.batch)) c.renew.ensures.limit (subst (Stands x last.limit) (target_called s.items c.pairs.result.now c.args.batch c.edits.result.now map_is edits_are) stands))
+    rw (← c.self.view_is) (subst (λ (n : ℕ). Stands x n (changed s.items c.args.batch)) c.renew.ensures.limit (subst (Stands x last.limit) (target_called s.items c.pairs.result.now c.args.batch c.edits.result.now (map_is g at) (edits_are g at)) stands))
 
 -- ---- there is no room to write it
 
@@ -150,27 +156,13 @@ pub returns-in-Err-Memory-clause-stands_unstarted : goal.returns-in-Err-Memory-c
 returns-in-Err-Memory-clause-stands_unstarted g c = let kept = kept_there g c in pages_on_disk c.renew.new.pages c.into_parts-items.result.0 kept.shows
 
 pub returns-in-Err-Memory-clause-roots : goal.returns-in-Err-Memory-clause-roots
-returns-in-Err-Memory-clause-roots g c = λ h x l.
-    let s = c.self.inside in
-    let map_is = map_called s.items c.pairs.result.now c.args.batch c.edits.result.now c.in-Ok.plan c.in-Ok.ensures.ok c.pairs.ensures.all c.edits.ensures in
-    let edits_are = edits_called s.items c.pairs.result.now c.args.batch c.edits.result.now c.in-Ok.plan c.in-Ok.ensures.ok c.pairs.ensures.all c.edits.ensures in
-    rw (← c.self.view_is) (either_called s.items c.pairs.result.now c.args.batch c.edits.result.now map_is edits_are s.pages.version s.pages.number s.pages.limit x
-    (c.renew.ensures.left h x l))
+returns-in-Err-Memory-clause-roots g c = λ h x l. rw (← c.self.view_is) (roots g (goal.at.returns-in-Err-Memory-clause-roots g c).After-renew h x l)
 
 pub returns-in-Err-Memory-clause-roots_time : goal.returns-in-Err-Memory-clause-roots_time
-returns-in-Err-Memory-clause-roots_time g c = λ h t.
-    let s = c.self.inside in
-    let map_is = map_called s.items c.pairs.result.now c.args.batch c.edits.result.now c.in-Ok.plan c.in-Ok.ensures.ok c.pairs.ensures.all c.edits.ensures in
-    let edits_are = edits_called s.items c.pairs.result.now c.args.batch c.edits.result.now c.in-Ok.plan c.in-Ok.ensures.ok c.pairs.ensures.all c.edits.ensures in
-    rw (← c.self.view_is) (time_called s.items c.pairs.result.now c.args.batch c.edits.result.now map_is edits_are g.D.Disk s.pages.version s.pages.number s.pages.limit s.pages.disk (let p = c.renew.new.pages in p.disk) (c.renew.ensures.time h t))
+returns-in-Err-Memory-clause-roots_time g c = λ h t. rw (← c.self.view_is) (roots_time g (goal.at.returns-in-Err-Memory-clause-roots_time g c).After-renew h t)
 
 pub returns-in-Err-Memory-clause-time : goal.returns-in-Err-Memory-clause-time
-returns-in-Err-Memory-clause-time g c = λ h t.
-    let s = c.self.inside in
-    let map_is = map_called s.items c.pairs.result.now c.args.batch c.edits.result.now c.in-Ok.plan c.in-Ok.ensures.ok c.pairs.ensures.all c.edits.ensures in
-    let edits_are = edits_called s.items c.pairs.result.now c.args.batch c.edits.result.now c.in-Ok.plan c.in-Ok.ensures.ok c.pairs.ensures.all c.edits.ensures in
-    rw (← c.self.view_is) (either_run g.D.Disk s.pages.version s.pages.number s.pages.limit s.items (changed s.items c.args.batch) s.pages.disk (let p = c.renew.new.pages in p.disk)
-    (time_called s.items c.pairs.result.now c.args.batch c.edits.result.now map_is edits_are g.D.Disk s.pages.version s.pages.number s.pages.limit s.pages.disk (let p = c.renew.new.pages in p.disk) (c.renew.ensures.time h t)))
+returns-in-Err-Memory-clause-time g c = λ h t. rw (← c.self.view_is) (time g (goal.at.returns-in-Err-Memory-clause-time g c).After-renew h t)
 
 pub returns-in-Err-Memory-clause-behind : goal.returns-in-Err-Memory-clause-behind
 returns-in-Err-Memory-clause-behind g c = λ h. rw (← c.self.view_is) (c.renew.ensures.behind h)
@@ -210,33 +202,17 @@ returns-in-Err-Device-clause-broken g c =
 pub returns-in-Err-Device-clause-left_broken : goal.returns-in-Err-Device-clause-left_broken
 returns-in-Err-Device-clause-left_broken g c = λ h x l.
     let s = c.self.inside in
-    let map_is = map_called s.items c.pairs.result.now c.args.batch c.edits.result.now c.in-Ok.plan c.in-Ok.ensures.ok c.pairs.ensures.all c.edits.ensures in
-    let edits_are = edits_called s.items c.pairs.result.now c.args.batch c.edits.result.now c.in-Ok.plan c.in-Ok.ensures.ok c.pairs.ensures.all c.edits.ensures in
-    rw (← c.self.view_is) (to_either s.pages.version s.pages.number s.pages.limit s.items (changed s.items c.args.batch) x (either_called s.items c.pairs.result.now c.args.batch c.edits.result.now map_is edits_are s.pages.version s.pages.number s.pages.limit x
-    (c.renew.ensures.left h x (left_out g.D.Disk (let p = c.renew.new.pages in p.disk) c.into_disk.result x c.into_disk.ensures.value l))))
+    let left = left_out g.D.Disk (let p = c.renew.new.pages in p.disk) c.into_disk.result x c.into_disk.ensures.value l in
+    rw (← c.self.view_is) (to_either s.pages.version s.pages.number s.pages.limit s.items (changed s.items c.args.batch) x (roots g (goal.at.returns-in-Err-Device-clause-left_broken g c).After-renew h x left))
 
 pub returns-in-Err-Device-clause-roots : goal.returns-in-Err-Device-clause-roots
-returns-in-Err-Device-clause-roots g c = λ h x l.
-    let s = c.self.inside in
-    let map_is = map_called s.items c.pairs.result.now c.args.batch c.edits.result.now c.in-Ok.plan c.in-Ok.ensures.ok c.pairs.ensures.all c.edits.ensures in
-    let edits_are = edits_called s.items c.pairs.result.now c.args.batch c.edits.result.now c.in-Ok.plan c.in-Ok.ensures.ok c.pairs.ensures.all c.edits.ensures in
-    rw (← c.self.view_is) (either_called s.items c.pairs.result.now c.args.batch c.edits.result.now map_is edits_are s.pages.version s.pages.number s.pages.limit x
-    (c.renew.ensures.left h x (left_out g.D.Disk (let p = c.renew.new.pages in p.disk) c.into_disk.result x c.into_disk.ensures.value l)))
+returns-in-Err-Device-clause-roots g c = λ h x l. rw (← c.self.view_is) (roots g (goal.at.returns-in-Err-Device-clause-roots g c).After-renew h x (left_out g.D.Disk (let p = c.renew.new.pages in p.disk) c.into_disk.result x c.into_disk.ensures.value l))
 
 pub returns-in-Err-Device-clause-roots_time : goal.returns-in-Err-Device-clause-roots_time
-returns-in-Err-Device-clause-roots_time g c = λ h t.
-    let s = c.self.inside in
-    let map_is = map_called s.items c.pairs.result.now c.args.batch c.edits.result.now c.in-Ok.plan c.in-Ok.ensures.ok c.pairs.ensures.all c.edits.ensures in
-    let edits_are = edits_called s.items c.pairs.result.now c.args.batch c.edits.result.now c.in-Ok.plan c.in-Ok.ensures.ok c.pairs.ensures.all c.edits.ensures in
-    rw (← c.self.view_is, c.into_disk.ensures.value) (time_called s.items c.pairs.result.now c.args.batch c.edits.result.now map_is edits_are g.D.Disk s.pages.version s.pages.number s.pages.limit s.pages.disk (let p = c.renew.new.pages in p.disk) (c.renew.ensures.time h t))
+returns-in-Err-Device-clause-roots_time g c = λ h t. rw (← c.self.view_is, c.into_disk.ensures.value) (roots_time g (goal.at.returns-in-Err-Device-clause-roots_time g c).After-renew h t)
 
 pub returns-in-Err-Device-clause-time : goal.returns-in-Err-Device-clause-time
-returns-in-Err-Device-clause-time g c = λ h t.
-    let s = c.self.inside in
-    let map_is = map_called s.items c.pairs.result.now c.args.batch c.edits.result.now c.in-Ok.plan c.in-Ok.ensures.ok c.pairs.ensures.all c.edits.ensures in
-    let edits_are = edits_called s.items c.pairs.result.now c.args.batch c.edits.result.now c.in-Ok.plan c.in-Ok.ensures.ok c.pairs.ensures.all c.edits.ensures in
-    rw (← c.self.view_is, c.into_disk.ensures.value) (either_run g.D.Disk s.pages.version s.pages.number s.pages.limit s.items (changed s.items c.args.batch) s.pages.disk (let p = c.renew.new.pages in p.disk)
-    (time_called s.items c.pairs.result.now c.args.batch c.edits.result.now map_is edits_are g.D.Disk s.pages.version s.pages.number s.pages.limit s.pages.disk (let p = c.renew.new.pages in p.disk) (c.renew.ensures.time h t)))
+returns-in-Err-Device-clause-time g c = λ h t. rw (← c.self.view_is, c.into_disk.ensures.value) (time g (goal.at.returns-in-Err-Device-clause-time g c).After-renew h t)
 
 pub returns-in-Err-Device-clause-behind : goal.returns-in-Err-Device-clause-behind
 returns-in-Err-Device-clause-behind g c = λ h. rw (← c.self.view_is, c.into_disk.ensures.value) (c.renew.ensures.behind h)

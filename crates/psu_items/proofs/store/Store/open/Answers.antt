@@ -41,4 +41,4 @@ returns-in-Ok-clause-time g c = λ h t limit m all.
     weaken d.moment d.left_since c.args.disk (opened_disk c.take_up.result) (IsOldOrSame (d.state c.args.disk)) (λ x. Stands x limit m) (returns-in-Ok-clause-moments g c h t) (still_stands (d.state c.args.disk) limit m all)
 
 pub returns-in-Err-clause-refused : goal.returns-in-Err-clause-refused
-returns-in-Err-clause-refused g c = λ h. let old = (g.D.Disk.state c.args.disk).bytes in rw c.cause_of.ensures (pages_refused old c.in-Err.refused.cause (c.in-Err.ensures.refused h))
+returns-in-Err-clause-refused g c = λ h. pages_refused (g.D.Disk.state c.args.disk).bytes c.in-Err.refused.cause (c.in-Err.ensures.refused h)

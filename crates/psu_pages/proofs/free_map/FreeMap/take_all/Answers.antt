@@ -1,10 +1,7 @@
-use Rattle.std.proofs.Common.{◌≡◌, true, false, length, get_or, refl, sym, ◌∙◌, ap}
+use Rattle.std.proofs.Common.{◌≡◌, true, false, get_or, refl, sym, ◌∙◌}
 use Rattle.psu_pages.specs.Free.{is_free}
 use Rattle.psu_pages.proofs.Marking.{marks_more, still, free_within, free_one_more, apart_one_more}
 use Rattle.psu_pages.proofs.free_map.FreeMap.take_all.Goals as goal
-
-pub returns-then-not-take-clause-size : goal.returns-then-not-take-clause-size
-returns-then-not-take-clause-size g c = ap (λ m. length m) (c.take.ensures.refused c.if-not-take.true) ∙ c.loop-page.invariant.taken.size
 
 pub returns-then-not-take-clause-refused : goal.returns-then-not-take-clause-refused
 returns-then-not-take-clause-refused g c = λ _ all apart.

@@ -1,34 +1,7 @@
-use Rattle.std.proofs.Common.{◌<◌, ℕ, List, sym, ◌∙◌, ap, arith, subst}
-use Rattle.psu_pages.specs.Free.{IsRoster, AreClaimed}
-use Rattle.psu_pages.specs.Image.{other, gate, number_in, Head, taken}
+use Rattle.std.proofs.Common.{◌<◌, ℕ, List, sym, ◌∙◌, ap, subst}
+use Rattle.psu_pages.specs.Image.{other, gate, number_in}
 use Rattle.psu_pages.specs.Shown.{items_in, Bears}
 use Rattle.psu_pages.proofs.pages.Pages.open.Goals as goal
-
-pub invariant_of-result-clause-sized : goal.invariant_of-result-clause-sized
-invariant_of-result-clause-sized g c = c.in-Ok.ensures.fit.sized
-
-pub invariant_of-result-clause-first_kept : goal.invariant_of-result-clause-first_kept
-invariant_of-result-clause-first_kept g c = c.in-Ok.ensures.fit.first
-
-pub invariant_of-result-clause-second_kept : goal.invariant_of-result-clause-second_kept
-invariant_of-result-clause-second_kept g c = c.in-Ok.ensures.fit.second
-
-pub invariant_of-result-clause-roster : goal.invariant_of-result-clause-roster
-invariant_of-result-clause-roster g c = c.in-Ok.ensures.roster
-
-pub invariant_of-result-clause-claimed : goal.invariant_of-result-clause-claimed
-invariant_of-result-clause-claimed g c = c.in-Ok.ensures.fit.claimed
-
-pub invariant_of-result-clause-older_roster : goal.invariant_of-result-clause-older_roster
-invariant_of-result-clause-older_roster g c =
-    let o = c.in-Ok.field-0 in
-    subst (IsRoster (let chosen = o.chosen in chosen.limit)) (sym c.new.ensures.items) (record { each = tt; pool = tt; apart = tt; count = omega arith; cost = omega arith; distinct = tt })
-
-pub invariant_of-result-clause-older_claimed : goal.invariant_of-result-clause-older_claimed
-invariant_of-result-clause-older_claimed g c = let o = c.in-Ok.field-0 in subst (λ (hs : List Head). AreClaimed o.free (taken hs)) (sym c.new.ensures.items) tt
-
-pub invariant_of-result-clause-none_older : goal.invariant_of-result-clause-none_older
-invariant_of-result-clause-none_older g c = λ one. c.new.ensures.items
 
 pub invariant_of-result-clause-bears : goal.invariant_of-result-clause-bears
 invariant_of-result-clause-bears g c = λ h sure x left.
