@@ -1,4 +1,4 @@
-use Rattle.std.proofs.Common.{◌≡◌, ◌++◌, ◌∷◌, [], ℕ, List, false, length, get_or, take, map, sym, ◌∙◌, ap, subst, arith, Err, length-append}
+use Rattle.std.proofs.Common.{◌≡◌, ◌++◌, ◌∷◌, [], ℕ, List, false, length, get_or, take, map, refl, sym, ◌∙◌, ap, subst, arith, Err, length-append}
 use Rattle.psu_disk.specs.Disk.{HasFailed}
 use Rattle.std.specs.Prelude.{is_some}
 use Rattle.psu_pages.specs.Free.{Marks}
@@ -6,9 +6,22 @@ use Rattle.psu_pages.specs.Image.{Head, head_at, pages_of}
 use Rattle.psu_pages.specs.declared.open_cause.OpenCause.TheVariants.{Device}
 use Rattle.psu_pages.specs.Finding.{AreFit, IsFit}
 use Rattle.std.proofs.lemmas.List.{take_all, take-map, get_or-map, length-map}
-use Rattle.psu_pages.proofs.Quiet.{quiet_runs}
-use Rattle.psu_pages.proofs.Scanning.{fit_more, fit_next, map_more}
+use Rattle.psu_pages.proofs.Quiet.{quiet_none, quiet_runs}
+use Rattle.psu_pages.proofs.Scanning.{fit_none, fit_more, fit_next, map_more}
 use Rattle.psu_pages.proofs.scan.scan.Goals as goal
+
+pub loop-name-init : goal.loop-name-init
+loop-name-init g c =
+    record {
+      extent = refl;
+      works = refl;
+      many = ap (λ (hs : List Head). length hs) c.in_ok-heads.ensures.items;
+      fit = subst (λ (hs : List Head). AreFit c.args.limit hs c.in_ok-free.free) (sym c.in_ok-heads.ensures.items) (fit_none c.args.limit c.in_ok-free.free c.in_ok-free.ensures);
+      found = λ h. c.in_ok-heads.ensures.items;
+      seen = λ h. refl;
+      left = λ h x l. l;
+      time = λ h t. quiet_none (g.met.D.Disk.only_now t c.args.disk.now);
+    }
 
 pub returns-in-Ok-None-clause-none : goal.returns-in-Ok-None-clause-none
 returns-in-Ok-None-clause-none g c = λ h none can.

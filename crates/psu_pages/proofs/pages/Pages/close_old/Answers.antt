@@ -44,6 +44,9 @@ returns-clause-left g c = λ h. still_left (keeps g (goal.at.returns-clause-left
 pub returns-clause-time : goal.returns-clause-time
 returns-clause-time g c = λ h t. still_run (keeps g (goal.at.returns-clause-time g c).After-set_gate h) (rw (← c.other.ensures) (c.set_gate.ensures.time h t))
 
+pub returns-clause-touched : goal.returns-clause-touched
+returns-clause-touched g c = λ h. rw (← c.other.ensures) (c.set_gate.ensures.left h)
+
 pub returns-clause-touched_time : goal.returns-clause-touched_time
 returns-clause-touched_time g c = λ h t. rw (← c.other.ensures) (c.set_gate.ensures.time h t)
 
