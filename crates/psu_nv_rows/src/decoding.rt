@@ -196,16 +196,21 @@ fn a_bad_key_comes_first(rt: HostRuntime) -> Result<(), Fail> {
 }
 
 // A map of every kind of item, its keys in another order.
-fn whole(alloc: Global) -> Result<Items<Global>, AllocError> {
-    let mut items = one(alloc, b"\x05B", &[2])?;
-    items.insert([1].to_vec(alloc)?, [0, 8].to_vec(alloc)?)?;
-    items.insert(b"\x05A".to_vec(alloc)?, b"\x00xyz".to_vec(alloc)?)?;
-    items.insert([6].to_vec(alloc)?, [1].to_vec(alloc)?)?;
-    items.insert([4].to_vec(alloc)?, b"\x01M\x00\x01!".to_vec(alloc)?)?;
-    items.insert([3].to_vec(alloc)?, [9].to_vec(alloc)?)?;
-    let mut on = RESET;
-    on[6] = 2;
-    items.insert([2, 4].to_vec(alloc)?, on.to_vec(alloc)?)?;
+const WHOLE: &str = "
+05 'B | 02
+01 | 00 08
+05 'A | 00 'xyz
+06 | 01
+04 | 01 'M 00 01 '!
+03 | 09
+02 04 | 00 00 00 00 ea 60 02 reset
+";
+
+fn whole(alloc: Global) -> Result<Items<Global>, Fail> {
+    let mut items = Items::new(alloc);
+    for (key, value) in WHOLE.lines().filter_map(|line| line.split_once(" | ")) {
+        items.insert(bytes_of(alloc, key)?, bytes_of(alloc, value)?)?;
+    }
     Ok(items)
 }
 
