@@ -214,21 +214,29 @@ fn whole(alloc: Global) -> Result<Items<Global>, Fail> {
     Ok(items)
 }
 
+// The contents of a map.
+fn decoded(alloc: Global, items: &Items<Global>) -> Result<Contents<Global>, Fail> {
+    match Contents::decode_items(alloc, items) {
+        Ok(contents) => Ok(contents),
+        Err(_) => Err(Fail::from("refused")),
+    }
+}
+
+// Whether contents have each part of the whole map.
+fn are_whole(contents: &Contents<Global>) -> bool {
+    contents.enables() == Some((0, 8))
+        && contents.user() == [9].as_slice()
+        && matches!(contents.body(b"m"), Some(body) if body == b"!".as_slice())
+        && contents.names().len() == 2
+        && matches!(contents.file(b"A"), Some(file) if file.bytes == b"xyz".as_slice())
+        && contents.recall()
+}
+
 #[test]
 fn all_parts_together(rt: HostRuntime) -> Result<(), Fail> {
     let items = whole(rt.alloc())?;
-    let Ok(contents) = Contents::decode_items(rt.alloc(), &items) else {
-        return Err(Fail::from("refused"));
-    };
-    assert_eq!(rt; contents.enables(), Some((0, 8)));
-    assert_eq!(rt; contents.user(), [9].as_slice());
-    assert_eq!(rt; contents.body(b"m").ok_or("no macro")?, b"!".as_slice());
-    assert_eq!(rt; contents.names().len(), 2);
-    assert_eq!(rt;
-        contents.file(b"A").ok_or("no file")?.bytes,
-        b"xyz".as_slice()
-    );
-    assert!(rt; contents.recall());
+    let contents = decoded(rt.alloc(), &items)?;
+    assert!(rt; are_whole(&contents));
     assert_eq!(rt; contents.cost(), items.cost());
     Ok(())
 }
@@ -236,9 +244,7 @@ fn all_parts_together(rt: HostRuntime) -> Result<(), Fail> {
 #[test]
 fn a_copy_is_encoded_to_the_same_map(rt: HostRuntime) -> Result<(), Fail> {
     let items = whole(rt.alloc())?;
-    let Ok(contents) = Contents::decode_items(rt.alloc(), &items) else {
-        return Err(Fail::from("refused"));
-    };
+    let contents = decoded(rt.alloc(), &items)?;
     let copy = contents.copy(rt.alloc())?;
     let again = copy.encode_items(rt.alloc())?;
     assert_eq!(rt; again.pairs().len(), 7);

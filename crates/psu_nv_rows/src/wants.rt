@@ -3,7 +3,8 @@ use bumpalo::Bump;
 use psu_items::Items;
 use psu_lex::ScpiError;
 use psu_nv::{Contents, DecodeFault, FileBytes, NvCommand};
-use std::alloc::{AllocError, Global};
+use psu_tables::bytes;
+use std::alloc::Global;
 use std::test::Fail;
 
 // An arena with so many bytes left.
@@ -79,24 +80,28 @@ fn stored(alloc: Global, left: usize) -> Result<End, Fail> {
 }
 
 // A map of every kind of item.
-fn whole<'a>(arena: &'a Bump) -> Result<Items<&'a Bump>, AllocError> {
+const WHOLE: &str = "
+01 | 20 80
+03 | 07 08 09
+04 | 01 'A 00 01 'x 01 'B 00 01 'y
+05 'F | 00 'xyz
+05 'G | 02 'xyz
+";
+
+// It, where memory suffices.
+fn whole<'a>(arena: &'a Bump) -> Option<Items<&'a Bump>> {
     let mut items = Items::new(arena);
-    items.insert([1].to_vec(arena)?, [32, 128].to_vec(arena)?)?;
-    items.insert([3].to_vec(arena)?, [7, 8, 9].to_vec(arena)?)?;
-    items.insert(
-        [4].to_vec(arena)?,
-        b"\x01A\x00\x01x\x01B\x00\x01y".to_vec(arena)?,
-    )?;
-    items.insert(b"\x05F".to_vec(arena)?, b"\x00xyz".to_vec(arena)?)?;
-    items.insert(b"\x05G".to_vec(arena)?, b"\x02xyz".to_vec(arena)?)?;
-    Ok(items)
+    for (key, value) in WHOLE.lines().filter_map(|line| line.split_once(" | ")) {
+        items.insert(bytes(arena, key)?, bytes(arena, value)?).ok()?;
+    }
+    Some(items)
 }
 
 // A decoding with so many bytes of memory left.
 fn decoded(alloc: Global, left: usize) -> Result<End, Fail> {
     let ample = arena_with(alloc, 3_000)?;
     let little = arena_with(alloc, left)?;
-    let items = whole(&ample)?;
+    let items = whole(&ample).ok_or("memory")?;
     Ok(match Contents::decode_items(&little, &items) {
         Ok(contents) if contents.cost() == items.cost() => End::Done,
         Err(DecodeFault::Memory) => End::Refused,
@@ -108,7 +113,7 @@ fn decoded(alloc: Global, left: usize) -> Result<End, Fail> {
 fn encoded(alloc: Global, left: usize) -> Result<End, Fail> {
     let ample = arena_with(alloc, 3_000)?;
     let little = arena_with(alloc, left)?;
-    let items = whole(&ample)?;
+    let items = whole(&ample).ok_or("memory")?;
     let Ok(contents) = Contents::decode_items(&ample, &items) else {
         return Err(Fail::from("refused"));
     };
@@ -123,7 +128,7 @@ fn encoded(alloc: Global, left: usize) -> Result<End, Fail> {
 fn copied(alloc: Global, left: usize) -> Result<End, Fail> {
     let ample = arena_with(alloc, 3_000)?;
     let little = arena_with(alloc, left)?;
-    let items = whole(&ample)?;
+    let items = whole(&ample).ok_or("memory")?;
     let Ok(contents) = Contents::decode_items(&ample, &items) else {
         return Err(Fail::from("refused"));
     };
