@@ -1,6 +1,6 @@
 // Stores for an execution: one that an opening gives, and one whose items are told.
 ghost use Rattle.std.specs.Prelude.{IsTrue};
-ghost use Rattle.psu_items.specs.Capacity.{CanHold, Fits};
+ghost use Rattle.psu_map.specs.Capacity.{CanHold, Fits};
 
 use psu_disk::Disk;
 use psu_items::{Batch, Commit, Items, Pair, Store};

@@ -2,9 +2,9 @@
 use Rattle.std.proofs.Common.{◌≡◌, ◌<◌, ◌≤◌, ◌-◌, ◌||◌, ℕ, zero, suc, true, Option, Some, None, is_some, List, [], ◌∷◌, ◌++◌, length, take, drop, get_or, refl, sym, ap, ◌∙◌, arith}
 use Rattle.std.proofs.lemmas.List.{append_assoc, append_cancel_left, take_all}
 use Rattle.std.specs.List.{flat_map}
-use Rattle.psu_items.specs.Map.{Item, IsSorted}
-use Rattle.psu_items.specs.Batch.{Edit, changed}
-use Rattle.psu_items.specs.Plan.{Planned}
+use Rattle.psu_map.specs.Map.{Item, IsSorted}
+use Rattle.psu_map.specs.Batch.{Edit, changed}
+use Rattle.psu_map.specs.Plan.{Planned}
 use Rattle.psu_exec.specs.Batch.{batch, removal, assignment}
 use Rattle.psu_exec.specs.Consistent.{HasEdits, IsConsistent}
 use Rattle.psu_exec.specs.Device.{Flush, held_of, is_broken, map_held, target}

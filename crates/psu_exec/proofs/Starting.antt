@@ -1,6 +1,6 @@
 -- Why a map is no start, and where one is.
 use Rattle.std.proofs.Common.{◌≡◌, List, sym, ap, ◌∙◌}
-use Rattle.psu_items.specs.Map.{Item}
+use Rattle.psu_map.specs.Map.{Item}
 use Rattle.psu_nv.specs.Contents.{Contents, IsContents, items_of}
 use Rattle.psu_nv.specs.Decoding.{IsFault, has_keys}
 use Rattle.psu_nv.specs.declared.decode_fault.DecodeFault.{DecodeFault}

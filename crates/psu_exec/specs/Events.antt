@@ -1,7 +1,7 @@
 -- The events of the theorem on power loss are the calls of the program.
 use Rattle.std.specs.Prelude.{◌≡◌, ℕ, ◌≤◌, List, [], true}
 use Rattle.psu_disk.specs.Disk.{DiskState, LeavesOnly}
-use Rattle.psu_items.specs.Map.{Item}
+use Rattle.psu_map.specs.Map.{Item}
 use Rattle.psu_items.specs.Image.{EachStands, IsEither, EachIsEither}
 use Rattle.psu_items.specs.Finding.{IsOldOrSame}
 use Rattle.psu_nv.specs.Contents.{Contents, IsContents, items_of, fits}

@@ -2,8 +2,8 @@
 use Rattle.std.specs.Prelude.{◌≡◌, ◌≢◌, ◌⊎◌, ◌≤◌, ◌+◌, ◌^◌, ℕ, List, Bool, true, false, Result, Ok, Err}
 use Rattle.psu_disk.specs.Disk.{HasFailed}
 use Rattle.psu_disk.specs.declared.disk.Disk.{Ghosts}
-use Rattle.psu_items.specs.Map.{Item}
-use Rattle.psu_items.specs.Batch.{Edit, changed}
+use Rattle.psu_map.specs.Map.{Item}
+use Rattle.psu_map.specs.Batch.{Edit, changed}
 use Rattle.psu_items.specs.Image.{EachIsEither}
 use Rattle.psu_items.specs.Outcome.{HasStored, IsUnchanged, HasBroken, IsStillBroken}
 use Rattle.psu_items.specs.Standing.{IsOnDisk, MapOn}

@@ -40,7 +40,7 @@ pub struct Device<A: Allocator + Copy> {
 }
 
 impl<A: Allocator + Copy> Model for Device<A> {
-    ghost use Rattle.psu_items.specs.Batch.{changed};
+    ghost use Rattle.psu_map.specs.Batch.{changed};
     ghost use Rattle.psu_exec.specs.Device.{State, held_of};
 
     ghost Value = { State };

@@ -1,7 +1,7 @@
 //! The one state with its store, and its jobs.
 ghost use Rattle.std.specs.Prelude.{◌≡◌, ◌≢◌, [], ◌↔◌, ◌<◌, ◌≤◌, ◌==◌, IfOk, IfErr, IfSome, OnOk, OnErr, true, false, Some, None, is_none, not, List, ℕ};
 ghost use Rattle.std.specs.Option.{ForSome};
-ghost use Rattle.psu_items.specs.Batch.{changed};
+ghost use Rattle.psu_map.specs.Batch.{changed};
 ghost use Rattle.psu_exec.specs.Batch.{batch};
 ghost use Rattle.psu_nv.specs.Contents.{Contents as Kept, items_of, IsContents, fits};
 ghost use Rattle.psu_exec.specs.Device.{power_on, is_denied, is_open, is_broken, target, wait_of, followed, State, Answer, Error, Held, Later, refused};

@@ -1,8 +1,8 @@
 // Whether planned edits lead to a map, with no memory.
 ghost use Rattle.std.specs.Prelude.{◌≡◌, ◌↔◌, ◌++◌, ◌∷◌, IsTrue, IfSome, IfNone, List, Some, None, option_map};
 ghost use Rattle.std.specs.List.{flat_map};
-ghost use Rattle.psu_items.specs.Map.{IsSorted};
-ghost use Rattle.psu_items.specs.Batch.{changed, Edit as EditData};
+ghost use Rattle.psu_map.specs.Map.{IsSorted};
+ghost use Rattle.psu_map.specs.Batch.{changed, Edit as EditData};
 ghost use Rattle.psu_exec.specs.Batch.{assignment, batch, removal};
 
 use crate::comparison::same_value;

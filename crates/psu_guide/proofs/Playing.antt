@@ -2,7 +2,7 @@
 use Rattle.std.proofs.Common.{◌≡◌, ℕ, List, [], length, Some, subst}
 use Rattle.psu_disk.specs.Disk.{DiskState, Left}
 use Rattle.psu_items.specs.Image.{EachStands, counting, number_in}
-use Rattle.psu_items.specs.Map.{Item}
+use Rattle.psu_map.specs.Map.{Item}
 use Rattle.psu_server.specs.Results.{WritesRun}
 use Rattle.psu_guide.specs.Plays.{IsNew, Plays}
 

@@ -7,8 +7,8 @@ ghost use Rattle.psu_instrument.specs.Meaning.{ActsAs, situation};
 
 use crate::Act;
 use crate::macros::text_of;
-use psu_items::Pair;
 use psu_lex::{Bytes, ScpiError, definite, is_name};
+use psu_map::Pair;
 use psu_nv::{Contents, FileBytes, NvCommand, Register};
 use psu_tree::{OnFile, OnNames, Text, Transfer};
 use std::alloc::{AllocError, Allocator};

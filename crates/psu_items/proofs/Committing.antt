@@ -3,8 +3,8 @@ use Rattle.std.proofs.Common.{◌≡◌, inl, inr, true, false, ℕ, List, sym, 
 use Rattle.psu_disk.specs.Disk.{Left, Follows, LeavesOnly, HasFailed}
 use Rattle.psu_disk.specs.Moments.{started, weaken}
 use Rattle.psu_disk.specs.declared.disk.Disk.{Ghosts}
-use Rattle.psu_items.specs.Map.{Item}
-use Rattle.psu_items.specs.Capacity.{IsMapOf}
+use Rattle.psu_map.specs.Map.{Item}
+use Rattle.psu_map.specs.Capacity.{IsMapOf}
 use Rattle.psu_pages.specs.declared.pages.Pages.{Pages}
 use Rattle.psu_pages.specs.declared.root.Root.{Root}
 use Rattle.psu_pages.specs.Outcome.{HasSameRoots}

@@ -7,11 +7,10 @@ use Rattle.psu_pages.specs.declared.root.Root.TheVariants.{First, Second}
 use Rattle.psu_pages.specs.Image.{gate, Head, IsHead, bytes_in, value_in, heads_in, pages_of, taken}
 use Rattle.std.proofs.lemmas.List.{length-take}
 use Rattle.std.proofs.Math.Nat.{min-le_left}
-use Rattle.psu_items.specs.Map.{Item, get, without, cost, Before, IsSorted}
+use Rattle.psu_map.specs.Map.{Item, get, without, cost, Before, IsSorted}
 use Rattle.psu_items.specs.Image.{counting, listed, shown_in, HasNoRoot, HasOtherVersion, HasReadableRoot, Stands}
-use Rattle.psu_items.proofs.Keys.{before_not_same}
-use Rattle.psu_items.proofs.Maps.{get-without}
-use Rattle.psu_items.proofs.Writing.{all_own}
+use Rattle.psu_map.proofs.Keys.{before_not_same}
+use Rattle.psu_map.proofs.Maps.{get-without, all_own}
 
 without_less : (items : List Item) (key : List ℕ) → cost (without items key) ≤ cost items
 without_less [] key = omega arith

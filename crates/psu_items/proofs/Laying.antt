@@ -3,8 +3,9 @@ use Rattle.std.proofs.Common.{◌≡◌, ◌≢◌, ℕ, zero, suc, ◌+◌, ◌
 use Rattle.std.specs.List.{AllByRecursion}
 use Rattle.std.proofs.lemmas.List.{take_more, append-nil, get_or_default}
 use Rattle.psu_disk.specs.declared.disk.Disk.{Ghosts}
-use Rattle.psu_items.specs.Map.{Item, get, Before, IsSorted}
-use Rattle.psu_items.proofs.Keys.{same_true, before_not_same, never_before_itself}
+use Rattle.psu_map.specs.Map.{Item, get, Before, IsSorted}
+use Rattle.psu_map.proofs.Keys.{same_true, before_not_same, never_before_itself}
+use Rattle.psu_map.proofs.Lists.{all_zip}
 use Rattle.psu_pages.specs.declared.pages.Pages.{Pages}
 use Rattle.psu_pages.specs.Image.{Head, IsNone, AreApart, AreClear, pages_of, taken, keys}
 use Rattle.psu_pages.specs.Free.{is_free, AreClaimed}
@@ -51,10 +52,6 @@ two_clear (h ∷ heads) (suc i) zero d e lt_i lt_j differ apart =
     clear_swap (pages_of h) (pages_of (get_or heads i d)) (taken_all (IsNone (pages_of h)) heads i d (omega (arith, lt_i)) (apart_clear (pages_of h) (taken heads) apart))
 two_clear (h ∷ heads) (suc i) (suc j) d e lt_i lt_j differ apart =
     two_clear heads i j d e (omega (arith, lt_i)) (omega (arith, lt_j)) (λ same. differ (ap suc same)) (apart_right (pages_of h) (taken heads) apart)
-
-pub all_zip : {X : Type 0} (P Q R : X → Type 0) → ((x : X) → P x → Q x → R x) → (xs : List X) → AllByRecursion P xs → AllByRecursion Q xs → AllByRecursion R xs
-all_zip P Q R f [] p q = tt
-all_zip P Q R f (x ∷ xs) p q = (f x p.0 q.0, all_zip P Q R f xs p.1 q.1)
 
 module _ {A : Type 0} where
   pub heads-append : (xs ys : List (Slot A)) → heads_of (xs ++ ys) ≡ heads_of xs ++ heads_of ys

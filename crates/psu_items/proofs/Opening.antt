@@ -4,8 +4,8 @@ use Rattle.psu_disk.specs.Disk.{DiskState, Left, Only, SameBut, LeavesOnly}
 use Rattle.psu_disk.specs.Moments.{and_then, weaken}
 use Rattle.psu_disk.specs.Ranges.{reads_left}
 use Rattle.psu_disk.specs.declared.disk.Disk.{Ghosts}
-use Rattle.psu_items.specs.Map.{Item, IsSorted}
-use Rattle.psu_items.specs.Capacity.{IsMapOf}
+use Rattle.psu_map.specs.Map.{Item, IsSorted}
+use Rattle.psu_map.specs.Capacity.{IsMapOf}
 use Rattle.psu_pages.specs.declared.open_cause.OpenCause.{OpenCause}
 use Rattle.psu_pages.specs.declared.open_cause.OpenCause.TheVariants.{Device, NoRoot, BadRoot, BadVersion, Memory}
 use Rattle.psu_pages.specs.declared.pages.Pages.{Pages}

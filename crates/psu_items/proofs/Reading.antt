@@ -2,8 +2,8 @@
 use Rattle.std.proofs.Common.{◌≡◌, ℕ, ◌+◌, ◌-◌, ◌<◌, List, get_or, length, drop, Some, sym, ◌∙◌, ap, subst, bytes_eq, cond, arith}
 use Rattle.std.proofs.lemmas.List.{drop_more}
 use Rattle.psu_disk.specs.declared.disk.Disk.{Ghosts}
-use Rattle.psu_items.specs.Map.{Item, get, Sets}
-use Rattle.psu_items.specs.Capacity.{IsMapOf}
+use Rattle.psu_map.specs.Map.{Item, get, Sets}
+use Rattle.psu_map.specs.Capacity.{IsMapOf}
 use Rattle.psu_pages.specs.declared.pages.Pages.{Pages}
 use Rattle.psu_pages.specs.Image.{Head, value_in}
 use Rattle.psu_pages.specs.Outcome.{HasSameHeads}

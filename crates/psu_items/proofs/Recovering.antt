@@ -10,8 +10,8 @@ use Rattle.psu_disk.specs.Disk.{DiskState, Left}
 use Rattle.psu_disk.specs.Ranges.{reads_left}
 use Rattle.psu_pages.specs.declared.open_cause.OpenCause.{OpenCause}
 use Rattle.psu_pages.specs.declared.open_cause.OpenCause.TheVariants as Unopened
-use Rattle.psu_items.specs.Map.{Item, item_of}
-use Rattle.psu_items.specs.CapacityLaws.{IsSorted-IsProp}
+use Rattle.psu_map.specs.Map.{Item, item_of}
+use Rattle.psu_map.specs.CapacityLaws.{IsSorted-IsProp}
 use Rattle.psu_pages.specs.declared.root.Root.{Root}
 use Rattle.psu_pages.specs.Single.{Shows-IsProp}
 use Rattle.psu_pages.proofs.Choosing.{some_root}

@@ -3,10 +3,10 @@ use Rattle.std.proofs.Common.{◌≡◌, ℕ, List, sym, ◌∙◌, ap, subst}
 use Rattle.psu_disk.specs.Disk.{LeavesOnly}
 use Rattle.psu_disk.specs.Moments.{weaken}
 use Rattle.psu_disk.specs.declared.disk.Disk.{Ghosts}
-use Rattle.psu_items.specs.Map.{Item}
-use Rattle.psu_items.specs.Batch.{Edit, changed}
+use Rattle.psu_map.specs.Map.{Item}
+use Rattle.psu_map.specs.Batch.{Edit, changed}
 use Rattle.psu_items.specs.Image.{IsEither, IsEitherRoot}
-use Rattle.psu_items.specs.Plan.{Planned}
+use Rattle.psu_map.specs.Plan.{Planned}
 use Rattle.psu_items.specs.Standing.{KeepsMap, MapOn, on_pages}
 use Rattle.psu_pages.specs.Outcome.{HasSameRoots}
 use Rattle.psu_pages.specs.declared.pages.Pages.{Pages}

@@ -11,8 +11,8 @@ use Rattle.psu_pages.specs.declared.pages.Pages.{Pages}
 use Rattle.psu_pages.specs.declared.root.Root.{Root}
 use Rattle.psu_pages.proofs.Bearing.{counting_is}
 use Rattle.psu_pages.proofs.Lists.{all_at}
-use Rattle.psu_items.specs.Map.{Item, get}
-use Rattle.psu_items.specs.Batch.{Edit}
+use Rattle.psu_map.specs.Map.{Item, get}
+use Rattle.psu_map.specs.Batch.{Edit}
 use Rattle.psu_items.specs.Image.{as_item, listed}
 use Rattle.psu_items.specs.Layout.{IsOneOf, HaveKept}
 use Rattle.psu_items.specs.Standing.{ShowsMap}

@@ -5,7 +5,7 @@ use Rattle.std.proofs.lemmas.Bool.Decides.{nat_tests}
 use Rattle.psu_pages.specs.Free.{is_free, free_from, free_pages}
 use Rattle.psu_pages.specs.Image.{IsInPool, IsNone}
 use Rattle.psu_pages.proofs.Lists.{all_left, all_right}
-use Rattle.psu_items.specs.Map.{Item, cost}
+use Rattle.psu_map.specs.Map.{Item, cost}
 
 -- how many of some pages come from this one on
 above : ℕ → List ℕ → ℕ

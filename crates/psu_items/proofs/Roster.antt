@@ -3,9 +3,9 @@ use Rattle.std.proofs.Common.{◌≡◌, ℕ, zero, suc, ◌+◌, ◌*◌, ◌/�
 use Rattle.std.specs.List.{AllByRecursion}
 use Rattle.psu_disk.specs.Ranges.{reads_left}
 use Rattle.psu_disk.specs.declared.disk.Disk.{Ghosts}
-use Rattle.psu_items.specs.Map.{Item, get, cost, Before, IsSorted}
-use Rattle.psu_items.specs.Capacity.{CanHold, Fits, IsMapOf}
-use Rattle.psu_items.proofs.Keys.{same_true, other_key, never_before_itself}
+use Rattle.psu_map.specs.Map.{Item, get, cost, Before, IsSorted}
+use Rattle.psu_map.specs.Capacity.{CanHold, Fits, IsMapOf}
+use Rattle.psu_map.proofs.Keys.{same_true, other_key, never_before_itself}
 use Rattle.psu_pages.specs.declared.pages.Pages.{Pages}
 use Rattle.psu_pages.specs.Image.{Head, IsHead, IsNone, IsInPool, AreApart, value_in, head_at, pages_of, taken, keys}
 use Rattle.psu_pages.specs.Free.{is_free, AreClaimed, IsRoster}

@@ -12,8 +12,8 @@ use Rattle.psu_items.specs.Standing.{IsSpare, AreSpare}
 use Rattle.psu_items.specs.declared.slot.Slot.{Slot}
 use Rattle.psu_items.specs.Layout.{IsOneOf, heads_of, IsSlot, AreSlots}
 use Rattle.psu_items.specs.Image.{as_item, shown_in}
-use Rattle.psu_items.specs.Map.{Item, get}
-use Rattle.psu_items.specs.Capacity.{IsMapOf}
+use Rattle.psu_map.specs.Map.{Item, get}
+use Rattle.psu_map.specs.Capacity.{IsMapOf}
 use Rattle.psu_pages.specs.declared.root.Root.{Root}
 use Rattle.psu_pages.specs.Shown.{items_in}
 use Rattle.psu_items.proofs.Laying.{pages_more, one_all}

@@ -2,9 +2,9 @@
 use Rattle.std.proofs.Common.{◌≡◌, ◌≢◌, ℕ, List, map, sym, ◌∙◌, subst}
 use Rattle.psu_disk.specs.Disk.{DiskState, Left}
 use Rattle.psu_disk.specs.declared.disk.Disk.{Ghosts}
-use Rattle.psu_items.specs.Map.{Item, IsSorted}
-use Rattle.psu_items.specs.Capacity.{IsMapOf}
-use Rattle.psu_items.proofs.Maps.{same_map}
+use Rattle.psu_map.specs.Map.{Item, IsSorted}
+use Rattle.psu_map.specs.Capacity.{IsMapOf}
+use Rattle.psu_map.proofs.Maps.{same_map}
 use Rattle.psu_pages.specs.declared.root.Root.{Root}
 use Rattle.psu_pages.specs.declared.pages.Pages.{Pages}
 use Rattle.psu_pages.specs.declared.standing.Standing.{Standing}

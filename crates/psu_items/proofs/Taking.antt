@@ -4,8 +4,8 @@ use Rattle.psu_disk.specs.Disk.{Left, SameBut, Follows, LeavesOnly}
 use Rattle.psu_disk.specs.Moments.{and_then, weaken}
 use Rattle.psu_disk.specs.Ranges.{reads_left, same_but_refl}
 use Rattle.psu_disk.specs.declared.disk.Disk.{Ghosts}
-use Rattle.psu_items.specs.Map.{Item as MapItem}
-use Rattle.psu_items.specs.Capacity.{IsMapOf}
+use Rattle.psu_map.specs.Map.{Item as MapItem}
+use Rattle.psu_map.specs.Capacity.{IsMapOf}
 use Rattle.psu_pages.specs.declared.open_cause.OpenCause.{OpenCause}
 use Rattle.psu_pages.specs.declared.open_cause.OpenCause.TheVariants.{Device}
 use Rattle.psu_pages.specs.declared.page_fault.PageFault.{PageFault}

@@ -2,8 +2,8 @@
 use Rattle.std.proofs.Common.{◌≡◌, ℕ, zero, suc, ◌+◌, ◌<◌, List, [], ◌∷◌, length, get_or, take, drop, map, Bool, Some, cond, refl, sym, ◌∙◌, ap, subst, arith}
 use Rattle.std.specs.List.{AllByRecursion}
 use Rattle.std.proofs.lemmas.List.{take_more, drop_more}
-use Rattle.psu_items.specs.Map.{Item, item_of, get, Before, IsSorted}
-use Rattle.psu_items.proofs.Keys.{same_true, before_not_same}
+use Rattle.psu_map.specs.Map.{Item, item_of, get, Before, IsSorted}
+use Rattle.psu_map.proofs.Maps.{all_own}
 use Rattle.psu_pages.specs.Image.{Head, IsNone, IsInPool, AreApart, AreClear, pages_of, taken, keys}
 use Rattle.psu_pages.specs.Shown.{item_in}
 use Rattle.psu_pages.specs.Shown as shown
@@ -12,7 +12,8 @@ use Rattle.psu_pages.proofs.Lists.{all_at, all_take, all_join, apart_right, apar
 use Rattle.psu_items.specs.Image.{as_item, listed}
 use Rattle.psu_items.specs.declared.slot.Slot.{Slot}
 use Rattle.psu_items.specs.Layout.{heads_of, keys_in, value_of, value_at, StandsWritten}
-use Rattle.psu_items.proofs.Laying.{all_zip, each_pages}
+use Rattle.psu_items.proofs.Laying.{each_pages}
+use Rattle.psu_map.proofs.Lists.{all_zip}
 
 pub all_drop : {X : Type 0} (P : X → Type 0) (n : ℕ) (xs : List X) → AllByRecursion P xs → AllByRecursion P (drop n xs)
 all_drop P zero xs all = all
@@ -20,13 +21,6 @@ all_drop P (suc n) [] all = tt
 all_drop P (suc n) (x ∷ xs) all = all_drop P n xs all.1
 
 -- what is written is the target
-pub all_own : (items : List Item) → IsSorted items → AllByRecursion (λ (i : Item). get items i.key ≡ Some i.value) items
-all_own [] sorted = tt
-all_own (i ∷ items) sorted = (
-  ap (λ (b : Bool). cond b (Some i.value) (get items i.key)) (same_true i.key i.key refl),
-  all_zip (λ (j : Item). Before i.key j.key) (λ (j : Item). get items j.key ≡ Some j.value) (λ (j : Item). get (i ∷ items) j.key ≡ Some j.value) (λ j before own. ap (λ (b : Bool). cond b (Some i.value) (get items j.key)) (before_not_same i.key j.key before) ∙ own) items sorted.0 (all_own items sorted.1),
-)
-
 abbrev by_keys : List Item → List (List ℕ) → List Item
 by_keys target ks = map (λ (k : List ℕ). item_of k (value_at target k)) ks
 

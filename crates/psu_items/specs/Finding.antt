@@ -1,7 +1,7 @@
 -- What an opening may leave of an image, and why one is refused.
 use Rattle.std.specs.Prelude.{◌≡◌, ℕ, ◌⊎◌, List}
 use Rattle.psu_disk.specs.Disk.{DiskState, Left, SameBut}
-use Rattle.psu_items.specs.Map.{Item}
+use Rattle.psu_map.specs.Map.{Item}
 use Rattle.psu_pages.specs.declared.open_cause.OpenCause.{OpenCause}
 use Rattle.psu_pages.specs.declared.open_cause.OpenCause.TheVariants.{Device, Memory}
 use Rattle.psu_pages.specs.declared.page_fault.PageFault.{PageFault}

@@ -1,8 +1,8 @@
 -- What the bytes of an image stand for, of version 1 or 2: the map of the items that the root shows that counts.
 use Rattle.std.specs.Prelude.{◌≡◌, ℕ, ◌+◌, ◌⊎◌, List, map, ⊤}
 use Rattle.psu_disk.specs.Disk.{DiskState, Left}
-use Rattle.psu_items.specs.Map.{Item, item_of, IsSorted}
-use Rattle.psu_items.specs.Capacity.{IsMapOf}
+use Rattle.psu_map.specs.Map.{Item, item_of, IsSorted}
+use Rattle.psu_map.specs.Capacity.{IsMapOf}
 use Rattle.psu_pages.specs.declared.open_cause.OpenCause.{OpenCause}
 use Rattle.psu_pages.specs.declared.open_cause.OpenCause.TheVariants.{Device, NoRoot, BadRoot, BadVersion, Memory}
 use Rattle.psu_pages.specs.declared.root.Root.{Root}

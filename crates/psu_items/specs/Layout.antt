@@ -2,14 +2,14 @@
 use Rattle.std.specs.Prelude.{◌≡◌, ℕ, ◌<◌, true, false, List, [], length, map, slice_index_or, Option, Some, None}
 use Rattle.std.specs.List.{AllByRecursion}
 use Rattle.psu_disk.specs.declared.disk.Disk.{Ghosts}
-use Rattle.psu_items.specs.Map.{Item, get}
+use Rattle.psu_map.specs.Map.{Item, get}
 use Rattle.psu_pages.specs.Image.{Head, taken, keys, AreApart, pages_of}
 use Rattle.psu_pages.specs.Free.{is_free}
 use Rattle.psu_pages.specs.Writing.{IsWritten}
 use Rattle.psu_pages.specs.Outcome.{IsPlanned}
 use Rattle.psu_pages.specs.declared.pages.Pages.{Pages}
-use Rattle.psu_items.specs.Batch.{Edit, KeepsValue}
-use Rattle.psu_items.specs.Target.{Entry, standing}
+use Rattle.psu_map.specs.Batch.{Edit, KeepsValue}
+use Rattle.psu_map.specs.Target.{Entry, standing}
 use Rattle.psu_items.specs.declared.slot.Slot.{Slot}
 
 -- the head at this place is one of an item with this key, and with a value of this length

@@ -2,7 +2,7 @@
 use Rattle.std.specs.Prelude.{◌≡◌, ◌+◌, ◌≤◌, ◌^◌, List, ⊤, Result, Ok, Err}
 use Rattle.psu_disk.specs.Disk.{HasFailed}
 use Rattle.psu_disk.specs.declared.disk.Disk.{Ghosts}
-use Rattle.psu_items.specs.Batch.{Edit, changed}
+use Rattle.psu_map.specs.Batch.{Edit, changed}
 use Rattle.psu_pages.specs.declared.format_fault.FormatFault.{FormatFault}
 use Rattle.psu_pages.specs.declared.refused.Refused.{Refused}
 use Rattle.psu_items.specs.Standing.{MapOn}

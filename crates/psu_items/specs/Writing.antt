@@ -2,7 +2,7 @@
 use Rattle.std.specs.Prelude.{◌≡◌, ℕ, ◌+◌, ◌*◌, ◌≤◌, List, length, slice_index}
 use Rattle.psu_disk.specs.Disk.{DiskState, Left}
 use Rattle.psu_pages.specs.Image.{Head, counting, heads_in, value_in}
-use Rattle.psu_items.specs.Batch.{Edit, KeepsValue}
+use Rattle.psu_map.specs.Batch.{Edit, KeepsValue}
 use Rattle.psu_items.specs.Layout.{IsOneOf}
 
 -- y is x behind the two roots and the pool

@@ -1,7 +1,7 @@
 //! A store whose disk failed in a commit.
 ghost use Rattle.std.specs.Prelude.{◌≡◌, ◌≢◌, ◌⊎◌, ◌↔◌, ◌≤◌, List, ℕ, IsTrue, IfOk, IfErr, OnErr};
 ghost use Rattle.psu_disk.specs.Disk.{HasFailed, Left, LeavesOnly};
-ghost use Rattle.psu_items.specs.Batch.{changed};
+ghost use Rattle.psu_map.specs.Batch.{changed};
 ghost use Rattle.psu_items.specs.Image.{EachIsEither, IsEither, counting, number_in};
 ghost use Rattle.psu_items.specs.Finding.{IsOldOrSame};
 ghost use Rattle.psu_items.specs.Recovering.{broken_cause};
@@ -9,8 +9,9 @@ ghost use Rattle.psu_items.specs.Recovered.{recovered_disk};
 ghost use Rattle.psu_items.specs.Standing.{IsOnDisk};
 ghost use Rattle.psu_items.specs.declared.broken.BrokenCause.TheVariants.{Device, Strange, Memory};
 
-use crate::{Batch, Items, Store};
+use crate::Store;
 use psu_disk::Disk;
+use psu_map::{Batch, Items};
 use psu_pages::OpenCause;
 use std::alloc::Allocator;
 

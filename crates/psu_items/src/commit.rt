@@ -2,15 +2,16 @@
 ghost use Rattle.std.specs.Prelude.{◌≡◌, ◌+◌, ◌≤◌, ◌^◌, ◌↔◌, List, ℕ, IsTrue, IfOk};
 ghost use Rattle.psu_disk.specs.Disk.{Left, Follows, LeavesOnly};
 ghost use Rattle.psu_pages.specs.Writing.{Reaches};
-ghost use Rattle.psu_items.specs.Capacity.{CanHold};
-ghost use Rattle.psu_items.specs.Batch.{changed};
+ghost use Rattle.psu_map.specs.Capacity.{CanHold};
+ghost use Rattle.psu_map.specs.Batch.{changed};
 ghost use Rattle.psu_items.specs.Image.{EachStands, EachIsEither, IsEither, EachIsEitherRoot, IsEitherRoot};
 ghost use Rattle.psu_items.specs.Standing.{IsOnDisk};
 ghost use Rattle.psu_items.specs.Writing.{SameBehind, EachKeepsHeads};
 
 use crate::renew::{Unwritten, renew};
-use crate::{Batch, Broken, BrokenCause, Plan, Store};
+use crate::{Broken, BrokenCause, Store};
 use psu_disk::Disk;
+use psu_map::{Batch, Plan};
 use std::alloc::Allocator;
 
 /// Why a commit wasn't begun.

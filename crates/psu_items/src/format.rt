@@ -4,8 +4,9 @@ ghost use Rattle.psu_disk.specs.Disk.{HasFailed};
 ghost use Rattle.psu_items.specs.Standing.{IsOnDisk};
 ghost use Rattle.psu_pages.specs.declared.format_fault.FormatCause.TheVariants.{Device as NotWritten, Memory as NoMemory};
 
-use crate::{Items, Store};
+use crate::Store;
 use psu_disk::Disk;
+use psu_map::Items;
 use psu_pages::{FormatFault, Pages};
 use std::alloc::Allocator;
 

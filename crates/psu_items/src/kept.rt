@@ -1,9 +1,9 @@
 //! Items that a commit leaves as they are, with their heads.
 ghost use Rattle.std.specs.Prelude.{◌≡◌, ◌<◌, ◌↔◌, ℕ, IfSome, IfNone, IsTrue, length, true};
 ghost use Rattle.psu_items.specs.Layout.{HasHead};
-ghost use Rattle.psu_items.specs.Target.{item_in};
+ghost use Rattle.psu_map.specs.Target.{item_in};
 
-use crate::entry::Entry;
+use psu_map::Entry;
 use psu_pages::Head;
 use std::alloc::Allocator;
 

@@ -1,6 +1,6 @@
 //! Laws of what images stand for.
 ghost use Rattle.std.specs.Prelude.{◌≡◌, ◌≤◌, List, ℕ};
-ghost use Rattle.psu_items.specs.Map.{Item, cost};
+ghost use Rattle.psu_map.specs.Map.{Item, cost};
 ghost use Rattle.psu_items.specs.Image.{Stands};
 
 /// An image stands for one map at most, under one limit.

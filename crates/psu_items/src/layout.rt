@@ -1,21 +1,20 @@
 //! Which heads the next root is to name: those that stand where an item stays as it is, and new ones for all others.
 ghost use Rattle.std.specs.Prelude.{◌≡◌, ◌+◌, ◌<◌, ◌≤◌, ◌++◌, ◌∷◌, [], true, false, List, ℕ, length, OnOk, IfOk, IfErr, IsErrOf, vec_len, vec_capacity};
 ghost use Rattle.std.specs.List.{AllByRecursion};
-ghost use Rattle.psu_items.specs.Map.{Item};
-ghost use Rattle.psu_items.specs.Capacity.{Fits, CanHold};
+ghost use Rattle.psu_map.specs.Map.{Item};
+ghost use Rattle.psu_map.specs.Capacity.{Fits, CanHold};
 ghost use Rattle.psu_pages.specs.Free.{is_free, free_pages};
 ghost use Rattle.psu_items.specs.Standing.{AreSpare, IsSpare};
 ghost use Rattle.psu_pages.specs.Image.{IsNone, pages_of, taken, AreApart, Head as HeadOf};
 ghost use Rattle.psu_pages.specs.Outcome.{IsPlanned, HasSameRoots, pages_for};
 ghost use Rattle.psu_items.specs.Layout.{heads_of, IsOneOf, IsSlot, IsSlotFor, AreSlots, HaveStanding};
-ghost use Rattle.psu_items.specs.Target.{aimed, item_in, IsOf};
+ghost use Rattle.psu_map.specs.Target.{aimed, item_in, IsOf};
 ghost use Rattle.psu_items.specs.declared.slot.Slot.{Slot as SlotOf};
 
-use crate::entry::Entry;
 use crate::kept::kept;
 use crate::slot::Slot;
-use crate::target::Target;
 use psu_disk::Disk;
+use psu_map::{Entry, Target};
 use psu_pages::{Head, PageFault, Pages};
 use std::alloc::{AllocError, Allocator};
 

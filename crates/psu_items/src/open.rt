@@ -1,8 +1,8 @@
 //! What a disk stands for, after a power loss or without one.
 ghost use Rattle.std.specs.Prelude.{◌≡◌, ◌≢◌, ◌⊎◌, ◌≤◌, [], List, ℕ, OnOk, IfOk, IfErr, IsErrOf};
 ghost use Rattle.psu_disk.specs.Disk.{Left, Only, SameBut, Follows, LeavesOnly, HasFailed};
-ghost use Rattle.psu_items.specs.Map.{Item, IsSorted};
-ghost use Rattle.psu_items.specs.Capacity.{IsMapOf};
+ghost use Rattle.psu_map.specs.Map.{Item, IsSorted};
+ghost use Rattle.psu_map.specs.Capacity.{IsMapOf};
 ghost use Rattle.psu_pages.specs.Image.{other, gate_at};
 ghost use Rattle.psu_pages.specs.Shown.{items_in, Bears};
 ghost use Rattle.psu_pages.specs.Writing.{Reaches};
@@ -15,9 +15,10 @@ ghost use Rattle.psu_pages.specs.declared.open_cause.OpenCause.TheVariants.{Devi
 ghost use Rattle.psu_pages.specs.declared.page_fault.PageFault.TheVariants as PageFault;
 ghost use Rattle.psu_pages.specs.declared.standing.Standing.TheVariants.{One, Unsure};
 
+use crate::Store;
 use crate::read::read_items;
-use crate::{Items, Store};
 use psu_disk::Disk;
+use psu_map::Items;
 use psu_pages::{OpenCause, PageFault, Pages, Refused};
 use std::alloc::Allocator;
 

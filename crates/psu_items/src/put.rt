@@ -2,7 +2,7 @@
 ghost use Rattle.std.specs.Prelude.{◌≡◌, ◌≢◌, ◌+◌, ◌<◌, ◌≤◌, ◌^◌, ◌++◌, ◌∷◌, [], true, false, Some, List, ℕ, length, OnOk, IfErr, vec_len, vec_capacity};
 ghost use Rattle.std.specs.List.{AllByRecursion};
 ghost use Rattle.psu_disk.specs.Disk.{Left, Follows, LeavesOnly, HasFailed};
-ghost use Rattle.psu_items.specs.Map.{Item, IsSorted};
+ghost use Rattle.psu_map.specs.Map.{Item, IsSorted};
 ghost use Rattle.psu_pages.specs.Free.{AreClaimed, IsRoster};
 ghost use Rattle.psu_pages.specs.Image.{AreApart, AreClear, IsInPool, keys, pages_of, taken, Head as HeadOf};
 ghost use Rattle.psu_pages.specs.Outcome.{IsPlanned, HasSameHeads};
@@ -11,7 +11,7 @@ ghost use Rattle.psu_pages.specs.Writing.{IsWritten, Reaches};
 ghost use Rattle.psu_items.specs.Image.{IsEitherRoot, EachIsEitherRoot};
 ghost use Rattle.psu_items.specs.Layout.{heads_of, keys_in, value_at, IsSized, StandsWritten};
 ghost use Rattle.psu_items.specs.Standing.{AreSpare, IsSpare, ShowsMap};
-ghost use Rattle.psu_items.specs.Target.{aimed};
+ghost use Rattle.psu_map.specs.Target.{aimed};
 ghost use Rattle.psu_items.specs.Writing.{SameBehind};
 ghost use Rattle.psu_items.specs.declared.slot.Slot.{Slot as SlotOf};
 ghost use Rattle.psu_pages.specs.declared.page_fault.PageFault.TheVariants.{Device};
@@ -19,8 +19,8 @@ ghost use Rattle.psu_pages.specs.declared.standing.Standing.TheVariants.{One, Un
 
 use crate::layout::Layout;
 use crate::slot::Slot;
-use crate::target::Target;
 use psu_disk::Disk;
+use psu_map::Target;
 use psu_pages::{Head, PageFault, Pages};
 use std::alloc::Allocator;
 

@@ -1,13 +1,13 @@
 //! The items of the heads that a root names.
 ghost use Rattle.std.specs.Prelude.{◌≡◌, ◌≢◌, ◌+◌, ◌≤◌, ◌<◌, List, ℕ, length, drop, OnOk, IfOk, IfErr, IsErrOf};
 ghost use Rattle.psu_disk.specs.Disk.{Left, LeavesOnly, HasFailed};
-ghost use Rattle.psu_items.specs.Capacity.{IsMapOf};
+ghost use Rattle.psu_map.specs.Capacity.{IsMapOf};
 ghost use Rattle.psu_pages.specs.Outcome.{HasSameHeads};
 ghost use Rattle.psu_items.specs.Image.{listed};
 ghost use Rattle.psu_pages.specs.declared.page_fault.PageFault.TheVariants.{Device, NoPage};
 
-use crate::Items;
 use psu_disk::Disk;
+use psu_map::Items;
 use psu_pages::{PageFault, Pages};
 use std::alloc::Allocator;
 

@@ -3,8 +3,8 @@ ghost use Rattle.std.specs.Prelude.{◌≡◌, ◌+◌, ◌<◌, ◌^◌, OnOk, 
 ghost use Rattle.psu_disk.specs.Disk.{Left, Follows, LeavesOnly, HasFailed};
 ghost use Rattle.psu_pages.specs.Outcome.{HasSameRoots};
 ghost use Rattle.psu_pages.specs.Writing.{Reaches};
-ghost use Rattle.psu_items.specs.Capacity.{CanHold};
-ghost use Rattle.psu_items.specs.Batch.{changed};
+ghost use Rattle.psu_map.specs.Capacity.{CanHold};
+ghost use Rattle.psu_map.specs.Batch.{changed};
 ghost use Rattle.psu_items.specs.Image.{EachIsEitherRoot, IsEitherRoot};
 ghost use Rattle.psu_items.specs.Layout.{HaveKept};
 ghost use Rattle.psu_items.specs.Standing.{KeepsMap};
@@ -13,9 +13,8 @@ ghost use Rattle.psu_items.specs.declared.renew.Unwritten.TheVariants.{Memory, D
 
 use crate::layout::lay_out;
 use crate::put::put;
-use crate::target::Target;
-use crate::{Batch, Pair};
 use psu_disk::Disk;
+use psu_map::{Batch, Pair, Target};
 use psu_pages::Pages;
 use std::alloc::Allocator;
 

@@ -3,8 +3,8 @@ ghost use Rattle.std.specs.Prelude.{◌≡◌, ◌+◌, ◌*◌, ◌≤◌, [], 
 ghost use Rattle.psu_disk.specs.Disk.{Left, HasFailed};
 ghost use Rattle.psu_items.specs.Image.{counting, number_in, version_in, EachStands};
 
-use crate::Items;
 use psu_disk::Disk;
+use psu_map::Items;
 use psu_pages::Pages;
 use std::alloc::Allocator;
 use std::marker::Model;

@@ -1,9 +1,9 @@
 -- The edits of parts make the map of contents.
 use Rattle.std.proofs.Common.{◌≡◌, ℕ, inl, inr, ◌⊎◌, Bool, true, false, cond, List, [], ◌∷◌, map, Option, refl, sym, ◌∙◌, ap, bytes_eq}
-use Rattle.psu_items.specs.Map.{get}
-use Rattle.psu_items.specs.Batch.{changed, assigned}
-use Rattle.psu_items.proofs.Keys.{same_key, same_true}
-use Rattle.psu_items.proofs.Maps.{same_map, get-changed, sorted-changed}
+use Rattle.psu_map.specs.Map.{get}
+use Rattle.psu_map.specs.Batch.{changed, assigned}
+use Rattle.psu_map.proofs.Keys.{same_key, same_true}
+use Rattle.psu_map.proofs.Maps.{same_map, get-changed, sorted-changed}
 use Rattle.psu_nv.specs.Contents.{Contents, IsContents, items_of}
 use Rattle.psu_nv.specs.Parts.{Part, key_of, part_items, value_in, edit_of, IsAmong, DifferIn}
 use Rattle.psu_nv.specs.Decoding.{is_key}

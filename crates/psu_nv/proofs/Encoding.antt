@@ -3,7 +3,7 @@ use Rattle.std.proofs.Common.{◌≡◌, ℕ, zero, suc, ◌+◌, ◌<◌, ◌�
 use Rattle.std.specs.List.{AllByRecursion}
 use Rattle.std.proofs.Math.Seq.{take-suc, take-length}
 use Rattle.std.proofs.lemmas.List.{length-take-le}
-use Rattle.psu_items.specs.Map.{Item, item_of, Before, IsSorted}
+use Rattle.psu_map.specs.Map.{Item, item_of, Before, IsSorted}
 use Rattle.psu_outputs.specs.declared.output_settings.OutputSettings.{OutputSettings}
 use Rattle.psu_nv.specs.Contents.{Contents, enables_items, register_items, registers_items, user_items, macros_items, file_item}
 use Rattle.psu_nv.specs.Commands.{settings_at}

@@ -4,7 +4,7 @@ use Rattle.std.specs.Prelude.{◌&&◌, ◌==◌, nat_le}
 use Rattle.std.specs.List.{AllByRecursion}
 use Rattle.std.proofs.Math.Seq.{take-suc}
 use Rattle.std.proofs.lemmas.Bool.Decides.{nat_tests}
-use Rattle.psu_items.specs.Map.{Item, item_of, get, Before, IsSorted}
+use Rattle.psu_map.specs.Map.{Item, item_of, get, Before, IsSorted}
 use Rattle.psu_nv.specs.Contents.{IsFile, begins_with_kind}
 use Rattle.psu_nv.specs.Decoding.{is_key, has_keys, name_in, file_at, files_in, fits_file, fit_files}
 use Rattle.psu_nv.proofs.Parts.{Below}

@@ -6,7 +6,7 @@ use Rattle.psu_lex.specs.declared.scpi_error.ScpiError.{ScpiError}
 use Rattle.psu_nv.specs.Commands.{first_of}
 use Rattle.std.proofs.lemmas.Bool.{cases_Bool}
 use Rattle.std.proofs.lemmas.Bool.Decides.{nat_tests}
-use Rattle.psu_items.specs.Map.{Item, get}
+use Rattle.psu_map.specs.Map.{Item, get}
 use Rattle.psu_nv.specs.Contents.{Macro, body_at, begins_with_kind, IsFile, IsMacro}
 use Rattle.psu_nv.specs.Labels.{same_label}
 use Rattle.psu_nv.specs.Views.{kind_of}

@@ -1,8 +1,8 @@
 -- What is found under each key of the map that contents are kept as.
 use Rattle.std.proofs.Common.{◌≡◌, ℕ, zero, suc, ◌+◌, ◌<◌, ◌≤◌, Bool, true, false, cond, List, [], ◌∷◌, ◌++◌, map, Option, Some, None, refl, sym, ◌∙◌, ap, subst, bytes_eq, arith}
 use Rattle.std.specs.List.{AllByRecursion}
-use Rattle.psu_items.specs.Map.{Item, item_of, get, Before}
-use Rattle.psu_items.proofs.Keys.{same_true, before_not_same, after_not_same}
+use Rattle.psu_map.specs.Map.{Item, item_of, get, Before}
+use Rattle.psu_map.proofs.Keys.{same_true, before_not_same, after_not_same}
 use Rattle.psu_outputs.specs.declared.output_settings.OutputSettings.{OutputSettings}
 use Rattle.psu_outputs.specs.Settings.{bytes_of, is_reset}
 use Rattle.psu_nv.specs.Contents.{Macro, Contents, enables_items, register_items, registers_items, user_items, macros_items, file_item, recall_items, items_of}

@@ -3,7 +3,7 @@ use Rattle.std.proofs.Common.{ℕ, Bool, true, false, cond, List, [], ◌∷◌,
 use Rattle.std.specs.List.{AllByRecursion}
 use Rattle.std.specs.Ordering.{nat_cmp, is_lt}
 use Rattle.std.specs.Cmp.Lexicographic.{slice_cmp}
-use Rattle.psu_items.specs.Map.{Item, item_of, put, without}
+use Rattle.psu_map.specs.Map.{Item, item_of, put, without}
 
 pub all_put : (P : Item → Type 0) (items : List Item) (key value : List ℕ) → AllByRecursion P items → P (item_of key value) → AllByRecursion P (put items key value)
 all_put P [] key value all here = (here, tt)

@@ -4,9 +4,9 @@ use Rattle.std.specs.Prelude.{◌&&◌, ◌||◌, ◌==◌, nat_le, bit_and, IfE
 use Rattle.std.specs.Option.{ForSome}
 use Rattle.std.specs.List.{AllByRecursion}
 use Rattle.std.proofs.lemmas.Bool.Decides.{nat_tests}
-use Rattle.psu_items.specs.Map.{Item, item_of, get, IsSorted}
-use Rattle.psu_items.proofs.Keys.{same_key}
-use Rattle.psu_items.proofs.Maps.{same_map}
+use Rattle.psu_map.specs.Map.{Item, item_of, get, IsSorted}
+use Rattle.psu_map.proofs.Keys.{same_key}
+use Rattle.psu_map.proofs.Maps.{same_map}
 use Rattle.psu_outputs.specs.declared.output_settings.OutputSettings.{OutputSettings}
 use Rattle.psu_outputs.specs.Settings.{AreSettings, reset, bytes_of, is_reset}
 use Rattle.psu_lex.specs.Names.{is_name}

@@ -6,7 +6,7 @@ use Rattle.std.specs.Char.{to_ascii_lowercase}
 use Rattle.std.specs.List.{list_all, AllByRecursion}
 use Rattle.std.proofs.lemmas.List.{length-map}
 use Rattle.std.proofs.lemmas.Bool.Decides.{nat_tests}
-use Rattle.psu_items.proofs.Keys.{same_key, same_true}
+use Rattle.psu_map.proofs.Keys.{same_key, same_true}
 use Rattle.psu_lex.specs.Names.{is_label, begins_with_letter}
 use Rattle.psu_lex.specs.Syntax.{is_name_byte}
 use Rattle.psu_nv.specs.Labels.{lowercase, same_label}

@@ -1,9 +1,9 @@
 -- Contents are told by their items.
 use Rattle.std.proofs.Common.{◌≡◌, ℕ, suc, ◌<◌, Bool, true, false, cond, List, [], ◌∷◌, length, get_or, Option, Some, None, refl, sym, ◌∙◌, ap, arith}
 use Rattle.std.specs.List.{flat_map, AllByRecursion}
-use Rattle.psu_items.specs.Map.{get}
-use Rattle.psu_items.proofs.Keys.{same_key}
-use Rattle.psu_items.proofs.Maps.{same_map}
+use Rattle.psu_map.specs.Map.{get}
+use Rattle.psu_map.proofs.Keys.{same_key}
+use Rattle.psu_map.proofs.Maps.{same_map}
 use Rattle.psu_outputs.specs.declared.output_settings.OutputSettings.{OutputSettings}
 use Rattle.psu_outputs.specs.Settings.{AreSettings, reset, bytes_of, is_reset}
 use Rattle.psu_outputs.proofs.Apart.{same_settings}

@@ -9,14 +9,14 @@ use Rattle.std.proofs.lemmas.List.Sums.{sum_by-cons, sum_by-append}
 use Rattle.std.proofs.lemmas.List.Concat.{flat_map-cons}
 use Rattle.std.specs.Ordering.{nat_cmp, is_lt}
 use Rattle.std.specs.Cmp.Lexicographic.{slice_cmp}
-use Rattle.psu_items.specs.Map.{Before}
-use Rattle.psu_items.proofs.Maps.{get_before, all_after, get-put, sorted-put}
-use Rattle.psu_items.proofs.Keys.{same_key, after-tests}
+use Rattle.psu_map.specs.Map.{Before}
+use Rattle.psu_map.proofs.Maps.{get_before, all_after, get-put, sorted-put}
+use Rattle.psu_map.proofs.Keys.{same_key, after-tests}
 use Rattle.psu_nv.specs.Labels.{same_label}
 use Rattle.psu_nv.proofs.Labels.{label_short}
 use Rattle.psu_nv.specs.Commands.{without_label, macro_of}
 use Rattle.psu_nv.proofs.Items.{all_put, all_without}
-use Rattle.psu_items.specs.Map.{Item, item_of, get, put, without, cost, IsSorted}
+use Rattle.psu_map.specs.Map.{Item, item_of, get, put, without, cost, IsSorted}
 use Rattle.psu_outputs.specs.declared.output_settings.OutputSettings.{OutputSettings}
 use Rattle.psu_outputs.specs.Settings.{AreSettings, bytes_of, is_reset}
 use Rattle.psu_nv.specs.Contents.{Macro, Contents, IsMacro, body_at, has_label, enables_items, register_items, registers_items, user_items, macro_bytes, macros_items, file_item, recall_items, items_of, cost_of}

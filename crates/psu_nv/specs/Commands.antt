@@ -4,7 +4,7 @@ use Rattle.std.specs.Prelude.{ℕ, ◌%◌, ◌==◌, ◌&&◌, not, nat_lt, nat
 use Rattle.std.specs.List.{list_all}
 use Rattle.std.specs.Str.{bytes_eq}
 use Rattle.std.specs.Int.{w16, from_be_bytes}
-use Rattle.psu_items.specs.Map.{Item, get, put, without}
+use Rattle.psu_map.specs.Map.{Item, get, put, without}
 use Rattle.psu_lex.specs.declared.scpi_error.ScpiError.{ScpiError}
 use Rattle.psu_lex.specs.declared.scpi_error.ScpiError.TheVariants.{IllegalMacroLabel, MacroDefinitionTooLong, MacroRedefinitionNotAllowed, MacroHeaderNotFound, FileNameError, FileNameNotFound, MassStorageError, MediaFull}
 use Rattle.psu_outputs.specs.declared.output_settings.OutputSettings.{OutputSettings}

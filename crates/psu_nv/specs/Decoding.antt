@@ -1,7 +1,7 @@
 -- Which maps are those of contents, and why another is refused.
 use Rattle.std.specs.Prelude.{◌≡◌, ℕ, ◌≤◌, ◌==◌, ◌&&◌, ◌||◌, nat_le, Bool, true, false, if◌then◌else◌, Option, Some, None, List, [], ◌∷◌, ◌++◌, length}
 use Rattle.std.specs.List.{flat_map, list_all, AllByRecursion}
-use Rattle.psu_items.specs.Map.{Item, item_of}
+use Rattle.psu_map.specs.Map.{Item, item_of}
 use Rattle.psu_nv.specs.declared.decode_fault.DecodeFault.{DecodeFault}
 use Rattle.psu_nv.specs.declared.decode_fault.DecodeFault.TheVariants.{BadKey, BadValue, Memory}
 use Rattle.psu_lex.specs.Names.{is_name}

@@ -1,7 +1,7 @@
 -- The parts that contents are kept as, each the value of a key of the map.
 use Rattle.std.specs.Prelude.{◌≡◌, ◌⊎◌, ℕ, Option, Some, None, List, [], ◌∷◌}
-use Rattle.psu_items.specs.Map.{Item, item_of, get}
-use Rattle.psu_items.specs.Batch.{Edit}
+use Rattle.psu_map.specs.Map.{Item, item_of, get}
+use Rattle.psu_map.specs.Batch.{Edit}
 use Rattle.psu_nv.specs.Contents.{Contents, enables_items, register_items, user_items, macros_items, recall_items}
 use Rattle.psu_nv.specs.Commands.{settings_at}
 

@@ -2,7 +2,7 @@
 ghost use Rattle.std.specs.Prelude.{◌≡◌, ◌+◌, ◌<◌, ◌≤◌, ◌^◌, None, length, slice_set};
 ghost use Rattle.std.specs.List.{AllByRecursion};
 ghost use Rattle.psu_outputs.specs.Settings.{AreSettings};
-ghost use Rattle.psu_items.specs.Map.{cost};
+ghost use Rattle.psu_map.specs.Map.{cost};
 ghost use Rattle.psu_nv.specs.Contents.{enables_items, user_items, cost_of, fits};
 ghost use Rattle.psu_nv.specs.Commands.{refused, apply};
 ghost use Rattle.psu_nv.specs.Costs.{macros_cost, registers_cost};

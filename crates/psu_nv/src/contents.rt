@@ -1,6 +1,6 @@
 // What is kept without power, as one value.
 ghost use Rattle.std.specs.Prelude.{◌≡◌, ◌≤◌, length, map, IfOk, IfSome, option_map, Option, Some, None};
-ghost use Rattle.psu_items.specs.Map.{get};
+ghost use Rattle.psu_map.specs.Map.{get};
 ghost use Rattle.psu_nv.specs.Contents.{fresh};
 ghost use Rattle.psu_nv.specs.Commands.{settings_at};
 
@@ -8,7 +8,7 @@ use crate::files::Files;
 use crate::macros::Macros;
 use crate::registers::Registers;
 use crate::{File, FileKind, Label, Register, UserData};
-use psu_items::Pair;
+use psu_map::Pair;
 use psu_outputs::Settings;
 use std::alloc::{AllocError, Allocator};
 use std::marker::Model;

@@ -4,7 +4,7 @@ ghost use Rattle.std.specs.Option.{ForSome};
 ghost use Rattle.std.specs.List.{AllByRecursion};
 ghost use Rattle.psu_outputs.specs.declared.output_settings.OutputSettings.{OutputSettings as Each};
 ghost use Rattle.psu_outputs.specs.Settings.{AreSettings, reset};
-ghost use Rattle.psu_items.specs.Map.{get};
+ghost use Rattle.psu_map.specs.Map.{get};
 ghost use Rattle.psu_nv.specs.declared.decode_fault.DecodeFault.TheVariants.{BadValue};
 ghost use Rattle.psu_nv.specs.Contents.{Macro, IsContents, contents_of, enables_items, register_items, user_items, macros_items, items_of, IsMacro, HasDistinct};
 ghost use Rattle.psu_nv.specs.Parts.{value_in};
@@ -18,7 +18,7 @@ use crate::registers::Registers;
 use crate::written::{WrittenMacros, macros_of};
 use crate::{Contents, DecodeFault, UserData};
 use arrayvec::ArrayVec;
-use psu_items::Items;
+use psu_map::Items;
 use psu_outputs::Settings;
 use std::alloc::{AllocError, Allocator};
 

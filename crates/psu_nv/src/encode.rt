@@ -1,14 +1,14 @@
 // The map that contents are kept as.
 ghost use Rattle.std.specs.Prelude.{◌≡◌, ℕ, ◌++◌, ◌∷◌, [], IfOk, OnOk, OnErr, option_map};
 ghost use Rattle.std.specs.List.{AllByRecursion};
-ghost use Rattle.psu_items.specs.Map.{Item, Before};
+ghost use Rattle.psu_map.specs.Map.{Item, Before};
 ghost use Rattle.psu_nv.specs.Contents.{items_of, register_items, user_items, macros_items};
 ghost use Rattle.psu_nv.specs.Parts.{key_of, part_items, value_in, edit_of};
 ghost use Rattle.psu_nv.specs.Views.{part_of};
 
 use crate::part::with_first;
 use crate::{Contents, Part, Register};
-use psu_items::{Batch, Items};
+use psu_map::{Batch, Items};
 use psu_outputs::Settings;
 use std::alloc::{AllocError, Allocator};
 

@@ -1,11 +1,11 @@
 // The files of contents.
 ghost use Rattle.std.specs.Prelude.{◌≡◌, ◌<◌, ◌≤◌, ◌^◌, [], length, IfOk, OnOk, OnErr, option_map};
 ghost use Rattle.std.specs.List.{AllByRecursion};
-ghost use Rattle.psu_items.specs.Map.{Item, IsSorted, get, put, without, cost};
+ghost use Rattle.psu_map.specs.Map.{Item, IsSorted, get, put, without, cost};
 ghost use Rattle.psu_nv.specs.Costs.{pages_of, IsShort};
 
 use crate::pages::page_count;
-use psu_items::{Items, Pair};
+use psu_map::{Items, Pair};
 use std::alloc::{AllocError, Allocator};
 use std::marker::Model;
 
@@ -19,7 +19,7 @@ pub(crate) struct Files<A: Allocator + Copy> {
 impl<A: Allocator + Copy> Model for Files<A> {
     ghost use Rattle.std.specs.Prelude.{List, ◌≡◌};
     ghost use Rattle.std.specs.List.{AllByRecursion};
-    ghost use Rattle.psu_items.specs.Map.{Item, cost};
+    ghost use Rattle.psu_map.specs.Map.{Item, cost};
     ghost use Rattle.psu_nv.specs.Costs.{IsShort};
 
     ghost Value = { List Item };

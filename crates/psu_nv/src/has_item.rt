@@ -1,6 +1,6 @@
 // Which keys the map of contents has, without the map.
 ghost use Rattle.std.specs.Prelude.{◌≡◌, ◌≢◌, ◌∷◌, [], is_some};
-ghost use Rattle.psu_items.specs.Map.{get};
+ghost use Rattle.psu_map.specs.Map.{get};
 ghost use Rattle.psu_nv.specs.Contents.{IsContents, items_of};
 
 use crate::{Contents, Register};

@@ -1,7 +1,7 @@
 // Laws over the definitions, which no code needs to run.
 ghost use Rattle.std.specs.Prelude.{◌≡◌, true, List, map};
-ghost use Rattle.psu_items.specs.Map.{get, IsSorted};
-ghost use Rattle.psu_items.specs.Batch.{changed};
+ghost use Rattle.psu_map.specs.Map.{get, IsSorted};
+ghost use Rattle.psu_map.specs.Batch.{changed};
 ghost use Rattle.psu_nv.specs.Contents.{Contents as Kept, IsContents, items_of};
 ghost use Rattle.psu_nv.specs.Parts.{Part as Each, key_of, part_items, value_in, edit_of, DifferIn};
 ghost use Rattle.psu_nv.specs.Decoding.{has_keys};

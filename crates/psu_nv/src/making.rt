@@ -1,7 +1,7 @@
 // The changes of the parts of contents. Each takes its memory first.
 ghost use Rattle.std.specs.Prelude.{◌≡◌, ◌<◌, ◌≤◌, ◌++◌, ◌∷◌, [], length, slice_set, true, false, OnOk, OnErr, IfOk, bit_and};
 ghost use Rattle.std.specs.Option.{ForSome};
-ghost use Rattle.psu_items.specs.Map.{put, without};
+ghost use Rattle.psu_map.specs.Map.{put, without};
 ghost use Rattle.psu_lex.specs.Names.{is_label, is_name};
 ghost use Rattle.psu_nv.specs.Contents.{has_label, begins_with_kind};
 ghost use Rattle.psu_nv.specs.Commands.{macro_of, without_label, without_mss, kept, with_service, with_event};

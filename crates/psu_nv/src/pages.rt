@@ -1,6 +1,6 @@
 // The pages that the parts of contents cost.
 ghost use Rattle.std.specs.Prelude.{◌≡◌, ◌+◌, ◌^◌, ◌<◌, ◌≤◌, length};
-ghost use Rattle.psu_items.specs.Map.{cost};
+ghost use Rattle.psu_map.specs.Map.{cost};
 ghost use Rattle.psu_nv.specs.Contents.{enables_items, user_items};
 ghost use Rattle.psu_nv.specs.Costs.{page_count};
 

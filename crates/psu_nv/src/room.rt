@@ -1,6 +1,6 @@
 // What contents would cost after a command, without making the change.
 ghost use Rattle.std.specs.Prelude.{◌≡◌, ◌+◌, ◌-◌, ◌<◌, ◌≤◌, ◌^◌, List, ℕ, ◌++◌, ◌∷◌, [], length, None, true};
-ghost use Rattle.psu_items.specs.Map.{get, put, without, cost};
+ghost use Rattle.psu_map.specs.Map.{get, put, without, cost};
 ghost use Rattle.psu_nv.specs.Contents.{has_label, Macro};
 ghost use Rattle.psu_outputs.specs.Settings.{bytes_of};
 ghost use Rattle.psu_nv.specs.Commands.{Move, macro_of, refused, settings_at, value_of, without_label};

@@ -1,6 +1,6 @@
 // Contents: what they are kept as, what they cost, and what is refused.
-use psu_items::{Batch, Items};
 use psu_lex::ScpiError;
+use psu_map::{Batch, Items};
 use psu_nv::{Contents, FileBytes, NvCommand, Part, Register};
 use psu_outputs::{Millivolts, Output, Setting, Settings};
 use psu_tables::bytes;

@@ -1,5 +1,5 @@
 // Contents from a map: each of its rows good, and each way in which one is bad.
-use psu_items::Items;
+use psu_map::Items;
 use psu_nv::{Contents, DecodeFault};
 use psu_tables::{bytes, row};
 use std::alloc::{AllocError, Global};

@@ -1,7 +1,7 @@
 // Each allocation of contents refused in turn: a change is -225 and changes nothing, and the others want memory.
 use bumpalo::Bump;
-use psu_items::Items;
 use psu_lex::ScpiError;
+use psu_map::Items;
 use psu_nv::{Contents, DecodeFault, FileBytes, NvCommand};
 use psu_tables::bytes;
 use std::alloc::Global;

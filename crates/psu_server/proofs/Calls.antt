@@ -3,7 +3,7 @@ use Rattle.std.proofs.Common.{◌≡◌, ℕ, zero, suc, true, Option, Some, Lis
 use Rattle.psu_disk.specs.Disk.{DiskState, Left}
 use Rattle.psu_disk.specs.Ranges.{reads_left}
 use Rattle.psu_disk.specs.declared.disk.Disk.{Ghosts}
-use Rattle.psu_items.specs.Map.{Item}
+use Rattle.psu_map.specs.Map.{Item}
 use Rattle.psu_items.specs.Image.{Stands, EachStands}
 use Rattle.psu_items.proofs.Standing.{one_stands}
 use Rattle.psu_nv.specs.Contents.{items_of}

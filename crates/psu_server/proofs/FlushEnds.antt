@@ -3,7 +3,7 @@ use Rattle.std.proofs.Common.{◌≡◌, ◌⊎◌, ℕ, suc, ◌+◌, ◌-◌, 
 use Rattle.psu_disk.specs.Disk.{HasFailed}
 use Rattle.psu_disk.specs.declared.disk.Disk.{Ghosts}
 use Rattle.psu_items.specs.declared.commit.UnstartedCause.TheVariants as unstarted
-use Rattle.psu_items.specs.Map.{Item}
+use Rattle.psu_map.specs.Map.{Item}
 use Rattle.psu_exec.specs.Calls.{JobKind, Commit, Reopen, JobData, JobEnd, Stored, Unstarted, Failed, Reopened, Job, Nothing, Took, GaveBack, Allows, HasWork, job_out, kind_for, stored}
 use Rattle.psu_exec.specs.Device.{State, Flush, is_whole, is_broken, wait_of}
 use Rattle.psu_nv.specs.Contents.{items_of}

@@ -4,8 +4,8 @@ use Rattle.psu_disk.specs.Disk.{HasFailed}
 use Rattle.psu_disk.specs.Ranges.{reads_left}
 use Rattle.psu_disk.specs.declared.disk.Disk.{Ghosts}
 use Rattle.psu_items.specs.declared.commit.UnstartedCause.TheVariants as unstarted
-use Rattle.psu_items.specs.Batch.{Edit}
-use Rattle.psu_items.specs.Map.{Item}
+use Rattle.psu_map.specs.Batch.{Edit}
+use Rattle.psu_map.specs.Map.{Item}
 use Rattle.psu_items.specs.declared.broken.BrokenCause.{BrokenCause}
 use Rattle.psu_items.specs.declared.broken.BrokenCause.TheVariants as broken_cause
 use Rattle.psu_exec.specs.Calls.{JobData, JobEnd, Stored, Unstarted, Failed, Reopened, Job, Took, IsExpected, IsAccepted, Allows, job_of, kind_for, wait_less, wait_cut}

@@ -1,7 +1,7 @@
 -- The cause of a run's end where the disk does not power on, and why a store can't take a commit.
 use Rattle.std.specs.Prelude.{◌≡◌, ℕ, ◌+◌, ◌≤◌, ◌^◌, List}
 use Rattle.psu_disk.specs.Disk.{HasFailed}
-use Rattle.psu_items.specs.Map.{Item}
+use Rattle.psu_map.specs.Map.{Item}
 use Rattle.psu_items.specs.Image.{counting, number_in, Stands, HasNoRoot, HasBadRoot, HasOtherVersion, HasReadableRoot}
 use Rattle.psu_pages.specs.declared.open_cause.OpenCause.{OpenCause}
 use Rattle.psu_pages.specs.declared.open_cause.OpenCause.TheVariants as refused

@@ -2,7 +2,7 @@
 use Rattle.std.specs.Prelude.{◌≡◌, ◌⊎◌, ℕ, ◌++◌, if◌then◌else◌, Option, Some, None, List, [], ◌∷◌}
 use Rattle.psu_disk.specs.Disk.{DiskState, Left}
 use Rattle.psu_disk.specs.declared.disk.Disk.{Ghosts}
-use Rattle.psu_items.specs.Map.{Item}
+use Rattle.psu_map.specs.Map.{Item}
 use Rattle.psu_items.specs.Image.{Stands, EachStands}
 use Rattle.psu_nv.specs.Contents.{items_of, Contents}
 use Rattle.psu_exec.specs.Device.{State}

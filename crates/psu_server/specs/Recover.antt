@@ -1,6 +1,6 @@
 -- What `recover` says of an image.
 use Rattle.std.specs.Prelude.{◌≡◌, ℕ, ◌==◌, true, if◌then◌else◌, List, [], ◌∷◌, length, map, ⊤}
-use Rattle.psu_items.specs.Map.{Item, cost}
+use Rattle.psu_map.specs.Map.{Item, cost}
 use Rattle.psu_items.specs.Image.{counting, number_in, version_in, HasReadableRoot, Stands, IsRefusal}
 use Rattle.psu_pages.specs.declared.open_cause.OpenCause.{OpenCause}
 use Rattle.psu_pages.specs.declared.open_cause.OpenCause.TheVariants as opening

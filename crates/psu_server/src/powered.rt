@@ -1,7 +1,7 @@
 // The device that is powered on.
 ghost use Rattle.std.specs.Prelude.{◌≡◌, ◌≤◌, ℕ, List, IfOk, IfErr, true, false, None};
 ghost use Rattle.psu_items.specs.Image.{EachStands};
-ghost use Rattle.psu_items.specs.Map.{Item};
+ghost use Rattle.psu_map.specs.Map.{Item};
 ghost use Rattle.psu_exec.specs.Device.{is_broken, is_denied, is_open, wait_of};
 ghost use Rattle.psu_exec.specs.declared.condition.Condition.TheVariants.{Worn};
 ghost use Rattle.psu_server.specs.Failures.{failures_of};

@@ -2,7 +2,7 @@
 ghost use Rattle.std.specs.Prelude.{◌≡◌, ℕ, List, IfOk, IfErr, false};
 ghost use Rattle.std.specs.Option.{ForSome};
 ghost use Rattle.psu_disk.specs.Disk.{HasFailed};
-ghost use Rattle.psu_items.specs.Map.{Item};
+ghost use Rattle.psu_map.specs.Map.{Item};
 ghost use Rattle.psu_items.specs.Image.{EachStands};
 ghost use Rattle.psu_exec.specs.Jobs.{home_disk};
 ghost use Rattle.psu_server.specs.Recover.{IsReported, IsRecoverRefusal, Reports};

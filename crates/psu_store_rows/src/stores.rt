@@ -1,6 +1,6 @@
 // The store on disks in memory.
 ghost use Rattle.std.specs.Prelude.{IsTrue};
-ghost use Rattle.psu_items.specs.Capacity.{CanHold, Fits};
+ghost use Rattle.psu_map.specs.Capacity.{CanHold, Fits};
 
 use crate::images::image;
 use psu_disk::{Disk, MemDisk, TellingDisk};

@@ -1,6 +1,6 @@
 use Rattle.std.proofs.Common.{◌≡◌, ◌<◌, List, [], length, get_or, subst, sym, ◌∙◌, append-nil}
 use Rattle.std.specs.List.{flat_map}
-use Rattle.psu_items.specs.Map.{Item}
+use Rattle.psu_map.specs.Map.{Item}
 use Rattle.psu_exec.specs.Batch.{assignment}
 use Rattle.psu_exec.proofs.Plans.{not_next}
 use Rattle.psu_exec.proofs.leading.are_assignments.Goals as goal

@@ -1,5 +1,5 @@
 use Rattle.std.proofs.Common.{refl, sym, ◌∙◌}
-use Rattle.psu_items.proofs.Keys.{same_key}
+use Rattle.psu_map.proofs.Keys.{same_key}
 use Rattle.psu_exec.proofs.Plans.{with_first}
 use Rattle.psu_exec.proofs.leading.behind.Goals as goal
 

@@ -1,5 +1,5 @@
 use Rattle.std.proofs.Common.{◌≡◌, ◌<◌, List, length, get_or, subst}
-use Rattle.psu_items.specs.Map.{Item}
+use Rattle.psu_map.specs.Map.{Item}
 use Rattle.psu_exec.specs.Batch.{removal}
 use Rattle.psu_exec.proofs.Plans.{not_next}
 use Rattle.psu_exec.proofs.leading.behind_removals.Goals as goal

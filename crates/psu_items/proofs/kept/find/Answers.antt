@@ -1,7 +1,7 @@
 use Rattle.std.proofs.Common.{inl, inr, arith}
 use Rattle.std.proofs.lemmas.Bool.{cases_lt}
 use Rattle.psu_items.specs.Layout.{HasHead}
-use Rattle.psu_items.specs.Target.{item_in}
+use Rattle.psu_map.specs.Target.{item_in}
 use Rattle.psu_items.proofs.Committing.{not_true}
 use Rattle.psu_items.proofs.Keeping.{none_more}
 use Rattle.psu_items.proofs.kept.find.Goals as goal

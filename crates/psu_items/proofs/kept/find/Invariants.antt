@@ -1,6 +1,6 @@
 use Rattle.std.proofs.Common.{ℕ, ◌<◌, ◌≤◌, length}
 use Rattle.psu_items.specs.Layout.{HasHead}
-use Rattle.psu_items.specs.Target.{item_in}
+use Rattle.psu_map.specs.Target.{item_in}
 use Rattle.psu_items.proofs.kept.find.Given as goal
 
 -- none of the heads seen so far is the item's

@@ -1,8 +1,8 @@
 use Rattle.std.proofs.Common.{◌≡◌, length, sym, ◌∙◌, ap, arith}
 use Rattle.std.proofs.lemmas.Bool.Decides.{nat_tests}
-use Rattle.psu_items.specs.Target.{Entry, item_in}
+use Rattle.psu_map.specs.Target.{Entry, item_in}
 use Rattle.psu_items.proofs.Keeping.{has_it, size_of}
-use Rattle.psu_items.proofs.Keys.{same_key}
+use Rattle.psu_map.proofs.Keys.{same_key}
 use Rattle.psu_items.proofs.kept.is_of.Goals as goal
 
 pub returns-then-eq : goal.returns-then-eq

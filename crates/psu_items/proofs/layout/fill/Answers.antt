@@ -1,9 +1,9 @@
 use Rattle.std.proofs.Common.{◌≡◌, ◌∙◌, ◌++◌, ◌∷◌, ◌<◌, [], List, Some, ap, sym, subst, length, get_or, take, arith}
 use Rattle.std.proofs.lemmas.List.{length-map, take_all}
 use Rattle.psu_pages.proofs.Lists.{all_at, all_take}
-use Rattle.psu_items.specs.Capacity.{Fits}
-use Rattle.psu_items.specs.Target.{Entry, aimed, item_in, standing, IsOf}
-use Rattle.psu_items.proofs.Aiming.{item_there, its_own}
+use Rattle.psu_map.specs.Capacity.{Fits}
+use Rattle.psu_map.specs.Target.{Entry, aimed, item_in, standing, IsOf}
+use Rattle.psu_map.proofs.Aiming.{item_there, its_own}
 use Rattle.psu_items.proofs.Laying.{slots_more, slots_planned, planned_still, roots_on}
 use Rattle.psu_items.proofs.Sparing.{claims_step, slots_kept, kept_still}
 use Rattle.psu_items.specs.Layout.{IsOneOf, heads_of}
@@ -11,7 +11,7 @@ use Rattle.psu_items.proofs.Keeping.{have_more}
 use Rattle.psu_items.proofs.Roster.{part_cost}
 use Rattle.psu_items.proofs.Room.{cost_more, room_left}
 use Rattle.psu_items.proofs.Writing.{all_own}
-use Rattle.psu_items.specs.Map.{Item, cost, get}
+use Rattle.psu_map.specs.Map.{Item, cost, get}
 use Rattle.psu_pages.specs.Image.{taken}
 use Rattle.psu_items.proofs.layout.fill.Goals as goal
 

@@ -3,7 +3,7 @@ use Rattle.psu_pages.specs.Outcome.{HasSameRoots}
 use Rattle.psu_items.specs.Layout.{heads_of, AreSlots, HaveStanding}
 use Rattle.psu_pages.specs.Free.{is_free}
 use Rattle.psu_pages.specs.Image.{IsNone, taken}
-use Rattle.psu_items.specs.Target.{aimed}
+use Rattle.psu_map.specs.Target.{aimed}
 use Rattle.psu_items.proofs.layout.fill.Given as goal
 
 -- the items so far have their slots

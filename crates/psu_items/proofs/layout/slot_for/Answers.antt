@@ -1,7 +1,7 @@
 use Rattle.std.proofs.Common.{◌∙◌, List, ap, sym, subst}
 use Rattle.psu_pages.specs.Image.{Head}
 use Rattle.psu_items.specs.Layout.{HasHead, IsOneOf}
-use Rattle.psu_items.specs.Target.{item_in}
+use Rattle.psu_map.specs.Target.{item_in}
 use Rattle.psu_items.proofs.Keeping.{key_of, one_has, one_key}
 use Rattle.psu_items.proofs.layout.slot_for.Goals as goal
 

@@ -3,13 +3,13 @@ use Rattle.std.specs.List.{AllByRecursion}
 use Rattle.psu_disk.specs.Disk.{Left, SameBut, Follows, LeavesOnly, HasFailed}
 use Rattle.psu_pages.specs.Outcome.{IsPlanned}
 use Rattle.psu_items.specs.Image.{listed, IsEitherRoot}
-use Rattle.psu_items.specs.Target.{aimed}
+use Rattle.psu_map.specs.Target.{aimed}
 use Rattle.psu_items.proofs.Opening.{err_any}
 use Rattle.psu_items.proofs.Putting.{heads_there, heads_list, as_many, from_bears, run_one, from_either, run_two, from_two, run_three, shown_last}
 use Rattle.psu_pages.specs.Image.{gate_at, other}
 use Rattle.psu_pages.specs.Writing.{Reaches}
 use Rattle.psu_items.specs.Layout.{heads_of}
-use Rattle.psu_items.specs.Map.{Item}
+use Rattle.psu_map.specs.Map.{Item}
 use Rattle.psu_items.specs.Standing.{ShowsMap}
 use Rattle.psu_items.specs.Writing.{SameBehind}
 use Rattle.psu_items.proofs.Sparing.{spare_closed, spare_published}

@@ -7,7 +7,7 @@ use Rattle.psu_pages.specs.Image.{Head, AreClear, IsInPool, pages_of}
 use Rattle.psu_pages.specs.Outcome.{IsPlanned}
 use Rattle.psu_pages.specs.Writing.{IsWritten, Reaches}
 use Rattle.psu_pages.proofs.Lists.{all_at}
-use Rattle.psu_items.specs.Target.{aimed}
+use Rattle.psu_map.specs.Target.{aimed}
 use Rattle.psu_items.proofs.Taking.{BearsOf, bears_on, bears_on_run, same_on}
 use Rattle.psu_items.proofs.Writing.{written_step, stands_now, ahead_step}
 use Rattle.psu_disk.specs.Disk.{Left, Follows, LeavesOnly}

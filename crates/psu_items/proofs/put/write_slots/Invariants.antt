@@ -7,7 +7,7 @@ use Rattle.psu_pages.specs.Shown.{items_in}
 use Rattle.psu_pages.specs.Writing.{IsWritten, Reaches}
 use Rattle.psu_items.specs.Writing.{SameBehind}
 use Rattle.psu_items.specs.Layout.{value_at, StandsWritten}
-use Rattle.psu_items.specs.Target.{aimed}
+use Rattle.psu_map.specs.Target.{aimed}
 use Rattle.psu_items.proofs.Taking.{BearsOf}
 use Rattle.psu_items.proofs.put.write_slots.Given as goal
 

@@ -1,6 +1,6 @@
 use Rattle.std.proofs.Common.{◌≡◌, ◌≤◌, ℕ, List, length, drop}
 use Rattle.psu_disk.specs.Disk.{Left, LeavesOnly}
-use Rattle.psu_items.specs.Capacity.{IsMapOf}
+use Rattle.psu_map.specs.Capacity.{IsMapOf}
 use Rattle.psu_pages.specs.Outcome.{HasSameHeads}
 use Rattle.psu_items.specs.Image.{listed}
 use Rattle.psu_items.proofs.read.read_items.Given as goal

@@ -1,13 +1,13 @@
 use Rattle.std.proofs.Common.{inl, List, sym, subst}
 use Rattle.psu_disk.specs.Disk.{HasFailed}
-use Rattle.psu_items.specs.Map.{IsSorted}
-use Rattle.psu_items.specs.Capacity.{CanHold}
-use Rattle.psu_items.specs.Batch.{changed}
+use Rattle.psu_map.specs.Map.{IsSorted}
+use Rattle.psu_map.specs.Capacity.{CanHold}
+use Rattle.psu_map.specs.Batch.{changed}
 use Rattle.psu_items.specs.Standing.{ShowsMap}
 use Rattle.psu_items.specs.Layout.{IsOneOf}
-use Rattle.psu_items.specs.Target.{aimed}
+use Rattle.psu_map.specs.Target.{aimed}
 use Rattle.psu_pages.specs.Image.{Head}
-use Rattle.psu_items.proofs.Maps.{sorted-changed}
+use Rattle.psu_map.proofs.Maps.{sorted-changed}
 use Rattle.psu_items.proofs.Standing.{pages_as}
 use Rattle.psu_items.proofs.Laying.{slots_planned}
 use Rattle.psu_items.proofs.Roster.{slots_sized, slots_claimed, slots_roster, slots_stand}

@@ -1,6 +1,6 @@
 use Rattle.std.proofs.Common.{◌∙◌, sym, ap, subst, List, take}
 use Rattle.std.specs.List.{AllByRecursion}
-use Rattle.psu_items.specs.Map.{Item}
+use Rattle.psu_map.specs.Map.{Item}
 use Rattle.psu_nv.specs.Contents.{Macro, IsFile, HasDistinct, has_label}
 use Rattle.psu_nv.specs.Costs.{IsShort}
 use Rattle.psu_nv.specs.Decoding.{files_in}

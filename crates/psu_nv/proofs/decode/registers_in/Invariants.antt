@@ -1,7 +1,7 @@
 use Rattle.std.proofs.Common.{◌≡◌, ◌<◌, ℕ, ◌∷◌, [], length, slice_index_or}
 use Rattle.std.specs.List.{AllByRecursion}
 use Rattle.psu_outputs.specs.Settings.{AreSettings, reset}
-use Rattle.psu_items.specs.Map.{get}
+use Rattle.psu_map.specs.Map.{get}
 use Rattle.psu_nv.specs.Contents.{register_items}
 use Rattle.psu_nv.specs.Parts.{value_in}
 use Rattle.psu_nv.proofs.decode.registers_in.Given as goal

@@ -1,5 +1,5 @@
 use Rattle.std.proofs.Common.{◌∙◌, sym, ap, subst, arith}
-use Rattle.psu_items.specs.Map.{IsSorted}
+use Rattle.psu_map.specs.Map.{IsSorted}
 use Rattle.psu_nv.specs.Decoding.{name_in}
 use Rattle.psu_nv.proofs.Filed.{passed, added, before_name}
 use Rattle.psu_nv.proofs.keys.files_of.Goals as goal

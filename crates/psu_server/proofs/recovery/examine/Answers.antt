@@ -1,5 +1,5 @@
 use Rattle.std.proofs.Common.{◌≡◌, ◌∙◌, ℕ, true, List, refl, sym, ap, subst, Result, Ok, Err, IfOk, IfErr}
-use Rattle.psu_items.specs.Map.{Item, cost}
+use Rattle.psu_map.specs.Map.{Item, cost}
 use Rattle.psu_items.specs.Image.{EachStands, HasReadableRoot, IsRefusal, Stands}
 use Rattle.psu_pages.specs.declared.open_cause.OpenCause.{OpenCause}
 use Rattle.psu_pages.specs.declared.open_cause.OpenCause.TheVariants as opening

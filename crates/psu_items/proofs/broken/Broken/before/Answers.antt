@@ -1,4 +1,4 @@
-use Rattle.psu_items.specs.Batch.{changed}
+use Rattle.psu_map.specs.Batch.{changed}
 use Rattle.psu_items.proofs.Recovering.{each_either}
 use Rattle.psu_items.proofs.broken.Broken.before.Goals as goal
 

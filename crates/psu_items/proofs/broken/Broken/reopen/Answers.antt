@@ -1,7 +1,7 @@
 use Rattle.std.proofs.Common.{ℕ, inl, inr, ⊎_elim, List, sym, ◌∙◌, subst}
 use Rattle.psu_disk.specs.Moments.{started, weaken}
-use Rattle.psu_items.specs.Map.{Item}
-use Rattle.psu_items.specs.Batch.{changed}
+use Rattle.psu_map.specs.Map.{Item}
+use Rattle.psu_map.specs.Batch.{changed}
 use Rattle.psu_items.specs.Image.{IsEither, EachIsEither}
 use Rattle.psu_items.specs.Finding.{IsOldOrSame}
 use Rattle.psu_items.proofs.Opening.{still_either}

@@ -1,10 +1,10 @@
 use Rattle.std.proofs.Common.{◌≡◌, inl, ◌∙◌, ◌+◌, ◌≤◌, ℕ, List, Err, refl, sym, ap, subst, arith}
 use Rattle.psu_disk.specs.Disk.{Left, LeavesOnly}
-use Rattle.psu_items.specs.Map.{Item}
-use Rattle.psu_items.specs.Batch.{Edit, changed}
+use Rattle.psu_map.specs.Map.{Item}
+use Rattle.psu_map.specs.Batch.{Edit, changed}
 use Rattle.psu_items.specs.Image.{IsEither, IsEitherRoot, Stands}
 use Rattle.psu_items.specs.Layout.{HaveKept}
-use Rattle.psu_items.specs.Plan.{Planned}
+use Rattle.psu_map.specs.Plan.{Planned}
 use Rattle.psu_items.specs.Standing.{on_pages}
 use Rattle.psu_items.proofs.Standing.{pages_on_disk, pages_stand, pages_as}
 use Rattle.psu_items.proofs.Committing.{not_true, none_run, to_either, either_run, number_back, items_back, limit_back, failed_back, left_out}

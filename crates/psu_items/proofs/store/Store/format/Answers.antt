@@ -1,6 +1,6 @@
 use Rattle.std.proofs.Common.{ℕ, List, sym, subst}
-use Rattle.psu_items.specs.Map.{Item, IsSorted}
-use Rattle.psu_items.specs.Capacity.{IsMapOf}
+use Rattle.psu_map.specs.Map.{Item, IsSorted}
+use Rattle.psu_map.specs.Capacity.{IsMapOf}
 use Rattle.psu_pages.specs.Image.{IsInPool}
 use Rattle.psu_items.specs.Image.{shown_in}
 use Rattle.psu_items.proofs.Sparing.{none_shown}

@@ -1,5 +1,5 @@
 use Rattle.std.proofs.Common.{◌<◌, ◌∙◌, ◌∷◌, List, ℕ, sym, ap, subst, length, arith}
-use Rattle.psu_items.specs.Map.{IsSorted}
+use Rattle.psu_map.specs.Map.{IsSorted}
 use Rattle.psu_nv.specs.Contents.{Contents}
 use Rattle.psu_nv.proofs.Encoding.{before_register, next_register, before_user, before_macros, before_file, before_recall, next_file}
 use Rattle.psu_nv.proofs.contents.Contents.encode_items.Goals as goal

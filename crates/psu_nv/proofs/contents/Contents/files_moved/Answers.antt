@@ -1,5 +1,5 @@
 use Rattle.std.proofs.Common.{◌≡◌, ◌∙◌, sym, ap, subst}
-use Rattle.psu_items.specs.Map.{cost, get, IsSorted}
+use Rattle.psu_map.specs.Map.{cost, get, IsSorted}
 use Rattle.psu_nv.specs.Contents.{Contents}
 use Rattle.psu_lex.specs.Names.{is_name}
 use Rattle.psu_nv.specs.Commands.{has_file}

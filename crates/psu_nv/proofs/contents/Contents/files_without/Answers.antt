@@ -1,5 +1,5 @@
 use Rattle.std.proofs.Common.{◌∙◌, ap}
-use Rattle.psu_items.specs.Map.{get}
+use Rattle.psu_map.specs.Map.{get}
 use Rattle.psu_nv.specs.Contents.{Contents}
 use Rattle.psu_nv.specs.Costs.{pages_of}
 use Rattle.psu_nv.proofs.Totals.{had_fits, without_is}

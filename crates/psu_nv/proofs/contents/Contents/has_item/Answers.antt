@@ -1,5 +1,5 @@
 use Rattle.std.proofs.Common.{◌∙◌, ap, sym, subst}
-use Rattle.psu_items.specs.Map.{get}
+use Rattle.psu_map.specs.Map.{get}
 use Rattle.psu_nv.specs.Contents.{Contents, IsContents}
 use Rattle.psu_nv.proofs.ItemsAt.{file_at, none_empty, none_long}
 use Rattle.psu_nv.proofs.contents.Contents.has_item.Goals as goal

@@ -1,6 +1,6 @@
 use Rattle.std.proofs.Common.{◌≡◌, ◌≤◌, ◌∙◌, ℕ, List, length, ap, subst, refl, rules, arith}
 use Rattle.std.specs.List.{AllByRecursion}
-use Rattle.psu_items.specs.Map.{Item, get, put}
+use Rattle.psu_map.specs.Map.{Item, get, put}
 use Rattle.psu_nv.specs.Costs.{IsShort, page_count, pages_of}
 use Rattle.psu_nv.proofs.Totals.{had_within, total_with}
 use Rattle.psu_nv.proofs.files.Files.insert.Goals as goal

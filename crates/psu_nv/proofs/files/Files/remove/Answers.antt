@@ -1,6 +1,6 @@
 use Rattle.std.proofs.Common.{◌∙◌, List, ap, subst, refl}
 use Rattle.std.specs.List.{AllByRecursion}
-use Rattle.psu_items.specs.Map.{Item, without}
+use Rattle.psu_map.specs.Map.{Item, without}
 use Rattle.psu_nv.specs.Costs.{IsShort}
 use Rattle.psu_nv.proofs.Totals.{had_within, total_without}
 use Rattle.psu_nv.proofs.files.Files.remove.Goals as goal

@@ -1,6 +1,6 @@
 use Rattle.std.proofs.Common.{◌∙◌, ℕ, ◌+◌, ◌≤◌, ◌^◌, List, ap, subst, sym, not}
 use Rattle.psu_disk.specs.Ranges.{reads_left}
-use Rattle.psu_items.specs.Map.{Item}
+use Rattle.psu_map.specs.Map.{Item}
 use Rattle.psu_items.specs.Image.{Stands}
 use Rattle.psu_exec.specs.Device.{is_broken}
 use Rattle.psu_server.proofs.Starting.{worn_number}

@@ -1,5 +1,0 @@
-use Rattle.std.proofs.Common.{◌≡◌, take}
-use Rattle.psu_items.proofs.batch.Batch.copy.Given as goal
-
-abbrev pub invariant-loop-edit : goal.invariant-loop-edit
-invariant-loop-edit g l = l.edits.items ≡ take l.edit-index l.edit-items

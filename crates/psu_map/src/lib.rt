@@ -1,0 +1,21 @@
+//! An ordered map from byte keys to byte values, the batches that change it, and the items that it then has: no disk is in it.
+#![tactic(auto)]
+
+mod batch;
+mod edit;
+mod entry;
+mod items;
+mod keyed;
+mod pair;
+mod plan;
+mod same;
+mod search;
+mod target;
+
+pub use batch::Batch;
+pub use edit::Edit;
+pub use entry::Entry;
+pub use items::Items;
+pub use pair::Pair;
+pub use plan::Plan;
+pub use target::Target;

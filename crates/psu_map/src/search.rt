@@ -1,0 +1,73 @@
+//! Where a key stands among things in order.
+ghost use Rattle.std.specs.Prelude.{◌≡◌, ◌<◌, length, map, IfOk, IfErr, option_map};
+ghost use Rattle.std.specs.Ordering.{nat_cmp};
+ghost use Rattle.std.specs.Cmp.Lexicographic.{slice_cmp};
+ghost use Rattle.psu_map.specs.Map.{get, IsSorted};
+ghost use Rattle.psu_map.specs.Place.{key_at, IsPlace, IsAt, IsGap};
+
+use crate::Pair;
+use crate::keyed::Keyed;
+use std::alloc::Allocator;
+use std::cmp::Ordering;
+
+/// The value of a key; none where no pair has it.
+pub fn value_of<'p, A: Allocator + Copy>(pairs: &'p [Pair<A>], key: &[u8]) -> Option<&'p [u8]>
+    requires { IsSorted pairs.now }
+    ensures { option_map (λ v. v.now) result ≡ get pairs.now key.now }
+{
+    match search(pairs, key) {
+        Ok(at) => Some(pairs[at].value()),
+        Err(_) => None,
+    }
+}
+
+/// Where the key is among pairs, or where it would go.
+pub fn search<A: Allocator + Copy>(pairs: &[Pair<A>], key: &[u8]) -> Result<usize, usize>
+    requires { IsSorted pairs.now }
+    ensures found { IfOk result (IsAt pairs.now key.now) }
+    ensures absent { IfErr result (IsGap pairs.now key.now) }
+{
+    find(pairs, key)
+}
+
+/// Where the key is among things in order, or where it would go.
+#[tactic(auto, using(crate::proofs::Keys::same_by_order, crate::proofs::Keys::other_by_order))]
+pub fn find<T: Keyed>(things: &[T], key: &[u8]) -> Result<usize, usize>
+    requires { IsSorted (map T.item things.now) }
+    ensures found { IfOk result (IsAt (map T.item things.now) key.now) }
+    ensures absent { IfErr result (IsGap (map T.item things.now) key.now) }
+{
+    let at = place(things, key);
+    if at >= things.len() {
+        return Err(at);
+    }
+    match order(things, at, key) {
+        Ordering::Equal => Ok(at),
+        Ordering::Less | Ordering::Greater => Err(at),
+    }
+}
+
+// How the key of a thing compares with a key.
+fn order<T: Keyed>(things: &[T], at: usize, key: &[u8]) -> Ordering
+    requires { at < length things.now }
+    ensures { result ≡ slice_cmp nat_cmp (key_at (map T.item things.now) at) key.now }
+{
+    things[at].its_key().cmp(key)
+}
+
+// How many things have a smaller key, found by halving.
+fn place<T: Keyed>(things: &[T], key: &[u8]) -> usize
+    requires { IsSorted (map T.item things.now) }
+    ensures { IsPlace (map T.item things.now) key.now result }
+{
+    let mut low = 0;
+    let mut high = things.len();
+    while low < high {
+        let middle = low + (high - low) / 2;
+        match order(things, middle, key) {
+            Ordering::Less => low = middle + 1,
+            Ordering::Equal | Ordering::Greater => high = middle,
+        }
+    }
+    low
+}
