@@ -1,15 +1,12 @@
 // The reader of a session's asynchronous connection.
 use crate::caller::Caller;
-use crate::heard::Heard;
-use crate::link::Link;
-use crate::member::Member;
-use crate::server::Server;
 use psu_bench::Gate;
 use psu_disk::Disk;
 use psu_exec::{Grant, LockRefusal};
 use psu_hislip::{
     Action, Channel, Header, Message, MessageType, Side, lock_info_response, lock_response,
 };
+use psu_members::{Heard, Link, Member, Server};
 use psu_sessions::lock_kind;
 use std::alloc::Global;
 use std::rt::Clock;

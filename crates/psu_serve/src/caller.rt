@@ -7,7 +7,6 @@ ghost use Rattle.psu_exec.specs.Shown.{outcome_of};
 ghost use Rattle.psu_bench.specs.Calls.{AdmitsOn, session_of};
 ghost use Rattle.psu_serve.specs.Seen.{GivesBack, Makes};
 
-use crate::news::News;
 use crate::shared_gate::SharedGate;
 use psu_bench::{Bench, Gate, Point, Seat};
 use psu_disk::Disk;
@@ -15,6 +14,7 @@ use psu_exec::{
     Crowded, Exec, Finished, Freed, Grant, Info, Job, Kind, LockRefusal, NoJob, Outcome, Request,
     Session, Sessions,
 };
+use psu_members::News;
 use std::alloc::{AllocError, Global};
 use std::sync::{Arc, Mutex, Wait};
 

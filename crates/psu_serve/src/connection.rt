@@ -1,18 +1,15 @@
 // A connection, from its first byte to its end.
 use crate::async_reader::AsyncReader;
 use crate::caller::Caller;
-use crate::link::Link;
-use crate::member::Member;
 use crate::notifier::notify;
 use crate::opening::{close, fatal, first_messages, open};
-use crate::server::Server;
-use crate::silent::Silent;
 use crate::sync_reader::SyncReader;
 use crate::worker::Worker;
 use psu_bench::Gate;
 use psu_disk::Disk;
 use psu_exec::Session;
 use psu_hislip::{Channel, FatalCode, First, Message};
+use psu_members::{Link, Member, Server, Silent};
 use std::alloc::Global;
 use std::rt::Clock;
 use std::sync::{Arc, Mutex, Wait};

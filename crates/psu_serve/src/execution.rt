@@ -1,13 +1,10 @@
 // The units of a session on the shared device, and their answers on its connection.
-use crate::begun::Begun;
 use crate::caller::Caller;
-use crate::member::Member;
-use crate::server::Server;
-use crate::stop::Stop;
 use psu_bench::Gate;
 use psu_disk::Disk;
 use psu_exec::{Outcome, Request};
 use psu_hislip::Origin;
+use psu_members::{Begun, Member, Server, Stop};
 use psu_messages::{Front, Need, proceed};
 use std::alloc::Global;
 use std::sync::Wait;

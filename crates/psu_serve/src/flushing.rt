@@ -6,11 +6,11 @@ ghost use Rattle.psu_serve.specs.Seen.{GivesBack, IsRound};
 
 use crate::caller::Caller;
 use crate::condition::Condition;
-use crate::server::Server;
 use psu_bench::Gate;
 use psu_disk::Disk;
 use psu_exec::{Finished, Grant, Job, NoJob};
 use psu_hislip::lock_response;
+use psu_members::Server;
 use std::alloc::Global;
 use std::io::Eprint;
 use std::rt::Clock;

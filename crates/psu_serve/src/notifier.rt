@@ -1,11 +1,9 @@
 // The notifier of a session: it writes on the asynchronous connection what others cause.
 use crate::caller::Caller;
-use crate::link::Link;
-use crate::member::Member;
-use crate::notices::Notice;
 use psu_bench::Gate;
 use psu_disk::Disk;
 use psu_hislip::{Header, MessageType};
+use psu_members::{Link, Member, Notice};
 use std::sync::Wait;
 
 /// Writes until the session ends.

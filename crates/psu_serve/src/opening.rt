@@ -1,14 +1,11 @@
 // A connection up to its first message, and sessions that open and close.
 use crate::caller::Caller;
-use crate::heard::Heard;
-use crate::link::Link;
-use crate::member::Member;
-use crate::server::Server;
 use crossbeam_channel::unbounded;
 use psu_bench::Gate;
 use psu_disk::Disk;
 use psu_exec::{Grant, Session};
 use psu_hislip::{Channel, FatalCode, Header, Message, MessageType, lock_response};
+use psu_members::{Heard, Link, Member, Server};
 use std::alloc::Global;
 use std::io;
 use std::rt::Clock;

@@ -1,8 +1,7 @@
 // Why no server stands.
 use psu_disk::OpenFault;
-use psu_exec::PowerCause;
+use psu_exec::{PowerCause, StartCause};
 use psu_items::OpenCause;
-use psu_server::{RunCause, StartCause};
 use std::alloc::AllocError;
 use thiserror::Error;
 
@@ -23,24 +22,21 @@ pub enum ServeFault {
     Memory,
 }
 
-impl From<RunCause> for ServeFault {
-    fn from(cause: RunCause) -> Self {
-        match cause {
-            RunCause::Open(cause) => ServeFault::Open(cause),
-            _ => ServeFault::Memory,
-        }
-    }
-}
-
 impl From<OpenCause> for ServeFault {
     fn from(cause: OpenCause) -> Self {
-        ServeFault::from(RunCause::from(cause))
+        match StartCause::of_opening(cause) {
+            Some(cause) => ServeFault::Open(cause),
+            None => ServeFault::Memory,
+        }
     }
 }
 
 impl From<PowerCause> for ServeFault {
     fn from(cause: PowerCause) -> Self {
-        ServeFault::from(RunCause::from(cause))
+        match StartCause::of_power_on(cause) {
+            Some(cause) => ServeFault::Open(cause),
+            None => ServeFault::Memory,
+        }
     }
 }
 

@@ -1,19 +1,12 @@
 // The reader of a session's synchronous connection: it executes at once what need not wait.
-use crate::begun::Begun;
 use crate::caller::Caller;
 use crate::execution::Execution;
-use crate::heard::Heard;
-use crate::link::Link;
-use crate::member::Member;
 use crate::opening::SILENCE;
-use crate::releases::BEFORE_FIRST;
-use crate::server::Server;
-use crate::stop::Stop;
-use crate::work::Work;
 use psu_bench::Gate;
 use psu_disk::Disk;
 use psu_exec::ScpiError;
 use psu_hislip::{Action, Channel, Message, MessageType, Origin, Side};
+use psu_members::{BEFORE_FIRST, Begun, Heard, Link, Member, Server, Stop, Work};
 use psu_sessions::Input;
 use std::alloc::Global;
 use std::io;

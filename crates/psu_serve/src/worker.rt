@@ -1,15 +1,11 @@
 // The worker of a session: what can't be executed at once waits here, and what comes after it stands behind it.
-use crate::begun::Begun;
 use crate::caller::Caller;
 use crate::execution::Execution;
-use crate::member::Member;
-use crate::server::Server;
-use crate::stop::Stop;
-use crate::work::Work;
 use psu_bench::Gate;
 use psu_disk::Disk;
 use psu_exec::Grant;
 use psu_hislip::{lock_response, release_response};
+use psu_members::{Begun, Member, Server, Stop, Work};
 use psu_messages::Need;
 use std::rt::Clock;
 use std::sync::Wait;

@@ -1,11 +1,6 @@
 // Device clears: what they drop, and that nothing of before comes after.
-use crate::client::Client;
-use crate::hold::Hold;
-use crate::joining::{joined_as, settle};
-use crate::long_answer::{ask_much, is_drained};
-use crate::missed::Missed;
-use crate::server::new_served;
-use crate::wire::{is_silent, send};
+use psu_client::{Client, Missed, ask_much, is_drained, is_silent, joined_as, send, settle};
+use psu_hosts::{Hold, new_served};
 use psu_serve::{Open, Point};
 use std::test::Fail;
 

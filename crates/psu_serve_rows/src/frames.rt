@@ -1,9 +1,9 @@
 // Frames that are not as they should be.
-use crate::client::Client;
-use crate::joining::{begun, connected, joined_as};
-use crate::missed::Missed;
-use crate::server::new_served;
-use crate::wire::{bare, comes, header, is_ended, is_silent, send, text_comes};
+use psu_client::{
+    Client, Missed, bare, begun, comes, connected, header, is_ended, is_silent, joined_as, send,
+    text_comes,
+};
+use psu_hosts::new_served;
 use psu_serve::Open;
 use std::net::{Net, TcpStream};
 use std::test::Fail;

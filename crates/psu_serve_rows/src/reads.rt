@@ -1,5 +1,5 @@
 // What a read of a connection comes to.
-use psu_serve::Heard;
+use psu_members::Heard;
 use std::io::{Error, ErrorKind};
 use std::test::Fail;
 

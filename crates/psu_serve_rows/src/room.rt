@@ -1,9 +1,6 @@
 // Two units that wait for room, of which there is some for one; the other finds the last that is made.
-use crate::client::Client;
-use crate::joining::joined_as;
-use crate::missed::{Missed, holds};
-use crate::server::new_served;
-use crate::wire::is_silent;
+use psu_client::{Client, Missed, holds, is_silent, joined_as};
+use psu_hosts::new_served;
 use psu_serve::{Gate, Point};
 use std::alloc::{AllocError, Global};
 use std::sync::Arc;

@@ -1,10 +1,7 @@
 // What sessions are answered, frame by frame.
-use crate::client::Client;
-use crate::hold::Hold;
-use crate::joining::joined_as;
-use crate::missed::Missed;
-use crate::server::{executed, formatted, is_kept, new_served, removed, served};
-use crate::wire::{send, text_comes};
+use crate::images::{executed, is_kept};
+use psu_client::{Client, Missed, joined_as, send, text_comes};
+use psu_hosts::{Hold, formatted, new_served, removed, served};
 use psu_serve::{Open, Point};
 use std::test::Fail;
 

@@ -1,5 +1,5 @@
 // Standard error, as a test reads it.
-use crate::missed::{Missed, holds};
+use psu_client::{Missed, holds};
 use std::alloc::{AllocError, Global};
 use std::fmt::Display;
 use std::io::{self, Eprint};

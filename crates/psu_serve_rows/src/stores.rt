@@ -1,11 +1,9 @@
 // Stores that break, are opened again, or are worn: how often the disk is tried, and what is told on standard error.
-use crate::client::Client;
-use crate::joining::joined_as;
-use crate::missed::{Missed, holds};
 use crate::screen::Screen;
-use crate::server::{new_disk, served_disk};
 use crate::sick_disk::{Health, SickDisk};
+use psu_client::{Client, Missed, holds, joined_as};
 use psu_disk::Disk;
+use psu_hosts::{new_disk, served_disk};
 use std::test::Fail;
 use std::thread;
 use std::time::Duration;

@@ -1,11 +1,8 @@
 // Transmissions: how they are put together, and what is executed of them.
-use crate::client::Client;
-use crate::hold::Hold;
-use crate::joining::joined_as;
-use crate::long_answer::repeated;
-use crate::missed::Missed;
-use crate::server::new_served;
-use crate::wire::{bare, comes, header, is_silent, send, text_comes};
+use psu_client::{
+    Client, Missed, bare, comes, header, is_silent, joined_as, repeated, send, text_comes,
+};
+use psu_hosts::{Hold, new_served};
 use psu_serve::{Open, Point};
 use std::alloc::Global;
 use std::test::Fail;

@@ -1,7 +1,7 @@
 -- The cause of a run's end, from the device's to the run's.
 use Rattle.std.proofs.Common.{◌≡◌, ℕ, ◌≤◌, List, length, sym, subst, inl, inr, Option, IfSome}
 use Rattle.psu_items.specs.Image.{HasReadableRoot}
-use Rattle.psu_server.specs.declared.start_cause.StartCause.TheVariants as start
+use Rattle.psu_exec.specs.declared.start_cause.StartCause.TheVariants as start
 use Rattle.psu_server.specs.Causes.{NotStarted}
 use Rattle.psu_server.specs.declared.run_cause.RunCause.{RunCause}
 use Rattle.psu_server.specs.declared.run_cause.RunCause.TheVariants.{Read, Write, Open, Device, TooLong, Memory as OutOfMemory}

@@ -26,7 +26,7 @@ use Rattle.psu_exec.specs.declared.power_fault.PowerCause.{PowerCause}
 use Rattle.psu_exec.specs.declared.power_fault.PowerCause.TheVariants as power
 use Rattle.psu_server.specs.declared.run_cause.RunCause.{RunCause}
 use Rattle.psu_server.specs.declared.run_cause.RunCause.TheVariants.{Read, Write, Open, Device, TooLong, Memory}
-use Rattle.psu_server.specs.declared.start_cause.StartCause.TheVariants as start
+use Rattle.psu_exec.specs.declared.start_cause.StartCause.TheVariants as start
 use Rattle.psu_server.specs.Causes.{NotStarted, cause_of_open, cause_of_power, IsWornOut}
 use Rattle.psu_server.specs.Failures.{failures_at, failures_of}
 use Rattle.psu_server.specs.Jobs.{HasReasons, IsExplained}

@@ -1,27 +1,27 @@
 -- The cause of a run's end where the disk does not power on, and why a store can't take a commit.
-use Rattle.std.specs.Prelude.{◌≡◌, ℕ, ◌+◌, ◌≤◌, ◌^◌, List}
+use Rattle.std.specs.Prelude.{◌≡◌, ℕ, ◌+◌, ◌≤◌, ◌^◌, List, Option, Some, None}
 use Rattle.psu_disk.specs.Disk.{HasFailed}
 use Rattle.psu_map.specs.Map.{Item}
 use Rattle.psu_items.specs.Image.{counting, number_in, Stands, HasNoRoot, HasBadRoot, HasOtherVersion, HasReadableRoot}
 use Rattle.psu_pages.specs.declared.open_cause.OpenCause.{OpenCause}
-use Rattle.psu_pages.specs.declared.open_cause.OpenCause.TheVariants as refused
 use Rattle.psu_exec.specs.Headline.{AreBad}
+use Rattle.psu_exec.specs.Starts.{start_of_opening, start_of_power_on}
 use Rattle.psu_exec.specs.declared.power_fault.PowerCause.{PowerCause}
-use Rattle.psu_exec.specs.declared.power_fault.PowerCause.TheVariants as power
-use Rattle.psu_server.specs.declared.start_cause.StartCause.TheVariants as start
+use Rattle.psu_exec.specs.declared.start_cause.StartCause.{StartCause}
+use Rattle.psu_exec.specs.declared.start_cause.StartCause.TheVariants as start
 use Rattle.psu_server.specs.declared.run_cause.RunCause.{RunCause}
 use Rattle.psu_server.specs.declared.run_cause.RunCause.TheVariants.{Read, Write, Open, Device, TooLong, Memory}
 
+-- The device does not start: why, but for a want of memory.
+abbrev pub cause_of_start : Option StartCause → RunCause
+cause_of_start (Some cause) = Open cause
+cause_of_start None = Memory
+
 abbrev pub cause_of_open : OpenCause → RunCause
-cause_of_open refused.Device = Open start.Device
-cause_of_open refused.NoRoot = Open start.NoRoot
-cause_of_open refused.BadRoot = Open start.BadRoot
-cause_of_open refused.BadVersion = Open start.BadVersion
-cause_of_open refused.Memory = Memory
+cause_of_open cause = cause_of_start (start_of_opening cause)
 
 abbrev pub cause_of_power : PowerCause → RunCause
-cause_of_power power.BadItems = Open start.BadItems
-cause_of_power power.Memory = Memory
+cause_of_power cause = cause_of_start (start_of_power_on cause)
 
 -- The image stands for the items of no contents that fit.
 pub record HasBadItems (image : List ℕ) : Type 0 where

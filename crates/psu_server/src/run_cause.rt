@@ -2,8 +2,7 @@
 ghost use Rattle.std.specs.Prelude.{◌≡◌};
 ghost use Rattle.psu_server.specs.Causes.{cause_of_open, cause_of_power};
 
-use crate::StartCause;
-use psu_exec::PowerCause;
+use psu_exec::{PowerCause, StartCause};
 use psu_items::OpenCause;
 use thiserror::Error;
 
@@ -34,12 +33,9 @@ impl From<OpenCause> for RunCause {
     ghost from_gives = { λ cause e. e ≡ cause_of_open cause };
 
     fn from(cause: OpenCause) -> Self {
-        match cause {
-            OpenCause::Device => RunCause::Open(StartCause::Device),
-            OpenCause::NoRoot => RunCause::Open(StartCause::NoRoot),
-            OpenCause::BadRoot => RunCause::Open(StartCause::BadRoot),
-            OpenCause::BadVersion => RunCause::Open(StartCause::BadVersion),
-            OpenCause::Memory => RunCause::Memory,
+        match StartCause::of_opening(cause) {
+            Some(cause) => RunCause::Open(cause),
+            None => RunCause::Memory,
         }
     }
 }
@@ -48,9 +44,9 @@ impl From<PowerCause> for RunCause {
     ghost from_gives = { λ cause e. e ≡ cause_of_power cause };
 
     fn from(cause: PowerCause) -> Self {
-        match cause {
-            PowerCause::BadItems => RunCause::Open(StartCause::BadItems),
-            PowerCause::Memory => RunCause::Memory,
+        match StartCause::of_power_on(cause) {
+            Some(cause) => RunCause::Open(cause),
+            None => RunCause::Memory,
         }
     }
 }

@@ -22,6 +22,7 @@ pub struct Silent {
 }
 
 impl Silent {
+    /// There are none.
     pub fn new(alloc: Global) -> Silent {
         Silent {
             next: 0,

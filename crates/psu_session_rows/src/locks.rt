@@ -1,9 +1,6 @@
 // Locks: who is granted them, and whom they hold back.
-use crate::client::Client;
-use crate::joining::joined_as;
-use crate::missed::{Missed, holds};
-use crate::server::new_served;
-use crate::wire::{header, send};
+use psu_client::{Client, Missed, header, holds, joined_as, send};
+use psu_hosts::new_served;
 use psu_serve::Open;
 use std::test::Fail;
 use std::time::{Clock, Duration, Instant};

@@ -1,10 +1,6 @@
 // What a session holds is counted only while it does: more than that, one after another, goes well.
-use crate::client::Client;
-use crate::joining::joined_as;
-use crate::long_answer::repeated;
-use crate::missed::Missed;
-use crate::server::new_served;
-use crate::wire::{bare, comes, header, send};
+use psu_client::{Client, Missed, bare, comes, header, joined_as, repeated, send};
+use psu_hosts::new_served;
 use psu_serve::Open;
 use std::alloc::{AllocError, Global};
 use std::test::Fail;

@@ -15,7 +15,7 @@ pub enum Heard {
 }
 
 impl Heard {
-    ghost use Rattle.psu_serve.specs.declared.heard.Heard.TheVariants.{Bytes};
+    ghost use Rattle.psu_members.specs.declared.heard.Heard.TheVariants.{Bytes};
 
     /// What a read came to. A process that is stopped and goes on, or is looked at by a debugger, finds its reads interrupted.
     pub fn of(read: &io::Result<usize>) -> Heard

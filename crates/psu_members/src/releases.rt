@@ -27,6 +27,7 @@ pub struct Releases {
 }
 
 impl Releases {
+    /// None waits.
     pub fn new(alloc: Global) -> Releases {
         Releases {
             last: BEFORE_FIRST,

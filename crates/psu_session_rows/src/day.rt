@@ -1,9 +1,6 @@
 // A day's use.
-use crate::client::Client;
-use crate::joining::{joined_again, joined_as};
-use crate::missed::Missed;
-use crate::server::new_served;
-use crate::wire::is_silent;
+use psu_client::{Client, Missed, is_silent, joined_again, joined_as};
+use psu_hosts::new_served;
 use psu_serve::Open;
 use std::test::Fail;
 

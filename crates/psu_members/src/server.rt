@@ -18,6 +18,7 @@ pub struct Server {
 }
 
 impl Server {
+    /// No session is open, and nothing is rung.
     pub fn new(alloc: Global, started: Instant) -> Server {
         Server {
             alloc,

@@ -1,11 +1,9 @@
 // Sessions that end, and connections that begin too slowly.
-use crate::client::Client;
-use crate::hold::Hold;
-use crate::joining::{begun, connected, joined_again, joined_as, settle};
-use crate::long_answer::repeated;
-use crate::missed::Missed;
-use crate::server::new_served;
-use crate::wire::{is_ended, is_silent, send};
+use psu_client::{
+    Client, Missed, begun, connected, is_ended, is_silent, joined_again, joined_as, repeated, send,
+    settle,
+};
+use psu_hosts::{Hold, new_served};
 use psu_serve::{Open, Point};
 use std::alloc::Global;
 use std::net::{Net, TcpStream};

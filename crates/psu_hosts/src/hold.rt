@@ -1,5 +1,5 @@
 // A gate that holds the flusher up until a client lets it go.
-use crate::missed::{Missed, holds};
+use psu_client::{Missed, holds};
 use psu_serve::{Gate, Point};
 use std::alloc::{AllocError, Global};
 use std::sync::Arc;

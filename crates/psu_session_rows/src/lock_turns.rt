@@ -1,10 +1,6 @@
 // How a lock goes from one session to another.
-use crate::client::Client;
-use crate::hold::Hold;
-use crate::joining::{joined_again, joined_as};
-use crate::missed::Missed;
-use crate::server::new_served;
-use crate::wire::is_silent;
+use psu_client::{Client, Missed, is_silent, joined_again, joined_as};
+use psu_hosts::{Hold, new_served};
 use psu_serve::{Open, Point};
 use std::test::Fail;
 

@@ -1,10 +1,6 @@
 // Requests for service: what calls a client, and how often.
-use crate::client::Client;
-use crate::hold::Hold;
-use crate::joining::joined_as;
-use crate::missed::Missed;
-use crate::server::new_served;
-use crate::wire::is_silent;
+use psu_client::{Client, Missed, is_silent, joined_as};
+use psu_hosts::{Hold, new_served};
 use psu_serve::{Open, Point};
 use std::test::Fail;
 

@@ -1,10 +1,8 @@
 // A server in a thread that is not joined, and its image.
-use crate::joining::connected;
-use crate::missed::Missed;
+use psu_client::{Missed, connected};
 use psu_disk::{Disk, FileDisk, MemDisk};
 use psu_items::Store;
 use psu_serve::{Gate, Open, serve, serve_disk};
-use psu_server::run;
 use std::alloc::Global;
 use std::fs::{self, File};
 use std::io::{Eprint, Print};
@@ -148,58 +146,5 @@ pub fn formatted<R: Files<File = File>>(rt: &R, alloc: Global, image: &str) -> R
     match Store::format(alloc, disk, 256) {
         Ok(_) => Ok(()),
         Err(_) => Err(Missed::Ground("a formatted image")),
-    }
-}
-
-/// Lines are executed on an image, which then lies at rest.
-pub fn executed<R: Files<File = File>>(
-    rt: &R,
-    alloc: Global,
-    image: &str,
-    lines: &[u8],
-) -> Result<(), Missed> {
-    let Ok(disk) = FileDisk::of(rt, alloc, image) else {
-        return Err(Missed::Ground("an image"));
-    };
-    let mut reader = lines;
-    let mut told = Vec::new(alloc);
-    match run(alloc, &mut reader, &mut told, disk) {
-        Ok(_) => Ok(()),
-        Err(_) => Err(Missed::Ground("a run")),
-    }
-}
-
-// The bytes of a file on a disk in memory.
-fn copied<R: Files<File = File> + Alloc<A = Global>>(
-    rt: &R,
-    image: &str,
-) -> Result<MemDisk<Global>, Missed> {
-    let Ok(bytes) = fs::read(rt, image) else {
-        return Err(Missed::Ground("a copy"));
-    };
-    let Ok(mut disk) = MemDisk::new(rt.alloc(), SIZE) else {
-        return Err(Missed::Ground("memory"));
-    };
-    if bytes.len() as u64 <= disk.size() && disk.write(0, bytes.as_slice()).is_ok() {
-        Ok(disk)
-    } else {
-        Err(Missed::Ground("an image of the right size"))
-    }
-}
-
-/// A copy of an image opens, and has this item.
-pub fn is_kept<R: Files<File = File> + Alloc<A = Global>>(
-    rt: &R,
-    image: &str,
-    key: &[u8],
-    value: &[u8],
-) -> Result<(), Missed> {
-    let disk = copied(rt, image)?;
-    let Ok(store) = Store::open(rt.alloc(), disk) else {
-        return Err(Missed::Claim("the image opens"));
-    };
-    match store.items().get(key) {
-        Some(kept) if kept == value => Ok(()),
-        _ => Err(Missed::Claim("the item is kept")),
     }
 }

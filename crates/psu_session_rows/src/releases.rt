@@ -1,9 +1,6 @@
 // Releases of locks and what was sent before them, on two connections.
-use crate::client::Client;
-use crate::joining::joined_as;
-use crate::missed::{Missed, holds};
-use crate::server::new_served;
-use crate::wire::{bare, next, send};
+use psu_client::{Client, Missed, bare, holds, joined_as, next, send};
+use psu_hosts::new_served;
 use psu_serve::Open;
 use std::alloc::Global;
 use std::mem;

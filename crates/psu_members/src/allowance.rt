@@ -16,6 +16,7 @@ pub struct Allowance {
 }
 
 impl Allowance {
+    /// Nothing is out.
     pub fn new() -> Allowance {
         Allowance {
             state: Mutex::new(State {

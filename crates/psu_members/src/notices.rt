@@ -30,6 +30,7 @@ pub struct Notices {
 }
 
 impl Notices {
+    /// Nothing is told.
     pub fn new(alloc: Global) -> Notices {
         Notices {
             state: Mutex::new(State {

@@ -21,6 +21,7 @@ pub struct Alarm {
 }
 
 impl Alarm {
+    /// Nothing has come.
     pub fn new() -> Alarm {
         Alarm {
             state: Mutex::new(State {

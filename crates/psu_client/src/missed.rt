@@ -1,4 +1,4 @@
-//! What did not come as it should.
+// What did not come as it should.
 
 /// What did not come as it should.
 #[derive(Clone, Copy, Debug, PartialEq, Eq)]

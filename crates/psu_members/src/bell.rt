@@ -11,6 +11,7 @@ pub struct Bell {
 }
 
 impl Bell {
+    /// It is not rung.
     pub fn new() -> Bell {
         Bell {
             rung: Mutex::new(false),

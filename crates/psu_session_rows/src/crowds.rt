@@ -1,9 +1,9 @@
 // Clients that are silent, are many, or come and go.
-use crate::client::Client;
-use crate::joining::{begun, connected, joined_again, joined_as, joined_soon};
-use crate::missed::Missed;
-use crate::server::new_served;
-use crate::wire::{bare, comes, header, is_ended, is_silent, send};
+use psu_client::{
+    Client, Missed, bare, begun, comes, connected, header, is_ended, is_silent, joined_again,
+    joined_as, joined_soon, send,
+};
+use psu_hosts::new_served;
 use psu_serve::Open;
 use std::alloc::Global;
 use std::net::{Net, TcpStream};

@@ -1,10 +1,8 @@
 // Clients that do not read, and clients that flood.
-use crate::client::Client;
-use crate::joining::{joined_again, joined_as, settle};
-use crate::long_answer::{ask_much, repeated};
-use crate::missed::Missed;
-use crate::server::new_served;
-use crate::wire::{bare, header, is_held_back};
+use psu_client::{
+    Client, Missed, ask_much, bare, header, is_held_back, joined_again, joined_as, repeated, settle,
+};
+use psu_hosts::new_served;
 use psu_serve::Open;
 use std::alloc::{AllocError, Global};
 use std::test::Fail;

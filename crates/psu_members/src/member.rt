@@ -60,6 +60,7 @@ pub struct Member {
 }
 
 impl Member {
+    /// A session that waits for its second connection; `work` is the way to its worker.
     pub fn new(
         alloc: Global,
         session: Session,

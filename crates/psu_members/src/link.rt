@@ -1,6 +1,6 @@
 // A connection: one thread reads it, several write whole frames.
 ghost use Rattle.std.specs.Prelude.{◌≡◌, ◌≤◌, ℕ, length};
-ghost use Rattle.psu_serve.specs.declared.heard.Heard.TheVariants.{Bytes};
+ghost use Rattle.psu_members.specs.declared.heard.Heard.TheVariants.{Bytes};
 
 use crate::heard::Heard;
 use std::io::{self, Read, Write};

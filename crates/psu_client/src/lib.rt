@@ -1,0 +1,15 @@
+//! A client of the server, as tests over sockets play it: frames that it sends and waits for, sessions that it begins, and what did not come as it
+//! should. It knows nothing of how the server is made.
+#![tactic(auto)]
+
+mod client;
+mod joining;
+mod long_answer;
+mod missed;
+mod wire;
+
+pub use client::Client;
+pub use joining::{begun, connected, joined_again, joined_as, joined_soon, settle};
+pub use long_answer::{ask_much, is_drained, repeated};
+pub use missed::{Missed, holds};
+pub use wire::{bare, comes, header, is_ended, is_held_back, is_silent, next, send, text_comes};
