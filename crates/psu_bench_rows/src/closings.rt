@@ -19,12 +19,9 @@ fn a_session_that_is_not_open_acts_on_nothing(rt: HostRuntime) {
     let one = Session::at(0);
     assert!(rt; matches!(unit(&rt, &bench, &mut seat, one, b"*IDN?"), Outcome::Later));
     assert!(rt; matches!(bench.settle(&rt, &mut seat, one), Outcome::Later));
-    assert_eq!(rt; bench.status(&rt, &mut seat, one), 0);
-    assert_eq!(rt; bench.requests(&rt, &mut seat, one), None);
-    assert_eq!(rt;
-        bench.lock(&rt, &mut seat, one, Kind::Exclusive, 0, 0),
-        Ok(Grant::Failed)
-    );
+    assert!(rt; bench.status(&rt, &mut seat, one) == 0);
+    assert!(rt; bench.requests(&rt, &mut seat, one).is_none());
+    assert!(rt; bench.lock(&rt, &mut seat, one, Kind::Exclusive, 0, 0) == Ok(Grant::Failed));
     assert!(rt;
         matches!(
             bench.release(&rt, &mut seat, one),
@@ -35,15 +32,15 @@ fn a_session_that_is_not_open_acts_on_nothing(rt: HostRuntime) {
     bench.clear(&rt, &mut seat, one);
     bench.sent(&rt, &mut seat, one);
     bench.delivered(&rt, &mut seat, one);
-    assert_eq!(rt;
-        bench.info(&rt, &mut seat),
-        Info {
-            exclusive: false,
-            holders: 0
-        }
+    assert!(rt;
+        bench.info(&rt, &mut seat)
+            == Info {
+                exclusive: false,
+                holders: 0
+            }
     );
-    assert_eq!(rt; bench.next_deadline(&rt, &mut seat), None);
-    assert_eq!(rt; bench.progress(&mut seat), 12);
+    assert!(rt; bench.next_deadline(&rt, &mut seat).is_none());
+    assert!(rt; bench.progress(&mut seat) == 12);
     assert!(rt; bench.close(&rt, seat).is_flushed());
 }
 
@@ -103,7 +100,7 @@ fn another_thread_reads_what_was_set(rt: HostRuntime) {
     let before = bench.progress(&mut seat);
     let (outcome, other) = asked_elsewhere(&rt, &bench, other, session, b"*SRE?");
     assert!(rt; is_answer(&outcome, b"4"));
-    assert_eq!(rt; bench.progress(&mut seat), before.wrapping_add(1));
+    assert!(rt; bench.progress(&mut seat) == before.wrapping_add(1));
     bench.join(&mut seat, other);
     assert!(rt; is_answer(&unit(&rt, &bench, &mut seat, session, b"*SRE?"), b"4"));
     let exec = bench.close(&rt, seat);

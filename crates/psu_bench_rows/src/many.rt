@@ -71,8 +71,8 @@ fn sixteen_threads_make_100_000_calls(rt: HostRuntime) {
         panic!(rt; "no memory")
     };
     let (answers, mut seat) = threads(&rt, &bench, seat, 4);
-    assert_eq!(rt; answers, 99_968);
-    assert_eq!(rt; bench.progress(&mut seat), 100_000);
+    assert!(rt; answers == 99_968);
+    assert!(rt; bench.progress(&mut seat) == 100_000);
     assert!(rt; !bench.close(&rt, seat).is_open(Session::at(0)));
 }
 

@@ -111,7 +111,7 @@ fn commands_while_a_job_is_out_wait_for_the_next(rt: HostRuntime) {
     gives_back(&rt, &mut exec, job.run(), 1);
     settles(&rt, &mut exec, session, b"1");
     assert!(rt; exec.is_flushed());
-    assert_eq!(rt; exec.contents().enables(), Some((4, 0)));
+    assert!(rt; exec.contents().enables() == Some((4, 0)));
 }
 
 // Runs a job for which one session waits. Whether the disk failed it.
@@ -147,7 +147,7 @@ fn flushed(rt: &impl Abort, alloc: Global, passes: u64) -> Power {
     let session = opened(rt, &mut exec, 1);
     waits(rt, &mut exec, session);
     let failed = job_fails(rt, &mut exec);
-    assert_eq!(rt; failed, passes < 11, "{passes}");
+    assert!(rt; failed == (passes < 11), "{passes}");
     says_behind(rt, &mut exec, session, failed);
     for _ in 0..3 {
         flush(rt, &mut exec);
@@ -175,7 +175,7 @@ fn a_broken_store_is_opened_again(rt: HostRuntime) {
     let alloc = rt.alloc();
     for passes in 3..12u64 {
         let disk = whole(&rt, flushed(&rt, alloc, passes)).into_inner();
-        assert_eq!(rt; found(&rt, alloc, disk), Some((0, 0)), "{passes}");
+        assert!(rt; found(&rt, alloc, disk) == Some((0, 0)), "{passes}");
     }
 }
 
@@ -251,7 +251,7 @@ fn bad_items_do_not_power_on(rt: HostRuntime) -> Result<(), Fail> {
     match Exec::power_on(rt.alloc(), bad_items(rt.alloc())?) {
         Ok(_) => Err(Fail::from("powered on")),
         Err(fault) => {
-            assert_eq!(rt; fault.cause, PowerCause::BadItems);
+            assert!(rt; fault.cause == PowerCause::BadItems);
             Ok(())
         }
     }

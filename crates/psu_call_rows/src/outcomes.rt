@@ -39,7 +39,7 @@ fn the_least_image_holds_two_registers(rt: HostRuntime) {
     for (text, fits, cost) in rows {
         let outcome = unit(&rt, &mut exec, session, text);
         assert!(rt; is_done_or_full(&outcome, fits), "at {text:?}");
-        assert_eq!(rt; exec.contents().cost(), cost, "at {text:?}");
+        assert!(rt; exec.contents().cost() == cost, "at {text:?}");
     }
 }
 
@@ -61,7 +61,7 @@ fn the_settings_at_power_on_take_two_pages(rt: HostRuntime) {
     for (text, fits, cost) in rows {
         let outcome = unit(&rt, &mut exec, session, text);
         assert!(rt; is_done_or_full(&outcome, fits), "at {text:?}");
-        assert_eq!(rt; exec.contents().cost(), cost, "at {text:?}");
+        assert!(rt; exec.contents().cost() == cost, "at {text:?}");
     }
 }
 

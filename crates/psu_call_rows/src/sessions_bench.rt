@@ -47,7 +47,7 @@ pub fn opened<D: Disk, A: Allocator + Copy>(
     number: u8,
 ) -> Session {
     let session = exec.open_session().expect(rt, "a session");
-    assert_eq!(rt; session.number(), number);
+    assert!(rt; session.number() == number);
     session
 }
 
@@ -97,7 +97,7 @@ pub fn says<D: Disk, A: Allocator + Copy>(
     want: &[u8],
 ) {
     let outcome = unit(rt, exec, session, text);
-    assert_eq!(rt; said(&outcome), want, "at {text:?}");
+    assert!(rt; said(&outcome) == want, "at {text:?}");
 }
 
 /// Executes units one after another.
@@ -121,7 +121,7 @@ pub fn settles<D: Disk, A: Allocator + Copy>(
 ) {
     look(rt, exec, session);
     let outcome = exec.settle(session);
-    assert_eq!(rt; said(&outcome), want);
+    assert!(rt; said(&outcome) == want);
 }
 
 /// Hands the end of a job back, by which so many sessions' waits are over.
@@ -132,7 +132,7 @@ pub fn gives_back<D: Disk + Drop, A: Allocator + Copy>(
     over: usize,
 ) {
     match exec.give_back(finished) {
-        Ok(sessions) => assert_eq!(rt; sessions.as_slice().len(), over),
+        Ok(sessions) => assert!(rt; sessions.as_slice().len() == over),
         Err(_) => panic!(rt; "a stranger"),
     }
 }

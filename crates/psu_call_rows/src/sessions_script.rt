@@ -46,10 +46,7 @@ fn session(word: &str) -> Result<Session, Fail> {
 fn are(rt: &impl Abort, sessions: &Sessions, wanted: &str) -> Result<(), Fail> {
     let mut sessions = sessions.as_slice().iter();
     for word in wanted.split_whitespace() {
-        assert_eq!(rt;
-            sessions.next().map(|session| session.number()),
-            Some(byte(word)?)
-        );
+        assert!(rt; sessions.next().map(|session| session.number()) == Some(byte(word)?));
     }
     assert!(rt; sessions.next().is_none(), "more than {wanted}");
     Ok(())
@@ -78,7 +75,7 @@ fn asks<D: Disk>(
         "nothing" => None,
         _ => Some(byte(wanted)?),
     };
-    assert_eq!(rt; requested(rt, exec, session), wanted);
+    assert!(rt; requested(rt, exec, session) == wanted);
     Ok(())
 }
 
@@ -102,7 +99,7 @@ fn locks<D: Disk>(
         u64::from(number(now)?),
         number(timeout)?,
     );
-    assert_eq!(rt; called(granted), wanted);
+    assert!(rt; called(granted) == wanted);
     Ok(())
 }
 
@@ -116,15 +113,15 @@ fn releases<D: Disk>(
     let (what, granted) = wanted.split_once("; granted ").unwrap_or((wanted, ""));
     match release(rt, exec, session) {
         Ok((Freed::Exclusive, sessions)) => {
-            assert_eq!(rt; what, "exclusive");
+            assert!(rt; what == "exclusive");
             are(rt, &sessions, granted)
         }
         Ok((Freed::Shared, sessions)) => {
-            assert_eq!(rt; what, "shared");
+            assert!(rt; what == "shared");
             are(rt, &sessions, granted)
         }
         Err(_) => {
-            assert_eq!(rt; what, "nothing");
+            assert!(rt; what == "nothing");
             Ok(())
         }
     }
@@ -151,13 +148,12 @@ fn does<D: Disk>(
     let (word, rest) = doing.split_once(" ").unwrap_or((doing, ""));
     match word {
         "asks" => asks(rt, exec, session, rest)?,
-        "polls" => assert_eq!(rt; polled(rt, exec, session), byte(rest)?),
+        "polls" => assert!(rt; polled(rt, exec, session) == byte(rest)?),
         "sent" => sent(rt, exec, session),
         "delivered" => delivered(rt, exec, session),
         "settles" => settles(rt, exec, session, rest.trim_start_matches("-> ").as_bytes()),
-        "shares" => assert_eq!(rt;
-            called(lock(rt, exec, session, shared(rt, b"k"), 0, 0)),
-            "granted"
+        "shares" => assert!(rt;
+            called(lock(rt, exec, session, shared(rt, b"k"), 0, 0)) == "granted"
         ),
         "locks" => locks(rt, exec, session, rest)?,
         "releases" => releases(rt, exec, session, rest)?,
@@ -176,7 +172,7 @@ fn has_news<D: Disk>(
     let (sessions, work) = wanted.split_once(";").ok_or("no news")?;
     let (asking, more) = exec.news();
     are(rt, &asking, sessions.trim_start_matches("none"))?;
-    assert_eq!(rt; more, work == " work");
+    assert!(rt; more == (work == " work"));
     Ok(())
 }
 
@@ -189,7 +185,7 @@ fn ticks<D: Disk>(rt: &impl Abort, exec: &mut Exec<D, Global>, wanted: &str) -> 
         "none" => None,
         _ => Some(u128::from(number(due)?)),
     };
-    assert_eq!(rt; exec.next_deadline(), due);
+    assert!(rt; exec.next_deadline() == due);
     Ok(())
 }
 

@@ -60,7 +60,7 @@ fn a_register_is_28_bytes_under_its_number(rt: HostRuntime) -> Result<(), Fail> 
     let alloc = rt.alloc();
     let mut contents = Contents::fresh(alloc);
     assert!(rt; contents.encode_items(alloc)?.pairs().is_empty());
-    assert_eq!(rt; save(&mut contents, 256, 3, 5_250), Ok(()));
+    assert!(rt; save(&mut contents, 256, 3, 5_250) == Ok(()));
     assert!(rt; are_register_3(alloc, &contents.encode_items(alloc)?));
     let register = Register::of(3).ok_or("no register")?;
     let value = contents.encode_part(alloc, Part::Register(register))?;
@@ -84,7 +84,7 @@ fn are_two_edits(batch: &Batch<Global>) -> bool {
 fn a_batch_has_the_parts_that_changed(rt: HostRuntime) -> Result<(), Fail> {
     let alloc = rt.alloc();
     let mut contents = Contents::fresh(alloc);
-    assert_eq!(rt; save(&mut contents, 256, 0, 5_250), Ok(()));
+    assert!(rt; save(&mut contents, 256, 0, 5_250) == Ok(()));
     let register = Register::of(0).ok_or("no register")?;
     let mut batch = Batch::new(alloc);
     contents.edit(alloc, &mut batch, Part::Register(register))?;
@@ -113,9 +113,9 @@ fn files_fill_256_pages(rt: HostRuntime) -> Result<(), Fail> {
     ];
     for (name, file, want, cost) in rows {
         let given = write(&mut contents, name, file);
-        assert_eq!(rt; (given, contents.cost()), (want, cost), "{name:?}");
+        assert!(rt; (given, contents.cost()) == (want, cost), "{name:?}");
     }
-    assert_eq!(rt; contents.names().len(), 5);
+    assert!(rt; contents.names().len() == 5);
     assert!(rt; contents.fits(256) && !contents.fits(255));
     Ok(())
 }
@@ -132,10 +132,10 @@ fn four_pages_hold_two_registers(rt: HostRuntime) -> Result<(), Fail> {
     ];
     for (register, millivolts, want, cost) in rows {
         let given = save(&mut contents, 4, register, millivolts);
-        assert_eq!(rt; (given, contents.cost()), (want, cost), "{register}");
+        assert!(rt; (given, contents.cost()) == (want, cost), "{register}");
     }
     let register = Register::of(2).ok_or("no register")?;
-    assert_eq!(rt; contents.register(register), volts(1_000));
+    assert!(rt; contents.register(register) == volts(1_000));
     Ok(())
 }
 
@@ -146,7 +146,7 @@ fn changes(
     rows: &[(NvCommand<'_>, Result<(), ScpiError>)],
 ) {
     for (place, (command, want)) in rows.iter().enumerate() {
-        assert_eq!(rt; contents.change(256, command), *want, "{place}");
+        assert!(rt; contents.change(256, command) == *want, "{place}");
     }
 }
 
@@ -170,7 +170,7 @@ fn with_32_macros(alloc: Global) -> Result<Contents<Global>, Fail> {
 #[test]
 fn the_33rd_macro_does_not_fit(rt: HostRuntime) -> Result<(), Fail> {
     let mut contents = with_32_macros(rt.alloc())?;
-    assert_eq!(rt; contents.labels().len(), 32);
+    assert!(rt; contents.labels().len() == 32);
     changes(
         &rt,
         &mut contents,
@@ -218,6 +218,6 @@ fn a_file_is_copied_with_its_type(rt: HostRuntime) -> Result<(), Fail> {
     );
     let items = contents.encode_items(alloc)?;
     assert!(rt; are_two_states(&items));
-    assert_eq!(rt; items.cost(), contents.cost());
+    assert!(rt; items.cost() == contents.cost());
     Ok(())
 }

@@ -60,7 +60,7 @@ fn look(rt: &impl Abort, alloc: Global, table: &str) -> Result<(), Fail> {
     for (item, want) in table.lines().filter_map(row) {
         let (key, value) = item.split_once("|").ok_or("no item")?;
         let fault = fault(alloc, &bytes_of(alloc, key)?, &bytes_of(alloc, value)?)?;
-        assert_eq!(rt; told(fault), want, "{item}");
+        assert!(rt; told(fault) == want, "{item}");
         rows = rows.saturating_add(1);
     }
     assert!(rt; rows > 0, "no row in {table}");
@@ -177,9 +177,9 @@ fn as_many_macros_as_there_may_be(rt: HostRuntime) -> Result<(), Fail> {
             value.extend_from_slice(&[2, high, low, 0, 0])?;
         }
     }
-    assert_eq!(rt; fault(alloc, &[4], &value)?, None);
+    assert!(rt; fault(alloc, &[4], &value)?.is_none());
     value.extend_from_slice(&[1, b'E', 0, 0])?;
-    assert_eq!(rt; fault(alloc, &[4], &value)?, Some(DecodeFault::BadValue));
+    assert!(rt; fault(alloc, &[4], &value)? == Some(DecodeFault::BadValue));
     Ok(())
 }
 
@@ -191,7 +191,7 @@ fn a_bad_key_comes_first(rt: HostRuntime) -> Result<(), Fail> {
     let Err(fault) = Contents::decode_items(alloc, &items) else {
         return Err(Fail::from("accepted"));
     };
-    assert_eq!(rt; fault, DecodeFault::BadKey);
+    assert!(rt; fault == DecodeFault::BadKey);
     Ok(())
 }
 
@@ -237,7 +237,7 @@ fn all_parts_together(rt: HostRuntime) -> Result<(), Fail> {
     let items = whole(rt.alloc())?;
     let contents = decoded(rt.alloc(), &items)?;
     assert!(rt; are_whole(&contents));
-    assert_eq!(rt; contents.cost(), items.cost());
+    assert!(rt; contents.cost() == items.cost());
     Ok(())
 }
 
@@ -247,7 +247,7 @@ fn a_copy_is_encoded_to_the_same_map(rt: HostRuntime) -> Result<(), Fail> {
     let contents = decoded(rt.alloc(), &items)?;
     let copy = contents.copy(rt.alloc())?;
     let again = copy.encode_items(rt.alloc())?;
-    assert_eq!(rt; again.pairs().len(), 7);
+    assert!(rt; again.pairs().len() == 7);
     for (a, b) in again.pairs().iter().zip(items.pairs()) {
         assert!(rt; a.key() == b.key() && a.value() == b.value());
     }

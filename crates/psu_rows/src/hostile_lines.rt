@@ -26,7 +26,7 @@ fn a_block_longer_than_its_line(rt: HostRuntime) {
     let input = b"*PUD #9999999999\nSYST:ERR?\nFOO #9999999999;*CLS;*RST\nSYST:ERR?;:SYST:ERR?\n";
     let want = b"-161,\"Invalid block data\"\n-161,\"Invalid block data\";0,\"No error\"\n";
     let got = written(rt.alloc(), input).expect(&rt, "the run ends well");
-    assert_eq!(rt; got.as_slice(), want.as_slice());
+    assert!(rt; got.as_slice() == want.as_slice());
 }
 
 // A line of 65,537 bytes is one -223, whatever is in it, and the next line is executed.
@@ -37,7 +37,7 @@ fn lines_that_are_too_long(rt: HostRuntime) {
         let input = line(rt.alloc(), b"", byte, 65_537, behind).expect(&rt, "memory");
         let got = written(rt.alloc(), input.as_slice()).expect(&rt, "the run ends well");
         let want = b"-223,\"Too much data\";0\n".as_slice();
-        assert_eq!(rt; got.as_slice(), want, "at {byte}");
+        assert!(rt; got.as_slice() == want, "at {byte}");
     }
 }
 
@@ -59,7 +59,7 @@ fn lines_of_the_greatest_length(rt: HostRuntime) {
         let input = line(rt.alloc(), b"", byte, 65_536, behind).expect(&rt, "memory");
         let got = written(rt.alloc(), input.as_slice()).expect(&rt, "the run ends well");
         let want = line(rt.alloc(), want.as_bytes(), 0, 0, b"\n0\n").expect(&rt, "memory");
-        assert_eq!(rt; got.as_slice(), want.as_slice(), "at {byte}");
+        assert!(rt; got.as_slice() == want.as_slice(), "at {byte}");
     }
 }
 
@@ -83,7 +83,7 @@ fn an_expansion_that_grows(rt: HostRuntime) {
             .extend_from_slice(call.expect(&rt, "memory").as_slice())
             .expect(&rt, "memory");
         let got = written(rt.alloc(), input.as_slice()).expect(&rt, "the run ends well");
-        assert_eq!(rt; got.as_slice(), want.as_bytes(), "at {length}");
+        assert!(rt; got.as_slice() == want.as_bytes(), "at {length}");
     }
 }
 
@@ -118,9 +118,9 @@ fn a_reader_that_never_ends(rt: HostRuntime) {
     };
     let image = formatted(rt.alloc()).expect(&rt, "an image");
     let Ran { text, cause, disk } = run_from(rt.alloc(), rt.alloc(), &mut reader, image);
-    assert_eq!(rt; cause, Some(RunCause::TooLong));
-    assert_eq!(rt; reader.calls, 1_048_576);
-    assert_eq!(rt; text.as_slice(), b"1.000\nEXAMPLE,PSU4,0,1.0\n".as_slice());
+    assert!(rt; cause == Some(RunCause::TooLong));
+    assert!(rt; reader.calls == 1_048_576);
+    assert!(rt; text.as_slice() == b"1.000\nEXAMPLE,PSU4,0,1.0\n".as_slice());
     let held = written_on(rt.alloc(), disk, b"*RCL 1;VOLT?\n").expect(&rt, "the image opens");
-    assert_eq!(rt; held.as_slice(), b"0.000\n".as_slice());
+    assert!(rt; held.as_slice() == b"0.000\n".as_slice());
 }

@@ -111,7 +111,7 @@ fn user_data_of_63_bytes(rt: HostRuntime) {
     let input = joined(rt.alloc(), &parts).expect(&rt, "memory");
     let want = joined(rt.alloc(), &told).expect(&rt, "memory");
     let got = written(rt.alloc(), input.as_slice()).expect(&rt, "the run ends well");
-    assert_eq!(rt; got.as_slice(), want.as_slice());
+    assert!(rt; got.as_slice() == want.as_slice());
 }
 
 // Some bytes, a byte so many times, and others.
@@ -156,7 +156,7 @@ fn the_last_page_of_the_image(rt: HostRuntime) {
 -254,\"Media full\"\n130560,512,\"A,BIN,32768\",\"B,BIN,32768\",\"C,BIN,32768\",\"D,BIN,28671\"\n\
 0,\"No error\"\n131072,0,\"A,BIN,32768\",\"B,BIN,32768\",\"C,BIN,32768\",\"D,BIN,28159\",\"E,BIN,0\"\n1\n";
     let got = written(rt.alloc(), input.as_slice()).expect(&rt, "the run ends well");
-    assert_eq!(rt; got.as_slice(), want.as_bytes());
+    assert!(rt; got.as_slice() == want.as_bytes());
 }
 
 // Two registers fill an image of four pages; one that holds the settings of `*RST` again takes none.
@@ -168,7 +168,7 @@ VOLT 3;*RCL 2;VOLT?;*RCL 1;VOLT?;*RCL 0;VOLT?\n";
     let want = b"-254,\"Media full\"\n0,\"No error\"\n1.000;1.000;0.000\n";
     let image = least(rt.alloc()).expect(&rt, "an image");
     let got = written_on(rt.alloc(), image, input).expect(&rt, "the run ends well");
-    assert_eq!(rt; got.as_slice(), want.as_slice());
+    assert!(rt; got.as_slice() == want.as_slice());
 }
 
 // Sixteen errors are kept; the newest of a full queue tells of the overflow.
@@ -187,5 +187,5 @@ fn a_queue_that_overflows(rt: HostRuntime) {
     let input = joined(rt.alloc(), &parts).expect(&rt, "memory");
     let want = joined(rt.alloc(), &told).expect(&rt, "memory");
     let got = written(rt.alloc(), input.as_slice()).expect(&rt, "the run ends well");
-    assert_eq!(rt; got.as_slice(), want.as_slice());
+    assert!(rt; got.as_slice() == want.as_slice());
 }

@@ -105,7 +105,7 @@ fn a_long_line_is_written_in_parts(rt: HostRuntime) {
     let mut writer = Measuring { all: 0, most: 0 };
     let disk = formatted(rt.alloc()).expect(&rt, "an image");
     assert!(rt; run(rt.alloc(), &mut reader, &mut writer, disk).is_ok());
-    assert_eq!(rt; writer.all, want.len());
+    assert!(rt; writer.all == want.len());
     assert!(rt;
         writer.most <= 65_536 + 32_768 + 16,
         "{} at once",

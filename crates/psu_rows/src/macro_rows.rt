@@ -69,7 +69,7 @@ fn an_expansion_that_fills_the_tail(rt: HostRuntime) {
     ];
     let input = joined(rt.alloc(), &parts).expect(&rt, "memory");
     let got = written(rt.alloc(), input.as_slice()).expect(&rt, "the run ends well");
-    assert_eq!(rt; got.as_slice(), b"7.000;7.000\n7.000\n0.000\n".as_slice());
+    assert!(rt; got.as_slice() == b"7.000;7.000\n7.000\n0.000\n".as_slice());
 }
 
 // A device that has executed a unit.
@@ -122,8 +122,5 @@ fn an_expansion_of_two_lines(rt: HostRuntime) {
     let disk = with_two_lines(&rt, rt.alloc());
     let input = b"*EMC 1;SOUR3:VOLT 3;L;VOLT?;:SOUR2:VOLT?;:VOLT?\n";
     let got = written_on(rt.alloc(), disk, input).expect(&rt, "the run ends well");
-    assert_eq!(rt;
-        got.as_slice(),
-        b"1.000;2.000;3.000;1.000;2.000\n".as_slice()
-    );
+    assert!(rt; got.as_slice() == b"1.000;2.000;3.000;1.000;2.000\n".as_slice());
 }

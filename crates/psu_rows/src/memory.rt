@@ -137,7 +137,7 @@ impl Row<'_> {
     fn ran_with(&self, rt: &impl Abort, alloc: Global, left: usize) -> Ran<MemDisk<Global>> {
         let arena = arena(alloc).expect(rt, "an arena");
         leave(&arena, left).expect(rt, "room");
-        assert_eq!(rt; arena.chunk_capacity(), left);
+        assert!(rt; arena.chunk_capacity() == left);
         let image = least(alloc).expect(rt, "an image");
         let mut reader = self.input.as_bytes();
         run_from(alloc, &arena, &mut reader, image)

@@ -80,7 +80,7 @@ fn a_save_makes_it_version_2(rt: HostRuntime) {
     let input = b"*RCL 3;VOLT?\nVOLT 1;*SAV 42;*OPC?\n";
     let image = old_image(alloc).expect(&rt, "an image");
     let written = written_on(alloc, image, input).expect(&rt, "the run ends well");
-    assert_eq!(rt; written.as_slice(), b"5.250\n1\n".as_slice());
+    assert!(rt; written.as_slice() == b"5.250\n1\n".as_slice());
     let image = old_image(alloc).expect(&rt, "an image");
     let disk = run_on(alloc, image, input).expect(&rt, "the run ends well");
     let text = reported(alloc, disk).expect(&rt, "a report");

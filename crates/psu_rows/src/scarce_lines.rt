@@ -102,7 +102,7 @@ impl Case<'_> {
             assert!(rt; number.is_some(), "{text:?} at {left}");
             return number;
         };
-        assert_eq!(rt; cause, RunCause::Memory, "at {left}");
+        assert!(rt; cause == RunCause::Memory, "at {left}");
         assert!(rt; self.begins(text.as_slice()), "{text:?} at {left}");
         None
     }

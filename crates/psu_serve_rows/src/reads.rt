@@ -11,18 +11,15 @@ fn an_interrupted_read_is_no_end(rt: HostRuntime) -> Result<(), Fail> {
         ErrorKind::WouldBlock,
         ErrorKind::TimedOut,
     ] {
-        assert_eq!(rt; Heard::of(&Err(Error::from(kind))), Heard::Nothing);
+        assert!(rt; Heard::of(&Err(Error::from(kind))) == Heard::Nothing);
     }
     Ok(())
 }
 
 #[test]
 fn a_read_of_nothing_is_the_end(rt: HostRuntime) -> Result<(), Fail> {
-    assert_eq!(rt; Heard::of(&Ok(0)), Heard::End);
-    assert_eq!(rt;
-        Heard::of(&Err(Error::from(ErrorKind::ConnectionReset))),
-        Heard::End
-    );
-    assert_eq!(rt; Heard::of(&Ok(16)), Heard::Bytes(16));
+    assert!(rt; Heard::of(&Ok(0)) == Heard::End);
+    assert!(rt; Heard::of(&Err(Error::from(ErrorKind::ConnectionReset))) == Heard::End);
+    assert!(rt; Heard::of(&Ok(16)) == Heard::Bytes(16));
     Ok(())
 }

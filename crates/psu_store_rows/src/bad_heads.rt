@@ -76,9 +76,8 @@ fn keys_and_values_of_the_greatest_length(rt: HostRuntime) -> Result<(), Fail> {
         (&[7; 65], 33_280, 64, BAD),
     ];
     for (key, size, count, want) in rows {
-        assert_eq!(rt;
-            found(alloc, with_one(alloc, key, size, count)?),
-            want,
+        assert!(rt;
+            found(alloc, with_one(alloc, key, size, count)?) == want,
             "{size} {count}"
         );
     }
@@ -114,9 +113,9 @@ fn with_many(alloc: Global, limit: u16, count: u16) -> Result<MemDisk<Global>, F
 #[test]
 fn images_that_items_fill(rt: HostRuntime) -> Result<(), Fail> {
     let alloc = rt.alloc();
-    assert_eq!(rt; found(alloc, with_many(alloc, 480, 240)?), Ok(240));
-    assert_eq!(rt; found(alloc, with_many(alloc, 480, 241)?), BAD);
-    assert_eq!(rt; found(alloc, with_many(alloc, 479, 240)?), BAD);
-    assert_eq!(rt; found(alloc, with_many(alloc, 479, 239)?), Ok(239));
+    assert!(rt; found(alloc, with_many(alloc, 480, 240)?) == Ok(240));
+    assert!(rt; found(alloc, with_many(alloc, 480, 241)?) == BAD);
+    assert!(rt; found(alloc, with_many(alloc, 479, 240)?) == BAD);
+    assert!(rt; found(alloc, with_many(alloc, 479, 239)?) == Ok(239));
     Ok(())
 }

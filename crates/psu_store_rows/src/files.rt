@@ -60,13 +60,13 @@ fn a_file_is_made_once_and_keeps_its_bytes(rt: HostRuntime) {
     }
     drop(disk);
     let mut disk = FileDisk::of(&rt, rt.alloc(), NAME).expect(&rt, "there");
-    assert_eq!(rt; disk.size(), 4_096);
+    assert!(rt; disk.size() == 4_096);
     let mut two = [0u8; 2];
     if disk.size() == 4_096 {
         assert!(rt; disk.read(4_094, &mut two).is_ok());
     }
-    assert_eq!(rt; two, [7, 8]);
-    assert_eq!(rt; disk.faults(), 0);
+    assert!(rt; two == [7, 8]);
+    assert!(rt; disk.faults() == 0);
     assert!(rt; std::fs::remove_file(&rt, NAME).is_ok());
 }
 
@@ -75,7 +75,7 @@ fn a_new_file_is_of_zeros_and_has_its_room(rt: HostRuntime) {
     const NEW: &str = "a_new_disk_for_a_test.image";
     drop(new_disk(&rt, rt.alloc(), NEW, 4_096).expect(&rt, "made"));
     let bytes = std::fs::read(&rt, NEW).expect(&rt, "there");
-    assert_eq!(rt; bytes.as_slice(), [0; 4_096].as_slice());
+    assert!(rt; bytes.as_slice() == [0; 4_096].as_slice());
     let told = std::fs::metadata(&rt, NEW).expect(&rt, "there");
     assert!(rt;
         told.blocks() >= 8,
@@ -90,16 +90,16 @@ fn a_new_file_is_of_zeros_and_has_its_room(rt: HostRuntime) {
 fn a_file_that_was_cut_short_is_not_synced(rt: HostRuntime) {
     const CUT: &str = "a_cut_disk_for_a_test.image";
     let mut disk = new_disk(&rt, rt.alloc(), CUT, 4_096).expect(&rt, "made");
-    assert_eq!(rt; disk.sync(), Ok(()));
+    assert!(rt; disk.sync() == Ok(()));
     assert!(rt; set_length(&rt, CUT, 4_095).is_ok());
-    assert_eq!(rt; disk.sync(), Err(DiskFault));
-    assert_eq!(rt; disk.faults(), 1);
+    assert!(rt; disk.sync() == Err(DiskFault));
+    assert!(rt; disk.faults() == 1);
     assert!(rt; set_length(&rt, CUT, 4_097).is_ok());
-    assert_eq!(rt; disk.sync(), Err(DiskFault));
-    assert_eq!(rt; disk.faults(), 2);
+    assert!(rt; disk.sync() == Err(DiskFault));
+    assert!(rt; disk.faults() == 2);
     assert!(rt; set_length(&rt, CUT, 4_096).is_ok());
-    assert_eq!(rt; disk.sync(), Ok(()));
-    assert_eq!(rt; disk.faults(), 2);
+    assert!(rt; disk.sync() == Ok(()));
+    assert!(rt; disk.faults() == 2);
     assert!(rt; std::fs::remove_file(&rt, CUT).is_ok());
 }
 
@@ -107,10 +107,10 @@ fn a_file_that_was_cut_short_is_not_synced(rt: HostRuntime) {
 fn a_file_that_lost_its_name_is_not_synced(rt: HostRuntime) {
     const LOST: &str = "a_lost_disk_for_a_test.image";
     let mut disk = new_disk(&rt, rt.alloc(), LOST, 4_096).expect(&rt, "made");
-    assert_eq!(rt; disk.sync(), Ok(()));
+    assert!(rt; disk.sync() == Ok(()));
     assert!(rt; std::fs::remove_file(&rt, LOST).is_ok());
-    assert_eq!(rt; disk.sync(), Err(DiskFault));
-    assert_eq!(rt; disk.faults(), 1);
+    assert!(rt; disk.sync() == Err(DiskFault));
+    assert!(rt; disk.faults() == 1);
 }
 
 // Another file of the same length takes its place, and it keeps no name.
@@ -120,10 +120,10 @@ fn a_file_that_was_replaced_is_not_synced(rt: HostRuntime) {
     const OTHER: &str = "another_disk_for_a_test.image";
     let mut disk = new_disk(&rt, rt.alloc(), NAMED, 4_096).expect(&rt, "made");
     drop(new_disk(&rt, rt.alloc(), OTHER, 4_096).expect(&rt, "made"));
-    assert_eq!(rt; disk.sync(), Ok(()));
+    assert!(rt; disk.sync() == Ok(()));
     assert!(rt; std::fs::rename(&rt, OTHER, NAMED).is_ok());
-    assert_eq!(rt; disk.sync(), Err(DiskFault));
-    assert_eq!(rt; disk.faults(), 1);
+    assert!(rt; disk.sync() == Err(DiskFault));
+    assert!(rt; disk.faults() == 1);
     assert!(rt; std::fs::remove_file(&rt, NAMED).is_ok());
 }
 
@@ -134,7 +134,7 @@ fn a_file_that_was_renamed_is_synced(rt: HostRuntime) {
     const AFTER: &str = "a_disk_renamed_for_a_test.image";
     let mut disk = new_disk(&rt, rt.alloc(), NAMED, 4_096).expect(&rt, "made");
     assert!(rt; std::fs::rename(&rt, NAMED, AFTER).is_ok());
-    assert_eq!(rt; disk.sync(), Ok(()));
-    assert_eq!(rt; disk.faults(), 0);
+    assert!(rt; disk.sync() == Ok(()));
+    assert!(rt; disk.faults() == 0);
     assert!(rt; std::fs::remove_file(&rt, AFTER).is_ok());
 }

@@ -79,7 +79,7 @@ fn a_loss_in_the_opening_changes_nothing(rt: HostRuntime) -> Result<(), Fail> {
             for call in 0..8u64 {
                 for second in choices {
                     let disk = lost_in_opening(alloc, left_by(alloc, k, first)?, call, second);
-                    assert_eq!(rt; found(alloc, disk)?, want, "{k} {call}");
+                    assert!(rt; found(alloc, disk)? == want, "{k} {call}");
                 }
             }
         }

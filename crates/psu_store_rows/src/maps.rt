@@ -23,7 +23,7 @@ fn a_map_costs_pages(rt: HostRuntime) -> Result<(), Fail> {
     for (length, pages) in [(1, 2), (512, 2), (513, 3), (29184, 58), (32769, 66)] {
         let mut items = Items::new(alloc);
         items.insert([5].to_vec(alloc)?, vec![in alloc; 0; length]?)?;
-        assert_eq!(rt; items.cost(), pages, "at {length}");
+        assert!(rt; items.cost() == pages, "at {length}");
     }
     Ok(())
 }

@@ -24,7 +24,7 @@ fn old_image(alloc: Global) -> Result<MemDisk<Global>, Fail> {
 fn an_image_of_version_1_is_read_and_left_as_it_is(rt: HostRuntime) -> Result<(), Fail> {
     let alloc = rt.alloc();
     let store = opened(alloc, old_image(alloc)?)?;
-    assert_eq!(rt; (store.limit(), store.number(), store.version()), (6, 2, 1));
+    assert!(rt; (store.limit(), store.number(), store.version()) == (6, 2, 1));
     assert!(rt; is_just(store.items(), &[(1, 10)]));
     let mut disk = store.into_disk();
     let same = bytes_of(alloc, &mut disk)? == bytes_of(alloc, &mut old_image(alloc)?)?;
@@ -51,7 +51,7 @@ fn an_opening_closes_the_older_gate_of_version_1(rt: HostRuntime) -> Result<(), 
 fn an_empty_batch_makes_it_version_2(rt: HostRuntime) -> Result<(), Fail> {
     let alloc = rt.alloc();
     let store = stored(alloc, opened(alloc, old_image(alloc)?)?, Batch::new(alloc))?;
-    assert_eq!(rt; (store.number(), store.version()), (3, 2));
+    assert!(rt; (store.number(), store.version()) == (3, 2));
     let mut disk = store.into_disk();
     let mut want = old_image(alloc)?;
     put_all(
@@ -138,7 +138,7 @@ fn a_loss_in_the_opening_of_either_changes_nothing(rt: HostRuntime) -> Result<()
             for call in 0..8u64 {
                 for second in choices {
                     let disk = lost_in_opening(alloc, left_by(alloc, k, first)?, call, second);
-                    assert_eq!(rt; told(alloc, disk)?, want, "{k} {call}");
+                    assert!(rt; told(alloc, disk)? == want, "{k} {call}");
                 }
             }
         }
@@ -163,7 +163,7 @@ fn keys_of_either_version(rt: HostRuntime) -> Result<(), Fail> {
             &mut disk,
             &[(517, &[version]), (1_536, &head(alloc, key, 1, &[4])?)],
         )?;
-        assert_eq!(rt; found(alloc, disk), want, "{version}: {}", key.len());
+        assert!(rt; found(alloc, disk) == want, "{version}: {}", key.len());
     }
     Ok(())
 }

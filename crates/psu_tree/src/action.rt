@@ -1,7 +1,7 @@
 // What commands do that take nothing.
 
 /// What a command does that takes nothing.
-#[derive(Clone, Copy, Debug, PartialEq, Eq)]
+#[derive(Clone, Copy)]
 pub enum Action {
     ClearStatus,
     Reset,

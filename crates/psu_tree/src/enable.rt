@@ -1,7 +1,7 @@
 // Enable registers.
 
 /// The enable registers of the common commands.
-#[derive(Clone, Copy, Debug, PartialEq, Eq)]
+#[derive(Clone, Copy)]
 pub enum Enable {
     EventStatus,
     ServiceRequest,

@@ -1,7 +1,7 @@
 // Ends of a range.
 
 /// The end of a range: MINimum or MAXimum (SCPI-1999 volume 1, 7.2).
-#[derive(Clone, Copy, Debug, PartialEq, Eq)]
+#[derive(Clone, Copy)]
 pub enum Extreme {
     Least,
     Greatest,

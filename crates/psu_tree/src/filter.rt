@@ -1,7 +1,7 @@
 // Registers of a status group.
 
 /// The registers of a group that are set.
-#[derive(Clone, Copy, Debug, PartialEq, Eq)]
+#[derive(Clone, Copy)]
 pub enum Filter {
     Enable,
     Rising,

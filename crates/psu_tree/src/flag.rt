@@ -1,7 +1,7 @@
 // Flags of the device.
 
 /// The flags of the device: two take a number, one a Boolean, one a word.
-#[derive(Clone, Copy, Debug, PartialEq, Eq)]
+#[derive(Clone, Copy)]
 pub enum Flag {
     PowerOnClear,
     Macros,

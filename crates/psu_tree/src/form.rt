@@ -5,7 +5,7 @@ use crate::{
 };
 
 /// What a header asks for: its parameters, by their kinds, and what they are for.
-#[derive(Clone, Copy, Debug, PartialEq, Eq)]
+#[derive(Clone, Copy)]
 pub enum Form {
     /// Nothing.
     Action(Action),

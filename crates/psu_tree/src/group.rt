@@ -1,7 +1,7 @@
 // Status groups.
 
 /// The status groups.
-#[derive(Clone, Copy, Debug, PartialEq, Eq)]
+#[derive(Clone, Copy)]
 pub enum Group {
     Operation,
     Questionable,

@@ -1,7 +1,7 @@
 // Kinds of nodes.
 
 /// Whether a node may be left out (it stands in brackets), and whether a number may follow it (`<n>`).
-#[derive(Clone, Copy, Debug, PartialEq, Eq)]
+#[derive(Clone, Copy)]
 pub enum Kind {
     /// It stands, without a number.
     Must,

@@ -1,7 +1,7 @@
 // Settings in volts or amperes.
 
 /// The settings of an output in volts or amperes.
-#[derive(Clone, Copy, Debug, PartialEq, Eq)]
+#[derive(Clone, Copy)]
 pub enum Level {
     Voltage,
     Current,

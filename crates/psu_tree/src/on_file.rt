@@ -1,7 +1,7 @@
 // What is done with a file.
 
 /// What is done with a file.
-#[derive(Clone, Copy, Debug, PartialEq, Eq)]
+#[derive(Clone, Copy)]
 pub enum OnFile {
     Ask,
     Delete,

@@ -1,7 +1,7 @@
 // What is done with a macro.
 
 /// What is done with a macro of a label.
-#[derive(Clone, Copy, Debug, PartialEq, Eq)]
+#[derive(Clone, Copy)]
 pub enum OnMacro {
     Ask,
     Remove,

@@ -1,7 +1,7 @@
 // What is done with two files.
 
 /// What is done with two names of files.
-#[derive(Clone, Copy, Debug, PartialEq, Eq)]
+#[derive(Clone, Copy)]
 pub enum OnNames {
     Copy,
     Move,

@@ -1,7 +1,7 @@
 // What is done with a register.
 
 /// What is done with a register of settings.
-#[derive(Clone, Copy, Debug, PartialEq, Eq)]
+#[derive(Clone, Copy)]
 pub enum OnRegister {
     Save,
     Recall,

@@ -1,7 +1,7 @@
 // Outputs.
 
 /// An output of the instrument.
-#[derive(Clone, Copy, Debug, PartialEq, Eq)]
+#[derive(Clone, Copy)]
 pub enum Output {
     One,
     Two,

@@ -1,7 +1,7 @@
 // What is asked of an output.
 
 /// What a query asks of one output.
-#[derive(Clone, Copy, Debug, PartialEq, Eq)]
+#[derive(Clone, Copy)]
 pub enum OutputQuery {
     State,
     Protection,

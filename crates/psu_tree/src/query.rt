@@ -2,7 +2,7 @@
 use crate::{Enable, Filter, Flag, Group};
 
 /// What a query asks that takes nothing.
-#[derive(Clone, Copy, Debug, PartialEq, Eq)]
+#[derive(Clone, Copy)]
 pub enum Query {
     Identification,
     SelfTest,

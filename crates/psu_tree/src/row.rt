@@ -2,7 +2,7 @@
 use crate::{Form, Node};
 
 /// A header with what it asks for, as a command and with a `?`.
-#[derive(Clone, Copy, Debug)]
+#[derive(Clone, Copy)]
 pub struct Row {
     /// Its nodes behind the first one, which is its section's.
     pub nodes: &'static [Node],

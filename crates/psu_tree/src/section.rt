@@ -2,7 +2,7 @@
 use crate::{Node, Row};
 
 /// The rows whose headers begin with one node.
-#[derive(Clone, Copy, Debug)]
+#[derive(Clone, Copy)]
 pub struct Section {
     /// The first letter of its mnemonic.
     pub first: u8,

@@ -1,7 +1,7 @@
 // Switches of an output.
 
 /// The switches of an output.
-#[derive(Clone, Copy, Debug, PartialEq, Eq)]
+#[derive(Clone, Copy)]
 pub enum Switch {
     Output,
     Protection,

@@ -1,7 +1,7 @@
 // Directions of a transfer.
 
 /// Into a file, or out of it.
-#[derive(Clone, Copy, Debug, PartialEq, Eq)]
+#[derive(Clone, Copy)]
 pub enum Transfer {
     Store,
     Load,

@@ -71,11 +71,11 @@ fn headers_made_from_the_table(rt: HostRuntime) -> Result<(), Fail> {
                     text.push(b'?')?;
                 }
                 let given = fault(&text);
-                assert_eq!(rt; given == 0 || given == 109, good, "{text:?}");
+                assert!(rt; (given == 0 || given == 109) == good, "{text:?}");
                 made = made.wrapping_add(1);
             }
         }
     }
-    assert_eq!(rt; made, 10_230);
+    assert!(rt; made == 10_230);
     Ok(())
 }

@@ -46,18 +46,12 @@ fn numbers_of_commands(rt: HostRuntime) {
             "at {text:?}"
         );
     }
-    let queries: [(&[u8], Query); 3] = [
-        (b" *idn?\r", Query::Identification),
-        (b"*STB? ", Query::StatusByte),
-        (b"*OPC?", Query::OperationComplete),
-    ];
-    for (text, query) in queries {
-        let read = read_unit(&Path::root(), &unit_of(text));
-        assert!(rt;
-            matches!(read, Ok(Command::Query(asked)) if asked == query),
-            "at {text:?}"
-        );
-    }
+    let read = read_unit(&Path::root(), &unit_of(b" *idn?\r"));
+    assert!(rt; matches!(read, Ok(Command::Query(Query::Identification))));
+    let read = read_unit(&Path::root(), &unit_of(b"*STB? "));
+    assert!(rt; matches!(read, Ok(Command::Query(Query::StatusByte))));
+    let read = read_unit(&Path::root(), &unit_of(b"*OPC?"));
+    assert!(rt; matches!(read, Ok(Command::Query(Query::OperationComplete))));
 }
 
 // Faults of a byte, of the syntax, of the header, of the number of data, and then of each datum.

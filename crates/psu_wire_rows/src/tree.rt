@@ -44,7 +44,7 @@ fn reads(rt: &impl Abort, alloc: Global, text: &str, wanted: &str) -> Result<(),
     for word in wanted.split_whitespace() {
         faults.push(word.parse::<u16>().map_err(|_| "no number")?)?;
     }
-    assert_eq!(rt; given.as_slice(), faults.as_slice(), "{text}");
+    assert!(rt; given.as_slice() == faults.as_slice(), "{text}");
     Ok(())
 }
 
@@ -65,7 +65,7 @@ pub fn fail_as_told(rt: &impl Abort, table: &str) -> Result<(), Fail> {
     let mut rows = 0u32;
     for (text, wanted) in table.lines().filter_map(row) {
         let wanted: u16 = wanted.parse().map_err(|_| "no number")?;
-        assert_eq!(rt; fault(text.as_bytes()), wanted, "{text}");
+        assert!(rt; fault(text.as_bytes()) == wanted, "{text}");
         rows = rows.saturating_add(1);
     }
     assert!(rt; rows > 0, "no row in {table}");
@@ -144,8 +144,11 @@ MMEM:LOAD:MACR :MMEMORY:LOAD:MACRO command
 
 // Both forms of a header stand as the table says.
 fn header_stands(rt: &impl Abort, alloc: Global, form: &str, kind: &str) -> Result<(), Fail> {
-    assert_eq!(rt; stands(form, false, alloc)?, kind != "query", "{form}");
-    assert_eq!(rt; stands(form, true, alloc)?, kind != "command", "{form}?");
+    assert!(rt; stands(form, false, alloc)? == (kind != "query"), "{form}");
+    assert!(rt;
+        stands(form, true, alloc)? == (kind != "command"),
+        "{form}?"
+    );
     Ok(())
 }
 
@@ -160,7 +163,7 @@ fn each_row_in_its_shortest_and_longest_form(rt: HostRuntime) -> Result<(), Fail
             headers = headers.saturating_add(1);
         }
     }
-    assert_eq!(rt; headers, 55);
+    assert!(rt; headers == 55);
     Ok(())
 }
 
