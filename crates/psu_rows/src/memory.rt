@@ -1,28 +1,26 @@
 // Each allocation of five rows refused in turn: each unit gives its answer or -225, or the run ends for want of memory. What the disk
 // then holds is what a front of the accepted changes made, all of them where `*OPC?` was answered.
+//
+// A row is a text, in parts with an empty line between two. The first has the lines of a run (`> `), what they write where memory is ample (`< `),
+// and the lines that ask the image afterwards what it holds (`? `). Each other one is a story, of what may come of it where some units are refused
+// memory: the lines (`| `), each with its alternatives, `nothing` for a line that is not written; and what the changes that were accepted make of
+// the image, one after another (`= `).
 use crate::images::{least, written_on};
 use crate::runs::{Ran, run_from};
+use crate::transcripts::lines_behind;
 use bumpalo::Bump;
 use psu_disk::MemDisk;
 use psu_server::RunCause;
 use std::alloc::{AllocError, Global};
 use std::process::Abort;
 
-/// What may come of a row where some of its units are refused memory: the lines, each with its alternatives, "" for a line that
-/// is not written; and what the changes that were accepted make of the image, one after another.
-#[derive(Clone, Copy)]
-struct Story<'a> {
-    lines: &'a [&'a [&'a str]],
-    kept: &'a [&'a str],
-}
-
-/// Lines of a run, and those that ask the image afterwards what it holds.
-#[derive(Clone, Copy)]
+/// A row.
+#[derive(Drop)]
 struct Row<'a> {
-    input: &'a str,
-    output: &'a str,
-    question: &'a str,
-    stories: &'a [Story<'a>],
+    input: Vec<u8>,
+    output: Vec<u8>,
+    question: Vec<u8>,
+    stories: &'a str,
 }
 
 /// How a run ended.
@@ -45,58 +43,75 @@ fn behind<'a>(text: &'a [u8], line: &[u8]) -> Option<&'a [u8]> {
     Some(&text[length + 1..])
 }
 
-// What stands behind the one of these lines that a text begins with.
-fn behind_one<'a>(text: &'a [u8], lines: &[&str]) -> Option<&'a [u8]> {
-    for line in lines {
-        if let Some(rest) = behind(text, line.as_bytes()) {
-            return Some(rest);
+// What stands behind the one of a line's alternatives that a text begins with.
+fn behind_one<'a>(text: &'a [u8], line: &str) -> Option<&'a [u8]> {
+    for one in line.split(" or ") {
+        let rest = behind(text, one.as_bytes());
+        if rest.is_some() {
+            return rest;
         }
     }
     None
 }
 
-// Whether one of these texts is a text.
-fn has(texts: &[&str], text: &[u8]) -> bool {
-    for one in texts {
-        if one.as_bytes() == text {
+// Whether a line may not be written.
+fn may_be_nothing(line: &str) -> bool {
+    line.ends_with("nothing")
+}
+
+// Whether a text is a front of one of a line's alternatives.
+fn is_front_of_one(text: &[u8], line: &str) -> bool {
+    for one in line.split(" or ") {
+        if one.as_bytes().starts_with(text) {
             return true;
         }
     }
     false
 }
 
-// Whether a text is a front of one of these lines.
-fn is_front_of_one(text: &[u8], lines: &[&str]) -> bool {
-    for line in lines {
-        if line.as_bytes().starts_with(text) {
-            return true;
-        }
-    }
-    false
-}
-
-impl Story<'_> {
-    // Whether a text is its lines; of a run that ended early, those before the end, and perhaps a front of the next.
-    fn tells(&self, text: &[u8], whole: bool) -> bool {
-        let mut rest = text;
-        for line in self.lines {
+// What of a text stands behind the lines of a story; of a run that ended early nothing, where the text ends before the end of the story.
+fn behind_story<'a>(story: &str, text: &'a [u8], whole: bool) -> Option<&'a [u8]> {
+    let mut rest = text;
+    for row in story.lines() {
+        if let Some(line) = row.strip_prefix("| ") {
             match behind_one(rest, line) {
                 Some(left) => rest = left,
-                None if !whole && is_front_of_one(rest, line) => return true,
-                None if has(line, b"") => {}
-                None => return false,
+                None if !whole && is_front_of_one(rest, line) => return Some(&[]),
+                None if may_be_nothing(line) => {}
+                None => return None,
             }
         }
-        rest.is_empty()
     }
+    Some(rest)
+}
 
-    // Whether an image that holds this may be left: all of it where the run ended well or `*OPC?` was answered.
-    fn leaves(&self, held: &[u8], all: bool) -> bool {
-        match self.kept.last() {
-            Some(last) if all => last.as_bytes() == held,
-            _ => has(self.kept, held),
+// Whether a text is what a story tells; of a run that ended early, a front of that.
+fn tells(story: &str, text: &[u8], whole: bool) -> bool {
+    match behind_story(story, text, whole) {
+        Some(rest) => rest.is_empty(),
+        None => false,
+    }
+}
+
+// Whether an image that holds this has just what a line says.
+fn is_held(line: &str, held: &[u8]) -> bool {
+    match behind(held, line.as_bytes()) {
+        Some(rest) => rest.is_empty(),
+        None => false,
+    }
+}
+
+// Whether a story leaves an image that holds this: with all changes where the run ended well or `*OPC?` was answered.
+fn leaves(story: &str, held: &[u8], all: bool) -> bool {
+    let mut some = false;
+    let mut last = false;
+    for row in story.lines() {
+        if let Some(line) = row.strip_prefix("= ") {
+            last = is_held(line, held);
+            some = some || last;
         }
     }
+    if all { last } else { some }
 }
 
 // Takes so many bytes of an arena, most of them in blocks.
@@ -122,11 +137,22 @@ pub fn leave(arena: &Bump<Global>, left: usize) -> Result<(), AllocError> {
 }
 
 impl Row<'_> {
+    // A row of a text.
+    fn of(alloc: Global, text: &str) -> Result<Row<'_>, AllocError> {
+        let (first, stories) = text.split_once("\n\n").unwrap_or((text, ""));
+        Ok(Row {
+            input: lines_behind(alloc, first, "> ")?,
+            output: lines_behind(alloc, first, "< ")?,
+            question: lines_behind(alloc, first, "? ")?,
+            stories,
+        })
+    }
+
     // Whether one of the stories tells this text and leaves an image that holds this.
     fn allows(&self, text: &[u8], held: &[u8], whole: bool) -> bool {
         let all = whole || text.starts_with(b"1\n");
-        for story in self.stories {
-            if story.tells(text, whole) && story.leaves(held, all) {
+        for story in self.stories.split("\n\n") {
+            if tells(story, text, whole) && leaves(story, held, all) {
                 return true;
             }
         }
@@ -139,14 +165,14 @@ impl Row<'_> {
         leave(&arena, left).expect(rt, "room");
         assert!(rt; arena.chunk_capacity() == left);
         let image = least(alloc).expect(rt, "an image");
-        let mut reader = self.input.as_bytes();
+        let mut reader = self.input.as_slice();
         run_from(alloc, &arena, &mut reader, image)
     }
 
     // How the row ends, where it may end so.
     fn end_of(&self, text: &[u8], held: &[u8], cause: Option<RunCause>) -> Option<End> {
         let end = match cause {
-            None if text == self.output.as_bytes() => End::Whole,
+            None if text == self.output.as_slice() => End::Whole,
             None => End::Partly,
             Some(RunCause::Memory) => End::Refused,
             Some(_) => return None,
@@ -161,222 +187,216 @@ impl Row<'_> {
     // How the row ends with so many bytes of memory.
     fn run_with(&self, rt: &impl Abort, alloc: Global, left: usize) -> End {
         let Ran { text, cause, disk } = self.ran_with(rt, alloc, left);
-        let held = written_on(alloc, disk, self.question.as_bytes()).expect(rt, "the image opens");
+        let held = written_on(alloc, disk, self.question.as_slice()).expect(rt, "the image opens");
         match self.end_of(text.as_slice(), held.as_slice(), cause) {
             Some(end) => end,
             None => panic!(rt; "{text:?} at {left}"),
         }
     }
 
-    // Less and less of its memory refused, until all of it is there. The buffer of a piece has 65,536 bytes, and the device, which is
-    // there before it, more than 4,800.
-    fn run_with_all(&self, rt: &impl Abort, alloc: Global) {
-        let mut refused = 0u32;
-        let mut partly = 0u32;
+    // With less memory than a device takes the run ends. The buffer of a piece has 65,536 bytes, and the device, which is there before it,
+    // more than 4,800.
+    fn run_with_too_little(&self, rt: &impl Abort, alloc: Global) {
         for left in (0..8_000usize).step_by(16) {
-            let end = self.run_with(rt, alloc, left);
-            assert!(rt; end == End::Refused, "at {left}");
+            assert!(rt; self.run_with(rt, alloc, left) == End::Refused);
         }
+    }
+
+    // Less and less of its memory refused, until all of it is there: how often the run ended for want of it.
+    fn refusals(&self, rt: &impl Abort, alloc: Global) -> Option<u32> {
+        let mut refused = 0u32;
         for left in (70_336..98_336usize).step_by(8) {
             match self.run_with(rt, alloc, left) {
-                End::Whole => {
-                    assert!(rt; refused > 200, "{refused} refused, {partly} in part");
-                    return;
-                }
-                End::Partly => partly = partly.saturating_add(1),
+                End::Whole => return Some(refused),
+                End::Partly => {}
                 End::Refused => refused = refused.saturating_add(1),
             }
         }
-        assert!(rt; false, "{refused} refused, and {partly} in part");
+        None
     }
 }
 
-const FAULT: &str = "-225,\"Out of memory\"";
+// A row goes as it says with little memory, and as a whole once there is enough.
+fn goes_with_little_memory(rt: &impl Abort, alloc: Global, text: &str) {
+    let row = Row::of(alloc, text).expect(rt, "memory");
+    row.run_with_too_little(rt, alloc);
+    let refused = row
+        .refusals(rt, alloc)
+        .expect(rt, "with much memory it ends as a whole");
+    assert!(rt; refused > 200, "{refused} refused");
+}
 
-// The enables: with them kept an answer that is refused sets EXE (16) beside PON (128), and status byte bit 2 (4).
+// With the enables kept an answer that is refused sets EXE (16) beside PON (128), and status byte bit 2 (4).
+const ENABLES: &str = "
+> *PSC 0;*SRE 32;*ESE 128;*OPC?
+> !POWER
+> *STB?;*ESR?;*STB?
+< 1
+< 96;128;0
+? *PSC?;*SRE?;*ESE?
+
+| 1
+| 96;128;0 or 96;128 or 96;100 or 96 or 144;4 or 144 or 100 or nothing
+= 1;0;0
+= 0;0;0
+= 0;32;0
+= 0;32;128
+";
+
 #[test]
 fn enables_with_little_memory(rt: HostRuntime) {
-    let row = Row {
-        input: "*PSC 0;*SRE 32;*ESE 128;*OPC?\n!POWER\n*STB?;*ESR?;*STB?\n",
-        output: "1\n96;128;0\n",
-        question: "*PSC?;*SRE?;*ESE?\n",
-        stories: &[Story {
-            lines: &[
-                &["1"],
-                &[
-                    "96;128;0", "96;128", "96;100", "96", "144;4", "144", "100", "",
-                ],
-            ],
-            kept: &["1;0;0\n", "0;0;0\n", "0;32;0\n", "0;32;128\n"],
-        }],
-    };
-    row.run_with_all(&rt, rt.alloc());
+    goes_with_little_memory(&rt, rt.alloc(), ENABLES);
 }
+
+const A_REGISTER: &str = "
+> VOLT 5.25;*SAV 3;*OPC?
+> !POWER
+> VOLT?;*RCL 3;VOLT?
+< 1
+< 0.000;5.250
+? *RCL 3;VOLT?
+
+| 1
+| 0.000;5.250 or 0.000 or 5.250 or nothing
+= 0.000
+= 5.250
+";
 
 #[test]
 fn a_register_with_little_memory(rt: HostRuntime) {
-    let row = Row {
-        input: "VOLT 5.25;*SAV 3;*OPC?\n!POWER\nVOLT?;*RCL 3;VOLT?\n",
-        output: "1\n0.000;5.250\n",
-        question: "*RCL 3;VOLT?\n",
-        stories: &[Story {
-            lines: &[&["1"], &["0.000;5.250", "0.000", "5.250", ""]],
-            kept: &["0.000\n", "5.250\n"],
-        }],
-    };
-    row.run_with_all(&rt, rt.alloc());
+    goes_with_little_memory(&rt, rt.alloc(), A_REGISTER);
 }
 
 // The definition, its call, and the answers may each be refused; the error queue tells the first of it.
+const A_MACRO: &str = r#"
+> *DMC "SETA",#17VOLT $1;*EMC 1;SETA 3;VOLT?
+> *DMC "seta",#10;*LMC?;SYST:ERR?
+< 3.000
+< "SETA";-277,"Macro redefinition not allowed"
+? *LMC?;*GMC? "SETA"
+
+An answer of the second line is.
+| 3.000
+| "SETA";-277,"Macro redefinition not allowed" or -277,"Macro redefinition not allowed" or "SETA";-225,"Out of memory" or "SETA" or -225,"Out of memory" or nothing
+= ""
+= "SETA";#17VOLT $1
+
+The call or its answer is refused.
+| 0.000 or nothing
+| "SETA";-225,"Out of memory" or "SETA" or -225,"Out of memory" or nothing
+= ""
+= "SETA";#17VOLT $1
+
+The definition is refused, and the other one is not.
+| 0.000 or nothing
+| "seta";-225,"Out of memory" or "seta" or -225,"Out of memory" or nothing
+= ""
+= "seta";#10
+
+Both are.
+| 0.000 or nothing
+| "";-225,"Out of memory" or "" or -225,"Out of memory" or nothing
+= ""
+"#;
+
 #[test]
 fn a_macro_with_little_memory(rt: HostRuntime) {
-    let defined = ["\"\"\n", "\"SETA\";#17VOLT $1\n"];
-    let row = Row {
-        input: "*DMC \"SETA\",#17VOLT $1;*EMC 1;SETA 3;VOLT?\n*DMC \"seta\",#10;*LMC?;SYST:ERR?\n",
-        output: "3.000\n\"SETA\";-277,\"Macro redefinition not allowed\"\n",
-        question: "*LMC?;*GMC? \"SETA\"\n",
-        stories: &[
-            Story {
-                lines: &[
-                    &["3.000"],
-                    &[
-                        "\"SETA\";-277,\"Macro redefinition not allowed\"",
-                        "-277,\"Macro redefinition not allowed\"",
-                        "\"SETA\";-225,\"Out of memory\"",
-                        "\"SETA\"",
-                        FAULT,
-                        "",
-                    ],
-                ],
-                kept: &defined,
-            },
-            // The call or its answer is refused.
-            Story {
-                lines: &[
-                    &["0.000", ""],
-                    &["\"SETA\";-225,\"Out of memory\"", "\"SETA\"", FAULT, ""],
-                ],
-                kept: &defined,
-            },
-            // The definition is refused, and the other one is not.
-            Story {
-                lines: &[
-                    &["0.000", ""],
-                    &["\"seta\";-225,\"Out of memory\"", "\"seta\"", FAULT, ""],
-                ],
-                kept: &["\"\"\n", "\"seta\";#10\n"],
-            },
-            // Both are.
-            Story {
-                lines: &[
-                    &["0.000", ""],
-                    &["\"\";-225,\"Out of memory\"", "\"\"", FAULT, ""],
-                ],
-                kept: &["\"\"\n"],
-            },
-        ],
-    };
-    row.run_with_all(&rt, rt.alloc());
+    goes_with_little_memory(&rt, rt.alloc(), A_MACRO);
 }
+
+const A_FILE: &str = r#"
+> MMEM:DATA "A",#13xyz;*OPC?
+> !POWER
+> MMEM:DATA? "A";:MMEM:DEL "B"
+> SYST:ERR?
+> MMEM:CAT?
+< 1
+< #13xyz
+< -256,"File name not found"
+< 1024,1024,"A,BIN,3"
+? MMEM:CAT?;:MMEM:DATA? "A"
+
+| 1
+| #13xyz
+| -256,"File name not found" or -225,"Out of memory" or nothing
+| 1024,1024,"A,BIN,3" or nothing
+= 0,2048
+= 1024,1024,"A,BIN,3";#13xyz
+
+The file's answer is refused.
+| 1
+| nothing
+| -225,"Out of memory" or nothing
+| 1024,1024,"A,BIN,3" or nothing
+= 0,2048
+= 1024,1024,"A,BIN,3";#13xyz
+
+The file is: then nothing is pending, and no such file is found.
+| 1 or nothing
+| nothing
+| -256,"File name not found" or -225,"Out of memory" or nothing
+| 0,2048 or nothing
+= 0,2048
+"#;
 
 #[test]
 fn a_file_with_little_memory(rt: HostRuntime) {
-    let kept = ["0,2048\n", "1024,1024,\"A,BIN,3\";#13xyz\n"];
-    let row = Row {
-        input: "MMEM:DATA \"A\",#13xyz;*OPC?\n!POWER\nMMEM:DATA? \"A\";:MMEM:DEL \"B\"\nSYST:ERR?\nMMEM:CAT?\n",
-        output: "1\n#13xyz\n-256,\"File name not found\"\n1024,1024,\"A,BIN,3\"\n",
-        question: "MMEM:CAT?;:MMEM:DATA? \"A\"\n",
-        stories: &[
-            Story {
-                lines: &[
-                    &["1"],
-                    &["#13xyz"],
-                    &["-256,\"File name not found\"", FAULT, ""],
-                    &["1024,1024,\"A,BIN,3\"", ""],
-                ],
-                kept: &kept,
-            },
-            // The file's answer is refused.
-            Story {
-                lines: &[&["1"], &[""], &[FAULT, ""], &["1024,1024,\"A,BIN,3\"", ""]],
-                kept: &kept,
-            },
-            // The file is: then nothing is pending, and no such file is found.
-            Story {
-                lines: &[
-                    &["1", ""],
-                    &[""],
-                    &["-256,\"File name not found\"", FAULT, ""],
-                    &["0,2048", ""],
-                ],
-                kept: &["0,2048\n"],
-            },
-        ],
-    };
-    row.run_with_all(&rt, rt.alloc());
+    goes_with_little_memory(&rt, rt.alloc(), A_FILE);
 }
+
+const A_STATE: &str = r#"
+> MMEM:STOR:STAT 0,"S";:MMEM:CAT?
+> MMEM:LOAD:MACR "M","S";LOAD:STAT 2,"S";:MMEM:DATA "a/b",#10;:SYST:ERR?
+> SYST:ERR?
+< 1024,1024,"S,STAT,28"
+< -113,"Undefined header"
+< -257,"File name error"
+? *LMC?;:MMEM:CAT?
+
+| 1024,1024,"S,STAT,28"
+| -113,"Undefined header"
+| -257,"File name error" or -225,"Out of memory" or nothing
+= "";0,2048
+= "";1024,1024,"S,STAT,28"
+= "M";2048,0,"S,STAT,28"
+
+The error's answer is refused.
+| 1024,1024,"S,STAT,28"
+| nothing
+| -113,"Undefined header" or nothing
+= "";0,2048
+= "";1024,1024,"S,STAT,28"
+= "M";2048,0,"S,STAT,28"
+
+The macro is.
+| 1024,1024,"S,STAT,28"
+| -225,"Out of memory" or nothing
+| -113,"Undefined header" or -225,"Out of memory" or nothing
+= "";0,2048
+= "";1024,1024,"S,STAT,28"
+
+The catalog is, and perhaps the macro.
+| nothing
+| -225,"Out of memory" or nothing
+| -113,"Undefined header" or -225,"Out of memory" or nothing
+= "";0,2048
+= "";1024,1024,"S,STAT,28"
+= "M";2048,0,"S,STAT,28"
+
+| nothing
+| -225,"Out of memory" or nothing
+| -225,"Out of memory" or nothing
+= "";0,2048
+= "";1024,1024,"S,STAT,28"
+
+The file is.
+| 0,2048 or nothing
+| -225,"Out of memory" or nothing
+| -256,"File name not found" or -225,"Out of memory" or nothing
+= "";0,2048
+"#;
 
 #[test]
 fn a_state_with_little_memory(rt: HostRuntime) {
-    let kept = [
-        "\"\";0,2048\n",
-        "\"\";1024,1024,\"S,STAT,28\"\n",
-        "\"M\";2048,0,\"S,STAT,28\"\n",
-    ];
-    let row = Row {
-        input: "MMEM:STOR:STAT 0,\"S\";:MMEM:CAT?\nMMEM:LOAD:MACR \"M\",\"S\";LOAD:STAT 2,\"S\";:MMEM:DATA \"a/b\",#10;:SYST:ERR?\nSYST:ERR?\n",
-        output: "1024,1024,\"S,STAT,28\"\n-113,\"Undefined header\"\n-257,\"File name error\"\n",
-        question: "*LMC?;:MMEM:CAT?\n",
-        stories: &[
-            Story {
-                lines: &[
-                    &["1024,1024,\"S,STAT,28\""],
-                    &["-113,\"Undefined header\""],
-                    &["-257,\"File name error\"", FAULT, ""],
-                ],
-                kept: &kept,
-            },
-            // The error's answer is refused.
-            Story {
-                lines: &[
-                    &["1024,1024,\"S,STAT,28\""],
-                    &[""],
-                    &["-113,\"Undefined header\"", ""],
-                ],
-                kept: &kept,
-            },
-            // The macro is.
-            Story {
-                lines: &[
-                    &["1024,1024,\"S,STAT,28\""],
-                    &[FAULT, ""],
-                    &["-113,\"Undefined header\"", FAULT, ""],
-                ],
-                kept: &[kept[0], kept[1]],
-            },
-            // The catalog is, and perhaps the macro.
-            Story {
-                lines: &[
-                    &[""],
-                    &[FAULT, ""],
-                    &["-113,\"Undefined header\"", FAULT, ""],
-                ],
-                kept: &kept,
-            },
-            Story {
-                lines: &[&[""], &[FAULT, ""], &[FAULT, ""]],
-                kept: &[kept[0], kept[1]],
-            },
-            // The file is.
-            Story {
-                lines: &[
-                    &["0,2048", ""],
-                    &[FAULT, ""],
-                    &["-256,\"File name not found\"", FAULT, ""],
-                ],
-                kept: &[kept[0]],
-            },
-        ],
-    };
-    row.run_with_all(&rt, rt.alloc());
+    goes_with_little_memory(&rt, rt.alloc(), A_STATE);
 }

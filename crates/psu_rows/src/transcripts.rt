@@ -5,15 +5,14 @@ use std::alloc::{AllocError, Global};
 use std::process::Abort;
 use std::test::Fail;
 
-// The lines of a transcript behind this mark, each with its end.
-fn lines_behind(alloc: Global, transcript: &str, mark: &str) -> Result<Vec<u8>, AllocError> {
+/// The lines of a transcript behind this mark, each with its end.
+pub fn lines_behind(alloc: Global, transcript: &str, mark: &str) -> Result<Vec<u8>, AllocError> {
     let mut lines = Vec::new(alloc);
-    for line in transcript
-        .split('\n')
-        .filter_map(|line| line.strip_prefix(mark))
-    {
-        lines.extend_from_slice(line.as_bytes())?;
-        lines.push(b'\n')?;
+    for row in transcript.split('\n') {
+        if let Some(line) = row.strip_prefix(mark) {
+            lines.extend_from_slice(line.as_bytes())?;
+            lines.push(b'\n')?;
+        }
     }
     Ok(lines)
 }
