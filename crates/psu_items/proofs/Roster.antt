@@ -6,6 +6,7 @@ use Rattle.psu_disk.specs.declared.disk.Disk.{Ghosts}
 use Rattle.psu_map.specs.Map.{Item, get, cost, Before, IsSorted}
 use Rattle.psu_map.specs.Capacity.{CanHold, Fits, IsMapOf}
 use Rattle.psu_map.proofs.Keys.{same_true, other_key, never_before_itself}
+use Rattle.psu_map.proofs.Maps.{all_own}
 use Rattle.psu_pages.specs.declared.pages.Pages.{Pages}
 use Rattle.psu_pages.specs.Image.{Head, IsHead, IsNone, IsInPool, AreApart, value_in, head_at, pages_of, taken, keys}
 use Rattle.psu_pages.specs.Free.{is_free, AreClaimed, IsRoster}
@@ -19,7 +20,6 @@ use Rattle.psu_items.specs.declared.slot.Slot.{Slot}
 use Rattle.psu_items.specs.Layout.{heads_of, keys_in, value_of, value_at, IsSlot, AreSlots, IsSized, StandsWritten}
 use Rattle.psu_items.proofs.Standing.{surely}
 use Rattle.psu_items.proofs.Laying.{join_pages, one_all}
-use Rattle.psu_items.proofs.Writing.{all_own}
 use Rattle.psu_items.proofs.Putting.{as_many}
 
 -- the keys of a map are apart

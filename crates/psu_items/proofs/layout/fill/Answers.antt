@@ -10,8 +10,8 @@ use Rattle.psu_items.specs.Layout.{IsOneOf, heads_of}
 use Rattle.psu_items.proofs.Keeping.{have_more}
 use Rattle.psu_items.proofs.Roster.{part_cost}
 use Rattle.psu_items.proofs.Room.{cost_more, room_left}
-use Rattle.psu_items.proofs.Writing.{all_own}
 use Rattle.psu_map.specs.Map.{Item, cost, get}
+use Rattle.psu_map.proofs.Maps.{all_own}
 use Rattle.psu_pages.specs.Image.{taken}
 use Rattle.psu_items.proofs.layout.fill.Goals as goal
 
