@@ -1,8 +1,8 @@
 -- Slots are written one by one.
-use Rattle.std.proofs.Common.{◌≡◌, ℕ, zero, suc, ◌+◌, ◌<◌, List, [], ◌∷◌, length, get_or, take, drop, map, Bool, Some, cond, refl, sym, ◌∙◌, ap, subst, arith}
+use Rattle.std.proofs.Common.{◌≡◌, ℕ, zero, suc, ◌+◌, ◌<◌, List, [], ◌∷◌, length, get_or, take, drop, map, Some, refl, sym, ◌∙◌, ap, subst, arith}
 use Rattle.std.specs.List.{AllByRecursion}
 use Rattle.std.proofs.lemmas.List.{take_more, drop_more}
-use Rattle.psu_map.specs.Map.{Item, item_of, get, Before, IsSorted}
+use Rattle.psu_map.specs.Map.{Item, item_of, get, IsSorted}
 use Rattle.psu_map.proofs.Maps.{all_own}
 use Rattle.psu_pages.specs.Image.{Head, IsNone, IsInPool, AreApart, AreClear, pages_of, taken, keys}
 use Rattle.psu_pages.specs.Shown.{item_in}
