@@ -25,7 +25,7 @@ struct Row<'a> {
 
 /// How a run ended.
 #[derive(Clone, Copy, PartialEq, Eq)]
-enum End {
+pub enum End {
     /// As where memory is ample.
     Whole,
     /// Well, with units that were refused memory.
@@ -34,8 +34,8 @@ enum End {
     Refused,
 }
 
-// What stands behind a line and its end.
-fn behind<'a>(text: &'a [u8], line: &[u8]) -> Option<&'a [u8]> {
+/// What stands behind a line and its end.
+pub fn behind<'a>(text: &'a [u8], line: &[u8]) -> Option<&'a [u8]> {
     let length = line.len();
     if length == 0 || text.len() <= length || !text.starts_with(line) || text[length] != b'\n' {
         return None;

@@ -1,12 +1,15 @@
 // Memory refused while one line is executed: each of its units that is not done has told of it, by -225 in the error queue, and
 // done nothing else. The line behind it asks for that, with memory again.
+//
+// A case is a text: the lines before, which write one line at most (`before: `), the line with little memory (`line: `), the one that asks what came
+// of it (`then: `), and all that may be written, a row each (`- `), first what is where memory is ample. ` / ` stands between two lines.
 use crate::images::least;
-use crate::memory::{arena, leave};
+use crate::memory::{End, arena, behind, leave};
 use crate::runs::{Ran, run_from};
 use bumpalo::Bump;
 use psu_disk::MemDisk;
 use psu_server::RunCause;
-use std::alloc::Global;
+use std::alloc::{AllocError, Global};
 use std::io::{self, ErrorKind, Read};
 use std::process::Abort;
 
@@ -36,23 +39,73 @@ impl Read for Rationing<'_, '_> {
     }
 }
 
-/// Lines before, which write one line at most; the line with little memory; the line that asks what came of it; and all that may be
-/// written, first what is where memory is ample.
-#[derive(Clone, Copy)]
+/// A case: its lines, what is written before the one with little memory, and its rows.
+#[derive(Drop)]
 struct Case<'a> {
-    before: &'a str,
-    line: &'a str,
-    question: &'a str,
-    told_before: &'a str,
-    outputs: &'a [&'a str],
+    before: Vec<u8>,
+    line: Vec<u8>,
+    question: Vec<u8>,
+    told_before: Vec<u8>,
+    rows: &'a str,
+}
+
+// The lines of a cell, each with its end.
+fn lines_of(alloc: Global, cell: &str) -> Result<Vec<u8>, AllocError> {
+    let mut lines = Vec::new(alloc);
+    for line in cell.split(" / ") {
+        lines.extend_from_slice(line.as_bytes())?;
+        lines.push(b'\n')?;
+    }
+    Ok(lines)
+}
+
+// What stands behind a mark at the front of a line of a case.
+fn cell<'a>(case: &'a str, mark: &str) -> &'a str {
+    for line in case.lines() {
+        if let Some(cell) = line.strip_prefix(mark) {
+            return cell;
+        }
+    }
+    ""
+}
+
+// Whether a text is what a row says; of a run that ended early, a front of that.
+fn is_written(row: &str, text: &[u8], whole: bool) -> bool {
+    let mut rest = text;
+    for line in row.split(" / ") {
+        match behind(rest, line.as_bytes()) {
+            Some(left) => rest = left,
+            None => return !whole && line.as_bytes().starts_with(rest),
+        }
+    }
+    rest.is_empty()
 }
 
 impl Case<'_> {
-    // Whether a text has all that stands before the line, and then a front of what may be written.
-    fn begins(&self, text: &[u8]) -> bool {
-        for output in self.outputs {
-            if output.as_bytes().starts_with(text) {
-                return text.starts_with(self.told_before.as_bytes());
+    // A case of a text.
+    fn of(alloc: Global, text: &str) -> Result<Case<'_>, AllocError> {
+        let told = cell(text, "told before: ");
+        let told_before = if told.is_empty() {
+            Vec::new(alloc)
+        } else {
+            lines_of(alloc, told)?
+        };
+        Ok(Case {
+            before: lines_of(alloc, cell(text, "before: "))?,
+            line: lines_of(alloc, cell(text, "line: "))?,
+            question: lines_of(alloc, cell(text, "then: "))?,
+            told_before,
+            rows: text,
+        })
+    }
+
+    // Whether a text is what one of the rows says; of a run that ended early, a front of that.
+    fn allows(&self, text: &[u8], whole: bool) -> bool {
+        for line in self.rows.lines() {
+            if let Some(row) = line.strip_prefix("- ") {
+                if is_written(row, text, whole) {
+                    return true;
+                }
             }
         }
         false
@@ -61,208 +114,180 @@ impl Case<'_> {
     // A run of the lines with so many bytes for one of them.
     fn ran_with(&self, rt: &impl Abort, alloc: Global, left: usize) -> Ran<MemDisk<Global>> {
         let arena = arena(alloc).expect(rt, "an arena");
-        let lines = [
-            self.before.as_bytes(),
-            self.line.as_bytes(),
-            self.question.as_bytes(),
-        ];
+        let image = least(alloc).expect(rt, "an image");
         let mut reader = Rationing {
             arena: &arena,
-            lines,
+            lines: [&self.before, &self.line, &self.question],
             next: 0,
             left,
         };
-        run_from(
-            alloc,
-            &arena,
-            &mut reader,
-            least(alloc).expect(rt, "an image"),
-        )
+        run_from(alloc, &arena, &mut reader, image)
     }
 
-    // Which of the outputs a text is.
-    fn output_of(&self, text: &[u8]) -> Option<usize> {
-        for (number, output) in self.outputs.iter().enumerate() {
-            if output.as_bytes() == text {
-                return Some(number);
+    // How the run ends, where it may end so: early only with all that stands before the line.
+    fn end_of(&self, text: &[u8], cause: Option<RunCause>) -> Option<End> {
+        match cause {
+            None if is_written(cell(self.rows, "- "), text, true) => Some(End::Whole),
+            None if self.allows(text, true) => Some(End::Partly),
+            Some(RunCause::Memory)
+                if self.allows(text, false) && text.starts_with(self.told_before.as_slice()) => {
+                Some(End::Refused)
             }
+            _ => None,
         }
-        None
     }
 
-    // Which of the outputs is written with so many bytes; none where the run ends for want of memory.
-    fn run_with(&self, rt: &impl Abort, alloc: Global, left: usize) -> Option<usize> {
+    // How the run ends with so many bytes for the line.
+    fn run_with(&self, rt: &impl Abort, alloc: Global, left: usize) -> End {
         let Ran {
             text,
             cause,
             disk: _,
         } = self.ran_with(rt, alloc, left);
-        let Some(cause) = cause else {
-            let number = self.output_of(text.as_slice());
-            assert!(rt; number.is_some(), "{text:?} at {left}");
-            return number;
-        };
-        assert!(rt; cause == RunCause::Memory, "at {left}");
-        assert!(rt; self.begins(text.as_slice()), "{text:?} at {left}");
-        None
+        match self.end_of(text.as_slice(), cause) {
+            Some(end) => end,
+            None => panic!(rt; "{text:?} at {left}"),
+        }
     }
 
-    // Less and less of the line's memory refused, until all of it is there.
-    fn run_with_all(&self, rt: &impl Abort, alloc: Global) {
+    // Less and less of the line's memory refused, until all of it is there: how often something was refused.
+    fn refusals(&self, rt: &impl Abort, alloc: Global) -> Option<u32> {
         let mut refused = 0u32;
         for left in (0..6_000usize).step_by(8) {
-            if self.run_with(rt, alloc, left) == Some(0) {
-                assert!(rt; refused > 0, "nothing was refused");
-                return;
+            if self.run_with(rt, alloc, left) == End::Whole {
+                return Some(refused);
             }
             refused = refused.saturating_add(1);
         }
-        panic!(rt; "it is never whole")
+        None
+    }
+}
+
+// Cases, with an empty line between two, go as they say with little memory, and as a whole once there is enough.
+fn go_with_little_memory(rt: &impl Abort, alloc: Global, cases: &str) {
+    for text in cases.split("\n\n") {
+        let case = Case::of(alloc, text).expect(rt, "memory");
+        let refused = case
+            .refusals(rt, alloc)
+            .expect(rt, "with much memory it ends as a whole");
+        assert!(rt; refused > 0, "nothing was refused in {text}");
     }
 }
 
 // An answer that is refused sets EXE (16) beside PON (128), and status byte bit 2 (4).
+const ANSWERS: &str = "
+before: *PSC 0;*SRE 32;*ESE 128;*OPC? / !POWER
+told before: 1
+line: *STB?;*ESR?;*STB?
+then: SYST:ERR:COUN?
+- 1 / 96;128;0 / 0
+- 1 / 96;128 / 1
+- 1 / 96;100 / 1
+- 1 / 96 / 2
+- 1 / 144;4 / 1
+- 1 / 144 / 2
+- 1 / 100 / 2
+- 1 / 3
+
+before: VOLT 5.25;*SAV 3;*OPC? / !POWER
+told before: 1
+line: VOLT?;*RCL 3;VOLT?
+then: SYST:ERR:COUN?;:VOLT?
+- 1 / 0.000;5.250 / 0;5.250
+- 1 / 0.000 / 1;5.250
+- 1 / 5.250 / 1;5.250
+- 1 / 2;5.250
+";
+
 #[test]
 fn answers_that_are_refused(rt: HostRuntime) {
-    let status = Case {
-        before: "*PSC 0;*SRE 32;*ESE 128;*OPC?\n!POWER\n",
-        line: "*STB?;*ESR?;*STB?\n",
-        question: "SYST:ERR:COUN?\n",
-        told_before: "1\n",
-        outputs: &[
-            "1\n96;128;0\n0\n",
-            "1\n96;128\n1\n",
-            "1\n96;100\n1\n",
-            "1\n96\n2\n",
-            "1\n144;4\n1\n",
-            "1\n144\n2\n",
-            "1\n100\n2\n",
-            "1\n3\n",
-        ],
-    };
-    status.run_with_all(&rt, rt.alloc());
-    let recalled = Case {
-        before: "VOLT 5.25;*SAV 3;*OPC?\n!POWER\n",
-        line: "VOLT?;*RCL 3;VOLT?\n",
-        question: "SYST:ERR:COUN?;:VOLT?\n",
-        told_before: "1\n",
-        outputs: &[
-            "1\n0.000;5.250\n0;5.250\n",
-            "1\n0.000\n1;5.250\n",
-            "1\n5.250\n1;5.250\n",
-            "1\n2;5.250\n",
-        ],
-    };
-    recalled.run_with_all(&rt, rt.alloc());
+    go_with_little_memory(&rt, rt.alloc(), ANSWERS);
 }
 
 // A save takes no memory, and a wait that can't end ends the run.
+const WAITS: &str = r#"
+line: VOLT 5.25;*SAV 3;*OPC?
+then: SYST:ERR:COUN?;*RCL 3;:VOLT?
+- 1 / 0;5.250
+
+line: MMEM:DATA "A",#13xyz;*OPC?
+then: SYST:ERR:COUN?;:MMEM:CAT?
+- 1 / 0;1024,1024,"A,BIN,3"
+- 1 / 1;0,2048
+- 2;0,2048
+"#;
+
 #[test]
 fn a_wait_without_memory(rt: HostRuntime) {
-    let save = Case {
-        before: "\n",
-        line: "VOLT 5.25;*SAV 3;*OPC?\n",
-        question: "SYST:ERR:COUN?;*RCL 3;:VOLT?\n",
-        told_before: "",
-        outputs: &["1\n0;5.250\n"],
-    };
-    save.run_with_all(&rt, rt.alloc());
-    let file = Case {
-        before: "\n",
-        line: "MMEM:DATA \"A\",#13xyz;*OPC?\n",
-        question: "SYST:ERR:COUN?;:MMEM:CAT?\n",
-        told_before: "",
-        outputs: &[
-            "1\n0;1024,1024,\"A,BIN,3\"\n",
-            "1\n1;0,2048\n",
-            "2;0,2048\n",
-        ],
-    };
-    file.run_with_all(&rt, rt.alloc());
+    go_with_little_memory(&rt, rt.alloc(), WAITS);
 }
 
 // A label whose definition is refused is an undefined header.
+const MACROS: &str = r#"
+line: *DMC "SETA",#17VOLT $1;*EMC 1;SETA 3;VOLT?
+then: SYST:ERR:COUN?;*LMC?;:VOLT?;:SYST:ERR?;:SYST:ERR?
+- 3.000 / 0;"SETA";3.000;0,"No error";0,"No error"
+- 1;"SETA";3.000;-225,"Out of memory";0,"No error"
+- 0.000 / 1;"SETA";0.000;-225,"Out of memory";0,"No error"
+- 2;"SETA";0.000;-225,"Out of memory";-225,"Out of memory"
+- 0.000 / 2;"";0.000;-225,"Out of memory";-113,"Undefined header"
+- 3;"";0.000;-225,"Out of memory";-113,"Undefined header"
+
+before: *DMC "SETA",#17VOLT $1;*EMC 1;SETA 3;VOLT?
+told before: 3.000
+line: *DMC "seta",#10;*LMC?;SYST:ERR?
+then: SYST:ERR:COUN?;*LMC?
+- 3.000 / "SETA";-277,"Macro redefinition not allowed" / 0;"SETA"
+- 3.000 / -277,"Macro redefinition not allowed" / 1;"SETA"
+- 3.000 / "SETA" / 2;"SETA"
+- 3.000 / 3;"SETA"
+- 3.000 / "SETA";-225,"Out of memory" / 0;"SETA"
+- 3.000 / -225,"Out of memory" / 1;"SETA"
+"#;
+
 #[test]
 fn macros_that_are_refused(rt: HostRuntime) {
-    let call = Case {
-        before: "\n",
-        line: "*DMC \"SETA\",#17VOLT $1;*EMC 1;SETA 3;VOLT?\n",
-        question: "SYST:ERR:COUN?;*LMC?;:VOLT?;:SYST:ERR?;:SYST:ERR?\n",
-        told_before: "",
-        outputs: &[
-            "3.000\n0;\"SETA\";3.000;0,\"No error\";0,\"No error\"\n",
-            "1;\"SETA\";3.000;-225,\"Out of memory\";0,\"No error\"\n",
-            "0.000\n1;\"SETA\";0.000;-225,\"Out of memory\";0,\"No error\"\n",
-            "2;\"SETA\";0.000;-225,\"Out of memory\";-225,\"Out of memory\"\n",
-            "0.000\n2;\"\";0.000;-225,\"Out of memory\";-113,\"Undefined header\"\n",
-            "3;\"\";0.000;-225,\"Out of memory\";-113,\"Undefined header\"\n",
-        ],
-    };
-    call.run_with_all(&rt, rt.alloc());
-    let again = Case {
-        before: "*DMC \"SETA\",#17VOLT $1;*EMC 1;SETA 3;VOLT?\n",
-        line: "*DMC \"seta\",#10;*LMC?;SYST:ERR?\n",
-        question: "SYST:ERR:COUN?;*LMC?\n",
-        told_before: "3.000\n",
-        outputs: &[
-            "3.000\n\"SETA\";-277,\"Macro redefinition not allowed\"\n0;\"SETA\"\n",
-            "3.000\n-277,\"Macro redefinition not allowed\"\n1;\"SETA\"\n",
-            "3.000\n\"SETA\"\n2;\"SETA\"\n",
-            "3.000\n3;\"SETA\"\n",
-            "3.000\n\"SETA\";-225,\"Out of memory\"\n0;\"SETA\"\n",
-            "3.000\n-225,\"Out of memory\"\n1;\"SETA\"\n",
-        ],
-    };
-    again.run_with_all(&rt, rt.alloc());
+    go_with_little_memory(&rt, rt.alloc(), MACROS);
 }
+
+const FILES: &str = r#"
+before: MMEM:DATA "A",#13xyz;*OPC? / !POWER
+told before: 1
+line: MMEM:DATA? "A";:MMEM:DEL "B"
+then: SYST:ERR?;:SYST:ERR:COUN?;:MMEM:CAT?
+- 1 / #13xyz / -256,"File name not found";0;1024,1024,"A,BIN,3"
+- 1 / #13xyz / -225,"Out of memory";0;1024,1024,"A,BIN,3"
+- 1 / -225,"Out of memory";1;1024,1024,"A,BIN,3"
+
+line: MMEM:STOR:STAT 0,"S";:MMEM:CAT?
+then: SYST:ERR:COUN?;:MMEM:CAT?
+- 1024,1024,"S,STAT,28" / 0;1024,1024,"S,STAT,28"
+- 1;1024,1024,"S,STAT,28"
+- 0,2048 / 1;0,2048
+- 2;0,2048
+"#;
 
 #[test]
 fn files_that_are_refused(rt: HostRuntime) {
-    let file = Case {
-        before: "MMEM:DATA \"A\",#13xyz;*OPC?\n!POWER\n",
-        line: "MMEM:DATA? \"A\";:MMEM:DEL \"B\"\n",
-        question: "SYST:ERR?;:SYST:ERR:COUN?;:MMEM:CAT?\n",
-        told_before: "1\n",
-        outputs: &[
-            "1\n#13xyz\n-256,\"File name not found\";0;1024,1024,\"A,BIN,3\"\n",
-            "1\n#13xyz\n-225,\"Out of memory\";0;1024,1024,\"A,BIN,3\"\n",
-            "1\n-225,\"Out of memory\";1;1024,1024,\"A,BIN,3\"\n",
-        ],
-    };
-    file.run_with_all(&rt, rt.alloc());
-    let state = Case {
-        before: "\n",
-        line: "MMEM:STOR:STAT 0,\"S\";:MMEM:CAT?\n",
-        question: "SYST:ERR:COUN?;:MMEM:CAT?\n",
-        told_before: "",
-        outputs: &[
-            "1024,1024,\"S,STAT,28\"\n0;1024,1024,\"S,STAT,28\"\n",
-            "1;1024,1024,\"S,STAT,28\"\n",
-            "0,2048\n1;0,2048\n",
-            "2;0,2048\n",
-        ],
-    };
-    state.run_with_all(&rt, rt.alloc());
+    go_with_little_memory(&rt, rt.alloc(), FILES);
 }
 
 // Four errors at most, in the order of their units.
+const ERRORS: &str = r#"
+before: MMEM:STOR:STAT 0,"S"
+line: MMEM:LOAD:MACR "M","S";LOAD:STAT 2,"S";:MMEM:DATA "a/b",#10;:SYST:ERR?
+then: SYST:ERR?;:SYST:ERR?;:SYST:ERR?;:SYST:ERR:COUN?;*LMC?
+- -113,"Undefined header" / -257,"File name error";0,"No error";0,"No error";0;"M"
+- -113,"Undefined header" / -225,"Out of memory";0,"No error";0,"No error";0;"M"
+- -113,"Undefined header";-257,"File name error";-225,"Out of memory";0;"M"
+- -113,"Undefined header";-225,"Out of memory";-225,"Out of memory";0;"M"
+- -225,"Out of memory" / -113,"Undefined header";-257,"File name error";0,"No error";0;""
+- -225,"Out of memory" / -113,"Undefined header";-225,"Out of memory";0,"No error";0;""
+- -225,"Out of memory";-113,"Undefined header";-257,"File name error";1;""
+- -225,"Out of memory";-113,"Undefined header";-225,"Out of memory";1;""
+"#;
+
 #[test]
 fn errors_with_little_memory(rt: HostRuntime) {
-    let loads = Case {
-        before: "MMEM:STOR:STAT 0,\"S\"\n",
-        line: "MMEM:LOAD:MACR \"M\",\"S\";LOAD:STAT 2,\"S\";:MMEM:DATA \"a/b\",#10;:SYST:ERR?\n",
-        question: "SYST:ERR?;:SYST:ERR?;:SYST:ERR?;:SYST:ERR:COUN?;*LMC?\n",
-        told_before: "",
-        outputs: &[
-            "-113,\"Undefined header\"\n-257,\"File name error\";0,\"No error\";0,\"No error\";0;\"M\"\n",
-            "-113,\"Undefined header\"\n-225,\"Out of memory\";0,\"No error\";0,\"No error\";0;\"M\"\n",
-            "-113,\"Undefined header\";-257,\"File name error\";-225,\"Out of memory\";0;\"M\"\n",
-            "-113,\"Undefined header\";-225,\"Out of memory\";-225,\"Out of memory\";0;\"M\"\n",
-            "-225,\"Out of memory\"\n-113,\"Undefined header\";-257,\"File name error\";0,\"No error\";0;\"\"\n",
-            "-225,\"Out of memory\"\n-113,\"Undefined header\";-225,\"Out of memory\";0,\"No error\";0;\"\"\n",
-            "-225,\"Out of memory\";-113,\"Undefined header\";-257,\"File name error\";1;\"\"\n",
-            "-225,\"Out of memory\";-113,\"Undefined header\";-225,\"Out of memory\";1;\"\"\n",
-        ],
-    };
-    loads.run_with_all(&rt, rt.alloc());
+    go_with_little_memory(&rt, rt.alloc(), ERRORS);
 }
