@@ -39,6 +39,35 @@ pub fn powered_on<D: Disk + Drop>(rt: &impl Abort, alloc: Global, disk: D) -> Ex
     }
 }
 
+/// A bench over a device that is powered on with what a disk holds, and its first seat.
+pub fn bench_on<D: Disk + Drop>(
+    rt: &impl Abort,
+    alloc: Global,
+    disk: D,
+) -> (Bench<D, Global>, Seat<Global>)
+    ensures { IsOf result.0 result.1 }
+{
+    match Bench::new(alloc, powered_on(rt, alloc, disk)) {
+        Ok(made) => made,
+        Err(_) => panic!(rt; "no memory"),
+    }
+}
+
+/// Opens a session.
+pub fn opened<D: Disk, R: Wait + Abort>(
+    rt: &R,
+    bench: &Bench<D, Global>,
+    seat: &mut Seat<Global>,
+) -> Session
+    requires { IsOf bench.now seat.old }
+    ensures { IsOf bench.now seat.new }
+{
+    match bench.open_session(rt, seat) {
+        Ok(session) => session,
+        Err(_) => panic!(rt; "no session"),
+    }
+}
+
 /// The request of a unit without strings and blocks.
 pub fn read(text: &[u8]) -> Request<'_> {
     let unit = Unit {
@@ -69,4 +98,18 @@ pub fn is_answer(outcome: &Outcome<Global>, want: &[u8]) -> bool {
         Outcome::Answer(text) => text.as_slice() == want,
         _ => false,
     }
+}
+
+/// Executes a unit. Whether it is done.
+pub fn is_done<D: Disk, R: Wait>(
+    rt: &R,
+    bench: &Bench<D, Global>,
+    seat: &mut Seat<Global>,
+    session: Session,
+    text: &[u8],
+) -> bool
+    requires { IsOf bench.now seat.old }
+    ensures { IsOf bench.now seat.new }
+{
+    matches!(unit(rt, bench, seat, session, text), Outcome::Done)
 }

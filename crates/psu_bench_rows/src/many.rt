@@ -2,7 +2,7 @@
 ghost use Rattle.std.specs.Prelude.{◌≡◌, ◌<◌, ◌≤◌};
 ghost use Rattle.psu_turn.specs.Seats.{IsOf};
 
-use crate::benches::{formatted, is_answer, powered_on, unit};
+use crate::benches::{bench_on, formatted, is_answer, opened, unit};
 use psu_bench::{Bench, Seat};
 use psu_disk::MemDisk;
 use psu_exec::{Outcome, Session};
@@ -66,10 +66,7 @@ fn threads<R: Threads + Wait + Sync>(
 // Sixteen threads make 6,250 calls each. Each unit is answered, and the one history has all the calls.
 #[test]
 fn sixteen_threads_make_100_000_calls(rt: HostRuntime) {
-    let exec = powered_on(&rt, rt.alloc(), formatted(&rt, rt.alloc()));
-    let Ok((bench, seat)) = Bench::new(rt.alloc(), exec) else {
-        panic!(rt; "no memory")
-    };
+    let (bench, seat) = bench_on(&rt, rt.alloc(), formatted(&rt, rt.alloc()));
     let (answers, mut seat) = threads(&rt, &bench, seat, 4);
     assert!(rt; answers == 99_968);
     assert!(rt; bench.progress(&mut seat) == 100_000);
@@ -136,13 +133,8 @@ fn closed_beside<R: Threads + Wait + Sync>(
 // It is told to come later, and nobody is harmed.
 #[test]
 fn a_session_is_closed_under_anothers_feet(rt: HostRuntime) {
-    let exec = powered_on(&rt, rt.alloc(), formatted(&rt, rt.alloc()));
-    let Ok((bench, mut seat)) = Bench::new(rt.alloc(), exec) else {
-        panic!(rt; "no memory")
-    };
-    let Ok(session) = bench.open_session(&rt, &mut seat) else {
-        panic!(rt; "no session")
-    };
+    let (bench, mut seat) = bench_on(&rt, rt.alloc(), formatted(&rt, rt.alloc()));
+    let session = opened(&rt, &bench, &mut seat);
     assert!(rt; closed_beside(&rt, &bench, &mut seat, session));
     assert!(rt; !bench.close(&rt, seat).is_open(session));
 }

@@ -2,13 +2,12 @@
 ghost use Rattle.std.specs.Prelude.{◌≡◌};
 ghost use Rattle.psu_turn.specs.Seats.{IsOf};
 
-use crate::benches::{formatted, is_answer, powered_on, read, unit};
+use crate::benches::{bench_on, formatted, is_answer, is_done, opened, read, unit};
 use crate::holds::Hold;
 use psu_bench::{Bench, Gated, Open, Point, Seat, flusher, session_worker};
 use psu_disk::{Disk, FailOnce};
 use psu_exec::{Outcome, ScpiError, Session};
 use std::alloc::Global;
-use std::process::Abort;
 use std::sync::Wait;
 use std::thread::{Threads, join};
 
@@ -73,33 +72,16 @@ fn flush<D: Disk + Drop, R: Wait>(rt: &R, bench: &Bench<D, Global>, seat: &mut S
     bench.join(seat, flushing);
 }
 
-fn opened<D: Disk, R: Wait + Abort>(
-    rt: &R,
-    bench: &Bench<D, Global>,
-    seat: &mut Seat<Global>,
-) -> Session
-    requires { IsOf bench.now seat.old }
-    ensures { IsOf bench.now seat.new }
-{
-    match bench.open_session(rt, seat) {
-        Ok(session) => session,
-        Err(_) => panic!(rt; "no session"),
-    }
-}
-
 // The flusher stands before its first page while a session is answered; the save it commits is then confirmed. It writes five times.
 #[test]
 fn a_session_is_answered_before_a_page_is_written(rt: HostRuntime) {
     let hold = Hold::new(Point::BeforeWrite);
     let disk = Gated::new(formatted(&rt, rt.alloc()), &hold);
-    let exec = powered_on(&rt, rt.alloc(), disk);
-    let Ok((bench, mut seat)) = Bench::new(rt.alloc(), exec) else {
-        panic!(rt; "no memory")
-    };
+    let (bench, mut seat) = bench_on(&rt, rt.alloc(), disk);
     let one = opened(&rt, &bench, &mut seat);
     let two = opened(&rt, &bench, &mut seat);
-    assert!(rt; matches!(unit(&rt, &bench, &mut seat, one, b"VOLT 7"), Outcome::Done));
-    assert!(rt; matches!(unit(&rt, &bench, &mut seat, one, b"*SAV 1"), Outcome::Done));
+    assert!(rt; is_done(&rt, &bench, &mut seat, one, b"VOLT 7"));
+    assert!(rt; is_done(&rt, &bench, &mut seat, one, b"*SAV 1"));
     assert!(rt; matches!(unit(&rt, &bench, &mut seat, one, b"*OPC?"), Outcome::Parked));
     let (volts, name) = beside(&rt, &bench, &mut seat, two, [b"VOLT?", b"*IDN?"], &hold);
     assert!(rt; hold.overlapped());
@@ -108,30 +90,22 @@ fn a_session_is_answered_before_a_page_is_written(rt: HostRuntime) {
     assert!(rt; bench.progress(&mut seat) >= 2);
     assert!(rt; is_answer(&bench.settle(&rt, &mut seat, one), b"1"));
     assert!(rt; hold.writes() == 5);
-    let exec = bench.close(&rt, seat);
-    assert!(rt; exec.is_flushed());
+    assert!(rt; bench.close(&rt, seat).is_flushed());
 }
 
 // A commit fails at its first call, so the store is broken; while it is opened again a save is refused, and a query answered.
 #[test]
 fn a_session_is_answered_while_a_store_is_reopened(rt: HostRuntime) {
     let hold = Hold::new(Point::BeforeRun);
-    let exec = powered_on(
-        &rt,
-        rt.alloc(),
-        FailOnce::new(formatted(&rt, rt.alloc()), 8),
-    );
-    let Ok((bench, mut seat)) = Bench::new(rt.alloc(), exec) else {
-        panic!(rt; "no memory")
-    };
+    let disk = FailOnce::new(formatted(&rt, rt.alloc()), 8);
+    let (bench, mut seat) = bench_on(&rt, rt.alloc(), disk);
     let one = opened(&rt, &bench, &mut seat);
-    assert!(rt; matches!(unit(&rt, &bench, &mut seat, one, b"*SAV 1"), Outcome::Done));
+    assert!(rt; is_done(&rt, &bench, &mut seat, one, b"*SAV 1"));
     flush(&rt, &bench, &mut seat);
     let (save, name) = beside(&rt, &bench, &mut seat, one, [b"*SAV 2", b"*IDN?"], &hold);
     assert!(rt; hold.overlapped());
     assert!(rt; matches!(save, Outcome::Error(ScpiError::StorageFault)));
     assert!(rt; is_answer(&name, b"EXAMPLE,PSU4,0,1.0"));
-    assert!(rt; matches!(unit(&rt, &bench, &mut seat, one, b"*SAV 2"), Outcome::Done));
-    let exec = bench.close(&rt, seat);
-    assert!(rt; !exec.is_flushed());
+    assert!(rt; is_done(&rt, &bench, &mut seat, one, b"*SAV 2"));
+    assert!(rt; !bench.close(&rt, seat).is_flushed());
 }

@@ -2,7 +2,7 @@
 ghost use Rattle.std.specs.Prelude.{◌≡◌};
 ghost use Rattle.psu_turn.specs.Seats.{IsOf};
 
-use crate::benches::{formatted, powered_on};
+use crate::benches::{bench_on, formatted};
 use psu_bench::{Bench, Seat};
 use psu_disk::MemDisk;
 use psu_exec::Session;
@@ -30,10 +30,7 @@ fn calls<R: Wait>(
 // One thread draws more than 2^20 tickets, and each call is counted.
 #[test]
 fn one_thread_makes_more_than_a_million_calls(rt: HostRuntime) {
-    let exec = powered_on(&rt, rt.alloc(), formatted(&rt, rt.alloc()));
-    let Ok((bench, seat)) = Bench::new(rt.alloc(), exec) else {
-        panic!(rt; "no memory")
-    };
+    let (bench, seat) = bench_on(&rt, rt.alloc(), formatted(&rt, rt.alloc()));
     let mut seat = calls(&rt, &bench, seat);
     assert!(rt; bench.progress(&mut seat) == CALLS);
     assert!(rt; !bench.close(&rt, seat).is_open(Session::at(0)));
