@@ -107,28 +107,36 @@ fn length(message: &Message<Global>, kind: u8) -> Option<u64> {
     }
 }
 
-// Whether frames are as many as told, and as long.
-fn are_as_long(alloc: Global, frames: &[u8], wanted: &str) -> Option<bool> {
+// How many frames these are, and the lengths of the first and of the last, where the last is a DataEnd and those before it are Data.
+fn lengths(alloc: Global, frames: &[u8]) -> Option<(usize, u64, u64)> {
     let messages = Channel::new(alloc).feed(frames).ok()?;
-    let (count, lengths) = wanted.split_once(" ")?;
-    let (first, last) = lengths.split_once(" ")?;
     let kind = if messages.len() == 1 { 7 } else { 6 };
-    Some(
-        count.parse() == Ok(messages.len())
-            && first.parse().ok() == length(messages.first()?, kind)
-            && last.parse().ok() == length(messages.last()?, 7),
-    )
+    let first = length(messages.first()?, kind)?;
+    let last = length(messages.last()?, 7)?;
+    Some((messages.len(), first, last))
+}
+
+// The same by a cell.
+fn told(cell: &str) -> Option<(usize, u64, u64)> {
+    let (count, rest) = cell.split_once(" ")?;
+    let (first, last) = rest.split_once(" ")?;
+    Some((count.parse().ok()?, first.parse().ok()?, last.parse().ok()?))
 }
 
 fn is_cut(alloc: Global, line: &str) -> Option<bool> {
     let (size, rest) = bracketed(line)?;
     let (length, wanted) = row(rest)?;
-    are_as_long(alloc, &frames(alloc, size, length.parse().ok()?)?, wanted)
+    let frames = frames(alloc, size, length.parse().ok()?)?;
+    Some(lengths(alloc, &frames)? == told(wanted)?)
 }
 
 #[test]
 fn answers_by_the_size_of_the_client(rt: HostRuntime) {
     for line in SIZES.lines() {
-        holds(&rt, line.is_empty() || is_cut(rt.alloc(), line) == Some(true), line);
+        holds(
+            &rt,
+            line.is_empty() || is_cut(rt.alloc(), line) == Some(true),
+            line,
+        );
     }
 }

@@ -6,7 +6,7 @@ use crate::conversations::goes_as_told;
 use crate::frames::{bare, feed_again, has_payload, leave};
 use crate::told::holds;
 use bumpalo::Bump;
-use psu_hislip::{Channel, lock_info_response, lock_response, release_response};
+use psu_hislip::{Channel, Message, lock_info_response, lock_response, release_response};
 use psu_locks::{Freed, Grant, Info, LockRefusal};
 use std::alloc::Global;
 
@@ -172,19 +172,28 @@ fn answers_of_the_locks(rt: HostRuntime) {
 const FRAMES: &[u8] = b"HS\x06\x00\x00\x00\x00\x02\x00\x00\x00\x00\x00\x00\x00\x01A\
 HS\x07\x00\x00\x00\x00\x02\x00\x00\x00\x00\x00\x00\x00\x01B";
 
-// The two frames, of which the first has begun, fed with so many bytes of memory; true where it was refused.
-fn feed_is_refused(alloc: Global, begun: usize, left: usize) -> Option<bool> {
-    let arena = Bump::try_with_capacity(alloc, 4096).ok()?;
-    let mut channel = Channel::new(&arena);
-    if begun > FRAMES.len() || !channel.feed(&FRAMES[..begun]).ok()?.is_empty() {
+// Whether the two frames are fed.
+fn are_both(messages: &[Message<&Bump>]) -> bool {
+    messages.len() == 2 && has_payload(messages.first(), b"A") && has_payload(messages.last(), b"B")
+}
+
+// The frames, of which the first has begun, fed with so many bytes of an arena; true where it was refused.
+fn rest_is_refused(arena: &Bump, begun: &[u8], rest: &[u8], left: usize) -> Option<bool> {
+    let mut channel = Channel::new(arena);
+    if !channel.feed(begun).ok()?.is_empty() {
         return None;
     }
-    leave(&arena, left)?;
-    let (messages, refused) = feed_again(&mut channel, &arena, &FRAMES[begun..])?;
-    let are_both = messages.len() == 2
-        && has_payload(messages.first(), b"A")
-        && has_payload(messages.last(), b"B");
-    are_both.then_some(refused)
+    leave(arena, left)?;
+    let (messages, refused) = feed_again(&mut channel, arena, rest)?;
+    are_both(&messages).then_some(refused)
+}
+
+fn feed_is_refused(alloc: Global, begun: usize, left: usize) -> Option<bool> {
+    if begun > FRAMES.len() {
+        return None;
+    }
+    let arena = Bump::try_with_capacity(alloc, 4096).ok()?;
+    rest_is_refused(&arena, &FRAMES[..begun], &FRAMES[begun..], left)
 }
 
 // Whether a feed is right with any memory, refused with some and not with all.
@@ -204,6 +213,10 @@ fn is_fed_again(alloc: Global, begun: usize) -> bool {
 #[test]
 fn a_refused_feed_is_fed_again(rt: HostRuntime) {
     holds(&rt, is_fed_again(rt.alloc(), 0), "nothing has come");
-    holds(&rt, is_fed_again(rt.alloc(), 7), "half of a header has come");
+    holds(
+        &rt,
+        is_fed_again(rt.alloc(), 7),
+        "half of a header has come",
+    );
     holds(&rt, is_fed_again(rt.alloc(), 16), "a header has come");
 }

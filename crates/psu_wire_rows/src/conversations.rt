@@ -107,7 +107,13 @@ fn tell(alloc: Global, core: &mut SessionCore<Global>, side: Side, cell: &str) -
     core.on(side, messages.first()?).ok()
 }
 
-fn asks(alloc: Global, core: &mut SessionCore<Global>, side: Side, cell: &str, wanted: &str) -> bool {
+fn asks(
+    alloc: Global,
+    core: &mut SessionCore<Global>,
+    side: Side,
+    cell: &str,
+    wanted: &str,
+) -> bool {
     match tell(alloc, core, side, cell) {
         Some(asked) => are_asked(alloc, &asked, wanted),
         None => false,

@@ -1,8 +1,8 @@
 // The worked examples of the grammar; expected values by its rules.
 use crate::told::holds;
 use psu_lex::{
-    Bytes, Datum, DatumClass, ScpiError, Unit, UnitFault, block, definite, expand, fixed3, number, split,
-    string, syntax,
+    Bytes, Datum, DatumClass, ScpiError, Unit, UnitFault, block, definite, expand, fixed3, number,
+    split, string, syntax,
 };
 use psu_tables::{bracketed, bytes, row, written};
 use std::alloc::Global;
@@ -89,7 +89,11 @@ fn takes_all(alloc: Global, line: &str) -> Option<bool> {
 #[test]
 fn faulty_strings_and_blocks_take_all_up_to_the_end(rt: HostRuntime) {
     for line in FAULTY_UNITS.lines() {
-        holds(&rt, line.is_empty() || takes_all(rt.alloc(), line) == Some(true), line);
+        holds(
+            &rt,
+            line.is_empty() || takes_all(rt.alloc(), line) == Some(true),
+            line,
+        );
     }
 }
 
@@ -166,7 +170,11 @@ fn are_digits(alloc: Global, line: &str) -> Option<bool> {
 #[test]
 fn numbers_of_many_digits(rt: HostRuntime) {
     for line in MANY_DIGITS.lines() {
-        holds(&rt, line.is_empty() || are_digits(rt.alloc(), line) == Some(true), line);
+        holds(
+            &rt,
+            line.is_empty() || are_digits(rt.alloc(), line) == Some(true),
+            line,
+        );
     }
 }
 
@@ -220,14 +228,22 @@ fn block_is_read(alloc: Global, line: &str) -> Option<bool> {
 #[test]
 fn strings_are_read(rt: HostRuntime) {
     for line in STRINGS.lines() {
-        holds(&rt, line.is_empty() || string_is_read(rt.alloc(), line) == Some(true), line);
+        holds(
+            &rt,
+            line.is_empty() || string_is_read(rt.alloc(), line) == Some(true),
+            line,
+        );
     }
 }
 
 #[test]
 fn blocks_are_read(rt: HostRuntime) {
     for line in BLOCKS.lines() {
-        holds(&rt, line.is_empty() || block_is_read(rt.alloc(), line) == Some(true), line);
+        holds(
+            &rt,
+            line.is_empty() || block_is_read(rt.alloc(), line) == Some(true),
+            line,
+        );
     }
 }
 
@@ -270,7 +286,11 @@ fn is_expanded(alloc: Global, line: &str) -> Option<bool> {
 #[test]
 fn macros_are_expanded(rt: HostRuntime) {
     for line in MACROS.lines() {
-        holds(&rt, line.is_empty() || is_expanded(rt.alloc(), line) == Some(true), line);
+        holds(
+            &rt,
+            line.is_empty() || is_expanded(rt.alloc(), line) == Some(true),
+            line,
+        );
     }
 }
 
@@ -298,7 +318,11 @@ fn is_definite(alloc: Global, text: &[u8], wanted: &[u8]) -> bool {
 #[test]
 fn answers_are_written(rt: HostRuntime) {
     for line in ANSWERS.lines() {
-        holds(&rt, line.is_empty() || is_answered(rt.alloc(), line) == Some(true), line);
+        holds(
+            &rt,
+            line.is_empty() || is_answered(rt.alloc(), line) == Some(true),
+            line,
+        );
     }
     assert!(rt; is_definite(rt.alloc(), b"a;b\n0123456", b"#211a;b\n0123456"));
 }

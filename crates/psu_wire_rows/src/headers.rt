@@ -75,7 +75,10 @@ fn headers_made_from_the_table(rt: HostRuntime) {
     for _ in 0..186 {
         for section in patterns() {
             for row in section.rows {
-                assert!(rt; is_defined(rt.alloc(), section, row, seed) == Some(true), "{seed}");
+                assert!(rt;
+                    is_defined(rt.alloc(), section, row, seed) == Some(true),
+                    "{seed}"
+                );
                 seed = next(seed);
                 made = made.wrapping_add(1);
             }

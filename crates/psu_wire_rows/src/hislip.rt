@@ -17,12 +17,11 @@ const END: &[u8] = b"HS\x07\x01\x00\x00\x00\x02\x00\x00\x00\x00\x00\x00\x00\x03N
 /// The one frame of the answer `a` and NL.
 const ANSWER: &[u8] = b"HS\x07\x00\x00\x00\x00\x02\x00\x00\x00\x00\x00\x00\x00\x02a\n";
 
-// Whether a feed with so many bytes of memory is refused; none where anything is wrong.
-fn feed_is_refused(alloc: Global, left: usize) -> Option<bool> {
-    let arena = Bump::try_with_capacity(alloc, 4096).ok()?;
-    leave(&arena, left)?;
-    let mut channel = Channel::new(&arena);
-    let (messages, refused) = feed_again(&mut channel, &arena, END)?;
+// Whether a feed is refused with so many bytes of an arena; none where anything is wrong.
+fn feed_is_refused(arena: &Bump, left: usize) -> Option<bool> {
+    leave(arena, left)?;
+    let mut channel = Channel::new(arena);
+    let (messages, refused) = feed_again(&mut channel, arena, END)?;
     has_payload(messages.first(), b"N?\n").then_some(refused)
 }
 
@@ -40,27 +39,9 @@ fn on<'a>(
     Some(core.on(side, messages.first()?))
 }
 
-// The same on the synchronous channel, once more with all memory where it is refused; and whether it was.
-fn on_again<'a>(
-    core: &mut SessionCore<&'a Bump>,
-    ample: &'a Bump,
-    arena: &'a Bump,
-    stream: &[u8],
-) -> Option<(Asked<'a>, bool)> {
-    match on(core, ample, Side::Sync, stream)? {
-        Ok(asked) => Some((asked, false)),
-        Err(_) => {
-            arena.set_allocation_limit(None);
-            Some((on(core, ample, Side::Sync, stream)?.ok()?, true))
-        }
-    }
-}
-
-// The core of a session that is joined, with memory of its own.
-fn joined<'a>(ample: &'a Bump, arena: &'a Bump) -> Option<SessionCore<&'a Bump>> {
-    let mut core = SessionCore::new(arena, 1);
-    on(&mut core, ample, Side::Async, JOIN)?.ok()?;
-    Some(core)
+// Whether a message is taken.
+fn takes<'a>(core: &mut SessionCore<&'a Bump>, ample: &'a Bump, side: Side, stream: &[u8]) -> bool {
+    matches!(on(core, ample, side, stream), Some(Ok(_)))
 }
 
 // Whether the transmission that BEGIN began is executed whole.
@@ -72,34 +53,53 @@ fn is_whole(actions: &[Action<&Bump>]) -> bool {
     }
 }
 
-// The same as of a feed, of the first of the two messages of a transmission.
-fn first_is_refused(alloc: Global, left: usize) -> Option<bool> {
-    let ample = Bump::try_with_capacity(alloc, 4096).ok()?;
-    let arena = Bump::try_with_capacity(alloc, 4096).ok()?;
-    let mut core = joined(&ample, &arena)?;
-    leave(&arena, left)?;
-    let (_, refused) = on_again(&mut core, &ample, &arena, BEGIN)?;
-    arena.set_allocation_limit(None);
-    let asked = on(&mut core, &ample, Side::Sync, END)?.ok()?;
-    is_whole(&asked).then_some(refused)
+// Whether it is once END comes, with all memory.
+fn ends_whole<'a>(core: &mut SessionCore<&'a Bump>, ample: &'a Bump) -> bool {
+    match on(core, ample, Side::Sync, END) {
+        Some(Ok(asked)) => is_whole(&asked),
+        _ => false,
+    }
 }
 
-// The same of the second.
-fn second_is_refused(alloc: Global, left: usize) -> Option<bool> {
-    let ample = Bump::try_with_capacity(alloc, 4096).ok()?;
-    let arena = Bump::try_with_capacity(alloc, 4096).ok()?;
-    let mut core = joined(&ample, &arena)?;
-    on(&mut core, &ample, Side::Sync, BEGIN)?.ok()?;
-    leave(&arena, left)?;
-    let (asked, refused) = on_again(&mut core, &ample, &arena, END)?;
-    is_whole(&asked).then_some(refused)
+// The core of a session that is joined, with memory of its own.
+fn joined<'a>(ample: &'a Bump, arena: &'a Bump) -> Option<SessionCore<&'a Bump>> {
+    let mut core = SessionCore::new(arena, 1);
+    if !takes(&mut core, ample, Side::Async, JOIN) {
+        return None;
+    }
+    Some(core)
+}
+
+// The same as of a feed, of the first of the two messages of a transmission.
+fn first_is_refused(ample: &Bump, arena: &Bump, left: usize) -> Option<bool> {
+    let mut core = joined(ample, arena)?;
+    leave(arena, left)?;
+    let refused = !takes(&mut core, ample, Side::Sync, BEGIN);
+    arena.set_allocation_limit(None);
+    if refused && !takes(&mut core, ample, Side::Sync, BEGIN) {
+        return None;
+    }
+    ends_whole(&mut core, ample).then_some(refused)
+}
+
+// The same of the second: it is executed at once, or where it comes again.
+fn second_is_refused(ample: &Bump, arena: &Bump, left: usize) -> Option<bool> {
+    let mut core = joined(ample, arena)?;
+    if !takes(&mut core, ample, Side::Sync, BEGIN) {
+        return None;
+    }
+    leave(arena, left)?;
+    if ends_whole(&mut core, ample) {
+        return Some(false);
+    }
+    arena.set_allocation_limit(None);
+    ends_whole(&mut core, ample).then_some(true)
 }
 
 // The same of an answer.
-fn answer_is_refused(alloc: Global, left: usize) -> Option<bool> {
-    let arena = Bump::try_with_capacity(alloc, 4096).ok()?;
-    leave(&arena, left)?;
-    let core = SessionCore::new(&arena, 1);
+fn answer_is_refused(arena: &Bump, left: usize) -> Option<bool> {
+    leave(arena, left)?;
+    let core = SessionCore::new(arena, 1);
     match core.answer(origin(2), b"a\n") {
         Ok(frames) => (frames?.as_slice() == ANSWER).then_some(false),
         Err(_) => Some(true),
@@ -108,11 +108,13 @@ fn answer_is_refused(alloc: Global, left: usize) -> Option<bool> {
 
 // The same of the step of this name.
 fn is_refused(alloc: Global, step: &str, left: usize) -> Option<bool> {
+    let ample = Bump::try_with_capacity(alloc, 4096).ok()?;
+    let arena = Bump::try_with_capacity(alloc, 4096).ok()?;
     match step {
-        "feed" => feed_is_refused(alloc, left),
-        "first message" => first_is_refused(alloc, left),
-        "second message" => second_is_refused(alloc, left),
-        _ => answer_is_refused(alloc, left),
+        "feed" => feed_is_refused(&arena, left),
+        "first message" => first_is_refused(&ample, &arena, left),
+        "second message" => second_is_refused(&ample, &arena, left),
+        _ => answer_is_refused(&arena, left),
     }
 }
 
@@ -133,7 +135,15 @@ fn is_done_again(alloc: Global, step: &str) -> bool {
 #[test]
 fn each_allocation_of_frames_refused(rt: HostRuntime) {
     holds(&rt, is_done_again(rt.alloc(), "feed"), "feed");
-    holds(&rt, is_done_again(rt.alloc(), "first message"), "first message");
-    holds(&rt, is_done_again(rt.alloc(), "second message"), "second message");
+    holds(
+        &rt,
+        is_done_again(rt.alloc(), "first message"),
+        "first message",
+    );
+    holds(
+        &rt,
+        is_done_again(rt.alloc(), "second message"),
+        "second message",
+    );
     holds(&rt, is_done_again(rt.alloc(), "answer"), "answer");
 }

@@ -39,8 +39,7 @@ fn puts(command: &Command<'_>, register: &str, wanted: &str) -> bool {
             && wanted.parse() == Ok(*bits),
         Command::Enable(Enable::EventStatus, bits) => register == "event"
             && wanted.parse() == Ok(*bits),
-        Command::Flag(Flag::PowerOnClear, on) => register == "power-on"
-            && *on == (wanted == "yes"),
+        Command::Flag(Flag::PowerOnClear, on) => register == "power-on" && *on == (wanted == "yes"),
         _ => false,
     }
 }

@@ -171,7 +171,11 @@ fn comes_first(alloc: Global, line: &str) -> Option<bool> {
 #[test]
 fn first_messages(rt: HostRuntime) {
     for line in FIRST_MESSAGES.lines() {
-        holds(&rt, line.is_empty() || comes_first(rt.alloc(), line) == Some(true), line);
+        holds(
+            &rt,
+            line.is_empty() || comes_first(rt.alloc(), line) == Some(true),
+            line,
+        );
     }
     assert!(rt; FatalCode::TooManyClients.code() == 4);
 }
