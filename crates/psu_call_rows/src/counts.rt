@@ -1,13 +1,12 @@
 // What the calls of a store cost: how often the disk is called, and how many bytes are written.
 use crate::images::formatted;
-use crate::sessions_bench::{gives_back, opened as open_session, powered_on_with, says};
-use crate::stores::{opened, stored};
+use crate::sessions_bench::{gives_back, opened as open_session, powered_on_with, says, taken};
+use crate::stores::{assigned, opened, stored};
 use psu_disk::{Disk, DiskFault, MemDisk};
-use psu_exec::Ended;
+use psu_exec::{Ended, Exec};
 use psu_items::Batch;
-use std::alloc::{AllocError, Global};
+use std::alloc::Global;
 use std::process::Abort;
-use std::test::Fail;
 
 /// A disk that counts its calls, the bytes that are read, and those that are written.
 #[derive(Drop)]
@@ -80,96 +79,115 @@ impl<D: Disk> Disk for Counted<D> {
     }
 }
 
-// An image that holds the file A of 32,768 bytes: its type and then the bytes, on 65 pages behind their head.
-fn with_file(alloc: Global) -> Result<MemDisk<Global>, Fail> {
-    let mut batch = Batch::new(alloc);
-    batch.assign([5, 65].to_vec(alloc)?, vec![in alloc; 0; 32_769]?)?;
-    let store = opened(alloc, formatted(alloc).ok_or("not formatted")?)?;
-    Ok(stored(alloc, store, batch)?.into_disk())
+type CountedDisk = Counted<MemDisk<Global>>;
+
+// A value for the file A of 32,768 bytes: its type and then the bytes.
+fn file_bytes(alloc: Global) -> Option<Vec<u8>> {
+    vec![in alloc; 0; 32_769].ok()
+}
+
+// An image that holds the file, on 65 pages behind their head.
+fn with_file(alloc: Global) -> Option<MemDisk<Global>> {
+    let batch = assigned(alloc, &[5, 65], &file_bytes(alloc)?)?;
+    let store = opened(alloc, formatted(alloc)?)?;
+    Some(stored(alloc, store, batch)?.into_disk())
 }
 
 // The enables, as `*PSC 0` keeps them on a fresh image.
-fn enables(alloc: Global) -> Result<Batch<Global>, AllocError> {
-    let mut batch = Batch::new(alloc);
-    batch.assign([1].to_vec(alloc)?, [0, 0].to_vec(alloc)?)?;
-    Ok(batch)
+fn enables(alloc: Global) -> Option<Batch<Global>> {
+    assigned(alloc, &[1], &[0, 0])
+}
+
+// Whether a disk was only read and synced once, so often and of so many bytes.
+fn is_read(disk: &CountedDisk, reads: u64, bytes: u64) -> bool {
+    disk.reads == reads && disk.bytes_read == bytes && disk.writes == 0 && disk.syncs == 1
+}
+
+// Whether an opening reads so much of an empty map.
+fn empty_is_read(alloc: Global) -> Option<bool> {
+    let disk = opened(alloc, Counted::new(formatted(alloc)?))?.into_disk();
+    Some(is_read(&disk, 2, 1_024))
+}
+
+// Whether it reads so much of the file, which is there then.
+fn file_is_read(alloc: Global) -> Option<bool> {
+    let store = opened(alloc, Counted::new(with_file(alloc)?))?;
+    let length = store.items().get(&[5, 65])?.len();
+    Some(length == 32_769 && is_read(&store.into_disk(), 68, 34_816))
 }
 
 // What an opening reads: each of so many pages once, since it has to know each of them.
 #[test]
-fn an_opening_reads_each_page_once(rt: HostRuntime) -> Result<(), Fail> {
-    let alloc = rt.alloc();
-    let disk = Counted::new(formatted(alloc).ok_or("not formatted")?);
-    let disk = opened(alloc, disk)?.into_disk();
-    assert!(rt; disk.reads == 2);
-    assert!(rt; disk.bytes_read == 1_024);
-    let store = opened(alloc, Counted::new(with_file(alloc)?))?;
-    assert!(rt; store.items().get(&[5, 65]).ok_or("no file")?.len() == 32_769);
-    let disk = store.into_disk();
-    assert!(rt; disk.reads == 68);
-    assert!(rt; disk.bytes_read == 34_816);
-    assert!(rt; disk.writes == 0);
-    assert!(rt; disk.syncs == 1);
-    Ok(())
+fn an_opening_reads_each_page_once(rt: HostRuntime) {
+    assert!(rt; empty_is_read(rt.alloc()) == Some(true));
+    assert!(rt; file_is_read(rt.alloc()) == Some(true));
 }
 
-// How often a commit beside the file writes, how many bytes, and how often it syncs. It reads nothing.
-fn cost_of(alloc: Global, batch: Batch<Global>) -> Result<(u64, u64, u64), Fail> {
+// Whether a commit beside the file writes so often and so many bytes, and syncs three times. It reads nothing.
+fn writes(alloc: Global, batch: Batch<Global>, writes: u64, bytes: u64) -> Option<bool> {
     let store = opened(alloc, Counted::new(with_file(alloc)?))?;
     let disk = stored(alloc, store, batch)?.into_disk();
-    if disk.reads != 68 {
-        return Err(Fail::from("a commit reads"));
-    }
-    Ok((
-        disk.writes,
-        disk.bytes_written,
-        disk.syncs.saturating_sub(1),
-    ))
+    Some(
+        disk.reads == 68 && disk.writes == writes && disk.bytes_written == bytes && disk.syncs == 4,
+    )
+}
+
+// Whether a small save writes so much.
+fn a_save_writes(alloc: Global) -> Option<bool> {
+    writes(alloc, enables(alloc)?, 5, 1_537)
+}
+
+// Whether the commit that drops the file does.
+fn a_removal_writes(alloc: Global) -> Option<bool> {
+    let mut batch = Batch::new(alloc);
+    batch.remove([5, 65].to_vec(alloc).ok()?).ok()?;
+    writes(alloc, batch, 3, 513)
 }
 
 // A small save writes its head, its value, a root but for its gate, and the two gates; a commit that adds no item the last three.
 #[test]
-fn a_small_save_beside_a_file(rt: HostRuntime) -> Result<(), Fail> {
-    let alloc = rt.alloc();
-    assert!(rt; cost_of(alloc, enables(alloc)?)? == (5, 1_537, 3));
-    assert!(rt; cost_of(alloc, Batch::new(alloc))? == (3, 513, 3));
-    let mut batch = Batch::new(alloc);
-    batch.remove([5, 65].to_vec(alloc)?)?;
-    assert!(rt; cost_of(alloc, batch)? == (3, 513, 3));
-    Ok(())
+fn a_small_save_beside_a_file(rt: HostRuntime) {
+    assert!(rt; a_save_writes(rt.alloc()) == Some(true));
+    assert!(rt; writes(rt.alloc(), Batch::new(rt.alloc()), 3, 513) == Some(true));
+    assert!(rt; a_removal_writes(rt.alloc()) == Some(true));
+}
+
+// Whether a save with the file as it is writes no more.
+fn a_save_with_the_file_writes(alloc: Global) -> Option<bool> {
+    let mut batch = enables(alloc)?;
+    let file = file_bytes(alloc)?;
+    batch.assign([5, 65].to_vec(alloc).ok()?, file).ok()?;
+    writes(alloc, batch, 5, 1_537)
 }
 
 // The value that an item already has is not written again.
 #[test]
-fn what_stays_is_not_written(rt: HostRuntime) -> Result<(), Fail> {
-    let alloc = rt.alloc();
-    let mut batch = enables(alloc)?;
-    batch.assign([5, 65].to_vec(alloc)?, vec![in alloc; 0; 32_769]?)?;
-    assert!(rt; cost_of(alloc, batch)? == (5, 1_537, 3));
-    Ok(())
+fn what_stays_is_not_written(rt: HostRuntime) {
+    assert!(rt; a_save_with_the_file_writes(rt.alloc()) == Some(true));
 }
 
-// The disk once the job of `*PSC 0` beside the file has run.
-fn after_a_flag(rt: &impl Abort, alloc: Global) -> Result<Counted<MemDisk<Global>>, Fail> {
+// A device runs the job of `*PSC 0`.
+fn runs(rt: &impl Abort, exec: &mut Exec<CountedDisk, Global>) {
+    let session = open_session(rt, exec, 1);
+    says(rt, exec, session, "*PSC 0", "done");
+    let job = taken(rt, exec);
+    gives_back(rt, exec, job.run(), 0);
+}
+
+// The disk once that job beside the file has run.
+fn after_a_flag(rt: &impl Abort, alloc: Global) -> Option<CountedDisk> {
     let mut exec = powered_on_with(rt, alloc, Counted::new(with_file(alloc)?));
-    let session = open_session(rt, &mut exec, 1);
-    says(rt, &mut exec, session, b"*PSC 0", b"done");
-    match exec.take() {
-        Ok(job) => gives_back(rt, &mut exec, job.run(), 0),
-        Err(_) => return Err(Fail::from("no job")),
-    }
+    runs(rt, &mut exec);
     match exec.end() {
-        Ended::Whole(store) => Ok(store.into_disk()),
-        _ => Err(Fail::from("no whole store")),
+        Ended::Whole(store) => Some(store.into_disk()),
+        _ => None,
     }
 }
 
 // The same of the execution.
 #[test]
-fn a_flag_beside_a_file(rt: HostRuntime) -> Result<(), Fail> {
-    let disk = after_a_flag(&rt, rt.alloc())?;
-    assert!(rt; disk.reads == 68);
+fn a_flag_beside_a_file(rt: HostRuntime) {
+    let disk = after_a_flag(&rt, rt.alloc()).expect(&rt, "a whole store");
+    assert!(rt; disk.reads == 68 && disk.syncs == 4);
     assert!(rt; disk.writes <= 5 && disk.bytes_written <= 2_048);
-    assert!(rt; disk.syncs == 4);
-    Ok(())
 }

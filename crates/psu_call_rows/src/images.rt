@@ -18,11 +18,6 @@ fn image(alloc: Global, size: u64, limit: u16) -> Option<MemDisk<Global>> {
     if limit < 4 || limit > 480 || size < 512 * (2 + 2 * u64::from(limit)) {
         return None;
     }
-    let Ok(disk) = MemDisk::new(alloc, size) else {
-        return None;
-    };
-    match Store::format(alloc, disk, limit) {
-        Ok(store) => Some(store.into_disk()),
-        Err(_) => None,
-    }
+    let disk = MemDisk::new(alloc, size).ok()?;
+    Some(Store::format(alloc, disk, limit).ok()?.into_disk())
 }

@@ -6,6 +6,8 @@ mod counts;
 #[cfg(test)]
 mod devices;
 #[cfg(test)]
+mod holds;
+#[cfg(test)]
 mod images;
 #[cfg(test)]
 mod outcomes;

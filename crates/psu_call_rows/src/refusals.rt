@@ -1,5 +1,7 @@
 // Each allocation of a take and of a settle refused: nothing has changed, and with memory both go on.
+use crate::holds::holds;
 use crate::images::least;
+use crate::sessions_bench;
 use crate::sessions_bench::{gives_back, opened, powered_on_with, say_all, settles};
 use bumpalo::Bump;
 use psu_disk::MemDisk;
@@ -12,10 +14,9 @@ type Power<'a> = Exec<MemDisk<Global>, &'a Bump<Global>>;
 type Taken<'a> = Job<MemDisk<Global>, &'a Bump<Global>>;
 
 fn arena(rt: &impl Abort, alloc: Global) -> Bump<Global> {
-    match Bump::try_with_capacity(alloc, 20_000) {
-        Ok(arena) => arena,
-        Err(_) => panic!(rt; "no arena"),
-    }
+    Bump::try_with_capacity(alloc, 20_000)
+        .ok()
+        .expect(rt, "an arena")
 }
 
 // A device whose memory is the arena's.
@@ -26,31 +27,25 @@ fn powered_on<'a>(rt: &impl Abort, alloc: Global, arena: &'a Bump<Global>) -> Po
 // A session with a change and a wait for it.
 fn waiting<'a>(rt: &impl Abort, exec: &mut Power<'a>) -> Session {
     let session = opened(rt, exec, 1);
-    say_all(
-        rt,
-        exec,
-        session,
-        &[(b"*PSC 0", b"done"), (b"*OPC?", b"parked")],
-    );
+    say_all(rt, exec, session, "*PSC 0 -> done\n*OPC? -> parked");
     session
 }
 
 // Takes the arena's memory but so many bytes.
 fn leave(rt: &impl Abort, arena: &Bump<Global>, left: usize) {
     arena.set_allocation_limit(Some(arena.allocated_bytes()));
-    let spare = arena.chunk_capacity();
-    assert!(rt; spare >= left, "too small an arena");
-    if spare >= left {
-        let filled = arena.try_alloc_slice_fill_clone(spare - left, 0u8).is_ok();
-        assert!(rt; filled);
-    }
+    let spare = arena
+        .chunk_capacity()
+        .checked_sub(left)
+        .expect(rt, "an ample arena");
+    let filled = arena.try_alloc_slice_fill_clone(spare, 0u8).is_ok();
+    assert!(rt; filled);
 }
 
 // What holds where memory was refused for a job: nothing has changed.
 fn is_as_before<'a>(rt: &impl Abort, exec: &mut Power<'a>, session: Session) {
-    assert!(rt; matches!(exec.condition(), Condition::Whole));
-    assert!(rt; !exec.is_flushed());
-    settles(rt, exec, session, b"parked");
+    assert!(rt; exec.condition() == Condition::Whole && !exec.is_flushed());
+    settles(rt, exec, session, "parked");
 }
 
 // Takes a job, where memory isn't refused for it; else nothing has changed.
@@ -58,7 +53,7 @@ fn taken<'a>(rt: &impl Abort, exec: &mut Power<'a>, session: Session) -> Option<
     match exec.take() {
         Ok(job) => Some(job),
         Err(cause) => {
-            assert!(rt; matches!(cause, NoJob::Memory));
+            assert!(rt; cause == NoJob::Memory);
             is_as_before(rt, exec, session);
             None
         }
@@ -68,35 +63,43 @@ fn taken<'a>(rt: &impl Abort, exec: &mut Power<'a>, session: Session) -> Option<
 // The job's end answers the wait.
 fn ends<'a>(rt: &impl Abort, exec: &mut Power<'a>, session: Session, job: Taken<'a>) {
     gives_back(rt, exec, job.run(), 1);
-    settles(rt, exec, session, b"1");
+    settles(rt, exec, session, "1");
 }
 
 // A job is taken, and its end answers the wait.
 fn flushes<'a>(rt: &impl Abort, exec: &mut Power<'a>, session: Session) {
-    match taken(rt, exec, session) {
-        Some(job) => ends(rt, exec, session, job),
-        None => panic!(rt; "no job"),
-    }
+    let job = taken(rt, exec, session).expect(rt, "a job");
+    ends(rt, exec, session, job);
 }
 
-// Whether a take with so much memory was refused; then another is not.
-fn take_is_refused(rt: &impl Abort, alloc: Global, left: usize) -> bool {
-    let arena = arena(rt, alloc);
-    let mut exec = powered_on(rt, alloc, &arena);
-    let session = waiting(rt, &mut exec);
-    leave(rt, &arena, left);
-    let first = taken(rt, &mut exec, session);
+// Whether a take with so much of the device's memory was refused; then another is not.
+fn is_refused_with<'a>(
+    rt: &impl Abort,
+    arena: &Bump<Global>,
+    exec: &mut Power<'a>,
+    left: usize,
+) -> bool {
+    let session = waiting(rt, exec);
+    leave(rt, arena, left);
+    let first = taken(rt, exec, session);
     arena.set_allocation_limit(None);
     match first {
         Some(job) => {
-            ends(rt, &mut exec, session, job);
+            ends(rt, exec, session, job);
             false
         }
         None => {
-            flushes(rt, &mut exec, session);
+            flushes(rt, exec, session);
             true
         }
     }
+}
+
+// The same on a device of its own.
+fn take_is_refused(rt: &impl Abort, alloc: Global, left: usize) -> bool {
+    let arena = arena(rt, alloc);
+    let mut exec = powered_on(rt, alloc, &arena);
+    is_refused_with(rt, &arena, &mut exec, left)
 }
 
 #[test]
@@ -107,7 +110,7 @@ fn each_allocation_of_a_take_refused(rt: HostRuntime) {
             refused = refused.saturating_add(1);
         }
     }
-    assert!(rt; refused > 0 && refused < 64, "{refused} refused");
+    holds(&rt, refused > 0 && refused < 64, &refused);
 }
 
 // Whether memory is refused for the answer of a wait that is over.
@@ -118,12 +121,15 @@ fn settle_is_refused<'a>(rt: &impl Abort, exec: &mut Power<'a>, session: Session
     matches!(exec.settle(session), Outcome::Error(ScpiError::OutOfMemory))
 }
 
-// One job, by which the session's wait is over.
-fn flush<'a>(rt: &impl Abort, exec: &mut Power<'a>) {
-    match exec.take() {
-        Ok(job) => gives_back(rt, exec, job.run(), 1),
-        Err(_) => panic!(rt; "no job"),
+// Two refusals, by which the wait stays over; with memory it is answered.
+fn stays_over<'a>(rt: &impl Abort, arena: &Bump<Global>, exec: &mut Power<'a>, session: Session) {
+    leave(rt, arena, 0);
+    for _ in 0..2 {
+        assert!(rt; settle_is_refused(rt, exec, session));
     }
+    arena.set_allocation_limit(None);
+    settles(rt, exec, session, "1");
+    settles(rt, exec, session, "done");
 }
 
 #[test]
@@ -131,13 +137,7 @@ fn the_allocation_of_a_settle_refused(rt: HostRuntime) {
     let arena = arena(&rt, rt.alloc());
     let mut exec = powered_on(&rt, rt.alloc(), &arena);
     let session = waiting(&rt, &mut exec);
-    flush(&rt, &mut exec);
-    leave(&rt, &arena, 0);
-    // Two refusals: the wait stays over.
-    for _ in 0..2 {
-        assert!(rt; settle_is_refused(&rt, &mut exec, session));
-    }
-    arena.set_allocation_limit(None);
-    settles(&rt, &mut exec, session, b"1");
-    settles(&rt, &mut exec, session, b"done");
+    let job = sessions_bench::taken(&rt, &mut exec);
+    gives_back(&rt, &mut exec, job.run(), 1);
+    stays_over(&rt, &arena, &mut exec, session);
 }

@@ -2,10 +2,12 @@
 ghost use Rattle.std.specs.Prelude.{◌≡◌, true};
 ghost use Rattle.psu_exec.specs.Device.{is_open};
 
+use crate::holds::holds;
 use crate::images::formatted;
 use psu_disk::{Disk, MemDisk};
 use psu_exec::{
-    Exec, Finished, Freed, Grant, Kind, LockRefusal, LockString, NoJob, Outcome, Session, Sessions,
+    Exec, Finished, Freed, Grant, Job, Kind, LockRefusal, LockString, NoJob, Outcome, Session,
+    Sessions,
 };
 use psu_items::Store;
 use psu_lex::Unit;
@@ -16,23 +18,14 @@ use std::process::Abort;
 /// A device on a disk in memory.
 pub type Power = Exec<MemDisk<Global>, Global>;
 
-/// A unit, and what is said of it: its answer, or the name of another outcome.
-pub type Row<'a> = (&'a [u8], &'a [u8]);
-
 /// A device that is powered on with what a disk holds.
 pub fn powered_on_with<D: Disk + Drop, A: Allocator + Copy>(
     rt: &impl Abort,
     alloc: A,
     disk: D,
 ) -> Exec<D, A> {
-    let store = match Store::open(alloc, disk) {
-        Ok(store) => store,
-        Err(_) => panic!(rt; "not opened"),
-    };
-    match Exec::power_on(alloc, store) {
-        Ok(exec) => exec,
-        Err(_) => panic!(rt; "no power-on"),
-    }
+    let store = Store::open(alloc, disk).ok().expect(rt, "a store");
+    Exec::power_on(alloc, store).ok().expect(rt, "a power-on")
 }
 
 /// A device that is powered on with fresh contents.
@@ -88,40 +81,70 @@ fn said<A: Allocator + Copy>(outcome: &Outcome<A>) -> &[u8] {
     }
 }
 
-/// Executes a unit, and looks at what is said of it.
-pub fn says<D: Disk, A: Allocator + Copy>(
+/// Whether this is said of a unit: its answer, or the name of another outcome.
+pub fn is_said<D: Disk, A: Allocator + Copy>(
     rt: &impl Abort,
     exec: &mut Exec<D, A>,
     session: Session,
     text: &[u8],
     want: &[u8],
-) {
-    let outcome = unit(rt, exec, session, text);
-    assert!(rt; said(&outcome) == want, "at {text:?}");
+) -> bool {
+    said(&unit(rt, exec, session, text)) == want
 }
 
-/// Executes units one after another.
+/// Executes a unit, of which this is said.
+pub fn says<D: Disk, A: Allocator + Copy>(
+    rt: &impl Abort,
+    exec: &mut Exec<D, A>,
+    session: Session,
+    text: &str,
+    want: &str,
+) {
+    let is_so = is_said(rt, exec, session, text.as_bytes(), want.as_bytes());
+    holds(rt, is_so, &text);
+}
+
+/// Executes units one after another, each a line with what is said of it: `*PSC 0 -> done`.
 pub fn say_all<D: Disk, A: Allocator + Copy>(
     rt: &impl Abort,
     exec: &mut Exec<D, A>,
     session: Session,
-    rows: &[Row<'_>],
+    units: &str,
 ) {
-    for (text, want) in rows {
+    for line in units.lines() {
+        let (text, want) = line.split_once(" -> ").expect(rt, "what is said");
         says(rt, exec, session, text, want);
     }
 }
 
-/// Settles a session's wait, and looks at what is said of it.
-pub fn settles<D: Disk, A: Allocator + Copy>(
+/// Whether a session's wait comes to this.
+pub fn is_settled<D: Disk, A: Allocator + Copy>(
     rt: &impl Abort,
     exec: &mut Exec<D, A>,
     session: Session,
     want: &[u8],
-) {
+) -> bool {
     look(rt, exec, session);
-    let outcome = exec.settle(session);
-    assert!(rt; said(&outcome) == want);
+    said(&exec.settle(session)) == want
+}
+
+/// Settles a session's wait, of which this is said.
+pub fn settles<D: Disk, A: Allocator + Copy>(
+    rt: &impl Abort,
+    exec: &mut Exec<D, A>,
+    session: Session,
+    want: &str,
+) {
+    let is_so = is_settled(rt, exec, session, want.as_bytes());
+    holds(rt, is_so, &want);
+}
+
+/// The job that there is.
+pub fn taken<D: Disk + Drop, A: Allocator + Copy>(
+    rt: &impl Abort,
+    exec: &mut Exec<D, A>,
+) -> Job<D, A> {
+    exec.take().ok().expect(rt, "a job")
 }
 
 /// Hands the end of a job back, by which so many sessions' waits are over.
@@ -131,23 +154,26 @@ pub fn gives_back<D: Disk + Drop, A: Allocator + Copy>(
     finished: Finished<D, A>,
     over: usize,
 ) {
-    match exec.give_back(finished) {
-        Ok(sessions) => assert!(rt; sessions.as_slice().len() == over),
-        Err(_) => panic!(rt; "a stranger"),
-    }
+    let sessions = exec.give_back(finished).ok().expect(rt, "no stranger");
+    assert!(rt; sessions.as_slice().len() == over);
 }
 
 /// Executes a unit that is done without an answer.
-pub fn does(rt: &impl Abort, exec: &mut Power, session: Session, text: &[u8]) {
-    says(rt, exec, session, text, b"done");
+pub fn does(rt: &impl Abort, exec: &mut Power, session: Session, text: &str) {
+    says(rt, exec, session, text, "done");
+}
+
+/// Whether one job goes well from its take to its end, or there is nothing to do.
+pub fn is_flushed<D: Disk + Drop>(exec: &mut Exec<D, Global>) -> bool {
+    match exec.take() {
+        Ok(job) => exec.give_back(job.run()).is_ok(),
+        Err(cause) => cause == NoJob::Nothing,
+    }
 }
 
 /// One job, from its take to its end; none where there is nothing to do.
 pub fn flush<D: Disk + Drop>(rt: &impl Abort, exec: &mut Exec<D, Global>) {
-    match exec.take() {
-        Ok(job) => assert!(rt; exec.give_back(job.run()).is_ok()),
-        Err(cause) => assert!(rt; matches!(cause, NoJob::Nothing)),
-    }
+    assert!(rt; is_flushed(exec));
 }
 
 /// A shared lock under a string.
@@ -210,4 +236,10 @@ pub fn sent<D: Disk>(rt: &impl Abort, exec: &mut Exec<D, Global>, session: Sessi
 pub fn delivered<D: Disk>(rt: &impl Abort, exec: &mut Exec<D, Global>, session: Session) {
     look(rt, exec, session);
     exec.delivered(session);
+}
+
+/// What a session waits for and has to say is dropped.
+pub fn clear<D: Disk>(rt: &impl Abort, exec: &mut Exec<D, Global>, session: Session) {
+    look(rt, exec, session);
+    exec.clear(session);
 }

@@ -9,6 +9,7 @@
 // | `1 asks 68`, `1 asks nothing` | the request for service that goes out now |
 // | `1 polls 68` | the status byte of a status query |
 // | `1 sent`, `1 delivered` | an answer was sent, was delivered |
+// | `1 clears` | what it waits for is dropped |
 // | `1 closes`, `1 closes and grants 4` | it ends, and these sessions are then granted a lock |
 // | `1 shares` | it asks for the shared lock under `k`, and is granted it |
 // | `1 locks at 0 for 10 -> queued` | it asks for the exclusive lock: a moment and how long it waits, in milliseconds |
@@ -17,39 +18,48 @@
 // | `full` | no other session can open |
 // | `flush` | one job, from its take to its end |
 // | `news 1 2; work`, `news none; rest` | the sessions that asked for service since, and whether there is something to flush |
+use crate::holds::holds;
 use crate::sessions_bench::{
-    close, delivered, flush, lock, opened, polled, powered_on, release, requested, says, sent,
-    settles, shared,
+    clear, close, delivered, is_flushed, is_said, is_settled, lock, polled, powered_on, release,
+    requested, sent, shared,
 };
 use psu_disk::Disk;
 use psu_exec::{Exec, Freed, Grant, Kind, LockRefusal, Session, Sessions};
 use std::alloc::Global;
 use std::process::Abort;
-use std::test::Fail;
 
 // A number that is written in a step.
-fn number(word: &str) -> Result<u32, Fail> {
-    Ok(word.trim().parse().map_err(|_| "no number")?)
+fn number(word: &str) -> Option<u32> {
+    word.trim().parse().ok()
 }
 
 // A byte that is written in a step.
-fn byte(word: &str) -> Result<u8, Fail> {
-    Ok(word.trim().parse().map_err(|_| "no byte")?)
+fn byte(word: &str) -> Option<u8> {
+    word.trim().parse().ok()
 }
 
 // The session of a number.
-fn session(word: &str) -> Result<Session, Fail> {
-    Ok(Session::new(byte(word)?).ok_or("no session")?)
+fn session(word: &str) -> Option<Session> {
+    Session::new(byte(word)?)
 }
 
-// Looks at the numbers of sessions.
-fn are(rt: &impl Abort, sessions: &Sessions, wanted: &str) -> Result<(), Fail> {
+// Whether a session has this number.
+fn is_numbered(session: Option<&Session>, number: u8) -> bool {
+    match session {
+        Some(session) => session.number() == number,
+        None => false,
+    }
+}
+
+// Whether sessions are those of these numbers.
+fn are(sessions: &Sessions, wanted: &str) -> Option<bool> {
     let mut sessions = sessions.as_slice().iter();
     for word in wanted.split_whitespace() {
-        assert!(rt; sessions.next().map(|session| session.number()) == Some(byte(word)?));
+        if !is_numbered(sessions.next(), byte(word)?) {
+            return Some(false);
+        }
     }
-    assert!(rt; sessions.next().is_none(), "more than {wanted}");
-    Ok(())
+    Some(sessions.next().is_none())
 }
 
 // How what comes of a request for a lock is called.
@@ -64,19 +74,26 @@ fn called(granted: Result<Grant, LockRefusal>) -> &'static str {
     }
 }
 
+// How a lock that is given up is called.
+fn freed_as(freed: Freed) -> &'static str {
+    match freed {
+        Freed::Exclusive => "exclusive",
+        Freed::Shared => "shared",
+    }
+}
+
 // The request for service that goes out now.
 fn asks<D: Disk>(
     rt: &impl Abort,
     exec: &mut Exec<D, Global>,
     session: Session,
     wanted: &str,
-) -> Result<(), Fail> {
-    let wanted = match wanted {
-        "nothing" => None,
-        _ => Some(byte(wanted)?),
-    };
-    assert!(rt; requested(rt, exec, session) == wanted);
-    Ok(())
+) -> Option<bool> {
+    let asked = requested(rt, exec, session);
+    if wanted == "nothing" {
+        return Some(asked.is_none());
+    }
+    Some(asked == Some(byte(wanted)?))
 }
 
 // The exclusive lock, asked for at a moment: `at 0 for 10 -> queued`.
@@ -85,22 +102,18 @@ fn locks<D: Disk>(
     exec: &mut Exec<D, Global>,
     session: Session,
     doing: &str,
-) -> Result<(), Fail> {
-    let (asked, wanted) = doing.split_once(" -> ").ok_or("what comes of it?")?;
-    let (now, timeout) = asked
-        .trim_start_matches("at ")
-        .split_once(" for ")
-        .ok_or("when?")?;
-    let granted = lock(
-        rt,
-        exec,
-        session,
-        Kind::Exclusive,
-        u64::from(number(now)?),
-        number(timeout)?,
-    );
-    assert!(rt; called(granted) == wanted);
-    Ok(())
+) -> Option<bool> {
+    let (asked, wanted) = doing.split_once(" -> ")?;
+    let (now, timeout) = asked.trim_start_matches("at ").split_once(" for ")?;
+    let now = u64::from(number(now)?);
+    let granted = lock(rt, exec, session, Kind::Exclusive, now, number(timeout)?);
+    Some(called(granted) == wanted)
+}
+
+// The shared lock under `k`.
+fn shares<D: Disk>(rt: &impl Abort, exec: &mut Exec<D, Global>, session: Session) -> bool {
+    let kind = shared(rt, b"k");
+    called(lock(rt, exec, session, kind, 0, 0)) == "granted"
 }
 
 // A lock is given up: `exclusive; granted 3`, or `nothing`.
@@ -109,33 +122,56 @@ fn releases<D: Disk>(
     exec: &mut Exec<D, Global>,
     session: Session,
     wanted: &str,
-) -> Result<(), Fail> {
+) -> Option<bool> {
     let (what, granted) = wanted.split_once("; granted ").unwrap_or((wanted, ""));
     match release(rt, exec, session) {
-        Ok((Freed::Exclusive, sessions)) => {
-            assert!(rt; what == "exclusive");
-            are(rt, &sessions, granted)
-        }
-        Ok((Freed::Shared, sessions)) => {
-            assert!(rt; what == "shared");
-            are(rt, &sessions, granted)
-        }
-        Err(_) => {
-            assert!(rt; what == "nothing");
-            Ok(())
-        }
+        Ok((freed, sessions)) => Some(freed_as(freed) == what && are(&sessions, granted)?),
+        Err(_) => Some(what == "nothing"),
     }
 }
 
-// A session ends: `granted 4`, or nothing.
+// A session ends: `and grants 4`, or nothing.
 fn closes<D: Disk>(
     rt: &impl Abort,
     exec: &mut Exec<D, Global>,
     session: Session,
     wanted: &str,
-) -> Result<(), Fail> {
+) -> Option<bool> {
     let granted = wanted.strip_prefix("and grants ").unwrap_or("");
-    are(rt, &close(rt, exec, session), granted)
+    are(&close(rt, exec, session), granted)
+}
+
+// What a session does with locks, and how it ends.
+fn locks_or_closes<D: Disk>(
+    rt: &impl Abort,
+    exec: &mut Exec<D, Global>,
+    session: Session,
+    word: &str,
+    rest: &str,
+) -> Option<bool> {
+    match word {
+        "shares" => Some(shares(rt, exec, session)),
+        "locks" => locks(rt, exec, session, rest),
+        "releases" => releases(rt, exec, session, rest),
+        "closes" => closes(rt, exec, session, rest),
+        _ => None,
+    }
+}
+
+// What becomes of an answer of a session, and of its wait. None where it is another step.
+fn is_told<D: Disk>(
+    rt: &impl Abort,
+    exec: &mut Exec<D, Global>,
+    session: Session,
+    word: &str,
+) -> Option<bool> {
+    match word {
+        "sent" => sent(rt, exec, session),
+        "delivered" => delivered(rt, exec, session),
+        "clears" => clear(rt, exec, session),
+        _ => return None,
+    }
+    Some(true)
 }
 
 // What a session does but for its units.
@@ -144,49 +180,48 @@ fn does<D: Disk>(
     exec: &mut Exec<D, Global>,
     session: Session,
     doing: &str,
-) -> Result<(), Fail> {
+) -> Option<bool> {
     let (word, rest) = doing.split_once(" ").unwrap_or((doing, ""));
     match word {
-        "asks" => asks(rt, exec, session, rest)?,
-        "polls" => assert!(rt; polled(rt, exec, session) == byte(rest)?),
-        "sent" => sent(rt, exec, session),
-        "delivered" => delivered(rt, exec, session),
-        "settles" => settles(rt, exec, session, rest.trim_start_matches("-> ").as_bytes()),
-        "shares" => assert!(rt;
-            called(lock(rt, exec, session, shared(rt, b"k"), 0, 0)) == "granted"
-        ),
-        "locks" => locks(rt, exec, session, rest)?,
-        "releases" => releases(rt, exec, session, rest)?,
-        "closes" => closes(rt, exec, session, rest)?,
-        _ => return Err(Fail::from("no step of a session")),
+        "asks" => asks(rt, exec, session, rest),
+        "polls" => Some(polled(rt, exec, session) == byte(rest)?),
+        "settles" => {
+            let wanted = rest.trim_start_matches("-> ");
+            Some(is_settled(rt, exec, session, wanted.as_bytes()))
+        }
+        "sent" | "delivered" | "clears" => is_told(rt, exec, session, word),
+        _ => locks_or_closes(rt, exec, session, word, rest),
     }
-    Ok(())
 }
 
-// The news: `news 1 2; work`.
-fn has_news<D: Disk>(
-    rt: &impl Abort,
-    exec: &mut Exec<D, Global>,
-    wanted: &str,
-) -> Result<(), Fail> {
-    let (sessions, work) = wanted.split_once(";").ok_or("no news")?;
+// The news: `1 2; work`.
+fn has_news<D: Disk>(exec: &mut Exec<D, Global>, wanted: &str) -> Option<bool> {
+    let (sessions, work) = wanted.split_once("; ")?;
     let (asking, more) = exec.news();
-    are(rt, &asking, sessions.trim_start_matches("none"))?;
-    assert!(rt; more == (work == " work"));
-    Ok(())
+    Some(are(&asking, sessions.trim_start_matches("none"))? && more == (work == "work"))
+}
+
+// Whether the next deadline is the one that is written, or `none`.
+fn is_due<D: Disk>(exec: &Exec<D, Global>, wanted: &str) -> Option<bool> {
+    let due = exec.next_deadline();
+    if wanted == "none" {
+        return Some(due.is_none());
+    }
+    Some(due == Some(u128::from(number(wanted)?)))
 }
 
 // A moment: `20 fails 2; next 30`.
-fn ticks<D: Disk>(rt: &impl Abort, exec: &mut Exec<D, Global>, wanted: &str) -> Result<(), Fail> {
-    let (now, rest) = wanted.split_once(" fails").ok_or("no moment")?;
-    let (failed, due) = rest.split_once("; next ").ok_or("no deadline")?;
-    are(rt, &exec.tick(u64::from(number(now)?)), failed)?;
-    let due = match due {
-        "none" => None,
-        _ => Some(u128::from(number(due)?)),
-    };
-    assert!(rt; exec.next_deadline() == due);
-    Ok(())
+fn ticks<D: Disk>(exec: &mut Exec<D, Global>, wanted: &str) -> Option<bool> {
+    let (now, rest) = wanted.split_once(" fails")?;
+    let (failed, due) = rest.split_once("; next ")?;
+    let sessions = exec.tick(u64::from(number(now)?));
+    Some(are(&sessions, failed)? && is_due(exec, due)?)
+}
+
+// Whether a session opens that has this number.
+fn opens<D: Disk>(exec: &mut Exec<D, Global>, wanted: &str) -> Option<bool> {
+    let session = exec.open_session().ok()?;
+    Some(session.number() == byte(wanted)?)
 }
 
 // What the device does.
@@ -195,62 +230,51 @@ fn steps<D: Disk + Drop>(
     exec: &mut Exec<D, Global>,
     word: &str,
     rest: &str,
-) -> Result<(), Fail> {
+) -> Option<bool> {
     match word {
-        "open" => {
-            opened(rt, exec, byte(rest)?);
-        }
-        "flush" => flush(rt, exec),
-        "news" => has_news(rt, exec, rest)?,
-        "tick" => ticks(rt, exec, rest)?,
-        "full" => assert!(rt; exec.open_session().is_err()),
-        _ => does(rt, exec, session(word)?, rest)?,
+        "open" => opens(exec, rest),
+        "flush" => Some(is_flushed(exec)),
+        "news" => has_news(exec, rest),
+        "tick" => ticks(exec, rest),
+        "full" => Some(exec.open_session().is_err()),
+        _ => does(rt, exec, session(word)?, rest),
     }
-    Ok(())
 }
 
-// A step: a unit of a session with what is said of it, or another.
-fn step<D: Disk + Drop>(
+// A unit of a session with what is said of it: `*SRE 4 -> done`.
+fn executes<D: Disk>(
     rt: &impl Abort,
     exec: &mut Exec<D, Global>,
-    line: &str,
-) -> Result<(), Fail> {
+    session: Session,
+    doing: &str,
+) -> Option<bool> {
+    let (unit, wanted) = doing.split_once(" -> ")?;
+    Some(is_said(rt, exec, session, unit.as_bytes(), wanted.as_bytes()))
+}
+
+// Whether what comes of a step is what it says: of a unit, or of another. None where it is no step.
+fn step<D: Disk + Drop>(rt: &impl Abort, exec: &mut Exec<D, Global>, line: &str) -> Option<bool> {
     let (word, rest) = line.split_once(" ").unwrap_or((line, ""));
     match word.strip_suffix(":") {
-        Some(number) => {
-            let (unit, wanted) = rest.split_once(" -> ").ok_or("what comes of it?")?;
-            says(
-                rt,
-                exec,
-                session(number)?,
-                unit.as_bytes(),
-                wanted.as_bytes(),
-            );
-            Ok(())
-        }
+        Some(number) => executes(rt, exec, session(number)?, rest),
         None => steps(rt, exec, word, rest),
     }
 }
 
 /// Plays a script on a device. An empty line and one that begins with `#` say nothing.
-pub fn play_on<D: Disk + Drop>(
-    rt: &impl Abort,
-    exec: &mut Exec<D, Global>,
-    script: &str,
-) -> Result<(), Fail> {
+pub fn play_on<D: Disk + Drop>(rt: &impl Abort, exec: &mut Exec<D, Global>, script: &str) {
     let mut steps = 0u32;
     for line in script.lines() {
         if !line.is_empty() && !line.starts_with("#") {
-            step(rt, exec, line)?;
+            holds(rt, step(rt, exec, line) == Some(true), &line);
             steps = steps.saturating_add(1);
         }
     }
-    assert!(rt; steps > 0, "no step");
-    Ok(())
+    assert!(rt; steps > 0);
 }
 
 /// Plays a script on a fresh device.
-pub fn play(rt: &impl Abort, alloc: Global, script: &str) -> Result<(), Fail> {
+pub fn play(rt: &impl Abort, alloc: Global, script: &str) {
     let mut exec = powered_on(rt, alloc);
-    play_on(rt, &mut exec, script)
+    play_on(rt, &mut exec, script);
 }

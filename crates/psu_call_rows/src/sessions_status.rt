@@ -1,6 +1,5 @@
 // What sessions are told: message available, the latch of each session, its service requests (IEEE 488.2, chapter 11).
 use crate::sessions_script::play;
-use std::test::Fail;
 
 // The error queue is bit 2: a request for service is made once for each time that the bit goes from 0 to 1.
 const AN_ERROR: &str = "
@@ -34,8 +33,8 @@ open 2
 ";
 
 #[test]
-fn an_error_asks_for_service_once(rt: HostRuntime) -> Result<(), Fail> {
-    play(&rt, rt.alloc(), AN_ERROR)
+fn an_error_asks_for_service_once(rt: HostRuntime) {
+    play(&rt, rt.alloc(), AN_ERROR);
 }
 
 // A request that was not fetched goes out though no enabled bit is left: with the byte as it is then, bit 6 set.
@@ -50,8 +49,8 @@ open 1
 ";
 
 #[test]
-fn an_unfetched_request_goes_out(rt: HostRuntime) -> Result<(), Fail> {
-    play(&rt, rt.alloc(), UNFETCHED)
+fn an_unfetched_request_goes_out(rt: HostRuntime) {
+    play(&rt, rt.alloc(), UNFETCHED);
 }
 
 // Each other way that a latch is set.
@@ -84,8 +83,8 @@ open 1
 ";
 
 #[test]
-fn every_enabled_bit_asks_for_service(rt: HostRuntime) -> Result<(), Fail> {
-    play(&rt, rt.alloc(), ENABLED_BITS)
+fn every_enabled_bit_asks_for_service(rt: HostRuntime) {
+    play(&rt, rt.alloc(), ENABLED_BITS);
 }
 
 // Operation complete: the end of a job sets the event.
@@ -105,8 +104,8 @@ news none; rest
 ";
 
 #[test]
-fn a_flush_asks_for_service(rt: HostRuntime) -> Result<(), Fail> {
-    play(&rt, rt.alloc(), COMPLETE)
+fn a_flush_asks_for_service(rt: HostRuntime) {
+    play(&rt, rt.alloc(), COMPLETE);
 }
 
 // MAV is each session's own, in its status byte and in its latch.
@@ -133,8 +132,8 @@ open 2
 ";
 
 #[test]
-fn a_message_is_available_to_its_session(rt: HostRuntime) -> Result<(), Fail> {
-    play(&rt, rt.alloc(), AVAILABLE)
+fn a_message_is_available_to_its_session(rt: HostRuntime) {
+    play(&rt, rt.alloc(), AVAILABLE);
 }
 
 // A session that opens while an enabled bit is set asks for service; its number inherits nothing.
@@ -169,6 +168,6 @@ news none; rest
 ";
 
 #[test]
-fn a_session_that_opens_asks_for_service(rt: HostRuntime) -> Result<(), Fail> {
-    play(&rt, rt.alloc(), OPENS)
+fn a_session_that_opens_asks_for_service(rt: HostRuntime) {
+    play(&rt, rt.alloc(), OPENS);
 }

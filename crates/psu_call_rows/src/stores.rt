@@ -1,18 +1,15 @@
-// Stores for an execution: one that an opening gives, and one whose items are told.
+// Stores for an execution: one that an opening gives, and one whose items are told. None where something hinders it.
 ghost use Rattle.std.specs.Prelude.{IsTrue};
+ghost use Rattle.psu_map.specs.Batch.{changed};
 ghost use Rattle.psu_map.specs.Capacity.{CanHold, Fits};
 
 use psu_disk::Disk;
 use psu_items::{Batch, Commit, Items, Pair, Store};
 use std::alloc::Global;
-use std::test::Fail;
 
 /// The store that an opening gives.
-pub fn opened<D: Disk + Drop>(alloc: Global, disk: D) -> Result<Store<D, Global>, Fail> {
-    match Store::open(alloc, disk) {
-        Ok(store) => Ok(store),
-        Err(_) => Err(Fail::from("not opened")),
-    }
+pub fn opened<D: Disk + Drop>(alloc: Global, disk: D) -> Option<Store<D, Global>> {
+    Store::open(alloc, disk).ok()
 }
 
 // Whether an image can hold an item.
@@ -32,18 +29,36 @@ fn can_hold(limit: u16, items: &Items<Global>) -> bool
     items.cost() <= u128::from(limit) && pairs.len() <= 240 && pairs.iter().all(fits)
 }
 
+// Whether the image of a store can hold the map after a batch.
+fn takes<D: Disk>(alloc: Global, store: &Store<D, Global>, batch: &Batch<Global>) -> bool
+    ensures { IsTrue result → CanHold store.now.limit (changed store.now.items batch.now) }
+{
+    match store.items().changed(alloc, batch) {
+        Ok(target) => can_hold(store.limit(), &target),
+        Err(_) => false,
+    }
+}
+
 /// The store after a commit that nothing hinders.
 pub fn stored<D: Disk + Drop>(
     alloc: Global,
     store: Store<D, Global>,
     batch: Batch<Global>,
-) -> Result<Store<D, Global>, Fail> {
-    let target = store.items().changed(alloc, &batch)?;
-    if !can_hold(store.limit(), &target) {
-        return Err(Fail::from("more than the image can hold"));
+) -> Option<Store<D, Global>> {
+    if !takes(alloc, &store, &batch) {
+        return None;
     }
     match store.commit(alloc, batch) {
-        Commit::Stored(store) => Ok(store),
-        _ => Err(Fail::from("not stored")),
+        Commit::Stored(store) => Some(store),
+        _ => None,
     }
+}
+
+/// A batch of one edit.
+pub fn assigned(alloc: Global, key: &[u8], value: &[u8]) -> Option<Batch<Global>> {
+    let mut batch = Batch::new(alloc);
+    let key = key.to_vec(alloc).ok()?;
+    let value = value.to_vec(alloc).ok()?;
+    batch.assign(key, value).ok()?;
+    Some(batch)
 }

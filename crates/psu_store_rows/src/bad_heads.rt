@@ -1,12 +1,9 @@
 // Heads that are refused, and heads that are good to the last: keys, lengths, counts and pages.
-use crate::bad_roots::{are_found, found};
-use crate::spelled::{head, put, root};
+use crate::bad_roots::{IMAGE, SIZE, are_found, found};
+use crate::spelled::{put, put_word, spelled};
 use psu_disk::MemDisk;
 use psu_items::OpenCause;
 use std::alloc::Global;
-use std::test::Fail;
-
-const BAD: Result<usize, OpenCause> = Err(OpenCause::BadRoot);
 
 // The head on page 3, which says: a key of one byte, the value's length, how many pages, which.
 const WORDS_OF_A_HEAD: &str = "
@@ -46,76 +43,80 @@ What stands behind a head's words, and behind a value, is not looked at.
 ";
 
 #[test]
-fn the_words_of_a_head(rt: HostRuntime) -> Result<(), Fail> {
-    are_found(&rt, rt.alloc(), WORDS_OF_A_HEAD)
+fn the_words_of_a_head(rt: HostRuntime) {
+    are_found(&rt, rt.alloc(), SIZE, IMAGE, WORDS_OF_A_HEAD);
 }
 
-// An image of limit 100 with one item on the pages from 2 on.
-fn with_one(alloc: Global, key: &[u8], size: u32, count: u16) -> Result<MemDisk<Global>, Fail> {
-    let mut pages = Vec::new(alloc);
-    for page in 0..count {
-        pages.push(page.saturating_add(3))?;
-    }
-    let mut disk = MemDisk::new(alloc, 103_424)?;
-    put(&mut disk, 0, &root(alloc, 0xa5, 100, 1, &[2])?)?;
-    put(&mut disk, 1_024, &head(alloc, key, size, &pages)?)?;
-    Ok(disk)
-}
+// How many bytes an image of limit 100 takes.
+const GREAT: u64 = 103_424;
+
+// An image of limit 100 with one head, on page 2. The words behind it are the pages from 3 to 68 where its key has 65 bytes.
+const ONE_HEAD: &str = "
+0: a5 'PSU 00 02 00 64 00*7 01 00 01 00 02;
+1096: 00 03 00 04 00 05 00 06 00 07 00 08 00 09 00 0a 00 0b 00 0c 00 0d 00 0e 00 0f 00 10 00 11 00 12;
+1128: 00 13 00 14 00 15 00 16 00 17 00 18 00 19 00 1a 00 1b 00 1c 00 1d 00 1e 00 1f 00 20 00 21 00 22;
+1160: 00 23 00 24 00 25 00 26 00 27 00 28 00 29 00 2a 00 2b 00 2c 00 2d 00 2e 00 2f 00 30 00 31 00 32;
+1192: 00 33 00 34 00 35 00 36 00 37 00 38 00 39 00 3a 00 3b 00 3c 00 3d 00 3e 00 3f 00 40 00 41 00 42;
+1224: 00 43 00 44
+";
+
+// The head says: the key's length, the key, the value's length, how many pages, which.
+const GREATEST_LENGTHS: &str = "
+1024: 01 07 00 00 02 00 00 01 00 03 -> 1
+1024: 01 07 00 00 02 01 00 02 00 03 00 04 -> 1
+1024: 41 07*65 00 00 00 01 00 01 -> 1
+1024: 42 07*66 00 00 00 01 00 01 00 03 -> bad root
+
+A value of 33,280 bytes takes 65 pages.
+1024: 41 07*65 00 00 82 00 00 41 -> 1
+1024: 41 07*65 00 00 82 01 00 42 -> bad root
+1024: 41 07*65 00 00 82 00 00 42 -> bad root
+1024: 41 07*65 00 00 82 00 00 40 -> bad root
+";
 
 #[test]
-fn keys_and_values_of_the_greatest_length(rt: HostRuntime) -> Result<(), Fail> {
-    let alloc = rt.alloc();
-    let rows: [(&[u8], u32, u16, Result<usize, OpenCause>); 8] = [
-        (&[7], 512, 1, Ok(1)),
-        (&[7], 513, 2, Ok(1)),
-        (&[7; 65], 1, 1, Ok(1)),
-        (&[7; 66], 1, 1, BAD),
-        (&[7; 65], 33_280, 65, Ok(1)),
-        (&[7; 65], 33_281, 66, BAD),
-        (&[7; 65], 33_280, 66, BAD),
-        (&[7; 65], 33_280, 64, BAD),
-    ];
-    for (key, size, count, want) in rows {
-        assert!(rt;
-            found(alloc, with_one(alloc, key, size, count)?) == want,
-            "{size} {count}"
-        );
-    }
-    Ok(())
+fn keys_and_values_of_the_greatest_length(rt: HostRuntime) {
+    are_found(&rt, rt.alloc(), GREAT, ONE_HEAD, GREATEST_LENGTHS);
 }
 
-// The root's names where each item has its head on an even page and its value behind it.
-fn names(alloc: Global, count: u16) -> Result<Vec<u16>, Fail> {
-    let mut names = Vec::new(alloc);
+// Names an item in the root, its head on an even page, and puts the head there. Its key is one byte, and its value is on the page behind.
+fn put_item(disk: &mut MemDisk<Global>, item: u16) -> Option<()> {
+    let page = item.saturating_mul(2).saturating_add(2);
+    let [_, key] = item.saturating_add(1).to_be_bytes();
+    let [high, low] = page.saturating_add(1).to_be_bytes();
+    put_word(disk, 530 + 2 * u64::from(item), page)?;
+    put(
+        disk,
+        512 * u64::from(page),
+        &[1, key, 0, 0, 0, 1, 0, 1, high, low],
+    )
+}
+
+// An image of this limit with so many items, each of a key and a value of one byte. The second root counts, of the number 9.
+fn with_many(alloc: Global, limit: u16, count: u16) -> Option<MemDisk<Global>> {
+    let size = 1_024 * (1 + u64::from(limit));
+    let mut disk = spelled(alloc, size, "512: a5 'PSU 00 02; 527: 09")?;
+    put_word(&mut disk, 518, limit)?;
+    put_word(&mut disk, 528, count)?;
     for item in 0..count {
-        names.push(item.saturating_mul(2).saturating_add(2))?;
+        put_item(&mut disk, item)?;
     }
-    Ok(names)
+    Some(disk)
 }
 
-// An image of this limit with so many items, each of a key and a value of one byte.
-fn with_many(alloc: Global, limit: u16, count: u16) -> Result<MemDisk<Global>, Fail> {
-    let names = names(alloc, count)?;
-    let mut disk = MemDisk::new(alloc, 1_024 * (1 + u64::from(limit)))?;
-    put(&mut disk, 512, &root(alloc, 0xa5, limit, 9, &names)?)?;
-    for name in &names {
-        let [_, key] = (*name / 2).to_be_bytes();
-        put(
-            &mut disk,
-            512 * u64::from(*name),
-            &head(alloc, &[key], 1, &[name.saturating_add(1)])?,
-        )?;
+// Whether an opening finds so many items on an image of this limit, or a bad root where it holds no map.
+fn is_filled(alloc: Global, limit: u16, count: u16, is_map: bool) -> Option<bool> {
+    match found(alloc, with_many(alloc, limit, count)?) {
+        Ok(items) => Some(is_map && items == usize::from(count)),
+        Err(cause) => Some(!is_map && cause == OpenCause::BadRoot),
     }
-    Ok(disk)
 }
 
 // 240 items are on an image of limit 480, which they fill. Of limit 479 the last is one page too many.
 #[test]
-fn images_that_items_fill(rt: HostRuntime) -> Result<(), Fail> {
-    let alloc = rt.alloc();
-    assert!(rt; found(alloc, with_many(alloc, 480, 240)?) == Ok(240));
-    assert!(rt; found(alloc, with_many(alloc, 480, 241)?) == BAD);
-    assert!(rt; found(alloc, with_many(alloc, 479, 240)?) == BAD);
-    assert!(rt; found(alloc, with_many(alloc, 479, 239)?) == Ok(239));
-    Ok(())
+fn images_that_items_fill(rt: HostRuntime) {
+    assert!(rt; is_filled(rt.alloc(), 480, 240, true) == Some(true));
+    assert!(rt; is_filled(rt.alloc(), 480, 241, false) == Some(true));
+    assert!(rt; is_filled(rt.alloc(), 479, 240, false) == Some(true));
+    assert!(rt; is_filled(rt.alloc(), 479, 239, true) == Some(true));
 }

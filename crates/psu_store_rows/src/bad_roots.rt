@@ -1,29 +1,26 @@
 // Roots that are refused, and roots that are good though they differ: what is looked at, and in which order.
-use crate::spelled::{put, root, spelled};
-use crate::stores::opened;
+use crate::holds::holds;
+use crate::spelled::{put_all, spelled};
+use crate::stores::{is, opened};
 use psu_disk::MemDisk;
 use psu_items::{Items, OpenCause, Store};
 use psu_tables::{bytes, row};
 use std::alloc::Global;
 use std::process::Abort;
-use std::test::Fail;
+
+/// How many bytes an image of limit 6 takes.
+pub const SIZE: u64 = 7_168;
 
 /// An image of limit 6 whose first root, of the number 1, names the heads on pages 3 and 5: the key 1 with the value 36 on page 4, and
 /// the key 2, 9 with 600 bytes on pages 7 and 6.
-pub fn image(alloc: Global) -> Result<MemDisk<Global>, Fail> {
-    spelled(
-        alloc,
-        7_168,
-        &[
-            (0, &root(alloc, 0xa5, 6, 1, &[3, 5])?),
-            (1_536, &[1, 1, 0, 0, 0, 1, 0, 1, 0, 4]),
-            (2_048, &[36]),
-            (2_560, &[2, 2, 9, 0, 0, 2, 0x58, 0, 2, 0, 7, 0, 6]),
-            (3_584, &[8; 512]),
-            (3_072, &[9; 88]),
-        ],
-    )
-}
+pub const IMAGE: &str = "
+   0: a5 'PSU 00 02 00 06 00*7 01 00 02 00 03 00 05;
+1536: 01 01 00 00 00 01 00 01 00 04;
+2048: 24;
+2560: 02 02 09 00 00 02 58 00 02 00 07 00 06;
+3584: 08*512;
+3072: 09*88
+";
 
 /// What an opening finds of a disk: how many items, or why none.
 pub fn found(alloc: Global, disk: MemDisk<Global>) -> Result<usize, OpenCause> {
@@ -44,48 +41,45 @@ fn told(found: Result<usize, OpenCause>, wanted: &str) -> bool {
     }
 }
 
-// Puts bytes over a disk: their place, and then they.
-fn put_part(alloc: Global, disk: &mut MemDisk<Global>, part: &str) -> Result<(), Fail> {
-    let (at, cell) = part.trim().split_once(": ").ok_or("no place")?;
-    let at: u64 = at.parse().map_err(|_| "no place")?;
-    put(disk, at, &bytes(alloc, cell).ok_or("no bytes")?)
+// Whether an image with these parts put over it is found as wanted.
+fn is_found(alloc: Global, size: u64, image: &str, parts: &str, wanted: &str) -> Option<bool> {
+    let mut disk = spelled(alloc, size, image)?;
+    put_all(alloc, &mut disk, parts)?;
+    Some(told(found(alloc, disk), wanted))
 }
 
-/// The image is found as a table says with the bytes of each row put over it, each with their place: `512: a5 'PSU; 527: 01 -> bad root`.
-pub fn are_found(rt: &impl Abort, alloc: Global, table: &str) -> Result<(), Fail> {
+/// An image of so many bytes is found as a table says with the parts of each row put over it: `512: a5 'PSU; 527: 01 -> bad root`.
+pub fn are_found(rt: &impl Abort, alloc: Global, size: u64, image: &str, table: &str) {
     let mut rows = 0u32;
-    for (parts, wanted) in table.lines().filter_map(row) {
-        let mut disk = image(alloc)?;
-        for part in parts.split(';') {
-            put_part(alloc, &mut disk, part)?;
+    for line in table.lines() {
+        if let Some((parts, wanted)) = row(line) {
+            let is_so = is_found(alloc, size, image, parts, wanted) == Some(true);
+            holds(rt, is_so, &parts);
+            rows = rows.saturating_add(1);
         }
-        assert!(rt; told(found(alloc, disk), wanted), "at {parts}");
-        rows = rows.saturating_add(1);
     }
-    assert!(rt; rows > 0, "no row in {table}");
-    Ok(())
+    holds(rt, rows > 0, &table);
 }
 
 // Whether the items are the two of the image.
-fn are_the_two(items: &Items<Global>) -> bool {
-    let mut long = [8; 600];
-    long[512..].fill(9);
+fn are_the_two(alloc: Global, items: &Items<Global>) -> Option<bool> {
+    let long = bytes(alloc, "08*512 09*88")?;
     match items.pairs() {
-        [one, two] => one.key() == [1].as_slice()
-            && one.value() == [36].as_slice()
-            && two.key() == [2, 9].as_slice()
-            && two.value() == long.as_slice(),
-        _ => false,
+        [one, two] => Some(is(one, &[1], &[36]) && is(two, &[2, 9], &long)),
+        _ => None,
     }
 }
 
+// Whether the image is of the limit and the number that it says, and holds its two items.
+fn is_the_image(alloc: Global) -> Option<bool> {
+    let store = opened(alloc, spelled(alloc, SIZE, IMAGE)?)?;
+    let words = store.limit() == 6 && store.number() == 1 && store.version() == 2;
+    Some(words && are_the_two(alloc, store.items())?)
+}
+
 #[test]
-fn the_image_holds_two_items(rt: HostRuntime) -> Result<(), Fail> {
-    let alloc = rt.alloc();
-    let store = opened(alloc, image(alloc)?)?;
-    assert!(rt; (store.limit(), store.number(), store.version()) == (6, 1, 2));
-    assert!(rt; are_the_two(store.items()));
-    Ok(())
+fn the_image_holds_two_items(rt: HostRuntime) {
+    assert!(rt; is_the_image(rt.alloc()) == Some(true));
 }
 
 const WORDS_OF_A_ROOT: &str = "
@@ -120,8 +114,8 @@ What stands behind the names is not looked at.
 ";
 
 #[test]
-fn the_words_of_a_root(rt: HostRuntime) -> Result<(), Fail> {
-    are_found(&rt, rt.alloc(), WORDS_OF_A_ROOT)
+fn the_words_of_a_root(rt: HostRuntime) {
+    are_found(&rt, rt.alloc(), SIZE, IMAGE, WORDS_OF_A_ROOT);
 }
 
 // From the count of items on.
@@ -146,8 +140,8 @@ A head twice, and a page of zeros, whose key is empty.
 ";
 
 #[test]
-fn the_heads_that_a_root_names(rt: HostRuntime) -> Result<(), Fail> {
-    are_found(&rt, rt.alloc(), HEADS_OF_A_ROOT)
+fn the_heads_that_a_root_names(rt: HostRuntime) {
+    are_found(&rt, rt.alloc(), SIZE, IMAGE, HEADS_OF_A_ROOT);
 }
 
 // Of two open gates the higher number counts, and the other root's content is not looked at. A second root of the number 2 names the
@@ -170,8 +164,8 @@ Equal numbers are refused whatever else the roots say.
 ";
 
 #[test]
-fn the_root_that_counts(rt: HostRuntime) -> Result<(), Fail> {
-    are_found(&rt, rt.alloc(), ROOT_THAT_COUNTS)
+fn the_root_that_counts(rt: HostRuntime) {
+    are_found(&rt, rt.alloc(), SIZE, IMAGE, ROOT_THAT_COUNTS);
 }
 
 // The image on disks of other sizes.
@@ -185,13 +179,24 @@ const SIZES: &str = "
 100000 -> 0
 ";
 
+// A root of version 2, limit 4 and number 1 without items, for a disk of another size than its image has.
+const EMPTY: &str = "0: a5 'PSU 00 02 00 04 00*7 01";
+
+// Whether a disk of so many bytes with this root is found as wanted.
+fn size_is_found(alloc: Global, size: &str, wanted: &str) -> Option<bool> {
+    let disk = spelled(alloc, size.parse().ok()?, EMPTY)?;
+    Some(told(found(alloc, disk), wanted))
+}
+
 #[test]
-fn disks_that_are_too_small_or_larger(rt: HostRuntime) -> Result<(), Fail> {
-    let alloc = rt.alloc();
-    let page = root(alloc, 0xa5, 4, 1, &[])?;
-    for (size, wanted) in SIZES.lines().filter_map(row) {
-        let disk = spelled(alloc, size.parse().map_err(|_| "no size")?, &[(0, &page)])?;
-        assert!(rt; told(found(alloc, disk), wanted), "{size}");
+fn disks_that_are_too_small_or_larger(rt: HostRuntime) {
+    for line in SIZES.lines() {
+        if let Some((size, wanted)) = row(line) {
+            holds(
+                &rt,
+                size_is_found(rt.alloc(), size, wanted) == Some(true),
+                &size,
+            );
+        }
     }
-    Ok(())
 }

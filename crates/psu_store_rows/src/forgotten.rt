@@ -1,12 +1,14 @@
 // Syncs that fail on a medium that forgets, and a power loss after them: what a store told is there still, over a disk that writes it
 // again.
 use crate::ForgettingMedium;
+use crate::edits::assigned;
+use crate::holds::holds;
 use crate::passing_disk::PassingDisk;
 use crate::stores::{commit, disk_of};
 use psu_disk::{Choice, Disk, KeptDisk};
-use psu_items::{Batch, Commit, Items, Store};
+use psu_items::{Commit, Items, Store};
 use std::alloc::{AllocError, Global};
-use std::test::Fail;
+use std::process::Abort;
 
 // How many bytes an image of limit 4 takes.
 const SIZE: u64 = 5_120;
@@ -75,24 +77,18 @@ fn put<D: Disk + Drop>(
     store: Store<D, Global>,
     told: u8,
     value: u8,
-) -> Result<Run<D>, Fail> {
-    let mut batch = Batch::new(alloc);
-    batch.assign([1].to_vec(alloc)?, [value].to_vec(alloc)?)?;
-    let store = commit(alloc, store, batch)?;
-    let told = if matches!(store, Commit::Stored(_)) {
-        value
-    } else {
-        told
-    };
-    Ok(Run {
+) -> Option<Run<D>> {
+    let store = commit(alloc, store, assigned(alloc, 1, value)?)?;
+    let is_told = matches!(store, Commit::Stored(_));
+    Some(Run {
         store,
-        told,
+        told: if is_told { value } else { told },
         target: value,
     })
 }
 
 // The next step: a commit of this value, or the reopening of a store that broke.
-fn next<D: Disk + Drop>(alloc: Global, run: Run<D>, value: u8) -> Result<Run<D>, Fail> {
+fn next<D: Disk + Drop>(alloc: Global, run: Run<D>, value: u8) -> Option<Run<D>> {
     let Run {
         store,
         told,
@@ -100,10 +96,10 @@ fn next<D: Disk + Drop>(alloc: Global, run: Run<D>, value: u8) -> Result<Run<D>,
     } = run;
     match store {
         Commit::Stored(store) => put(alloc, store, told, value),
-        Commit::Unstarted(_, _, _) => Err(Fail::from("not begun")),
+        Commit::Unstarted(_, _, _) => None,
         Commit::Broken(broken) => match broken.reopen(alloc) {
             Ok(store) => reopened(store, told, target),
-            Err(broken) => Ok(Run {
+            Err(broken) => Some(Run {
                 store: Commit::Broken(broken),
                 told,
                 target,
@@ -113,64 +109,67 @@ fn next<D: Disk + Drop>(alloc: Global, run: Run<D>, value: u8) -> Result<Run<D>,
 }
 
 // A run whose store was opened again: it tells which of the two values stands.
-fn reopened<D: Disk + Drop>(store: Store<D, Global>, told: u8, target: u8) -> Result<Run<D>, Fail> {
-    match value_of(store.items()) {
-        Some(value) if value == told || value == target => Ok(Run {
-            store: Commit::Stored(store),
-            told: value,
-            target: value,
-        }),
-        _ => Err(Fail::from("another value")),
+fn reopened<D: Disk + Drop>(store: Store<D, Global>, told: u8, target: u8) -> Option<Run<D>> {
+    let value = value_of(store.items())?;
+    if value != told && value != target {
+        return None;
     }
+    Some(Run {
+        store: Commit::Stored(store),
+        told: value,
+        target: value,
+    })
 }
 
-// A run of so many steps behind a format. Each value that is put is the number of its step.
-fn after<D: Disk + Drop>(alloc: Global, disk: D, steps: u8) -> Result<Run<D>, Fail> {
+// A run of no step: a format.
+fn begun<D: Disk + Drop>(alloc: Global, disk: D) -> Option<Run<D>> {
     if disk.size() < SIZE {
-        return Err(Fail::from("too small"));
+        return None;
     }
-    let store = Store::format(alloc, disk, 4).or(Err("not formatted"))?;
-    let mut run = Run {
+    let store = Store::format(alloc, disk, 4).ok()?;
+    Some(Run {
         store: Commit::Stored(store),
         told: 0,
         target: 0,
-    };
+    })
+}
+
+// A run of so many steps behind a format. Each value that is put is the number of its step.
+fn after<D: Disk + Drop>(alloc: Global, disk: D, steps: u8) -> Option<Run<D>> {
+    let mut run = begun(alloc, disk)?;
     for step in 0..steps {
         run = next(alloc, run, step.saturating_add(1))?;
     }
-    Ok(run)
+    Some(run)
 }
 
 // Whether an opening after the loss finds neither what was told nor the target.
 fn is_lost<D: Disk + Drop>(alloc: Global, disk: D, told: u8, target: u8) -> bool {
-    match Store::open(alloc, disk) {
-        Ok(store) => match value_of(store.items()) {
-            Some(value) => value != told && value != target,
-            None => true,
-        },
-        Err(_) => true,
-    }
+    let Ok(store) = Store::open(alloc, disk) else {
+        return true;
+    };
+    let value = value_of(store.items());
+    value != Some(told) && value != Some(target)
 }
 
 // Whether a run loses what was told, over a disk that writes again.
-fn is_lost_on_kept(alloc: Global, case: Case, choice: Choice) -> Result<bool, Fail> {
-    let medium = ForgettingMedium::new(alloc, SIZE, case.failing)?;
+fn is_lost_on_kept(alloc: Global, case: Case, choice: Choice) -> Option<bool> {
+    let medium = ForgettingMedium::new(alloc, SIZE, case.failing).ok()?;
     let Run {
         store,
         told,
         target,
-    } = after(alloc, KeptDisk::new(alloc, medium)?, case.steps)?;
-    if case.steps == LAST && told != LAST {
-        return Err(Fail::from("does not go on"));
-    }
+    } = after(alloc, KeptDisk::new(alloc, medium).ok()?, case.steps)?;
+    let goes_on = case.steps < LAST || told == LAST;
     let mut medium = disk_of(store).into_inner();
     medium.lose(choice);
-    Ok(is_lost(alloc, KeptDisk::new(alloc, medium)?, told, target))
+    let is_lost = is_lost(alloc, KeptDisk::new(alloc, medium).ok()?, told, target);
+    goes_on.then_some(is_lost)
 }
 
 // The same over one that does not.
-fn is_lost_on_passing(alloc: Global, case: Case, choice: Choice) -> Result<bool, Fail> {
-    let medium = ForgettingMedium::new(alloc, SIZE, case.failing)?;
+fn is_lost_on_passing(alloc: Global, case: Case, choice: Choice) -> Option<bool> {
+    let medium = ForgettingMedium::new(alloc, SIZE, case.failing).ok()?;
     let Run {
         store,
         told,
@@ -178,26 +177,34 @@ fn is_lost_on_passing(alloc: Global, case: Case, choice: Choice) -> Result<bool,
     } = after(alloc, PassingDisk::new(medium), case.steps)?;
     let mut medium = disk_of(store).into_inner();
     medium.lose(choice);
-    Ok(is_lost(alloc, PassingDisk::new(medium), told, target))
+    Some(is_lost(alloc, PassingDisk::new(medium), told, target))
+}
+
+// No loss takes what was told.
+fn loses_nothing(rt: &impl Abort, alloc: Global, case: Case) {
+    for choice in CHOICES {
+        let lost = is_lost_on_kept(alloc, case, choice);
+        holds(rt, lost == Some(false), &(case, choice));
+    }
 }
 
 #[test]
-fn what_was_told_is_there_after_a_loss(rt: HostRuntime) -> Result<(), Fail> {
-    let alloc = rt.alloc();
-    for case in &cases(alloc)? {
-        for choice in CHOICES {
-            assert!(rt;
-                !is_lost_on_kept(alloc, *case, choice)?,
-                "{case:?} {choice:?}"
-            );
-        }
+fn what_was_told_is_there_after_a_loss(rt: HostRuntime) {
+    let cases = cases(rt.alloc()).expect(&rt, "memory");
+    for case in &cases {
+        loses_nothing(&rt, rt.alloc(), *case);
     }
-    Ok(())
+}
+
+// Whether a run of so many steps, one of whose syncs fails, loses what was told.
+fn is_lost_after(alloc: Global, failing: u64, steps: u8, choice: Choice) -> Option<bool> {
+    let failing = [failing, 0];
+    is_lost_on_passing(alloc, Case { failing, steps }, choice)
 }
 
 // The second sync of a commit is that of its gate. Where it is forgotten, the reopening closes the other gate behind it, and no root is left.
 #[test]
-fn a_disk_that_does_not_write_again_loses_it(rt: HostRuntime) -> Result<(), Fail> {
+fn a_disk_that_does_not_write_again_loses_it(rt: HostRuntime) {
     let rows = [
         (FORMAT + 2, 1, Choice::Old, false),
         (FORMAT + 2, 2, Choice::Old, true),
@@ -207,13 +214,8 @@ fn a_disk_that_does_not_write_again_loses_it(rt: HostRuntime) -> Result<(), Fail
         (FORMAT + 2, 2, Choice::Fill(0xff), true),
         (FORMAT + COMMIT + 2, 3, Choice::Old, true),
     ];
-    for (first, steps, choice, want) in rows {
-        let case = Case {
-            failing: [first, 0],
-            steps,
-        };
-        let lost = is_lost_on_passing(rt.alloc(), case, choice)?;
-        assert!(rt; lost == want, "{case:?} {choice:?}");
+    for (failing, steps, choice, want) in rows {
+        let lost = is_lost_after(rt.alloc(), failing, steps, choice);
+        holds(&rt, lost == Some(want), &(failing, steps, choice));
     }
-    Ok(())
 }

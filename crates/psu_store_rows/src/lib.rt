@@ -7,10 +7,14 @@ mod bad_heads;
 #[cfg(test)]
 mod bad_roots;
 #[cfg(test)]
+mod edits;
+#[cfg(test)]
 mod files;
 mod forgetting_medium;
 #[cfg(test)]
 mod forgotten;
+#[cfg(test)]
+mod holds;
 #[cfg(test)]
 mod image_bytes;
 #[cfg(test)]
