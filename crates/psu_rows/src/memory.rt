@@ -54,11 +54,6 @@ fn behind_one<'a>(text: &'a [u8], line: &str) -> Option<&'a [u8]> {
     None
 }
 
-// Whether a line may not be written.
-fn may_be_nothing(line: &str) -> bool {
-    line.ends_with("nothing")
-}
-
 // Whether a text is a front of one of a line's alternatives.
 fn is_front_of_one(text: &[u8], line: &str) -> bool {
     for one in line.split(" or ") {
@@ -77,7 +72,7 @@ fn behind_story<'a>(story: &str, text: &'a [u8], whole: bool) -> Option<&'a [u8]
             match behind_one(rest, line) {
                 Some(left) => rest = left,
                 None if !whole && is_front_of_one(rest, line) => return Some(&[]),
-                None if may_be_nothing(line) => {}
+                None if line.ends_with("nothing") => {}
                 None => return None,
             }
         }
