@@ -1,10 +1,6 @@
-// What the tests of frames and sessions share: messages by the bytes of the profile's table.
+// What the tests of frames share: messages by the bytes of the profile's table, and memory that is refused.
 use bumpalo::Bump;
-use psu_hislip::{Action, Channel, First, Origin, SessionCore, Side};
-use std::alloc::Global;
-
-/// What a message asked for.
-pub type Told = Option<Vec<Action<Global>>>;
+use psu_hislip::{Channel, Message, Origin};
 
 /// A message without parameter and payload.
 pub fn bare(kind: u8, control: u8) -> [u8; 16] {
@@ -13,72 +9,9 @@ pub fn bare(kind: u8, control: u8) -> [u8; 16] {
     ]
 }
 
-/// The first message of a stream, on one of the channels.
-pub fn tell(alloc: Global, core: &mut SessionCore<Global>, side: Side, stream: &[u8]) -> Told {
-    let mut channel = Channel::new(alloc);
-    let messages = channel.feed(stream).ok()?;
-    core.on(side, messages.first()?).ok()
-}
-
-/// The first message of a connection.
-pub fn first(alloc: Global, stream: &[u8]) -> Option<First> {
-    let mut channel = Channel::new(alloc);
-    let messages = channel.feed(stream).ok()?;
-    Some(First::of(messages.first()?))
-}
-
 /// A message of this MessageID in a session that has had no device clear.
 pub fn origin(id: u32) -> Origin {
     Origin { id, clears: 0 }
-}
-
-/// Session 1, joined.
-pub fn joined(alloc: Global) -> Option<SessionCore<Global>> {
-    let mut core = SessionCore::new(alloc, 1);
-    let mut join = bare(17, 0);
-    join[7] = 1;
-    if !sends(
-        &tell(alloc, &mut core, Side::Async, &join),
-        Side::Async,
-        &bare(18, 0),
-    ) {
-        return None;
-    }
-    Some(core)
-}
-
-/// Whether an action sends these bytes.
-pub fn is_sent(action: Option<&Action<Global>>, side: Side, bytes: &[u8]) -> bool {
-    match action {
-        Some(Action::Send(to, sent)) => *to == side && sent.as_slice() == bytes,
-        _ => false,
-    }
-}
-
-/// One message is sent, and nothing else is asked for.
-pub fn sends(told: &Told, side: Side, bytes: &[u8]) -> bool {
-    match told {
-        Some(actions) => actions.len() == 1 && is_sent(actions.first(), side, bytes),
-        None => false,
-    }
-}
-
-/// Nothing is asked for.
-pub fn is_nothing(told: &Told) -> bool {
-    matches!(told, Some(actions) if actions.is_empty())
-}
-
-/// The last thing asked for, which is the one where `count` is 1.
-pub fn executes(told: &Told, count: usize, number: u32, text: &[u8]) -> bool {
-    match told {
-        Some(actions) => match actions.last() {
-            Some(Action::Execute(origin, bytes)) => actions.len() == count
-                && origin.id == number
-                && bytes.as_slice() == text,
-            _ => false,
-        },
-        None => false,
-    }
 }
 
 /// Leaves so many bytes of an arena.
@@ -90,4 +23,30 @@ pub fn leave(arena: &Bump, left: usize) -> Option<()> {
     }
     arena.try_alloc_slice_fill_clone(spare - left, 0u8).ok()?;
     Some(())
+}
+
+/// The messages of a piece, with memory of an arena.
+pub type Fed<'a> = Vec<Message<&'a Bump>, &'a Bump>;
+
+/// Feeds a piece, once more with all memory where it is refused; what comes of it, and whether it was refused.
+pub fn feed_again<'a>(
+    channel: &mut Channel<&'a Bump>,
+    arena: &'a Bump,
+    piece: &[u8],
+) -> Option<(Fed<'a>, bool)> {
+    match channel.feed(piece) {
+        Ok(messages) => Some((messages, false)),
+        Err(_) => {
+            arena.set_allocation_limit(None);
+            Some((channel.feed(piece).ok()?, true))
+        }
+    }
+}
+
+/// Whether a message has this payload.
+pub fn has_payload(message: Option<&Message<&Bump>>, wanted: &[u8]) -> bool {
+    match message {
+        Some(Message::Frame(_, payload)) => payload.as_slice() == wanted,
+        _ => false,
+    }
 }

@@ -1,41 +1,52 @@
 // The worked examples of the grammar; expected values by its rules.
+use crate::told::holds;
 use psu_lex::{
-    Bytes, DatumClass, ScpiError, Unit, UnitFault, block, definite, expand, fixed3, number, split,
-    string, syntax,
+    Bytes, Datum, DatumClass, ScpiError, Unit, UnitFault, block, definite, expand, fixed3, number,
+    split, string, syntax,
 };
 use psu_tables::{bracketed, bytes, row, written};
 use std::alloc::Global;
-use std::process::Abort;
-use std::test::Fail;
 
 fn is_unit(unit: Unit<'_>, text: &[u8], first: bool, fault: Option<UnitFault>) -> bool {
     unit.text == text && unit.first == first && unit.fault == fault
 }
 
+// A message of two units.
+fn two_are_cut(alloc: Global) -> Option<bool> {
+    let units = split(alloc, b"*PUD #13a;b;*IDN?").ok()?;
+    let [first, second] = units.as_slice() else {
+        return None;
+    };
+    Some(is_unit(*first, b"*PUD #13a;b", true, None) && is_unit(*second, b"*IDN?", false, None))
+}
+
+// Two messages, the second with a unit that has a fault.
+fn three_are_cut(alloc: Global) -> Option<bool> {
+    let units = split(alloc, b"VOLT 1; \n;CURR 'a;b'\nVO\"a;b\"LT;X").ok()?;
+    let [first, second, third] = units.as_slice() else {
+        return None;
+    };
+    Some(
+        is_unit(*first, b"VOLT 1", true, None)
+            && is_unit(*second, b"CURR 'a;b'", true, None)
+            && is_unit(*third, b"VO\"a;b\"LT;X", true, Some(UnitFault::String)),
+    )
+}
+
+// Whether a message has no unit.
+fn none_are_cut(alloc: Global, text: &[u8]) -> bool {
+    match split(alloc, text) {
+        Ok(units) => units.as_slice().is_empty(),
+        Err(_) => false,
+    }
+}
+
 #[test]
 fn messages_are_cut_into_units(rt: HostRuntime) {
-    let two = split(rt.alloc(), b"*PUD #13a;b;*IDN?").ok();
-    let none = split(rt.alloc(), b"").ok();
-    let blank = split(rt.alloc(), b" ; \n\t").ok();
-    let mixed = split(rt.alloc(), b"VOLT 1; \n;CURR 'a;b'\nVO\"a;b\"LT;X").ok();
-    let (Some(two), Some(none), Some(blank), Some(mixed)) = (two, none, blank, mixed) else {
-        panic!(rt; "out of memory");
-    };
-    assert!(rt; none.as_slice().is_empty() && blank.as_slice().is_empty());
-    let two = two.as_slice();
-    assert!(rt; two.len() == 2);
-    if two.len() == 2 {
-        assert!(rt; is_unit(two[0], b"*PUD #13a;b", true, None));
-        assert!(rt; is_unit(two[1], b"*IDN?", false, None));
-    }
-    let mixed = mixed.as_slice();
-    assert!(rt; mixed.len() == 3);
-    if mixed.len() == 3 {
-        assert!(rt; is_unit(mixed[0], b"VOLT 1", true, None));
-        assert!(rt; is_unit(mixed[1], b"CURR 'a;b'", true, None));
-        let fault = Some(UnitFault::String);
-        assert!(rt; is_unit(mixed[2], b"VO\"a;b\"LT;X", true, fault));
-    }
+    assert!(rt; none_are_cut(rt.alloc(), b""));
+    assert!(rt; none_are_cut(rt.alloc(), b" ; \n\t"));
+    assert!(rt; two_are_cut(rt.alloc()) == Some(true));
+    assert!(rt; three_are_cut(rt.alloc()) == Some(true));
 }
 
 // Units whose string or block has a fault, each alone in its message; `\n` stands for NL.
@@ -59,22 +70,31 @@ fn fault_named(name: &str) -> Option<UnitFault> {
     }
 }
 
-// A message is one unit with this fault.
-fn is_one(rt: &impl Abort, alloc: Global, text: &[u8], fault: Option<UnitFault>) {
-    let units = split(alloc, text).expect(rt, "memory");
-    match units.as_slice() {
-        [unit] => assert!(rt; is_unit(*unit, text, true, fault), "at {text:?}"),
-        _ => panic!(rt; "not one unit in {text:?}"),
+// Whether a message is one unit with this fault.
+fn is_one(alloc: Global, text: &[u8], fault: Option<UnitFault>) -> bool {
+    match split(alloc, text) {
+        Ok(units) => match units.as_slice() {
+            [unit] => is_unit(*unit, text, true, fault),
+            _ => false,
+        },
+        Err(_) => false,
     }
 }
 
+fn takes_all(alloc: Global, line: &str) -> Option<bool> {
+    let (text, fault) = row(line)?;
+    Some(is_one(alloc, written(alloc, text)?.as_bytes(), fault_named(fault)))
+}
+
 #[test]
-fn faulty_strings_and_blocks_take_all_up_to_the_end(rt: HostRuntime) -> Result<(), Fail> {
-    for (text, fault) in FAULTY_UNITS.lines().filter_map(row) {
-        let text = written(rt.alloc(), text).ok_or("memory")?;
-        is_one(&rt, rt.alloc(), text.as_bytes(), fault_named(fault));
+fn faulty_strings_and_blocks_take_all_up_to_the_end(rt: HostRuntime) {
+    for line in FAULTY_UNITS.lines() {
+        holds(
+            &rt,
+            line.is_empty() || takes_all(rt.alloc(), line) == Some(true),
+            line,
+        );
     }
-    Ok(())
 }
 
 // Numbers in brackets, how many places of theirs count, and what they are, or the number of the error.
@@ -120,17 +140,19 @@ fn is_number(text: &[u8], places: u8, wanted: &str) -> bool {
     }
 }
 
+// The same of a line; none where it is no row.
+fn is_rounded(line: &str) -> Option<bool> {
+    let (text, rest) = bracketed(line)?;
+    let (cell, wanted) = row(rest)?;
+    let places = cell.parse().ok()?;
+    Some(places <= 3 && is_number(text.as_bytes(), places, wanted))
+}
+
 #[test]
-fn numbers_are_read_and_rounded(rt: HostRuntime) -> Result<(), Fail> {
-    for (text, rest) in NUMBERS.lines().filter_map(bracketed) {
-        let (places, wanted) = row(rest).ok_or("no row")?;
-        let places = places.parse().map_err(|_| "no places")?;
-        assert!(rt;
-            places <= 3 && is_number(text.as_bytes(), places, wanted),
-            "{text}"
-        );
+fn numbers_are_read_and_rounded(rt: HostRuntime) {
+    for line in NUMBERS.lines() {
+        holds(&rt, line.is_empty() || is_rounded(line) == Some(true), line);
     }
-    Ok(())
 }
 
 // The greatest count of digits, in their bytes.
@@ -140,13 +162,20 @@ const MANY_DIGITS: &str = "
 30 2e 30*297 31 -> 0
 ";
 
+fn are_digits(alloc: Global, line: &str) -> Option<bool> {
+    let (cell, wanted) = row(line)?;
+    Some(is_number(&bytes(alloc, cell)?, 0, wanted))
+}
+
 #[test]
-fn numbers_of_many_digits(rt: HostRuntime) -> Result<(), Fail> {
-    for (cell, wanted) in MANY_DIGITS.lines().filter_map(row) {
-        let digits = bytes(rt.alloc(), cell).ok_or("no digits")?;
-        assert!(rt; is_number(&digits, 0, wanted), "{cell}");
+fn numbers_of_many_digits(rt: HostRuntime) {
+    for line in MANY_DIGITS.lines() {
+        holds(
+            &rt,
+            line.is_empty() || are_digits(rt.alloc(), line) == Some(true),
+            line,
+        );
     }
-    Ok(())
 }
 
 // Strings and blocks as data, and the bytes that they are in brackets; `\n` stands for NL.
@@ -173,36 +202,49 @@ const BLOCKS: &str = r#"
 
 // Whether what was read is what a row says: these bytes in brackets, or nothing.
 fn is_read(read: Result<Bytes<Global>, ScpiError>, error: ScpiError, wanted: &str) -> bool {
-    match (read, wanted.strip_prefix("[")) {
-        (Ok(bytes), Some(inner)) => inner.strip_suffix("]").map(|inner| inner.as_bytes())
-            == Some(bytes.as_slice()),
-        (Err(told), None) => told == error,
-        _ => false,
+    match read {
+        Ok(bytes) => is_bracketed(bytes.as_slice(), wanted) == Some(true),
+        Err(told) => told == error && wanted == "none",
     }
+}
+
+fn is_bracketed(bytes: &[u8], cell: &str) -> Option<bool> {
+    let inner = cell.strip_prefix("[")?.strip_suffix("]")?;
+    Some(inner.as_bytes() == bytes)
+}
+
+fn string_is_read(alloc: Global, line: &str) -> Option<bool> {
+    let (text, wanted) = row(line)?;
+    let read = string(alloc, text.as_bytes());
+    Some(is_read(read, ScpiError::InvalidStringData, wanted))
+}
+
+fn block_is_read(alloc: Global, line: &str) -> Option<bool> {
+    let (text, wanted) = row(line)?;
+    let read = block(alloc, written(alloc, text)?.as_bytes());
+    Some(is_read(read, ScpiError::InvalidBlockData, wanted))
 }
 
 #[test]
 fn strings_are_read(rt: HostRuntime) {
-    for (text, wanted) in STRINGS.lines().filter_map(row) {
-        let read = string(rt.alloc(), text.as_bytes());
-        assert!(rt;
-            is_read(read, ScpiError::InvalidStringData, wanted),
-            "{text}"
+    for line in STRINGS.lines() {
+        holds(
+            &rt,
+            line.is_empty() || string_is_read(rt.alloc(), line) == Some(true),
+            line,
         );
     }
 }
 
 #[test]
-fn blocks_are_read(rt: HostRuntime) -> Result<(), Fail> {
-    for (text, wanted) in BLOCKS.lines().filter_map(row) {
-        let data = written(rt.alloc(), text).ok_or("memory")?;
-        let read = block(rt.alloc(), data.as_bytes());
-        assert!(rt;
-            is_read(read, ScpiError::InvalidBlockData, wanted),
-            "{text}"
+fn blocks_are_read(rt: HostRuntime) {
+    for line in BLOCKS.lines() {
+        holds(
+            &rt,
+            line.is_empty() || block_is_read(rt.alloc(), line) == Some(true),
+            line,
         );
     }
-    Ok(())
 }
 
 // Bodies of macros, their parameters in brackets, and what they are expanded to.
@@ -215,53 +257,75 @@ $$1$12 [x] -> $xx2
 $2 [x] -> none
 "#;
 
-// A body is expanded as a row says.
-fn expands(rt: &impl Abort, alloc: Global, body: &str, args: &[&[u8]], wanted: &str) {
-    match expand(alloc, body.as_bytes(), args) {
-        Ok(text) => assert!(rt; text.as_slice() == wanted.as_bytes(), "{body}"),
-        Err(error) => {
-            assert!(rt;
-                error == ScpiError::MacroParameterError && wanted == "none",
-                "{body}"
-            );
+// Adds the parameters of a cell, each in brackets.
+fn add_parameters<'a>(args: &mut Vec<&'a [u8]>, cell: &'a str) -> Option<()> {
+    for parameter in cell.split("]") {
+        if let Some(text) = parameter.strip_prefix("[") {
+            args.push(text.as_bytes()).ok()?;
         }
+    }
+    Some(())
+}
+
+// Whether a body is expanded as a row says.
+fn expands(alloc: Global, body: &str, args: &[&[u8]], wanted: &str) -> bool {
+    match expand(alloc, body.as_bytes(), args) {
+        Ok(text) => text.as_slice() == wanted.as_bytes(),
+        Err(error) => error == ScpiError::MacroParameterError && wanted == "none",
     }
 }
 
+fn is_expanded(alloc: Global, line: &str) -> Option<bool> {
+    let (call, wanted) = row(line)?;
+    let (body, parameters) = call.rsplit_once(" ").unwrap_or((call, ""));
+    let mut args = Vec::new(alloc);
+    add_parameters(&mut args, parameters)?;
+    Some(expands(alloc, body, &args, wanted))
+}
+
 #[test]
-fn macros_are_expanded(rt: HostRuntime) -> Result<(), Fail> {
-    for (call, wanted) in MACROS.lines().filter_map(row) {
-        let (body, parameters) = call.rsplit_once(" ").unwrap_or((call, ""));
-        let mut args: Vec<&[u8]> = Vec::new(rt.alloc());
-        for parameter in parameters
-            .split("]")
-            .filter_map(|rest| rest.strip_prefix("["))
-        {
-            args.push(parameter.as_bytes())?;
-        }
-        expands(&rt, rt.alloc(), body, &args, wanted);
+fn macros_are_expanded(rt: HostRuntime) {
+    for line in MACROS.lines() {
+        holds(
+            &rt,
+            line.is_empty() || is_expanded(rt.alloc(), line) == Some(true),
+            line,
+        );
     }
-    Ok(())
+}
+
+// Thousandths, and how each is answered.
+const ANSWERS: &str = "
+5001 -> 5.001
+-5 -> -0.005
+0 -> 0.000
+-9223372036854775808 -> -9223372036854775.808
+";
+
+fn is_answered(alloc: Global, line: &str) -> Option<bool> {
+    let (value, wanted) = row(line)?;
+    let text = fixed3(alloc, value.parse().ok()?).ok()?;
+    Some(text.as_slice() == wanted.as_bytes())
+}
+
+// Whether eleven bytes are answered as a block.
+fn is_definite(alloc: Global) -> bool {
+    match definite(alloc, b"a;b\n0123456") {
+        Ok(block) => block.as_slice() == b"#211a;b\n0123456".as_slice(),
+        Err(_) => false,
+    }
 }
 
 #[test]
 fn answers_are_written(rt: HostRuntime) {
-    let rows: [(i64, &[u8]); 4] = [
-        (5001, b"5.001"),
-        (-5, b"-0.005"),
-        (0, b"0.000"),
-        (i64::MIN, b"-9223372036854775.808"),
-    ];
-    for (value, expected) in rows {
-        let Ok(text) = fixed3(rt.alloc(), value) else {
-            panic!(rt; "out of memory");
-        };
-        assert!(rt; text.as_slice() == expected);
+    for line in ANSWERS.lines() {
+        holds(
+            &rt,
+            line.is_empty() || is_answered(rt.alloc(), line) == Some(true),
+            line,
+        );
     }
-    let Ok(text) = definite(rt.alloc(), b"a;b\n0123456") else {
-        panic!(rt; "out of memory");
-    };
-    assert!(rt; text.as_slice() == b"#211a;b\n0123456".as_slice());
+    assert!(rt; is_definite(rt.alloc()));
 }
 
 // A unit that is `text`, cut out of a transmission that is no more than it.
@@ -284,26 +348,28 @@ fn class_named(name: &str) -> Option<DatumClass> {
     }
 }
 
+// Whether a datum is the one of a cell.
+fn is_datum(datum: Datum<'_>, cell: &str) -> Option<bool> {
+    let (class, text) = cell.split_once(" ")?;
+    Some(class_named(class) == Some(datum.class) && datum.text == text.as_bytes())
+}
+
 // Whether a unit has this header, and these data: each with its class, and no others.
-fn reads(text: &[u8], wanted: &str) -> bool {
-    let Ok(parts) = syntax(&unit_of(text)) else {
-        return false;
-    };
+fn reads(text: &[u8], wanted: &str) -> Option<bool> {
+    let parts = syntax(&unit_of(text)).ok()?;
     let mut cells = wanted.split(" | ");
-    if cells.next().map(|header| header.as_bytes()) != Some(parts.header.text) {
-        return false;
+    if cells.next()?.as_bytes() != parts.header.text {
+        return None;
     }
     let mut rest = parts.parameters;
-    for (class, text) in cells.filter_map(|cell| cell.split_once(" ")) {
-        match rest.first() {
-            Some((datum, others))
-                if class_named(class) == Some(datum.class) && datum.text == text.as_bytes() => {
-                rest = others;
-            }
-            _ => return false,
+    for cell in cells {
+        let (datum, others) = rest.first()?;
+        if is_datum(datum, cell) != Some(true) {
+            return None;
         }
+        rest = others;
     }
-    rest.first().is_none()
+    Some(rest.first().is_none())
 }
 
 // Units in brackets, and the header and the data that each has.
@@ -328,12 +394,17 @@ const UNITS: &str = r#"
 [D 'é'] D | string 'é'
 "#;
 
+fn has_parts(line: &str) -> Option<bool> {
+    let (text, wanted) = bracketed(line)?;
+    reads(text.as_bytes(), wanted)
+}
+
 #[test]
 fn units_are_read_by_their_parts(rt: HostRuntime) {
-    for (text, wanted) in UNITS.lines().filter_map(bracketed) {
-        assert!(rt; reads(text.as_bytes(), wanted), "{text}");
+    for line in UNITS.lines() {
+        holds(&rt, line.is_empty() || has_parts(line) == Some(true), line);
     }
-    assert!(rt; reads(b" \t*CLS\r", "*CLS"));
+    assert!(rt; reads(b" \t*CLS\r", "*CLS") == Some(true));
 }
 
 // What is no unit, in brackets.
@@ -342,26 +413,32 @@ const NO_UNITS: &str = r#"
 [*GMC?"A"] [VOLT?MAX] [VOLT ?] [SYST :ERR?] [A? ?] [A 5_] [A 1 2] [A +] [A B C] [A $1] [VO"a"LT]
 "#;
 
+// Whether a unit has this fault.
+fn fails(text: &[u8], error: ScpiError) -> bool {
+    syntax(&unit_of(text)).err() == Some(error)
+}
+
 #[test]
 fn what_is_no_unit_is_a_syntax_error(rt: HostRuntime) {
     let mut units = 0u32;
-    for text in NO_UNITS.split("]").filter_map(|rest| rest.split_once("[")) {
-        assert!(rt;
-            syntax(&unit_of(text.1.as_bytes())).err() == Some(ScpiError::SyntaxError),
-            "{}",
-            text.1
-        );
-        units = units.saturating_add(1);
+    for cell in NO_UNITS.split("]") {
+        if let Some((_, text)) = cell.split_once("[") {
+            holds(&rt, fails(text.as_bytes(), ScpiError::SyntaxError), text);
+            units = units.saturating_add(1);
+        }
     }
     assert!(rt; units == 26);
 }
 
 #[test]
 fn faults_of_a_unit_come_in_order(rt: HostRuntime) {
-    for text in ["VOLT \u{ff}", "\u{7f}", "A 'b' ,\u{80}", "A::B \u{e9}"] {
-        assert!(rt; syntax(&unit_of(text.as_bytes())).err() == Some(ScpiError::InvalidCharacter));
-    }
-    assert!(rt; syntax(&unit_of(b"A #11\xff,\xff")).err() == Some(ScpiError::InvalidCharacter));
+    assert!(rt;
+        fails("VOLT \u{ff}".as_bytes(), ScpiError::InvalidCharacter)
+            && fails("\u{7f}".as_bytes(), ScpiError::InvalidCharacter)
+            && fails("A 'b' ,\u{80}".as_bytes(), ScpiError::InvalidCharacter)
+            && fails("A::B \u{e9}".as_bytes(), ScpiError::InvalidCharacter)
+            && fails(b"A #11\xff,\xff", ScpiError::InvalidCharacter)
+    );
     let faulty = Unit {
         text: b"A\xff 'b",
         first: true,
@@ -398,13 +475,29 @@ fn many_strings_are_cut_in_one_pass(rt: HostRuntime) {
             strings[at] = b',';
         }
     }
-    let Ok(units) = split(rt.alloc(), &strings) else {
-        panic!(rt; "out of memory");
-    };
-    let units = units.as_slice();
-    assert!(rt; units.len() == 1);
-    if units.len() == 1 {
-        assert!(rt; is_unit(units[0], &strings, true, None));
+    assert!(rt; is_one(rt.alloc(), &strings, None));
+}
+
+// Whether the units of a beginning of a message have the faults that they were cut with.
+fn begins(alloc: Global, text: &[u8]) -> bool {
+    match split(alloc, text) {
+        Ok(units) => {
+            for unit in units.as_slice() {
+                if !keeps_its_fault(unit) {
+                    return false;
+                }
+            }
+            true
+        }
+        Err(_) => false,
+    }
+}
+
+fn keeps_its_fault(unit: &Unit<'_>) -> bool {
+    let error = syntax(unit).err();
+    match unit.fault {
+        Some(fault) => error == Some(fault.error()),
+        None => true,
     }
 }
 
@@ -413,12 +506,6 @@ fn many_strings_are_cut_in_one_pass(rt: HostRuntime) {
 fn beginnings_of_a_message_are_read(rt: HostRuntime) {
     let text = b" *DMC \"a\"\"b\" , #212a;b,c\n'\"#1x ,-1.5 E +2 MV;SYST:ERR? 'x";
     for length in 0..text.len() {
-        let Ok(units) = split(rt.alloc(), &text[..length]) else {
-            panic!(rt; "out of memory");
-        };
-        for unit in units.as_slice() {
-            let error = syntax(unit).err();
-            assert!(rt; unit.fault.is_none() || error == unit.fault.map(|fault| fault.error()));
-        }
+        assert!(rt; begins(rt.alloc(), &text[..length]));
     }
 }

@@ -1,7 +1,8 @@
 // Each allocation of a feed, of a message and of an answer refused in turn: nothing has changed.
-use crate::frames::{leave, origin};
+use crate::frames::{feed_again, has_payload, leave, origin};
+use crate::told::holds;
 use bumpalo::Bump;
-use psu_hislip::{Action, Channel, Message, SessionCore, Side};
+use psu_hislip::{Action, Channel, SessionCore, Side};
 use std::alloc::{AllocError, Global};
 
 /// AsyncInitialize for session 1.
@@ -16,33 +17,31 @@ const END: &[u8] = b"HS\x07\x01\x00\x00\x00\x02\x00\x00\x00\x00\x00\x00\x00\x03N
 /// The one frame of the answer `a` and NL.
 const ANSWER: &[u8] = b"HS\x07\x00\x00\x00\x00\x02\x00\x00\x00\x00\x00\x00\x00\x02a\n";
 
-// Whether a feed with so many bytes of memory is refused; none where anything is wrong.
-fn feed_is_refused(alloc: Global, left: usize) -> Option<bool> {
-    let arena = Bump::try_with_capacity(alloc, 4096).ok()?;
-    leave(&arena, left)?;
-    let mut channel = Channel::new(&arena);
-    let (messages, refused) = match channel.feed(END) {
-        Ok(messages) => (messages, false),
-        Err(_) => {
-            arena.set_allocation_limit(None);
-            (channel.feed(END).ok()?, true)
-        }
-    };
-    match messages.first()? {
-        Message::Frame(_, payload) if payload.as_slice() == b"N?\n".as_slice() => Some(refused),
-        _ => None,
-    }
+// Whether a feed is refused with so many bytes of an arena; none where anything is wrong.
+fn feed_is_refused(arena: &Bump, left: usize) -> Option<bool> {
+    leave(arena, left)?;
+    let mut channel = Channel::new(arena);
+    let (messages, refused) = feed_again(&mut channel, arena, END)?;
+    has_payload(messages.first(), b"N?\n").then_some(refused)
 }
 
-// The message of a stream of one, on a channel of the core; true where memory is refused.
+// What a message asks for, with memory of an arena.
+type Asked<'a> = Vec<Action<&'a Bump>, &'a Bump>;
+
+// The message of a stream of one, on a channel of the core; the inner result tells whether memory is refused.
 fn on<'a>(
     core: &mut SessionCore<&'a Bump>,
-    arena: &'a Bump,
+    ample: &'a Bump,
     side: Side,
     stream: &[u8],
-) -> Option<Result<Vec<Action<&'a Bump>, &'a Bump>, AllocError>> {
-    let messages = Channel::new(arena).feed(stream).ok()?;
+) -> Option<Result<Asked<'a>, AllocError>> {
+    let messages = Channel::new(ample).feed(stream).ok()?;
     Some(core.on(side, messages.first()?))
+}
+
+// Whether a message is taken.
+fn takes<'a>(core: &mut SessionCore<&'a Bump>, ample: &'a Bump, side: Side, stream: &[u8]) -> bool {
+    matches!(on(core, ample, side, stream), Some(Ok(_)))
 }
 
 // Whether the transmission that BEGIN began is executed whole.
@@ -54,65 +53,97 @@ fn is_whole(actions: &[Action<&Bump>]) -> bool {
     }
 }
 
-// The same of the two messages of a transmission, the first or the second with so many bytes of memory.
-fn message_is_refused(alloc: Global, left: usize, second: bool) -> Option<bool> {
-    let ample = Bump::try_with_capacity(alloc, 4096).ok()?;
-    let arena = Bump::try_with_capacity(alloc, 4096).ok()?;
-    let mut core = SessionCore::new(&arena, 1);
-    on(&mut core, &ample, Side::Async, JOIN)?.ok()?;
-    if second {
-        on(&mut core, &ample, Side::Sync, BEGIN)?.ok()?;
+// Whether it is once END comes, with all memory.
+fn ends_whole<'a>(core: &mut SessionCore<&'a Bump>, ample: &'a Bump) -> bool {
+    match on(core, ample, Side::Sync, END) {
+        Some(Ok(asked)) => is_whole(&asked),
+        _ => false,
     }
-    leave(&arena, left)?;
-    let stream = if second { END } else { BEGIN };
-    let (told, refused) = match on(&mut core, &ample, Side::Sync, stream)? {
-        Ok(told) => (told, false),
-        Err(_) => {
-            arena.set_allocation_limit(None);
-            (on(&mut core, &ample, Side::Sync, stream)?.ok()?, true)
-        }
-    };
+}
+
+// The core of a session that is joined, with memory of its own.
+fn joined<'a>(ample: &'a Bump, arena: &'a Bump) -> Option<SessionCore<&'a Bump>> {
+    let mut core = SessionCore::new(arena, 1);
+    if !takes(&mut core, ample, Side::Async, JOIN) {
+        return None;
+    }
+    Some(core)
+}
+
+// The same as of a feed, of the first of the two messages of a transmission.
+fn first_is_refused(ample: &Bump, arena: &Bump, left: usize) -> Option<bool> {
+    let mut core = joined(ample, arena)?;
+    leave(arena, left)?;
+    let refused = !takes(&mut core, ample, Side::Sync, BEGIN);
     arena.set_allocation_limit(None);
-    let told = if second {
-        told
-    } else {
-        on(&mut core, &ample, Side::Sync, END)?.ok()?
-    };
-    is_whole(&told).then_some(refused)
+    if refused && !takes(&mut core, ample, Side::Sync, BEGIN) {
+        return None;
+    }
+    ends_whole(&mut core, ample).then_some(refused)
+}
+
+// The same of the second: it is executed at once, or where it comes again.
+fn second_is_refused(ample: &Bump, arena: &Bump, left: usize) -> Option<bool> {
+    let mut core = joined(ample, arena)?;
+    if !takes(&mut core, ample, Side::Sync, BEGIN) {
+        return None;
+    }
+    leave(arena, left)?;
+    if ends_whole(&mut core, ample) {
+        return Some(false);
+    }
+    arena.set_allocation_limit(None);
+    ends_whole(&mut core, ample).then_some(true)
 }
 
 // The same of an answer.
-fn answer_is_refused(alloc: Global, left: usize) -> Option<bool> {
-    let arena = Bump::try_with_capacity(alloc, 4096).ok()?;
-    leave(&arena, left)?;
-    match SessionCore::new(&arena, 1).answer(origin(2), b"a\n") {
+fn answer_is_refused(arena: &Bump, left: usize) -> Option<bool> {
+    leave(arena, left)?;
+    let core = SessionCore::new(arena, 1);
+    match core.answer(origin(2), b"a\n") {
         Ok(frames) => (frames?.as_slice() == ANSWER).then_some(false),
         Err(_) => Some(true),
     }
 }
 
-#[test]
-fn each_allocation_of_frames_refused(rt: HostRuntime) {
-    let mut refused = [0u32; 4];
-    let mut whole = [0u32; 4];
-    for step in 0..128usize {
-        let left = step * 4;
-        let outcomes = [
-            feed_is_refused(rt.alloc(), left),
-            message_is_refused(rt.alloc(), left, false),
-            message_is_refused(rt.alloc(), left, true),
-            answer_is_refused(rt.alloc(), left),
-        ];
-        for (place, outcome) in outcomes.into_iter().enumerate() {
-            assert!(rt; place < 4);
-            match outcome {
-                Some(true) => refused[place] = refused[place].saturating_add(1),
-                Some(false) => whole[place] = whole[place].saturating_add(1),
-                None => assert!(rt; false, "{place} at {left} bytes"),
-            }
+// The same of the step of this name.
+fn is_refused(alloc: Global, step: &str, left: usize) -> Option<bool> {
+    let ample = Bump::try_with_capacity(alloc, 4096).ok()?;
+    let arena = Bump::try_with_capacity(alloc, 4096).ok()?;
+    match step {
+        "feed" => feed_is_refused(&arena, left),
+        "first message" => first_is_refused(&ample, &arena, left),
+        "second message" => second_is_refused(&ample, &arena, left),
+        _ => answer_is_refused(&arena, left),
+    }
+}
+
+// Whether a step is right with any memory, refused with some and not with all.
+fn is_done_again(alloc: Global, step: &str) -> bool {
+    let mut refused = false;
+    let mut whole = false;
+    for words in 0..128usize {
+        match is_refused(alloc, step, words * 4) {
+            Some(true) => refused = true,
+            Some(false) => whole = true,
+            None => return false,
         }
     }
-    for place in 0..4usize {
-        assert!(rt; refused[place] > 0 && whole[place] > 0, "{place}");
-    }
+    refused && whole
+}
+
+#[test]
+fn each_allocation_of_frames_refused(rt: HostRuntime) {
+    holds(&rt, is_done_again(rt.alloc(), "feed"), "feed");
+    holds(
+        &rt,
+        is_done_again(rt.alloc(), "first message"),
+        "first message",
+    );
+    holds(
+        &rt,
+        is_done_again(rt.alloc(), "second message"),
+        "second message",
+    );
+    holds(&rt, is_done_again(rt.alloc(), "answer"), "answer");
 }

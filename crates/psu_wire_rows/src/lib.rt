@@ -9,6 +9,8 @@ mod clears;
 #[cfg(test)]
 mod commands;
 #[cfg(test)]
+mod conversations;
+#[cfg(test)]
 mod frames;
 #[cfg(test)]
 mod grammar;
@@ -32,5 +34,7 @@ mod sessions;
 mod status;
 #[cfg(test)]
 mod streams;
+#[cfg(test)]
+mod told;
 #[cfg(test)]
 mod tree;

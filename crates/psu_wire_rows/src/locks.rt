@@ -1,53 +1,111 @@
 // The locks of two sessions, row by row.
-use psu_locks::{Freed, Grant, Info, Kind, LockRefusal, LockString, LockTable, Session};
+use psu_locks::{Freed, Grant, Info, Kind, LockRefusal, LockString, LockTable, Session, Sessions};
+
+// Two sessions.
+fn two() -> Option<(Session, Session)> {
+    Some((Session::new(1)?, Session::new(2)?))
+}
+
+// Whether a session is granted the lock shared as `k`.
+fn shares(locks: &mut LockTable, session: Session) -> Option<bool> {
+    let kind = Kind::Shared(LockString::new(b"k")?);
+    Some(locks.request(session, kind, 0, 0) == Ok(Grant::Granted))
+}
+
+// Whether two sessions share a lock, and one of them has the exclusive one above it.
+fn lock(locks: &mut LockTable, one: Session, two: Session) -> Option<bool> {
+    let at_first = locks.may_command(one) && locks.may_command(two);
+    let shared = shares(locks, one)? && shares(locks, two)?;
+    let exclusive = locks.request(one, Kind::Exclusive, 0, 0) == Ok(Grant::Granted);
+    Some(at_first && shared && exclusive)
+}
+
+// Whether a session gives up a lock of this kind, and none waited for it.
+fn frees(locks: &mut LockTable, session: Session, wanted: Freed) -> bool {
+    match locks.release(session) {
+        Ok((freed, then)) => freed == wanted && then.is_empty(),
+        Err(_) => false,
+    }
+}
+
+// What is told of an exclusive lock and two sessions that share one.
+const BOTH: Info = Info {
+    exclusive: true,
+    holders: 2,
+};
+
+// Whether locks are given up in the order exclusive, shared, none.
+fn free(locks: &mut LockTable, one: Session, two: Session) -> bool {
+    frees(locks, one, Freed::Exclusive)
+        && locks.may_command(two)
+        && frees(locks, one, Freed::Shared)
+        && matches!(locks.release(one), Err(LockRefusal::NotHeld))
+}
+
+fn both_are_held() -> Option<bool> {
+    let (one, two) = two()?;
+    let mut locks = LockTable::new();
+    let held = lock(&mut locks, one, two)?
+        && locks.may_command(one)
+        && !locks.may_command(two)
+        && locks.info() == BOTH;
+    Some(held && free(&mut locks, one, two))
+}
 
 #[test]
 fn a_shared_lock_under_an_exclusive_one(rt: HostRuntime) {
-    let one = Session::new(1).expect(&rt, "a session");
-    let two = Session::new(2).expect(&rt, "a session");
-    let shared = || Kind::Shared(LockString::new(b"k").expect(&rt, "a string"));
+    assert!(rt; both_are_held() == Some(true));
+}
+
+// What a request of the exclusive lock comes to: `wait` milliseconds from the moment `now`.
+fn exclusive(
+    locks: &mut LockTable,
+    session: Session,
+    now: u64,
+    wait: u32,
+) -> Result<Grant, LockRefusal> {
+    locks.request(session, Kind::Exclusive, now, wait)
+}
+
+// The sessions that are granted a lock once a session gives one up.
+fn granted_behind(locks: &mut LockTable, session: Session) -> Option<Sessions> {
+    match locks.release(session) {
+        Ok((_, then)) => Some(then),
+        Err(_) => None,
+    }
+}
+
+// Whether the exclusive lock goes to one, and two and three wait for it.
+fn wait(locks: &mut LockTable, one: Session, two: Session, three: Session) -> bool {
+    exclusive(locks, one, 10, 0) == Ok(Grant::Granted)
+        && exclusive(locks, one, 10, 5) == Err(LockRefusal::AlreadyHeld)
+        && exclusive(locks, two, 10, 0) == Ok(Grant::Failed)
+        && exclusive(locks, three, 20, 100) == Ok(Grant::Queued)
+        && exclusive(locks, two, 5, 50) == Ok(Grant::Queued)
+        && exclusive(locks, two, 5, 50) == Err(LockRefusal::Waiting)
+}
+
+// Whether the lock goes on from one to three, and from three to two.
+fn go_on(locks: &mut LockTable, one: Session, two: Session, three: Session) -> Option<bool> {
+    // An earlier moment counts as the greatest so far, 20: the second request fails at 70.
+    let early = locks.tick(69).is_empty();
+    let behind_one = granted_behind(locks, one)?.as_slice() == [three].as_slice();
+    let failed = locks.tick(70).as_slice() == [two].as_slice();
+    let again = exclusive(locks, two, 70, 9) == Ok(Grant::Queued);
+    let behind_three = locks.drop_session(three).as_slice() == [two].as_slice();
+    Some(early && behind_one && failed && again && behind_three)
+}
+
+fn all_wait() -> Option<bool> {
+    let (one, two) = two()?;
+    let three = Session::new(3)?;
     let mut locks = LockTable::new();
-    assert!(rt; locks.may_command(one) && locks.may_command(two));
-    assert!(rt; locks.request(one, shared(), 0, 0) == Ok(Grant::Granted));
-    assert!(rt; locks.request(two, shared(), 0, 0) == Ok(Grant::Granted));
-    assert!(rt; locks.request(one, Kind::Exclusive, 0, 0) == Ok(Grant::Granted));
-    assert!(rt; locks.may_command(one) && !locks.may_command(two));
-    assert!(rt;
-        locks.info()
-            == Info {
-                exclusive: true,
-                holders: 2
-            }
-    );
-    let (freed, then) = locks.release(one).expect(&rt, "it holds");
-    assert!(rt; freed == Freed::Exclusive);
-    assert!(rt; then.is_empty() && locks.may_command(two));
-    let (freed, then) = locks.release(one).expect(&rt, "it holds");
-    assert!(rt; freed == Freed::Shared);
-    assert!(rt; then.is_empty());
-    assert!(rt; matches!(locks.release(one), Err(LockRefusal::NotHeld)));
+    let waited = wait(&mut locks, one, two, three);
+    let went_on = go_on(&mut locks, one, two, three)?;
+    Some(waited && went_on && locks.may_command(two) && !locks.may_command(one))
 }
 
 #[test]
 fn requests_wait_in_order_of_arrival(rt: HostRuntime) {
-    let one = Session::new(1).expect(&rt, "a session");
-    let two = Session::new(2).expect(&rt, "a session");
-    let three = Session::new(3).expect(&rt, "a session");
-    let mut locks = LockTable::new();
-    assert!(rt; locks.request(one, Kind::Exclusive, 10, 0) == Ok(Grant::Granted));
-    assert!(rt; locks.request(one, Kind::Exclusive, 10, 5) == Err(LockRefusal::AlreadyHeld));
-    assert!(rt; locks.request(two, Kind::Exclusive, 10, 0) == Ok(Grant::Failed));
-    assert!(rt; locks.request(three, Kind::Exclusive, 20, 100) == Ok(Grant::Queued));
-    assert!(rt; locks.request(two, Kind::Exclusive, 5, 50) == Ok(Grant::Queued));
-    assert!(rt; locks.request(two, Kind::Exclusive, 5, 50) == Err(LockRefusal::Waiting));
-    // An earlier moment counts as the greatest so far, 20: the second request fails at 70.
-    assert!(rt; locks.tick(69).is_empty());
-    let (_, then) = locks.release(one).expect(&rt, "it holds");
-    assert!(rt; then.as_slice() == [three].as_slice());
-    let failed = locks.tick(70);
-    assert!(rt; failed.as_slice() == [two].as_slice());
-    assert!(rt; locks.request(two, Kind::Exclusive, 70, 9) == Ok(Grant::Queued));
-    let then = locks.drop_session(three);
-    assert!(rt; then.as_slice() == [two].as_slice());
-    assert!(rt; locks.may_command(two) && !locks.may_command(one));
+    assert!(rt; all_wait() == Some(true));
 }

@@ -1,8 +1,9 @@
 // What the label of a macro and the name of a file may be: a letter followed by letters, digits or `_`, 1 to 12 bytes; and 1 to 64 of
 // letters, digits, `_`, `-` and `.`.
+use crate::told::holds;
 use psu_lex::{is_label, is_name};
 use psu_tables::{bracketed, bytes};
-use std::test::Fail;
+use std::alloc::Global;
 
 // Texts in brackets, and whether each is a label.
 const LABELS: &str = r#"
@@ -38,31 +39,43 @@ const NAMES: &str = r#"
 [é] no
 "#;
 
+// Whether a text is a label where its row says so.
+fn label_stands(line: &str) -> bool {
+    match bracketed(line) {
+        Some((text, is)) => is_label(text.as_bytes()) == (is == "yes"),
+        None => line.is_empty(),
+    }
+}
+
+// The same of a name.
+fn name_stands(line: &str) -> bool {
+    match bracketed(line) {
+        Some((text, is)) => is_name(text.as_bytes()) == (is == "yes"),
+        None => line.is_empty(),
+    }
+}
+
 #[test]
 fn labels_of_macros(rt: HostRuntime) {
-    let mut rows = 0u32;
-    for (text, is) in LABELS.lines().filter_map(bracketed) {
-        assert!(rt; is_label(text.as_bytes()) == (is == "yes"), "{text}");
-        rows = rows.saturating_add(1);
+    for line in LABELS.lines() {
+        holds(&rt, label_stands(line), line);
     }
-    assert!(rt; rows == 14);
 }
 
 #[test]
 fn names_of_files(rt: HostRuntime) {
-    let mut rows = 0u32;
-    for (text, is) in NAMES.lines().filter_map(bracketed) {
-        assert!(rt; is_name(text.as_bytes()) == (is == "yes"), "{text}");
-        rows = rows.saturating_add(1);
+    for line in NAMES.lines() {
+        holds(&rt, name_stands(line), line);
     }
-    assert!(rt; rows == 12);
+}
+
+// Whether a cell of bytes is a name.
+fn is_named(alloc: Global, cell: &str) -> Option<bool> {
+    Some(is_name(&bytes(alloc, cell)?))
 }
 
 #[test]
-fn the_longest_name(rt: HostRuntime) -> Result<(), Fail> {
-    let most = bytes(rt.alloc(), "6e*64").ok_or("memory")?;
-    assert!(rt; is_name(&most));
-    let more = bytes(rt.alloc(), "6e*65").ok_or("memory")?;
-    assert!(rt; !is_name(&more));
-    Ok(())
+fn the_longest_name(rt: HostRuntime) {
+    assert!(rt; is_named(rt.alloc(), "6e*64") == Some(true));
+    assert!(rt; is_named(rt.alloc(), "6e*65") == Some(false));
 }

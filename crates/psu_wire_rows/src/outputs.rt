@@ -11,66 +11,98 @@ fn set(outputs: &mut Outputs, setting: Setting) -> Result<(), ScpiError> {
     outputs.set(settings)
 }
 
+// Whether a thing more can be set.
+fn is_set(outputs: &mut Outputs, setting: Setting) -> bool {
+    set(outputs, setting) == Ok(())
+}
+
 #[test]
 fn a_load_in_current_limit(rt: HostRuntime) {
     let mut outputs = Outputs::new();
-    assert!(rt; set(&mut outputs, Setting::Voltage(Millivolts(12_000))) == Ok(()));
-    assert!(rt; set(&mut outputs, Setting::Current(Milliamperes(1_000))) == Ok(()));
-    assert!(rt; set(&mut outputs, Setting::State(true)) == Ok(()));
+    assert!(rt;
+        is_set(&mut outputs, Setting::Voltage(Millivolts(12_000)))
+            && is_set(&mut outputs, Setting::Current(Milliamperes(1_000)))
+            && is_set(&mut outputs, Setting::State(true))
+    );
     // 12 V through 10 ohms would be 1.2 A: the limit holds 10 V and 1 A.
     let want = Measured {
         voltage: Millivolts(10_000),
         current: Milliamperes(1_000),
         limited: true,
     };
-    assert!(rt; outputs.measure(Output::First) == want);
-    assert!(rt; outputs.conditions() == 2);
-    assert!(rt; outputs.set_load(Output::First, Milliohms(7_000_000)) == Ok(()));
+    assert!(rt; outputs.measure(Output::First) == want && outputs.conditions() == 2);
+}
+
+// Whether a load of 7 kilohms is taken and a short circuit refused.
+fn loads(outputs: &mut Outputs) -> bool {
+    outputs.set_load(Output::First, Milliohms(7_000_000)) == Ok(())
+        && outputs.set_load(Output::First, Milliohms(0)) == Err(ScpiError::DataOutOfRange)
+        && outputs.load(Output::First) == Milliohms(7_000_000)
+}
+
+#[test]
+fn a_load_of_kilohms(rt: HostRuntime) {
+    let mut outputs = Outputs::new();
+    assert!(rt;
+        is_set(&mut outputs, Setting::Voltage(Millivolts(12_000)))
+            && is_set(&mut outputs, Setting::Current(Milliamperes(1_000)))
+            && is_set(&mut outputs, Setting::State(true))
+            && loads(&mut outputs)
+    );
     // 12 V through 7 kilohms is 1.714 mA, rounded to 2 mA.
     assert!(rt; outputs.measure(Output::First).current == Milliamperes(2));
-    assert!(rt; outputs.set_load(Output::First, Milliohms(0)) == Err(ScpiError::DataOutOfRange));
-    assert!(rt; outputs.load(Output::First) == Milliohms(7_000_000));
+}
+
+// Whether an output at 6 V trips by its protection at 5 V.
+fn trips(outputs: &mut Outputs) -> bool {
+    is_set(outputs, Setting::ProtectionLevel(Millivolts(5_000)))
+        && is_set(outputs, Setting::Protection(true))
+        && is_set(outputs, Setting::Current(Milliamperes(5_000)))
+        && is_set(outputs, Setting::Voltage(Millivolts(6_000)))
+        && is_set(outputs, Setting::State(true))
+        && outputs.trip(Output::First)
+}
+
+// Whether the first output is on.
+fn is_on(outputs: &Outputs) -> bool {
+    outputs.get().get(Output::First).on
 }
 
 #[test]
 fn an_output_that_trips(rt: HostRuntime) {
     let mut outputs = Outputs::new();
-    let steps = [
-        Setting::ProtectionLevel(Millivolts(5_000)),
-        Setting::Protection(true),
-        Setting::Current(Milliamperes(5_000)),
-        Setting::Voltage(Millivolts(6_000)),
-        Setting::State(true),
-    ];
-    for step in steps {
-        assert!(rt; set(&mut outputs, step) == Ok(()));
-    }
-    assert!(rt; !outputs.get().get(Output::First).on);
-    assert!(rt; outputs.trip(Output::First));
-    assert!(rt; outputs.conditions() == 1);
-    assert!(rt; set(&mut outputs, Setting::State(true)) == Err(ScpiError::SettingsConflict));
+    assert!(rt; trips(&mut outputs) && !is_on(&outputs) && outputs.conditions() == 1);
+    let on = set(&mut outputs, Setting::State(true));
+    assert!(rt; on == Err(ScpiError::SettingsConflict));
     outputs.clear(Output::First);
-    assert!(rt; !outputs.trip(Output::First) && !outputs.get().get(Output::First).on);
-    assert!(rt;
-        set(&mut outputs, Setting::Voltage(Millivolts(60_001))) == Err(ScpiError::DataOutOfRange)
-    );
+    assert!(rt; !outputs.trip(Output::First) && !is_on(&outputs));
+    let high = set(&mut outputs, Setting::Voltage(Millivolts(60_001)));
+    assert!(rt; high == Err(ScpiError::DataOutOfRange));
 }
+
+// The settings of `*RST`, and 5.25 V on output 1.
+const SETTINGS: [u8; 28] = [
+    0x14, 0x82, 0, 0, 0xea, 0x60, 0, 0, 0, 0, 0, 0xea, 0x60, 0, 0, 0, 0, 0, 0xea, 0x60, 0, 0, 0, 0,
+    0, 0xea, 0x60, 0,
+];
 
 #[test]
 fn settings_as_bytes(rt: HostRuntime) {
     let mut settings = Settings::reset();
     assert!(rt; settings.set(Output::First, Setting::Voltage(Millivolts(5_250))) == Ok(()));
-    let bytes = settings.to_bytes();
-    let want = [
-        0x14, 0x82, 0, 0, 0xea, 0x60, 0, 0, 0, 0, 0, 0xea, 0x60, 0, 0, 0, 0, 0, 0xea, 0x60, 0, 0,
-        0, 0, 0, 0xea, 0x60, 0,
-    ];
-    assert!(rt; bytes == want);
-    assert!(rt; Settings::of_bytes(&bytes) == Some(settings));
-    let mut other = bytes;
+    assert!(rt; settings.to_bytes() == SETTINGS);
+    assert!(rt; Settings::of_bytes(&SETTINGS) == Some(settings));
+}
+
+#[test]
+fn bytes_that_are_no_settings(rt: HostRuntime) {
+    let mut other = SETTINGS;
     other[6] = 4;
     assert!(rt; Settings::of_bytes(&other).is_none());
-    assert!(rt; Settings::of_bytes(&bytes[1..]).is_none());
-    assert!(rt; Output::of_suffix(4) == Some(Output::Fourth));
-    assert!(rt; Output::of_suffix(5).is_none());
+    assert!(rt; Settings::of_bytes(&SETTINGS[1..]).is_none());
+}
+
+#[test]
+fn outputs_of_suffixes(rt: HostRuntime) {
+    assert!(rt; Output::of_suffix(4) == Some(Output::Fourth) && Output::of_suffix(5).is_none());
 }

@@ -1,9 +1,11 @@
 // Units as commands are read from them, and the faults of a reading in their order. A number is rounded half away from
 // zero before it is looked at.
+use crate::told::holds;
 use crate::tree::fail_as_told;
 use psu_lex::{ScpiError, Unit, split};
+use psu_tables::bracketed;
 use psu_tree::{Command, Enable, Flag, Path, Query, read_unit, request};
-use std::test::Fail;
+use std::alloc::Global;
 
 fn unit_of(text: &[u8]) -> Unit<'_> {
     Unit {
@@ -13,45 +15,62 @@ fn unit_of(text: &[u8]) -> Unit<'_> {
     }
 }
 
+// Numbers of the enable registers and of `*PSC`, rounded half away from zero.
+const NUMBERS: &str = "
+[*sRe 00005] service 5
+[*SRE \t5 ] service 5
+[*SRE +5] service 5
+[*SRE 000000000005] service 5
+[*SRE 1 E +2] service 100
+[*SRE 255.4] service 255
+[*ESE -0] event 0
+[*ESE -0.4] event 0
+[*PSC 0] power-on no
+[*PSC -0.4] power-on no
+[*PSC 0.5] power-on yes
+[*PSC -32767] power-on yes
+[*PSC 32767.4] power-on yes
+";
+
+// Whether a command puts in a register what its row says.
+fn puts(command: &Command<'_>, register: &str, wanted: &str) -> bool {
+    match command {
+        Command::Enable(Enable::ServiceRequest, bits) => register == "service"
+            && wanted.parse() == Ok(*bits),
+        Command::Enable(Enable::EventStatus, bits) => register == "event"
+            && wanted.parse() == Ok(*bits),
+        Command::Flag(Flag::PowerOnClear, on) => register == "power-on" && *on == (wanted == "yes"),
+        _ => false,
+    }
+}
+
+fn is_number(line: &str) -> Option<bool> {
+    let (text, rest) = bracketed(line)?;
+    let (register, wanted) = rest.split_once(" ")?;
+    let command = read_unit(&Path::root(), &unit_of(text.as_bytes())).ok()?;
+    Some(puts(&command, register, wanted))
+}
+
 #[test]
 fn numbers_of_commands(rt: HostRuntime) {
-    let rows: [(&[u8], Enable, u8); 8] = [
-        (b"*sRe 00005", Enable::ServiceRequest, 5),
-        (b"*SRE \t5 ", Enable::ServiceRequest, 5),
-        (b"*SRE +5", Enable::ServiceRequest, 5),
-        (b"*SRE 000000000005", Enable::ServiceRequest, 5),
-        (b"*SRE 1 E +2", Enable::ServiceRequest, 100),
-        (b"*SRE 255.4", Enable::ServiceRequest, 255),
-        (b"*ESE -0", Enable::EventStatus, 0),
-        (b"*ESE -0.4", Enable::EventStatus, 0),
-    ];
-    for (text, which, number) in rows {
-        let read = read_unit(&Path::root(), &unit_of(text));
-        assert!(rt;
-            matches!(read, Ok(Command::Enable(to, value)) if to == which && value == number),
-            "at {text:?}"
-        );
+    for line in NUMBERS.lines() {
+        holds(&rt, line.is_empty() || is_number(line) == Some(true), line);
     }
-    let flags: [(&[u8], bool); 5] = [
-        (b"*PSC 0", false),
-        (b"*PSC -0.4", false),
-        (b"*PSC 0.5", true),
-        (b"*PSC -32767", true),
-        (b"*PSC 32767.4", true),
-    ];
-    for (text, on) in flags {
-        let read = read_unit(&Path::root(), &unit_of(text));
-        assert!(rt;
-            matches!(read, Ok(Command::Flag(Flag::PowerOnClear, value)) if value == on),
-            "at {text:?}"
-        );
+}
+
+// What a unit that is a query asks for.
+fn query(text: &[u8]) -> Option<Query> {
+    match read_unit(&Path::root(), &unit_of(text)) {
+        Ok(Command::Query(query)) => Some(query),
+        _ => None,
     }
-    let read = read_unit(&Path::root(), &unit_of(b" *idn?\r"));
-    assert!(rt; matches!(read, Ok(Command::Query(Query::Identification))));
-    let read = read_unit(&Path::root(), &unit_of(b"*STB? "));
-    assert!(rt; matches!(read, Ok(Command::Query(Query::StatusByte))));
-    let read = read_unit(&Path::root(), &unit_of(b"*OPC?"));
-    assert!(rt; matches!(read, Ok(Command::Query(Query::OperationComplete))));
+}
+
+#[test]
+fn queries(rt: HostRuntime) {
+    assert!(rt; matches!(query(b" *idn?\r"), Some(Query::Identification)));
+    assert!(rt; matches!(query(b"*STB? "), Some(Query::StatusByte)));
+    assert!(rt; matches!(query(b"*OPC?"), Some(Query::OperationComplete)));
 }
 
 // Faults of a byte, of the syntax, of the header, of the number of data, and then of each datum.
@@ -88,29 +107,28 @@ FOO 1E99999 -> 113
 ";
 
 #[test]
-fn faults_of_a_reading_come_in_order(rt: HostRuntime) -> Result<(), Fail> {
-    fail_as_told(&rt, FAULTS)
+fn faults_of_a_reading_come_in_order(rt: HostRuntime) {
+    fail_as_told(&rt, FAULTS);
 }
 
-// The units of a message, and the fault of the last.
-#[test]
-fn units_of_a_message_are_read(rt: HostRuntime) {
-    let Ok(units) = split(rt.alloc(), b"*SRE 255; *sre? ;*ESE 'a") else {
-        panic!(rt; "out of memory");
-    };
+// The units of a message: a command, a query, and a fault.
+fn are_read(alloc: Global) -> Option<bool> {
+    let units = split(alloc, b"*SRE 255; *sre? ;*ESE 'a").ok()?;
     let [first, second, third] = units.as_slice() else {
-        panic!(rt; "three units");
+        return None;
     };
     let mut path = Path::root();
-    let read = request(&mut path, first, false).reading;
-    assert!(rt; matches!(read, Ok(Command::Enable(Enable::ServiceRequest, 255))));
-    let read = request(&mut path, second, false).reading;
-    assert!(rt;
-        matches!(
-            read,
-            Ok(Command::Query(Query::Enable(Enable::ServiceRequest)))
-        )
-    );
-    let read = request(&mut path, third, false).reading;
-    assert!(rt; matches!(read, Err(ScpiError::InvalidStringData)));
+    let command = request(&mut path, first, false).reading.ok()?;
+    let query = request(&mut path, second, false).reading.ok()?;
+    let fault = request(&mut path, third, false).reading.err()?;
+    Some(
+        puts(&command, "service", "255")
+            && matches!(query, Command::Query(Query::Enable(Enable::ServiceRequest)))
+            && fault == ScpiError::InvalidStringData,
+    )
+}
+
+#[test]
+fn units_of_a_message_are_read(rt: HostRuntime) {
+    assert!(rt; are_read(rt.alloc()) == Some(true));
 }

@@ -1,192 +1,181 @@
 // Messages of a session.
-use crate::frames::{Told, bare, executes, first, is_nothing, is_sent, joined, sends, tell};
-use psu_hislip::{Action, FatalCode, First, SessionCore, Side};
+use crate::conversations::{goes_as_told, message};
+use crate::told::holds;
+use psu_hislip::{Channel, FatalCode, First};
+use psu_tables::row;
 use std::alloc::Global;
 
-// The session ends with this code.
-fn ends(told: &Told, side: Side, code: u8) -> bool {
-    match told {
-        Some(actions) => actions.len() == 2
-            && is_sent(actions.first(), side, &bare(2, code))
-            && matches!(actions.last(), Some(Action::Closed)),
-        None => false,
-    }
-}
-
-fn is_closed(told: &Told) -> bool {
-    match told {
-        Some(actions) => actions.len() == 1 && matches!(actions.first(), Some(Action::Closed)),
-        None => false,
-    }
-}
-
-// A message whose payload is too long.
-fn long(kind: u8, control: u8) -> [u8; 16] {
-    let mut message = bare(kind, control);
-    message[8] = 1;
-    message
-}
+const ERRORS: &str = "
+async 'HS 11 00*4 01 -> async 'HS 12
+sync 'HS c8 00*5 01 -> sync 'HS 03 04
+async 'HS 04 02 00*4 01 -> async 'HS 03 04
+sync 'HS c8 -> sync 'HS 03 03
+async 'HS 80 -> async 'HS 03 03
+sync 'HS 1a -> sync 'HS 03 01
+async 'HS 7f -> async 'HS 03 01
+sync 'HS 04 02 -> sync 'HS 03 01
+async 'HS 06 -> async 'HS 03 01
+async 'HS 03 -> async 'HS 03 01
+async 'HS 04 02 -> async 'HS 03 02
+async 'HS 0a 07 -> async 'HS 03 02
+async 'HS 0f -> async 'HS 03 00
+";
 
 #[test]
 fn every_error_in_its_order(rt: HostRuntime) {
-    let alloc = rt.alloc();
-    let mut core = joined(alloc).expect(&rt, "a core");
-    let rows: [(Side, [u8; 16], u8); 12] = [
-        (Side::Sync, long(0xc8, 0), 4),
-        (Side::Async, long(4, 2), 4),
-        (Side::Sync, bare(0xc8, 0), 3),
-        (Side::Async, bare(0x80, 0), 3),
-        (Side::Sync, bare(0x1a, 0), 1),
-        (Side::Async, bare(0x7f, 0), 1),
-        (Side::Sync, bare(4, 2), 1),
-        (Side::Async, bare(6, 0), 1),
-        (Side::Async, bare(3, 0), 1),
-        (Side::Async, bare(4, 2), 2),
-        (Side::Async, bare(10, 7), 2),
-        (Side::Async, bare(15, 0), 0),
-    ];
-    for (side, message, code) in rows {
-        let told = tell(alloc, &mut core, side, &message);
-        assert!(rt; sends(&told, side, &bare(3, code)));
-    }
+    goes_as_told(&rt, rt.alloc(), ERRORS);
 }
 
-// A message ends the session, and each later one finds it closed.
-fn ends_for_good(alloc: Global, is_joined: bool, side: Side, message: &[u8], code: u8) -> bool {
-    let mut core = SessionCore::new(alloc, 1);
-    if is_joined {
-        let Some(session) = joined(alloc) else {
-            return false;
-        };
-        core = session;
-    }
-    ends(&tell(alloc, &mut core, side, message), side, code)
-        && is_closed(&tell(alloc, &mut core, Side::Sync, &bare(12, 0)))
-        && is_closed(&tell(alloc, &mut core, Side::Async, &bare(21, 0)))
-}
+// A message ends the session, joined or not, and each later one finds it closed.
+const FATAL_ERRORS: &str = "
+async 'HS 11 00*4 01 -> async 'HS 12
+sync 00 -> sync 'HS 02 01, closed
+sync 'HS 0c -> closed
+async 'HS 15 -> closed
+
+sync 00 -> sync 'HS 02 01, closed
+sync 'HS 0c -> closed
+async 'HS 15 -> closed
+
+sync 'HS 06 -> sync 'HS 02 02, closed
+sync 'HS 0c -> closed
+async 'HS 15 -> closed
+
+sync 'HS 11 -> sync 'HS 02 02, closed
+sync 'HS 0c -> closed
+async 'HS 15 -> closed
+
+sync 'HS c8 00*5 01 -> sync 'HS 02 02, closed
+sync 'HS 0c -> closed
+async 'HS 15 -> closed
+
+async 'HS 15 -> async 'HS 02 03, closed
+sync 'HS 0c -> closed
+async 'HS 15 -> closed
+
+async 'HS 11 -> async 'HS 02 03, closed
+sync 'HS 0c -> closed
+async 'HS 15 -> closed
+
+async 'HS 11 00*4 01 -> async 'HS 12
+async 'HS 11 -> async 'HS 02 03, closed
+sync 'HS 0c -> closed
+async 'HS 15 -> closed
+
+async 'HS 11 00*4 01 -> async 'HS 12
+sync 'HS 00 -> sync 'HS 02 03, closed
+sync 'HS 0c -> closed
+async 'HS 15 -> closed
+
+async 'HS 11 00*4 01 -> async 'HS 12
+sync 'HS 00 00*5 01 -> sync 'HS 02 03, closed
+sync 'HS 0c -> closed
+async 'HS 15 -> closed
+";
 
 #[test]
 fn every_fatal_error_in_its_order(rt: HostRuntime) {
-    let rows: [(bool, Side, [u8; 16], u8); 10] = [
-        (true, Side::Sync, [0; 16], 1),
-        (false, Side::Sync, [0; 16], 1),
-        (false, Side::Sync, bare(6, 0), 2),
-        (false, Side::Sync, bare(17, 0), 2),
-        (false, Side::Sync, long(0xc8, 0), 2),
-        (false, Side::Async, bare(21, 0), 3),
-        (false, Side::Async, bare(17, 0), 3),
-        (true, Side::Async, bare(17, 0), 3),
-        (true, Side::Sync, bare(0, 0), 3),
-        (true, Side::Sync, long(0, 0), 3),
-    ];
-    for (is_joined, side, message, code) in rows {
-        assert!(rt; ends_for_good(rt.alloc(), is_joined, side, &message, code));
+    goes_as_told(&rt, rt.alloc(), FATAL_ERRORS);
+}
+
+// Frames of 32,768 bytes: a transmission of three is too much, and none of it is kept for the next.
+const FRAMES: &str = "
+async 'HS 11 00*4 01 -> async 'HS 12
+sync 'HS 06 01 00*10 80 00 20*32768 -> delivered
+sync 'HS 06 01 00*10 80 00 20*32768 -> delivered
+sync 'HS 07 03 00*3 09 -> delivered, execute 9/0 20*65536
+sync 'HS 06 01 00*10 80 00 20*32768 -> delivered
+sync 'HS 06 01 00*10 80 00 20*32768 -> delivered
+sync 'HS 07 03 00*3 09 -> delivered, execute 9/0 20*65536
+sync 'HS 06 01 00*10 80 00 20*32768 -> delivered
+sync 'HS 06 01 00*10 80 00 20*32768 -> delivered
+sync 'HS 06 01 00*10 80 00 20*32768 -> delivered
+sync 'HS 07 03 00*3 09 -> delivered, too much
+sync 'HS 06 01 00*10 80 00 20*32768 -> delivered
+sync 'HS 07 03 00*3 09 -> delivered, execute 9/0 20*32768
+";
+
+#[test]
+fn a_transmission_of_several_frames(rt: HostRuntime) {
+    goes_as_told(&rt, rt.alloc(), FRAMES);
+}
+
+const CLEARS: &str = "
+async 'HS 11 00*4 01 -> async 'HS 12
+sync 'HS 06 01 00*11 01 'A -> delivered
+async 'HS 13 -> clear, async 'HS 17
+sync 'HS 06 01 00*11 01 'A -> nothing
+sync 'HS 07 00*12 01 'B -> nothing
+sync 'HS 0c -> nothing
+async 'HS 13 -> clear, async 'HS 17
+sync 'HS 06 01 00*11 01 'A -> nothing
+sync 'HS 07 00*12 01 'B -> nothing
+sync 'HS 0c -> nothing
+sync 'HS 03 -> nothing
+sync 'HS 08 -> sync 'HS 09
+sync 'HS 07 00*12 01 'B -> execute 0/2 'B
+sync 'HS 06 01 00*11 01 'A -> delivered
+sync 'HS 08 -> sync 'HS 09
+async 'HS 13 -> clear, async 'HS 17
+sync 'HS 07 00*12 01 'B -> execute 0/3 'B
+";
+
+#[test]
+fn a_device_clear_in_each_order(rt: HostRuntime) {
+    goes_as_told(&rt, rt.alloc(), CLEARS);
+}
+
+// A lock's string has at most 256 bytes.
+const LOCKS: &str = "
+async 'HS 11 00*4 01 -> async 'HS 12
+async 'HS 04 01 00*2 01 -> lock 256
+async 'HS 04 01 00*2 01 00*7 01 00 6b*256 -> lock 256 6b*256
+async 'HS 04 01 00*2 01 00*7 01 01 6b*257 -> async 'HS 05 03
+async 'HS 04 -> release
+async 'HS 18 -> info
+async 'HS 0a -> async 'HS 0b
+async 'HS 0a 06 -> async 'HS 0b
+sync 'HS 0c 01 -> trigger
+";
+
+#[test]
+fn locks_and_the_rest_of_the_types(rt: HostRuntime) {
+    goes_as_told(&rt, rt.alloc(), LOCKS);
+}
+
+// First messages of a connection, and what each asks for.
+const FIRST_MESSAGES: &str = "
+'HS 00 00 01 00*10 07 'hislip0 -> start
+'HS 15 -> refused 3
+'HS 11 00 02 -> join 33554432
+'HT -> refused 1
+'HS 06 00*5 ff*8 -> refused 3
+";
+
+// What the first message of a connection asks for.
+fn first(alloc: Global, cell: &str) -> Option<First> {
+    let messages = Channel::new(alloc).feed(&message(alloc, cell)?).ok()?;
+    Some(First::of(messages.first()?))
+}
+
+// Whether a first message asks for what its row says.
+fn comes_first(alloc: Global, line: &str) -> Option<bool> {
+    let (cell, wanted) = row(line)?;
+    match first(alloc, cell)? {
+        First::Start => Some(wanted == "start"),
+        First::Join(session) => Some(wanted.strip_prefix("join ")?.parse() == Ok(session)),
+        First::Refused(code) => Some(wanted.strip_prefix("refused ")?.parse() == Ok(code.code())),
     }
 }
 
 #[test]
 fn first_messages(rt: HostRuntime) {
-    let refused = First::Refused(FatalCode::InvalidInitialization);
-    assert!(rt; first(rt.alloc(), &bare(21, 0)) == Some(refused));
-    let mut join = bare(17, 0);
-    join[4] = 2;
-    assert!(rt; first(rt.alloc(), &join) == Some(First::Join(0x0200_0000)));
+    for line in FIRST_MESSAGES.lines() {
+        holds(
+            &rt,
+            line.is_empty() || comes_first(rt.alloc(), line) == Some(true),
+            line,
+        );
+    }
     assert!(rt; FatalCode::TooManyClients.code() == 4);
-}
-
-#[test]
-fn a_transmission_of_several_frames(rt: HostRuntime) {
-    let alloc = rt.alloc();
-    let mut core = joined(alloc).expect(&rt, "a core");
-    let mut data = bare(6, 1);
-    data[14] = 0x80;
-    let mut stream = data.to_vec(alloc).expect(&rt, "memory");
-    stream
-        .extend_from_slice(&[b' '; 32_768])
-        .expect(&rt, "memory");
-    for (count, is_good) in [
-        (2usize, true),
-        (2usize, true),
-        (3usize, false),
-        (1usize, true),
-    ] {
-        for _ in 0..count {
-            let told = tell(alloc, &mut core, Side::Sync, &stream).expect(&rt, "memory");
-            assert!(rt; told.len() == 1 && matches!(told.first(), Some(Action::Delivered)));
-        }
-        let mut end = bare(7, 3);
-        end[7] = 9;
-        let told = tell(alloc, &mut core, Side::Sync, &end).expect(&rt, "memory");
-        assert!(rt; told.len() == 2 && matches!(told.first(), Some(Action::Delivered)));
-        match told.last() {
-            Some(Action::Execute(origin, bytes)) => assert!(rt;
-                origin.id == 9 && is_good && bytes.len() == 32_768 * count
-            ),
-            Some(Action::TooMuch(_)) => assert!(rt; !is_good),
-            _ => panic!(rt; "no transmission"),
-        }
-    }
-}
-
-#[test]
-fn a_device_clear_in_each_order(rt: HostRuntime) {
-    let alloc = rt.alloc();
-    let mut core = joined(alloc).expect(&rt, "a core");
-    let data = b"\x48\x53\x06\x01\x00\x00\x00\x00\x00\x00\x00\x00\x00\x00\x00\x01A";
-    let end = b"\x48\x53\x07\x00\x00\x00\x00\x00\x00\x00\x00\x00\x00\x00\x00\x01B";
-    assert!(rt; tell(alloc, &mut core, Side::Sync, data).is_some());
-    for _ in 0..2 {
-        let told = tell(alloc, &mut core, Side::Async, &bare(19, 0)).expect(&rt, "memory");
-        assert!(rt; told.len() == 2 && matches!(told.first(), Some(Action::Clear)));
-        assert!(rt; is_sent(told.last(), Side::Async, &bare(23, 0)));
-        assert!(rt; is_nothing(&tell(alloc, &mut core, Side::Sync, data)));
-        assert!(rt; is_nothing(&tell(alloc, &mut core, Side::Sync, end)));
-        assert!(rt; is_nothing(&tell(alloc, &mut core, Side::Sync, &bare(12, 0))));
-    }
-    assert!(rt; is_nothing(&tell(alloc, &mut core, Side::Sync, &bare(3, 0))));
-    assert!(rt;
-        sends(
-            &tell(alloc, &mut core, Side::Sync, &bare(8, 0)),
-            Side::Sync,
-            &bare(9, 0)
-        )
-    );
-    assert!(rt; executes(&tell(alloc, &mut core, Side::Sync, end), 1, 0, b"B"));
-    assert!(rt; tell(alloc, &mut core, Side::Sync, data).is_some());
-    let told = tell(alloc, &mut core, Side::Sync, &bare(8, 0));
-    assert!(rt; sends(&told, Side::Sync, &bare(9, 0)));
-    let told = tell(alloc, &mut core, Side::Async, &bare(19, 0)).expect(&rt, "memory");
-    assert!(rt; told.len() == 2 && matches!(told.first(), Some(Action::Clear)));
-    assert!(rt; is_sent(told.last(), Side::Async, &bare(23, 0)));
-    assert!(rt; executes(&tell(alloc, &mut core, Side::Sync, end), 1, 0, b"B"));
-}
-
-#[test]
-fn locks_and_the_rest_of_the_types(rt: HostRuntime) {
-    let alloc = rt.alloc();
-    let mut core = joined(alloc).expect(&rt, "a core");
-    let mut lock = bare(4, 1);
-    lock[6] = 1;
-    let told = tell(alloc, &mut core, Side::Async, &lock).expect(&rt, "memory");
-    assert!(rt; matches!(told.first(), Some(Action::Lock(256, string)) if string.is_empty()));
-    for (length, is_good) in [(256usize, true), (257usize, false)] {
-        lock[14] = 1;
-        lock[15] = if is_good { 0 } else { 1 };
-        let mut stream = lock.to_vec(alloc).expect(&rt, "memory");
-        stream
-            .extend_from_slice(&[b'k'; 257][..length])
-            .expect(&rt, "memory");
-        let told = tell(alloc, &mut core, Side::Async, &stream);
-        assert!(rt; is_good != sends(&told, Side::Async, &bare(5, 3)));
-    }
-    let rows: [(u8, u8); 4] = [(4, 0), (24, 0), (10, 0), (10, 6)];
-    for (kind, control) in rows {
-        let told = tell(alloc, &mut core, Side::Async, &bare(kind, control));
-        assert!(rt; (kind == 10) == sends(&told, Side::Async, &bare(11, 0)));
-        let told = told.expect(&rt, "memory");
-        assert!(rt; (kind == 4) == matches!(told.first(), Some(Action::Release)));
-        assert!(rt; (kind == 24) == matches!(told.first(), Some(Action::Info)));
-    }
-    let told = tell(alloc, &mut core, Side::Sync, &bare(12, 1)).expect(&rt, "memory");
-    assert!(rt; told.len() == 1 && matches!(told.first(), Some(Action::Trigger(_))));
 }

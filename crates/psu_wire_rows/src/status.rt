@@ -2,56 +2,69 @@
 use psu_lex::ScpiError;
 use psu_status::{Filter, Group, Status};
 
+// Whether the queue gives so many undefined headers and an overflow, and then nothing.
+fn overflows(status: &mut Status, headers: u32) -> bool {
+    for _ in 0..headers {
+        if status.pop_error() != Some(ScpiError::UndefinedHeader) {
+            return false;
+        }
+    }
+    status.pop_error() == Some(ScpiError::QueueOverflow) && status.pop_error().is_none()
+}
+
 #[test]
 fn a_queue_that_overflows(rt: HostRuntime) {
     let mut status = Status::power_on(None, 0);
     for _ in 0..17 {
         status.push_error(ScpiError::UndefinedHeader);
     }
-    assert!(rt; status.count() == 16);
     // PON, CME of the errors, DDE of the overflow.
-    assert!(rt; status.read_event() == 168);
-    assert!(rt; status.read_event() == 0);
-    for _ in 0..15 {
-        assert!(rt; status.pop_error() == Some(ScpiError::UndefinedHeader));
-    }
-    assert!(rt; status.pop_error() == Some(ScpiError::QueueOverflow));
-    assert!(rt; status.pop_error().is_none());
+    assert!(rt; status.count() == 16 && status.read_event() == 168 && status.read_event() == 0);
+    assert!(rt; overflows(&mut status, 15));
     assert!(rt; ScpiError::QueueOverflow.text() == "Queue overflow");
+}
+
+// The first service request of these enables.
+fn requested(ese: u8, sre: u8) -> Option<u8> {
+    Status::power_on(Some((ese, sre)), 3).first_request()
 }
 
 #[test]
 fn the_first_service_request(rt: HostRuntime) {
-    let rows = [
-        (None, None),
-        (Some((32, 128)), Some(96)),
-        (Some((32, 0)), None),
-        (Some((0, 128)), None),
-        (Some((255, 255)), Some(96)),
-    ];
-    for (enables, want) in rows {
-        assert!(rt;
-            Status::power_on(enables, 3).first_request() == want,
-            "at {enables:?}"
-        );
-    }
-    let mut status = Status::power_on(Some((255, 128)), 0);
-    assert!(rt; status.sre() == 191);
-    assert!(rt; status.status_byte(true) == 16 + 32 + 64);
+    assert!(rt;
+        Status::power_on(None, 3).first_request().is_none()
+            && requested(32, 128) == Some(96)
+            && requested(32, 0).is_none()
+            && requested(0, 128).is_none()
+            && requested(255, 255) == Some(96)
+    );
+}
+
+// Clears the status, and raises bit 0 where that alone is enabled.
+fn raise_alone(status: &mut Status) -> bool {
     status.clear();
-    assert!(rt; status.status_byte(false) == 0);
+    let cleared = status.status_byte(false) == 0;
     status.set_sre(0);
     status.set_ese(1);
     status.raise(1);
-    assert!(rt; (status.ese(), status.status_byte(false)) == (1, 32));
+    cleared && status.ese() == 1 && status.status_byte(false) == 32
+}
+
+#[test]
+fn the_status_byte(rt: HostRuntime) {
+    let mut status = Status::power_on(Some((255, 128)), 0);
+    assert!(rt; status.sre() == 191 && status.status_byte(true) == 16 + 32 + 64);
+    assert!(rt; raise_alone(&mut status));
 }
 
 #[test]
 fn a_condition_that_stands_at_power_on_makes_no_event(rt: HostRuntime) {
     let mut status = Status::power_on(None, 32_768 + 3);
-    assert!(rt; status.group_condition(Group::Questionable) == 3);
-    assert!(rt; status.group_condition(Group::Operation) == 0);
-    assert!(rt; status.group_event(Group::Questionable) == 0);
+    assert!(rt;
+        status.group_condition(Group::Questionable) == 3
+            && status.group_condition(Group::Operation) == 0
+            && status.group_event(Group::Questionable) == 0
+    );
     status.condition(1);
     status.condition(3);
     assert!(rt; status.take_group_events(Group::Questionable) == 2);
@@ -62,19 +75,39 @@ fn conditions_make_events(rt: HostRuntime) {
     let mut status = Status::power_on(None, 0);
     status.condition(2);
     status.condition(0);
-    assert!(rt; status.group_condition(Group::Questionable) == 0);
-    assert!(rt; status.take_group_events(Group::Questionable) == 2);
-    assert!(rt; status.take_group_events(Group::Questionable) == 0);
+    assert!(rt;
+        status.group_condition(Group::Questionable) == 0
+            && status.take_group_events(Group::Questionable) == 2
+            && status.take_group_events(Group::Questionable) == 0
+    );
+}
+
+// The status whose questionable events are those of a condition that ends, and the first of them enabled.
+fn negative(status: &mut Status) {
     status.set_group_filter(Group::Questionable, Filter::Positive, 0);
     status.set_group_filter(Group::Questionable, Filter::Negative, 65_535);
     status.set_group_filter(Group::Questionable, Filter::Enable, 1);
-    assert!(rt; status.group_filter(Group::Questionable, Filter::Negative) == 32_767);
-    status.condition(3);
-    assert!(rt; status.status_byte(false) == 0);
-    status.condition(2);
-    assert!(rt; status.status_byte(false) == 8);
+}
+
+// The status byte under a condition.
+fn byte_under(status: &mut Status, condition: u16) -> u8 {
+    status.condition(condition);
+    status.status_byte(false)
+}
+
+#[test]
+fn conditions_that_end_make_events(rt: HostRuntime) {
+    let mut status = Status::power_on(None, 0);
+    negative(&mut status);
+    assert!(rt;
+        status.group_filter(Group::Questionable, Filter::Negative) == 32_767
+            && byte_under(&mut status, 3) == 0
+            && byte_under(&mut status, 2) == 8
+    );
     status.preset();
-    assert!(rt; status.status_byte(false) == 0);
-    assert!(rt; status.take_group_events(Group::Questionable) == 1);
-    assert!(rt; status.take_group_events(Group::Operation) == 0);
+    assert!(rt;
+        status.status_byte(false) == 0
+            && status.take_group_events(Group::Questionable) == 1
+            && status.take_group_events(Group::Operation) == 0
+    );
 }

@@ -1,86 +1,71 @@
 // The command tree: headers of the table, and faults in their order.
 // 0 stands for a command, another number for the fault of the reading.
-use psu_lex::{Unit, split};
+use crate::told::holds;
+use psu_lex::{ScpiError, Unit, split};
 use psu_tables::{row, written};
-use psu_tree::{Path, read_unit, request};
+use psu_tree::{Command, Path, read_unit, request};
 use std::alloc::Global;
 use std::process::Abort;
-use std::test::Fail;
 
-/// The fault of a unit's reading at the root, 0 where it is a command.
-pub fn fault(text: &[u8]) -> u16 {
+// The fault of a unit's reading at the root, 0 where it is a command.
+fn fault(text: &[u8]) -> u16 {
     let unit = Unit {
         text,
         first: true,
         fault: None,
     };
-    match read_unit(&Path::root(), &unit) {
+    number(read_unit(&Path::root(), &unit))
+}
+
+// What a reading comes to: 0 where it is a command, else the number of its fault.
+fn number(reading: Result<Command<'_>, ScpiError>) -> u16 {
+    match reading {
         Ok(_) => 0,
         Err(error) => error.magnitude(),
     }
 }
 
-// The readings of a message, in order.
-fn faults(alloc: Global, text: &[u8], into: &mut Vec<u16>) -> Result<(), Fail> {
-    let units = split(alloc, text).map_err(|_| "memory")?;
+// Whether the readings of a message's units, in order, are those of a row.
+fn reads(alloc: Global, message: &str, wanted: &str) -> Option<bool> {
+    let message = written(alloc, message)?;
+    let units = split(alloc, message.as_bytes()).ok()?;
     let mut path = Path::root();
+    let mut faults = wanted.split_whitespace();
     for unit in units.as_slice() {
         if unit.first {
             path = Path::root();
         }
-        match request(&mut path, unit, false).reading {
-            Ok(_) => into.push(0)?,
-            Err(error) => into.push(error.magnitude())?,
+        let fault = number(request(&mut path, unit, false).reading);
+        if faults.next()?.parse() != Ok(fault) {
+            return None;
         }
     }
-    Ok(())
-}
-
-// The units of a message read as a row says.
-fn reads(rt: &impl Abort, alloc: Global, text: &str, wanted: &str) -> Result<(), Fail> {
-    let mut given = Vec::new(alloc);
-    faults(alloc, text.as_bytes(), &mut given)?;
-    let mut faults = Vec::new(alloc);
-    for word in wanted.split_whitespace() {
-        faults.push(word.parse::<u16>().map_err(|_| "no number")?)?;
-    }
-    assert!(rt; given.as_slice() == faults.as_slice(), "{text}");
-    Ok(())
+    Some(faults.next().is_none())
 }
 
 /// The messages of a table read as its rows say. A row is a line: a message, in which `\n` stands for NL, ` -> `, and the faults of its
 /// units. Other lines tell what the rows below them are for.
-pub fn read_as_told(rt: &impl Abort, alloc: Global, table: &str) -> Result<(), Fail> {
-    let mut rows = 0u32;
-    for (message, faults) in table.lines().filter_map(row) {
-        reads(rt, alloc, &written(alloc, message).ok_or("memory")?, faults)?;
-        rows = rows.saturating_add(1);
+pub fn read_as_told(rt: &impl Abort, alloc: Global, table: &str) {
+    for line in table.lines() {
+        if let Some((message, faults)) = row(line) {
+            holds(rt, reads(alloc, message, faults) == Some(true), line);
+        }
     }
-    assert!(rt; rows > 0, "no row in {table}");
-    Ok(())
 }
 
 /// The units of a table read at the root as its rows say, each by itself.
-pub fn fail_as_told(rt: &impl Abort, table: &str) -> Result<(), Fail> {
-    let mut rows = 0u32;
-    for (text, wanted) in table.lines().filter_map(row) {
-        let wanted: u16 = wanted.parse().map_err(|_| "no number")?;
-        assert!(rt; fault(text.as_bytes()) == wanted, "{text}");
-        rows = rows.saturating_add(1);
+pub fn fail_as_told(rt: &impl Abort, table: &str) {
+    for line in table.lines() {
+        if let Some((text, wanted)) = row(line) {
+            holds(rt, wanted.parse() == Ok(fault(text.as_bytes())), line);
+        }
     }
-    assert!(rt; rows > 0, "no row in {table}");
-    Ok(())
 }
 
-// Whether a header is one of the table, whatever its data: it reads, or wants a parameter.
-fn stands(header: &str, query: bool, alloc: Global) -> Result<bool, Fail> {
-    let mut text = Vec::new(alloc);
-    text.extend_from_slice(header.as_bytes())?;
-    if query {
-        text.push(b'?')?;
-    }
-    let fault = fault(&text);
-    Ok(fault == 0 || fault == 109)
+/// Whether a header is one of the table, whatever its data: it reads, or wants a parameter.
+pub fn stands(header: &[u8]) -> bool {
+    let fault = fault(header);
+    fault == 0 || fault == 109
 }
 
 // Each header of the table: its shortest form, its longest, and whether it stands as a command, as a query, or as both.
@@ -142,29 +127,31 @@ MMEM:STOR:MACR :MMEMORY:STORE:MACRO command
 MMEM:LOAD:MACR :MMEMORY:LOAD:MACRO command
 "#;
 
-// Both forms of a header stand as the table says.
-fn header_stands(rt: &impl Abort, alloc: Global, form: &str, kind: &str) -> Result<(), Fail> {
-    assert!(rt; stands(form, false, alloc)? == (kind != "query"), "{form}");
-    assert!(rt;
-        stands(form, true, alloc)? == (kind != "command"),
-        "{form}?"
-    );
-    Ok(())
+// Whether a form of a header stands as a command and as a query where its kind says so.
+fn form_stands(alloc: Global, form: &str, kind: &str) -> Option<bool> {
+    let command = stands(form.as_bytes());
+    let mut text = form.as_bytes().to_vec(alloc).ok()?;
+    text.push(b'?').ok()?;
+    Some(command == (kind != "query") && stands(&text) == (kind != "command"))
+}
+
+// Whether both forms of a header stand as its row says.
+fn header_stands(alloc: Global, line: &str) -> Option<bool> {
+    let (short, rest) = line.split_once(" ")?;
+    let (long, kind) = rest.split_once(" ")?;
+    Some(form_stands(alloc, short, kind)? && form_stands(alloc, long, kind)?)
 }
 
 #[test]
-fn each_row_in_its_shortest_and_longest_form(rt: HostRuntime) -> Result<(), Fail> {
+fn each_row_in_its_shortest_and_longest_form(rt: HostRuntime) {
     let mut headers = 0u32;
     for line in HEADERS.lines() {
-        let mut words = line.split_whitespace();
-        if let (Some(short), Some(long), Some(kind)) = (words.next(), words.next(), words.next()) {
-            header_stands(&rt, rt.alloc(), short, kind)?;
-            header_stands(&rt, rt.alloc(), long, kind)?;
+        if !line.is_empty() {
+            holds(&rt, header_stands(rt.alloc(), line) == Some(true), line);
             headers = headers.saturating_add(1);
         }
     }
     assert!(rt; headers == 55);
-    Ok(())
 }
 
 const NUMERIC_SUFFIXES: &str = r#"
@@ -177,8 +164,8 @@ SOUR9:FOO;VOLT2 1;:SOUR:VOLT1 1;:SYST1:ERR? -> 113 113 113 113
 "#;
 
 #[test]
-fn numeric_suffixes(rt: HostRuntime) -> Result<(), Fail> {
-    read_as_told(&rt, rt.alloc(), NUMERIC_SUFFIXES)
+fn numeric_suffixes(rt: HostRuntime) {
+    read_as_told(&rt, rt.alloc(), NUMERIC_SUFFIXES);
 }
 
 // One word of two without regard to case, and a number behind no node.
@@ -190,8 +177,8 @@ OUTP1:PON:STAT RST;:OUTP:PON1:STAT RST;:OUTP:PON:STAT1 RST;:OUTP1:PON:STAT?;:OUT
 "#;
 
 #[test]
-fn the_settings_at_power_on(rt: HostRuntime) -> Result<(), Fail> {
-    read_as_told(&rt, rt.alloc(), SETTINGS_AT_POWER_ON)
+fn the_settings_at_power_on(rt: HostRuntime) {
+    read_as_told(&rt, rt.alloc(), SETTINGS_AT_POWER_ON);
 }
 
 const FAULTS_IN_ORDER: &str = "
@@ -218,8 +205,8 @@ MMEM:STOR:STAT 100,\"/\" -> 222
 ";
 
 #[test]
-fn each_fault_before_the_later_ones(rt: HostRuntime) -> Result<(), Fail> {
-    read_as_told(&rt, rt.alloc(), FAULTS_IN_ORDER)
+fn each_fault_before_the_later_ones(rt: HostRuntime) {
+    read_as_told(&rt, rt.alloc(), FAULTS_IN_ORDER);
 }
 
 const PARAMETERS: &str = r#"
@@ -236,6 +223,6 @@ MMEM:DATA "a/b",#10;:MMEM:DATA "A",5;:MMEM:COPY "A" -> 0 104 109
 "#;
 
 #[test]
-fn parameters_by_their_kinds(rt: HostRuntime) -> Result<(), Fail> {
-    read_as_told(&rt, rt.alloc(), PARAMETERS)
+fn parameters_by_their_kinds(rt: HostRuntime) {
+    read_as_told(&rt, rt.alloc(), PARAMETERS);
 }

@@ -1,0 +1,189 @@
+// Conversations of a session, as tables: a row a line, a step of the session and what it comes to; a blank line begins a new session.
+//
+// A message is a step, as `sync` or `async` and its bytes, filled up with zeros to the 16 of a header. It comes to what it asks for, in
+// order, or to `nothing`. A command's place in the session is its MessageID and the clears before it, as in `2/0`; an `answer` to it or
+// a `part` of one comes to frames, or to `none`; `current`, `joined` and `failed` ask the session, and come to `yes` or `no`.
+use crate::told::holds;
+use psu_hislip::{Action, Channel, Origin, SessionCore, Side};
+use psu_tables::{bytes, row};
+use std::alloc::Global;
+use std::process::Abort;
+
+// What a message asks for.
+type Asked = Vec<Action<Global>>;
+
+/// The bytes of a message, filled up with zeros to the 16 of a header.
+pub fn message(alloc: Global, cell: &str) -> Option<Vec<u8>> {
+    let mut message = bytes(alloc, cell)?;
+    for _ in message.len()..16 {
+        message.push(0).ok()?;
+    }
+    Some(message)
+}
+
+/// Whether these are the bytes of a cell.
+pub fn are_bytes(alloc: Global, given: &[u8], cell: &str) -> bool {
+    match bytes(alloc, cell) {
+        Some(wanted) => wanted.as_slice() == given,
+        None => false,
+    }
+}
+
+// The same of a message.
+fn is_message(alloc: Global, given: &[u8], cell: &str) -> bool {
+    match message(alloc, cell) {
+        Some(wanted) => wanted.as_slice() == given,
+        None => false,
+    }
+}
+
+/// The two cells of a text with a space between them; the second is empty where there is none.
+pub fn halves(cell: &str) -> (&str, &str) {
+    match cell.split_once(" ") {
+        Some(halves) => halves,
+        None => (cell, ""),
+    }
+}
+
+// The place of a command in its session.
+fn place(cell: &str) -> Option<Origin> {
+    let (id, clears) = cell.split_once("/")?;
+    Some(Origin {
+        id: id.parse().ok()?,
+        clears: clears.parse().ok()?,
+    })
+}
+
+// Whether the command of this place has this text.
+fn is_command(alloc: Global, origin: Origin, text: &[u8], cell: &str) -> bool {
+    let (at, text_cell) = halves(cell);
+    place(at) == Some(origin) && are_bytes(alloc, text, text_cell)
+}
+
+// Whether a lock is the one of this string, to be waited for so long.
+fn is_lock(alloc: Global, milliseconds: u32, string: &[u8], cell: &str) -> bool {
+    let (wait, string_cell) = halves(cell);
+    wait.parse() == Ok(milliseconds) && are_bytes(alloc, string, string_cell)
+}
+
+// Whether a thing asked for is the one of a cell.
+fn is_asked(alloc: Global, action: &Action<Global>, cell: &str) -> bool {
+    let (word, rest) = halves(cell);
+    match action {
+        Action::Send(Side::Sync, bytes) => word == "sync" && is_message(alloc, bytes, rest),
+        Action::Send(Side::Async, bytes) => word == "async" && is_message(alloc, bytes, rest),
+        Action::Execute(at, text) => word == "execute" && is_command(alloc, *at, text, rest),
+        Action::TooMuch(_) => cell == "too much",
+        Action::Trigger(_) => cell == "trigger",
+        Action::Delivered => cell == "delivered",
+        Action::Status(read) => word == "status" && rest == yes_or_no(*read),
+        Action::Lock(wait, string) => word == "lock" && is_lock(alloc, *wait, string, rest),
+        Action::Release => cell == "release",
+        Action::Info => cell == "info",
+        Action::Clear => cell == "clear",
+        Action::Closed => cell == "closed",
+    }
+}
+
+// Whether all that is asked for stands in a cell, in order, and nothing else.
+fn are_asked(alloc: Global, asked: &[Action<Global>], cell: &str) -> bool {
+    if cell == "nothing" {
+        return asked.is_empty();
+    }
+    let mut cells = cell.split(", ");
+    for action in asked {
+        match cells.next() {
+            Some(cell) if is_asked(alloc, action, cell) => {}
+            _ => return false,
+        }
+    }
+    cells.next().is_none()
+}
+
+// What a message asks for.
+fn tell(alloc: Global, core: &mut SessionCore<Global>, side: Side, cell: &str) -> Option<Asked> {
+    let mut channel = Channel::new(alloc);
+    let messages = channel.feed(&message(alloc, cell)?).ok()?;
+    core.on(side, messages.first()?).ok()
+}
+
+fn asks(
+    alloc: Global,
+    core: &mut SessionCore<Global>,
+    side: Side,
+    cell: &str,
+    wanted: &str,
+) -> bool {
+    match tell(alloc, core, side, cell) {
+        Some(asked) => are_asked(alloc, &asked, wanted),
+        None => false,
+    }
+}
+
+// Whether frames, if there are any, are those of a cell.
+fn are_frames(alloc: Global, frames: Option<Vec<u8>>, cell: &str) -> bool {
+    match frames {
+        Some(frames) => are_bytes(alloc, &frames, cell),
+        None => cell == "none",
+    }
+}
+
+// An answer to a command, whole or the last of its parts.
+fn answers(alloc: Global, core: &SessionCore<Global>, cell: &str, wanted: &str) -> Option<bool> {
+    let (at, text) = halves(cell);
+    let text = bytes(alloc, text)?;
+    let frames = core.answer(place(at)?, &text).ok()?;
+    Some(are_frames(alloc, frames, wanted))
+}
+
+// A part of an answer, which goes on.
+fn parts(alloc: Global, core: &SessionCore<Global>, cell: &str, wanted: &str) -> Option<bool> {
+    let (at, text) = halves(cell);
+    let text = bytes(alloc, text)?;
+    let frames = core.part(place(at)?, &text).ok()?;
+    Some(are_frames(alloc, frames, wanted))
+}
+
+fn yes_or_no(is: bool) -> &'static str {
+    if is { "yes" } else { "no" }
+}
+
+// What the session says of itself.
+fn says(core: &SessionCore<Global>, word: &str, cell: &str) -> Option<&'static str> {
+    match word {
+        "current" => Some(yes_or_no(core.is_current(place(cell)?))),
+        "joined" => Some(yes_or_no(core.is_joined())),
+        "failed" => Some(yes_or_no(core.is_failed())),
+        _ => None,
+    }
+}
+
+// Whether a step comes to what its row says.
+fn comes_to(alloc: Global, core: &mut SessionCore<Global>, step: &str, wanted: &str) -> bool {
+    let (word, rest) = halves(step);
+    match word {
+        "sync" => asks(alloc, core, Side::Sync, rest, wanted),
+        "async" => asks(alloc, core, Side::Async, rest, wanted),
+        "answer" => answers(alloc, core, rest, wanted) == Some(true),
+        "part" => parts(alloc, core, rest, wanted) == Some(true),
+        _ => says(core, word, rest) == Some(wanted),
+    }
+}
+
+// Takes the step of a line; none where the line is no row.
+fn step(alloc: Global, core: &mut SessionCore<Global>, line: &str) -> Option<bool> {
+    let (step, wanted) = row(line)?;
+    Some(comes_to(alloc, core, step, wanted))
+}
+
+/// Each step of some conversations comes to what its row says.
+pub fn goes_as_told(rt: &impl Abort, alloc: Global, table: &str) {
+    let mut core = SessionCore::new(alloc, 1);
+    for line in table.lines() {
+        if line.is_empty() {
+            core = SessionCore::new(alloc, 1);
+        } else {
+            holds(rt, step(alloc, &mut core, line) == Some(true), line);
+        }
+    }
+}
