@@ -1,12 +1,11 @@
 // Contents: what they are kept as, what they cost, and what is refused.
+use crate::told::holds;
 use psu_lex::ScpiError;
 use psu_map::{Batch, Items};
 use psu_nv::{Contents, FileBytes, NvCommand, Part, Register};
 use psu_outputs::{Millivolts, Output, Setting, Settings};
-use psu_tables::bytes;
+use psu_tables::{bytes, row};
 use std::alloc::Global;
-use std::process::Abort;
-use std::test::Fail;
 
 // The reset settings with a voltage at output 1, in millivolts, where it is in range.
 fn volts(millivolts: u32) -> Settings {
@@ -55,18 +54,25 @@ fn are_register_3(alloc: Global, items: &Items<Global>) -> bool {
     }
 }
 
-#[test]
-fn a_register_is_28_bytes_under_its_number(rt: HostRuntime) -> Result<(), Fail> {
-    let alloc = rt.alloc();
+// Whether that alone is encoded, whole and by its part.
+fn is_encoded(alloc: Global, contents: &Contents<Global>) -> Option<bool> {
+    let whole = are_register_3(alloc, &contents.encode_items(alloc).ok()?);
+    let part = Part::Register(Register::of(3)?);
+    let value = contents.encode_part(alloc, part).ok()??;
+    let user = contents.encode_part(alloc, Part::User).ok()?;
+    Some(whole && is_saved(alloc, &value) && user.is_none())
+}
+
+fn is_kept(alloc: Global) -> Option<bool> {
     let mut contents = Contents::fresh(alloc);
-    assert!(rt; contents.encode_items(alloc)?.pairs().is_empty());
-    assert!(rt; save(&mut contents, 256, 3, 5_250) == Ok(()));
-    assert!(rt; are_register_3(alloc, &contents.encode_items(alloc)?));
-    let register = Register::of(3).ok_or("no register")?;
-    let value = contents.encode_part(alloc, Part::Register(register))?;
-    assert!(rt; is_saved(alloc, &value.ok_or("absent")?));
-    assert!(rt; contents.encode_part(alloc, Part::User)?.is_none());
-    Ok(())
+    let empty = contents.encode_items(alloc).ok()?.pairs().is_empty();
+    let saved = save(&mut contents, 256, 3, 5_250) == Ok(());
+    Some(empty && saved && is_encoded(alloc, &contents)?)
+}
+
+#[test]
+fn a_register_is_28_bytes_under_its_number(rt: HostRuntime) {
+    assert!(rt; is_kept(rt.alloc()) == Some(true));
 }
 
 // Whether a batch gives register 0 its 28 bytes, and drops the file A.
@@ -80,113 +86,164 @@ fn are_two_edits(batch: &Batch<Global>) -> bool {
     }
 }
 
-#[test]
-fn a_batch_has_the_parts_that_changed(rt: HostRuntime) -> Result<(), Fail> {
-    let alloc = rt.alloc();
-    let mut contents = Contents::fresh(alloc);
-    assert!(rt; save(&mut contents, 256, 0, 5_250) == Ok(()));
-    let register = Register::of(0).ok_or("no register")?;
+// The edits of register 0, which is there, and of a file that isn't.
+fn edits(alloc: Global, contents: &Contents<Global>) -> Option<Batch<Global>> {
     let mut batch = Batch::new(alloc);
-    contents.edit(alloc, &mut batch, Part::Register(register))?;
-    contents.edit(alloc, &mut batch, Part::File(b"A"))?;
-    assert!(rt; are_two_edits(&batch));
-    Ok(())
+    let register = Part::Register(Register::of(0)?);
+    contents.edit(alloc, &mut batch, register).ok()?;
+    contents.edit(alloc, &mut batch, Part::File(b"A")).ok()?;
+    Some(batch)
+}
+
+fn are_edited(alloc: Global) -> Option<bool> {
+    let mut contents = Contents::fresh(alloc);
+    let saved = save(&mut contents, 256, 0, 5_250) == Ok(());
+    Some(saved && are_two_edits(&edits(alloc, &contents)?))
+}
+
+#[test]
+fn a_batch_has_the_parts_that_changed(rt: HostRuntime) {
+    assert!(rt; are_edited(rt.alloc()) == Some(true));
 }
 
 const FULL: Result<(), ScpiError> = Err(ScpiError::MediaFull);
 
-// A file of 32,768 bytes has 32,769 in its item, so 65 pages and one for the item; one of 29,183 bytes has 57 and one.
-#[test]
-fn files_fill_256_pages(rt: HostRuntime) -> Result<(), Fail> {
-    let mut contents = Contents::fresh(rt.alloc());
-    let bytes = [0; 32_768];
-    let rows: [(&[u8], &[u8], Result<(), ScpiError>, u128); 9] = [
-        (b"A", &bytes, Ok(()), 66),
-        (b"B", &bytes, Ok(()), 132),
-        (b"C", &bytes, Ok(()), 198),
-        (b"D", &bytes[..29_183], Ok(()), 256),
-        (b"E", &[], FULL, 256),
-        (b"D", &bytes[..28_671], Ok(()), 255),
-        (b"E", &[], FULL, 255),
-        (b"D", &bytes[..28_159], Ok(()), 254),
-        (b"E", &[], Ok(()), 256),
-    ];
-    for (name, file, want, cost) in rows {
-        let given = write(&mut contents, name, file);
-        assert!(rt; (given, contents.cost()) == (want, cost), "{name:?}");
+// How an answer is called: `full`, `ok`, or another.
+fn called(answer: Result<(), ScpiError>) -> &'static str {
+    match answer {
+        Ok(()) => "ok",
+        Err(ScpiError::MediaFull) => "full",
+        Err(_) => "another",
     }
-    assert!(rt; contents.names().len() == 5);
-    assert!(rt; contents.fits(256) && !contents.fits(255));
-    Ok(())
+}
+
+// Whether an answer is the one of a cell, and the contents then cost what stands behind it.
+fn is_wanted(answer: Result<(), ScpiError>, cost: u128, cell: &str) -> Option<bool> {
+    let (word, pages) = cell.split_once(" ")?;
+    Some(called(answer) == word && pages.parse() == Ok(cost))
+}
+
+// Files with their lengths, and the pages that the contents then have. A file of 32,768 bytes has 32,769 in its item, so 65 pages and one
+// for the item; one of 29,183 bytes has 57 and one.
+const FILES: &str = "
+A 32768 -> ok 66
+B 32768 -> ok 132
+C 32768 -> ok 198
+D 29183 -> ok 256
+E 0 -> full 256
+D 28671 -> ok 255
+E 0 -> full 255
+D 28159 -> ok 254
+E 0 -> ok 256
+";
+
+fn is_written(contents: &mut Contents<Global>, line: &str) -> Option<bool> {
+    let (file, wanted) = row(line)?;
+    let (name, cell) = file.split_once(" ")?;
+    let length: usize = cell.parse().ok()?;
+    let zeros = [0; 32_768];
+    if length > 32_768 {
+        return None;
+    }
+    let answer = write(contents, name.as_bytes(), &zeros[..length]);
+    is_wanted(answer, contents.cost(), wanted)
 }
 
 #[test]
-fn four_pages_hold_two_registers(rt: HostRuntime) -> Result<(), Fail> {
+fn files_fill_256_pages(rt: HostRuntime) {
     let mut contents = Contents::fresh(rt.alloc());
-    let rows = [
-        (0, 1_000, Ok(()), 2),
-        (1, 1_000, Ok(()), 4),
-        (2, 1_000, FULL, 4),
-        (0, 0, Ok(()), 2),
-        (2, 1_000, Ok(()), 4),
-    ];
-    for (register, millivolts, want, cost) in rows {
-        let given = save(&mut contents, 4, register, millivolts);
-        assert!(rt; (given, contents.cost()) == (want, cost), "{register}");
+    for line in FILES.lines() {
+        holds(
+            &rt,
+            line.is_empty() || is_written(&mut contents, line) == Some(true),
+            line,
+        );
     }
-    let register = Register::of(2).ok_or("no register")?;
-    assert!(rt; contents.register(register) == volts(1_000));
-    Ok(())
+    assert!(rt; contents.names().len() == 5 && contents.fits(256) && !contents.fits(255));
 }
 
-// Changes contents by one command after the other, and looks at each answer.
-fn changes(
-    rt: &impl Abort,
-    contents: &mut Contents<Global>,
-    rows: &[(NvCommand<'_>, Result<(), ScpiError>)],
-) {
-    for (place, (command, want)) in rows.iter().enumerate() {
-        assert!(rt; contents.change(256, command) == *want, "{place}");
+// Registers with their voltages in millivolts, and the pages of four that the contents then have.
+const SAVES: &str = "
+0 1000 -> ok 2
+1 1000 -> ok 4
+2 1000 -> full 4
+0 0 -> ok 2
+2 1000 -> ok 4
+";
+
+fn is_saved_of_four(contents: &mut Contents<Global>, line: &str) -> Option<bool> {
+    let (saved, wanted) = row(line)?;
+    let (register, millivolts) = saved.split_once(" ")?;
+    let answer = save(
+        contents,
+        4,
+        register.parse().ok()?,
+        millivolts.parse().ok()?,
+    );
+    is_wanted(answer, contents.cost(), wanted)
+}
+
+// Whether a register has a voltage at output 1.
+fn has(contents: &Contents<Global>, number: u8, millivolts: u32) -> bool {
+    match Register::of(number) {
+        Some(register) => contents.register(register) == volts(millivolts),
+        None => false,
     }
 }
 
-// Contents with 32 macros, each named by a letter and a digit.
-fn with_32_macros(alloc: Global) -> Result<Contents<Global>, Fail> {
-    let mut contents = Contents::fresh(alloc);
+#[test]
+fn four_pages_hold_two_registers(rt: HostRuntime) {
+    let mut contents = Contents::fresh(rt.alloc());
+    for line in SAVES.lines() {
+        holds(
+            &rt,
+            line.is_empty() || is_saved_of_four(&mut contents, line) == Some(true),
+            line,
+        );
+    }
+    assert!(rt; has(&contents, 2, 1_000));
+}
+
+// Whether a command is done.
+fn does(contents: &mut Contents<Global>, command: NvCommand<'_>) -> bool {
+    contents.change(256, &command) == Ok(())
+}
+
+// Whether it is refused so.
+fn refuses(contents: &mut Contents<Global>, command: NvCommand<'_>, error: ScpiError) -> bool {
+    contents.change(256, &command) == Err(error)
+}
+
+// Defines 32 macros, each named by a letter and a digit.
+fn define_32(contents: &mut Contents<Global>) -> bool {
     for high in [b'A', b'B', b'C', b'D'] {
         for low in [b'1', b'2', b'3', b'4', b'5', b'6', b'7', b'8'] {
-            let label = [high, low];
-            if contents
-                .change(256, &NvCommand::DefineMacro(&label, b"*CLS"))
-                .is_err()
-            {
-                return Err(Fail::from("refused"));
+            if !does(contents, NvCommand::DefineMacro(&[high, low], b"*CLS")) {
+                return false;
             }
         }
     }
-    Ok(contents)
+    contents.labels().len() == 32
+}
+
+// Whether one more is refused until one of them is removed.
+fn are_most(contents: &mut Contents<Global>) -> bool {
+    let twice = ScpiError::MacroRedefinitionNotAllowed;
+    refuses(
+        contents,
+        NvCommand::DefineMacro(b"E", b"*CLS"),
+        ScpiError::MediaFull,
+    ) && refuses(contents, NvCommand::DefineMacro(b"a1", b"*RST"), twice)
+        && does(contents, NvCommand::RemoveMacro(b"b3"))
+        && does(contents, NvCommand::DefineMacro(b"E", b"*CLS"))
 }
 
 #[test]
-fn the_33rd_macro_does_not_fit(rt: HostRuntime) -> Result<(), Fail> {
-    let mut contents = with_32_macros(rt.alloc())?;
-    assert!(rt; contents.labels().len() == 32);
-    changes(
-        &rt,
-        &mut contents,
-        &[
-            (NvCommand::DefineMacro(b"E", b"*CLS"), FULL),
-            (
-                NvCommand::DefineMacro(b"a1", b"*RST"),
-                Err(ScpiError::MacroRedefinitionNotAllowed),
-            ),
-            (NvCommand::RemoveMacro(b"b3"), Ok(())),
-            (NvCommand::DefineMacro(b"E", b"*CLS"), Ok(())),
-        ],
-    );
+fn the_33rd_macro_does_not_fit(rt: HostRuntime) {
+    let mut contents = Contents::fresh(rt.alloc());
+    assert!(rt; define_32(&mut contents) && are_most(&mut contents));
     assert!(rt; contents.body(b"a1") == Some(b"*CLS".as_slice()));
     assert!(rt; matches!(contents.labels().last(), Some(last) if last.bytes() == b"E".as_slice()));
-    Ok(())
 }
 
 // Whether the items are the files R and T, and T has the type byte of a state and 28 bytes behind it.
@@ -200,24 +257,31 @@ fn are_two_states(items: &Items<Global>) -> bool {
     }
 }
 
-#[test]
-fn a_file_is_copied_with_its_type(rt: HostRuntime) -> Result<(), Fail> {
-    let alloc = rt.alloc();
+// Whether the state of a register is stored as S, copied to T and moved to R.
+fn is_moved(contents: &mut Contents<Global>, register: Register) -> bool {
+    does(contents, NvCommand::StoreState(register, b"S"))
+        && does(contents, NvCommand::Copy(b"S", b"T"))
+        && does(contents, NvCommand::Move(b"S", b"R"))
+        && refuses(
+            contents,
+            NvCommand::Copy(b"T", b"R"),
+            ScpiError::FileNameError,
+        )
+        && refuses(
+            contents,
+            NvCommand::Delete(b"S"),
+            ScpiError::FileNameNotFound,
+        )
+}
+
+fn is_copied(alloc: Global) -> Option<bool> {
     let mut contents = Contents::fresh(alloc);
-    let register = Register::of(0).ok_or("no register")?;
-    changes(
-        &rt,
-        &mut contents,
-        &[
-            (NvCommand::StoreState(register, b"S"), Ok(())),
-            (NvCommand::Copy(b"S", b"T"), Ok(())),
-            (NvCommand::Move(b"S", b"R"), Ok(())),
-            (NvCommand::Copy(b"T", b"R"), Err(ScpiError::FileNameError)),
-            (NvCommand::Delete(b"S"), Err(ScpiError::FileNameNotFound)),
-        ],
-    );
-    let items = contents.encode_items(alloc)?;
-    assert!(rt; are_two_states(&items));
-    assert!(rt; items.cost() == contents.cost());
-    Ok(())
+    let moved = is_moved(&mut contents, Register::of(0)?);
+    let items = contents.encode_items(alloc).ok()?;
+    Some(moved && are_two_states(&items) && items.cost() == contents.cost())
+}
+
+#[test]
+fn a_file_is_copied_with_its_type(rt: HostRuntime) {
+    assert!(rt; is_copied(rt.alloc()) == Some(true));
 }

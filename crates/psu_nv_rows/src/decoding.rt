@@ -1,29 +1,54 @@
 // Contents from a map: each of its rows good, and each way in which one is bad.
+use crate::told::holds;
 use psu_map::Items;
 use psu_nv::{Contents, DecodeFault};
 use psu_tables::{bytes, row};
-use std::alloc::{AllocError, Global};
+use std::alloc::Global;
 use std::process::Abort;
-use std::test::Fail;
 
 // The map of a key and a value.
-fn one(alloc: Global, key: &[u8], value: &[u8]) -> Result<Items<Global>, AllocError> {
+fn one(alloc: Global, key: &[u8], value: &[u8]) -> Option<Items<Global>> {
     let mut items = Items::new(alloc);
-    items.insert(key.to_vec(alloc)?, value.to_vec(alloc)?)?;
-    Ok(items)
+    put(&mut items, alloc, key, value)?;
+    Some(items)
 }
 
-// Why a map of a key and a value is refused, if it is. One that isn't is encoded to itself again.
-fn fault(alloc: Global, key: &[u8], value: &[u8]) -> Result<Option<DecodeFault>, Fail> {
+fn put(items: &mut Items<Global>, alloc: Global, key: &[u8], value: &[u8]) -> Option<()> {
+    items
+        .insert(key.to_vec(alloc).ok()?, value.to_vec(alloc).ok()?)
+        .ok()?;
+    Some(())
+}
+
+// How a fault is called.
+fn called(fault: DecodeFault) -> &'static str {
+    match fault {
+        DecodeFault::BadKey => "bad key",
+        DecodeFault::BadValue => "bad value",
+        DecodeFault::Memory => "memory",
+    }
+}
+
+// Whether contents are encoded to this one item.
+fn are_encoded(
+    alloc: Global,
+    contents: &Contents<Global>,
+    key: &[u8],
+    value: &[u8],
+) -> Option<bool> {
+    let items = contents.encode_items(alloc).ok()?;
+    match items.pairs() {
+        [pair] => Some(pair.key() == key && pair.value() == value),
+        _ => None,
+    }
+}
+
+// Why a map of a key and a value is refused, or `good` for one that is encoded to itself again.
+fn told(alloc: Global, key: &[u8], value: &[u8]) -> Option<&'static str> {
     let items = one(alloc, key, value)?;
-    let contents = match Contents::decode_items(alloc, &items) {
-        Ok(contents) => contents,
-        Err(fault) => return Ok(Some(fault)),
-    };
-    let again = contents.encode_items(alloc)?;
-    match again.pairs() {
-        [pair] if pair.key() == key && pair.value() == value => Ok(None),
-        _ => Err(Fail::from("another map")),
+    match Contents::decode_items(alloc, &items) {
+        Ok(contents) => are_encoded(alloc, &contents, key, value)?.then_some("good"),
+        Err(fault) => Some(called(fault)),
     }
 }
 
@@ -34,37 +59,32 @@ const RESET: [u8; 28] = [
 ];
 
 // The bytes of a cell, which may end with those of outputs 2 to 4 at `*RST`.
-fn bytes_of(alloc: Global, cell: &str) -> Result<Vec<u8>, Fail> {
-    let (first, rest) = match cell.strip_suffix(" reset") {
-        Some(first) => (first, &RESET[7..]),
-        None => (cell, &RESET[..0]),
-    };
-    let mut bytes = bytes(alloc, first).ok_or("a cell")?;
-    bytes.extend_from_slice(rest)?;
-    Ok(bytes)
+fn bytes_of(alloc: Global, cell: &str) -> Option<Vec<u8>> {
+    match cell.strip_suffix(" reset") {
+        Some(first) => {
+            let mut bytes = bytes(alloc, first)?;
+            bytes.extend_from_slice(&RESET[7..]).ok()?;
+            Some(bytes)
+        }
+        None => bytes(alloc, cell),
+    }
 }
 
-// How a fault is called.
-fn told(fault: Option<DecodeFault>) -> &'static str {
-    match fault {
-        None => "good",
-        Some(DecodeFault::BadKey) => "bad key",
-        Some(DecodeFault::BadValue) => "bad value",
-        Some(DecodeFault::Memory) => "memory",
-    }
+// Whether what is told of a map of an item is what is wanted.
+fn is_told(alloc: Global, item: &str, wanted: &str) -> Option<bool> {
+    let (key, value) = item.split_once("|")?;
+    let key = bytes_of(alloc, key)?;
+    let value = bytes_of(alloc, value)?;
+    Some(told(alloc, &key, &value)? == wanted)
 }
 
 // Looks at maps of a key and a value, and at why each is refused: a row a line, as `key | value -> fault`.
-fn look(rt: &impl Abort, alloc: Global, table: &str) -> Result<(), Fail> {
-    let mut rows = 0u32;
-    for (item, want) in table.lines().filter_map(row) {
-        let (key, value) = item.split_once("|").ok_or("no item")?;
-        let fault = fault(alloc, &bytes_of(alloc, key)?, &bytes_of(alloc, value)?)?;
-        assert!(rt; told(fault) == want, "{item}");
-        rows = rows.saturating_add(1);
+fn look(rt: &impl Abort, alloc: Global, table: &str) {
+    for line in table.lines() {
+        if let Some((item, wanted)) = row(line) {
+            holds(rt, is_told(alloc, item, wanted) == Some(true), line);
+        }
     }
-    assert!(rt; rows > 0, "no row in {table}");
-    Ok(())
 }
 
 const KEYS: &str = "
@@ -85,8 +105,8 @@ const KEYS: &str = "
 ";
 
 #[test]
-fn keys_that_no_contents_have(rt: HostRuntime) -> Result<(), Fail> {
-    look(&rt, rt.alloc(), KEYS)
+fn keys_that_no_contents_have(rt: HostRuntime) {
+    look(&rt, rt.alloc(), KEYS);
 }
 
 // The choice of the settings at power-on is there for register 0 alone.
@@ -104,8 +124,8 @@ const ENABLES_AND_CHOICE: &str = "
 ";
 
 #[test]
-fn enables_and_settings_at_power_on(rt: HostRuntime) -> Result<(), Fail> {
-    look(&rt, rt.alloc(), ENABLES_AND_CHOICE)
+fn enables_and_settings_at_power_on(rt: HostRuntime) {
+    look(&rt, rt.alloc(), ENABLES_AND_CHOICE);
 }
 
 const REGISTERS: &str = "
@@ -122,8 +142,8 @@ The settings of *RST, which no item holds, and each value one beyond its greates
 ";
 
 #[test]
-fn registers(rt: HostRuntime) -> Result<(), Fail> {
-    look(&rt, rt.alloc(), REGISTERS)
+fn registers(rt: HostRuntime) {
+    look(&rt, rt.alloc(), REGISTERS);
 }
 
 const USER_DATA_AND_FILES: &str = "
@@ -141,8 +161,8 @@ const USER_DATA_AND_FILES: &str = "
 ";
 
 #[test]
-fn user_data_and_files(rt: HostRuntime) -> Result<(), Fail> {
-    look(&rt, rt.alloc(), USER_DATA_AND_FILES)
+fn user_data_and_files(rt: HostRuntime) {
+    look(&rt, rt.alloc(), USER_DATA_AND_FILES);
 }
 
 const MACROS: &str = "
@@ -164,35 +184,44 @@ const MACROS: &str = "
 ";
 
 #[test]
-fn macros(rt: HostRuntime) -> Result<(), Fail> {
-    look(&rt, rt.alloc(), MACROS)
+fn macros(rt: HostRuntime) {
+    look(&rt, rt.alloc(), MACROS);
 }
 
-#[test]
-fn as_many_macros_as_there_may_be(rt: HostRuntime) -> Result<(), Fail> {
-    let alloc = rt.alloc();
+// The value of 32 macros without bodies, each named by a letter and a digit.
+fn macros_32(alloc: Global) -> Option<Vec<u8>> {
     let mut value = Vec::new(alloc);
     for high in [b'A', b'B', b'C', b'D'] {
         for low in [b'1', b'2', b'3', b'4', b'5', b'6', b'7', b'8'] {
-            value.extend_from_slice(&[2, high, low, 0, 0])?;
+            value.extend_from_slice(&[2, high, low, 0, 0]).ok()?;
         }
     }
-    assert!(rt; fault(alloc, &[4], &value)?.is_none());
-    value.extend_from_slice(&[1, b'E', 0, 0])?;
-    assert!(rt; fault(alloc, &[4], &value)? == Some(DecodeFault::BadValue));
-    Ok(())
+    Some(value)
+}
+
+// Whether they are good, and are refused with one more.
+fn are_most(alloc: Global) -> Option<bool> {
+    let mut value = macros_32(alloc)?;
+    let fit = told(alloc, &[4], &value)? == "good";
+    value.extend_from_slice(&[1, b'E', 0, 0]).ok()?;
+    Some(fit && told(alloc, &[4], &value)? == "bad value")
 }
 
 #[test]
-fn a_bad_key_comes_first(rt: HostRuntime) -> Result<(), Fail> {
-    let alloc = rt.alloc();
+fn as_many_macros_as_there_may_be(rt: HostRuntime) {
+    assert!(rt; are_most(rt.alloc()) == Some(true));
+}
+
+// The fault of a map with a bad value and, behind it, a bad key.
+fn first_fault(alloc: Global) -> Option<DecodeFault> {
     let mut items = one(alloc, &[1], &[96, 0])?;
-    items.insert([7].to_vec(alloc)?, [0].to_vec(alloc)?)?;
-    let Err(fault) = Contents::decode_items(alloc, &items) else {
-        return Err(Fail::from("accepted"));
-    };
-    assert!(rt; fault == DecodeFault::BadKey);
-    Ok(())
+    put(&mut items, alloc, &[7], &[0])?;
+    Contents::decode_items(alloc, &items).err()
+}
+
+#[test]
+fn a_bad_key_comes_first(rt: HostRuntime) {
+    assert!(rt; first_fault(rt.alloc()) == Some(DecodeFault::BadKey));
 }
 
 // A map of every kind of item, its keys in another order.
@@ -206,20 +235,16 @@ const WHOLE: &str = "
 02 04 | 00 00 00 00 ea 60 02 reset
 ";
 
-fn whole(alloc: Global) -> Result<Items<Global>, Fail> {
+fn whole(alloc: Global) -> Option<Items<Global>> {
     let mut items = Items::new(alloc);
-    for (key, value) in WHOLE.lines().filter_map(|line| line.split_once(" | ")) {
-        items.insert(bytes_of(alloc, key)?, bytes_of(alloc, value)?)?;
+    for line in WHOLE.lines() {
+        if let Some((key, value)) = line.split_once(" | ") {
+            items
+                .insert(bytes_of(alloc, key)?, bytes_of(alloc, value)?)
+                .ok()?;
+        }
     }
-    Ok(items)
-}
-
-// The contents of a map.
-fn decoded(alloc: Global, items: &Items<Global>) -> Result<Contents<Global>, Fail> {
-    match Contents::decode_items(alloc, items) {
-        Ok(contents) => Ok(contents),
-        Err(_) => Err(Fail::from("refused")),
-    }
+    Some(items)
 }
 
 // Whether contents have each part of the whole map.
@@ -232,24 +257,37 @@ fn are_whole(contents: &Contents<Global>) -> bool {
         && contents.recall()
 }
 
-#[test]
-fn all_parts_together(rt: HostRuntime) -> Result<(), Fail> {
-    let items = whole(rt.alloc())?;
-    let contents = decoded(rt.alloc(), &items)?;
-    assert!(rt; are_whole(&contents));
-    assert!(rt; contents.cost() == items.cost());
-    Ok(())
+fn all_are_decoded(alloc: Global) -> Option<bool> {
+    let items = whole(alloc)?;
+    let contents = Contents::decode_items(alloc, &items).ok()?;
+    Some(are_whole(&contents) && contents.cost() == items.cost())
 }
 
 #[test]
-fn a_copy_is_encoded_to_the_same_map(rt: HostRuntime) -> Result<(), Fail> {
-    let items = whole(rt.alloc())?;
-    let contents = decoded(rt.alloc(), &items)?;
-    let copy = contents.copy(rt.alloc())?;
-    let again = copy.encode_items(rt.alloc())?;
-    assert!(rt; again.pairs().len() == 7);
-    for (a, b) in again.pairs().iter().zip(items.pairs()) {
-        assert!(rt; a.key() == b.key() && a.value() == b.value());
+fn all_parts_together(rt: HostRuntime) {
+    assert!(rt; all_are_decoded(rt.alloc()) == Some(true));
+}
+
+// Whether two maps have the same seven items.
+fn are_same(one: &Items<Global>, other: &Items<Global>) -> bool {
+    for (a, b) in one.pairs().iter().zip(other.pairs()) {
+        if a.key() != b.key() || a.value() != b.value() {
+            return false;
+        }
     }
-    Ok(())
+    one.pairs().len() == 7 && other.pairs().len() == 7
+}
+
+fn a_copy_is_same(alloc: Global) -> Option<bool> {
+    let items = whole(alloc)?;
+    let copy = Contents::decode_items(alloc, &items)
+        .ok()?
+        .copy(alloc)
+        .ok()?;
+    Some(are_same(&copy.encode_items(alloc).ok()?, &items))
+}
+
+#[test]
+fn a_copy_is_encoded_to_the_same_map(rt: HostRuntime) {
+    assert!(rt; a_copy_is_same(rt.alloc()) == Some(true));
 }

@@ -7,4 +7,6 @@ mod contents;
 #[cfg(test)]
 mod decoding;
 #[cfg(test)]
+mod told;
+#[cfg(test)]
 mod wants;

@@ -1,28 +1,42 @@
 // Each allocation of contents refused in turn: a change is -225 and changes nothing, and the others want memory.
+use crate::told::holds;
 use bumpalo::Bump;
 use psu_lex::ScpiError;
 use psu_map::Items;
 use psu_nv::{Contents, DecodeFault, FileBytes, NvCommand};
 use psu_tables::bytes;
 use std::alloc::Global;
-use std::test::Fail;
 
-// An arena with so many bytes left.
-fn arena_with(alloc: Global, left: usize) -> Result<Bump, Fail> {
-    let arena = Bump::try_with_capacity(alloc, 4_000)?;
-    let first = arena.try_alloc_slice_fill_clone(arena.chunk_capacity(), 0u8)?;
-    if first.is_empty() {
-        return Err(Fail::from("no chunk"));
-    }
-    let second = arena.try_alloc(0u8)?;
-    *second = 1;
-    arena.set_allocation_limit(Some(arena.allocated_bytes()));
+// Leaves so many bytes of an arena.
+fn leave(arena: &Bump, left: usize) -> Option<()> {
     let spare = arena.chunk_capacity();
     if spare < left {
-        return Err(Fail::from("a short chunk"));
+        return None;
     }
-    arena.try_alloc_slice_fill_clone(spare - left, 0u8)?;
-    Ok(arena)
+    arena.try_alloc_slice_fill_clone(spare - left, 0u8).ok()?;
+    Some(())
+}
+
+// Fills the first chunk of an arena, and lets it have one more.
+fn fill(arena: &Bump) -> Option<()> {
+    if arena
+        .try_alloc_slice_fill_clone(arena.chunk_capacity(), 0u8)
+        .ok()?
+        .is_empty()
+    {
+        return None;
+    }
+    *arena.try_alloc(0u8).ok()? = 1;
+    arena.set_allocation_limit(Some(arena.allocated_bytes()));
+    Some(())
+}
+
+// An arena with so many bytes left.
+fn arena_with(alloc: Global, left: usize) -> Option<Bump> {
+    let arena = Bump::try_with_capacity(alloc, 4_000).ok()?;
+    fill(&arena)?;
+    leave(&arena, left)?;
+    Some(arena)
 }
 
 // How a step with little memory ended.
@@ -42,41 +56,40 @@ fn end_of(answer: Result<(), ScpiError>, done: bool, untouched: bool) -> End {
     }
 }
 
-// A macro with so many bytes of memory left.
-fn defined(alloc: Global, left: usize) -> Result<End, Fail> {
-    let arena = arena_with(alloc, left)?;
-    let mut contents = Contents::fresh(&arena);
+// A macro.
+fn defined(arena: &Bump) -> End {
+    let mut contents = Contents::fresh(arena);
     let answer = contents.change(256, &NvCommand::DefineMacro(b"AB", b"*CLS;*RST"));
     let count = contents.labels().len();
-    Ok(end_of(answer, count == 1, count == 0 && contents.cost() == 0))
+    end_of(answer, count == 1, count == 0 && contents.cost() == 0)
 }
 
-// A macro of a file's bytes, with so many bytes of memory left for both.
-fn loaded(alloc: Global, left: usize) -> Result<End, Fail> {
-    let arena = arena_with(alloc, left)?;
-    let mut contents = Contents::fresh(&arena);
-    let Some(file) = FileBytes::of(b"*CLS;*RST") else {
-        return Err(Fail::from("too many bytes"));
-    };
-    let stored = contents.change(256, &NvCommand::StoreBytes(b"F", file));
+// `MMEMory:DATA` of a name.
+fn write<'a>(contents: &mut Contents<&'a Bump>, name: &[u8], text: &[u8]) -> Result<(), ScpiError> {
+    match FileBytes::of(text) {
+        Some(file) => contents.change(256, &NvCommand::StoreBytes(name, file)),
+        None => Err(ScpiError::TooMuchData),
+    }
+}
+
+// A macro of a file's bytes, with little memory for both.
+fn loaded(arena: &Bump) -> End {
+    let mut contents = Contents::fresh(arena);
+    let stored = write(&mut contents, b"F", b"*CLS;*RST");
     if stored.is_err() {
-        return Ok(end_of(stored, false, contents.cost() == 0));
+        return end_of(stored, false, contents.cost() == 0);
     }
     let answer = contents.change(256, &NvCommand::LoadMacro(b"AB", b"F"));
     let count = contents.labels().len();
-    Ok(end_of(answer, count == 1, count == 0 && contents.cost() == 2))
+    end_of(answer, count == 1, count == 0 && contents.cost() == 2)
 }
 
-// A file with so many bytes of memory left.
-fn stored(alloc: Global, left: usize) -> Result<End, Fail> {
-    let arena = arena_with(alloc, left)?;
-    let mut contents = Contents::fresh(&arena);
-    let Some(file) = FileBytes::of(b"some bytes of a file") else {
-        return Err(Fail::from("too many bytes"));
-    };
-    let answer = contents.change(256, &NvCommand::StoreBytes(b"NAME", file));
+// A file.
+fn stored(arena: &Bump) -> End {
+    let mut contents = Contents::fresh(arena);
+    let answer = write(&mut contents, b"NAME", b"some bytes of a file");
     let count = contents.names().len();
-    Ok(end_of(answer, count == 1, count == 0 && contents.cost() == 0))
+    end_of(answer, count == 1, count == 0 && contents.cost() == 0)
 }
 
 // A map of every kind of item.
@@ -91,110 +104,99 @@ const WHOLE: &str = "
 // It, where memory suffices.
 fn whole<'a>(arena: &'a Bump) -> Option<Items<&'a Bump>> {
     let mut items = Items::new(arena);
-    for (key, value) in WHOLE.lines().filter_map(|line| line.split_once(" | ")) {
-        items.insert(bytes(arena, key)?, bytes(arena, value)?).ok()?;
+    for line in WHOLE.lines() {
+        if let Some((key, value)) = line.split_once(" | ") {
+            items.insert(bytes(arena, key)?, bytes(arena, value)?).ok()?;
+        }
     }
     Some(items)
 }
 
-// A decoding with so many bytes of memory left.
-fn decoded(alloc: Global, left: usize) -> Result<End, Fail> {
-    let ample = arena_with(alloc, 3_000)?;
-    let little = arena_with(alloc, left)?;
-    let items = whole(&ample).ok_or("memory")?;
-    Ok(match Contents::decode_items(&little, &items) {
+// A decoding.
+fn decoded<'a>(little: &'a Bump, items: &Items<&'a Bump>) -> End {
+    match Contents::decode_items(little, items) {
         Ok(contents) if contents.cost() == items.cost() => End::Done,
         Err(DecodeFault::Memory) => End::Refused,
         _ => End::Wrong,
-    })
+    }
 }
 
-// An encoding and a copy with so many bytes of memory left.
-fn encoded(alloc: Global, left: usize) -> Result<End, Fail> {
-    let ample = arena_with(alloc, 3_000)?;
-    let little = arena_with(alloc, left)?;
-    let items = whole(&ample).ok_or("memory")?;
-    let Ok(contents) = Contents::decode_items(&ample, &items) else {
-        return Err(Fail::from("refused"));
-    };
-    Ok(match contents.encode_items(&little) {
-        Ok(again) if again.cost() == items.cost() => End::Done,
+// An encoding.
+fn encoded<'a>(little: &'a Bump, contents: &Contents<&'a Bump>) -> End {
+    match contents.encode_items(little) {
+        Ok(again) if again.cost() == contents.cost() => End::Done,
         Ok(_) => End::Wrong,
         Err(_) => End::Refused,
-    })
+    }
 }
 
-// A copy with so many bytes of memory left.
-fn copied(alloc: Global, left: usize) -> Result<End, Fail> {
-    let ample = arena_with(alloc, 3_000)?;
-    let little = arena_with(alloc, left)?;
-    let items = whole(&ample).ok_or("memory")?;
-    let Ok(contents) = Contents::decode_items(&ample, &items) else {
-        return Err(Fail::from("refused"));
-    };
-    Ok(match contents.copy(&little) {
+// A copy.
+fn copied<'a>(little: &'a Bump, contents: &Contents<&'a Bump>) -> End {
+    match contents.copy(little) {
         Ok(copy) if copy.cost() == contents.cost() => End::Done,
         Ok(_) => End::Wrong,
         Err(_) => End::Refused,
-    })
+    }
 }
 
-// How many steps were done and how many refused; none where one was wrong.
-#[derive(Clone, Copy)]
-struct Ends {
-    done: u32,
-    refused: u32,
+// What is done of the whole map, with ample memory for what stands before it.
+fn read<'a>(step: &str, ample: &'a Bump, little: &'a Bump) -> Option<End> {
+    let items = whole(ample)?;
+    if step == "decoding" {
+        return Some(decoded(little, &items));
+    }
+    let contents = Contents::decode_items(ample, &items).ok()?;
+    if contents.cost() != items.cost() {
+        return None;
+    }
+    if step == "encoding" {
+        return Some(encoded(little, &contents));
+    }
+    Some(copied(little, &contents))
 }
 
-impl Ends {
-    // One more, unless it was wrong.
-    fn with(self, end: End) -> Option<Ends> {
-        match end {
-            End::Done => Some(Ends {
-                done: self.done.saturating_add(1),
-                refused: self.refused,
-            }),
-            End::Refused => Some(Ends {
-                done: self.done,
-                refused: self.refused.saturating_add(1),
-            }),
-            End::Wrong => None,
+// A step with so many bytes of memory left.
+fn ends(alloc: Global, step: &str, left: usize) -> Option<End> {
+    let little = arena_with(alloc, left)?;
+    match step {
+        "macro" => Some(defined(&little)),
+        "file's macro" => Some(loaded(&little)),
+        "file" => Some(stored(&little)),
+        _ => read(step, &arena_with(alloc, 3_000)?, &little),
+    }
+}
+
+// How often a step was done and how often refused, with 0, 8 and more bytes of memory; none where it was wrong.
+fn tally(alloc: Global, step: &str) -> Option<(u32, u32)> {
+    let mut done = 0u32;
+    let mut refused = 0u32;
+    for words in 0..200usize {
+        match ends(alloc, step, words * 8)? {
+            End::Done => done = done.saturating_add(1),
+            End::Refused => refused = refused.saturating_add(1),
+            End::Wrong => return None,
         }
     }
+    Some((done, refused))
+}
+
+fn has_both(alloc: Global, step: &str) -> bool {
+    match tally(alloc, step) {
+        Some((done, refused)) => done > 66 && refused > 33,
+        None => false,
+    }
 }
 
 #[test]
-fn each_allocation_of_a_change_refused(rt: HostRuntime) -> Result<(), Fail> {
-    let mut ends = Ends {
-        done: 0,
-        refused: 0,
-    };
-    for step in 0..200usize {
-        let left = step * 8;
-        ends = ends.with(defined(rt.alloc(), left)?).ok_or("a macro")?;
-        ends = ends
-            .with(loaded(rt.alloc(), left)?)
-            .ok_or("a file's macro")?;
-        ends = ends.with(stored(rt.alloc(), left)?).ok_or("a file")?;
-    }
-    assert!(rt; ends.refused > 100, "{} refused", ends.refused);
-    assert!(rt; ends.done > 200, "{} done", ends.done);
-    Ok(())
+fn each_allocation_of_a_change_refused(rt: HostRuntime) {
+    holds(&rt, has_both(rt.alloc(), "macro"), "macro");
+    holds(&rt, has_both(rt.alloc(), "file's macro"), "file's macro");
+    holds(&rt, has_both(rt.alloc(), "file"), "file");
 }
 
 #[test]
-fn each_allocation_of_a_map_refused(rt: HostRuntime) -> Result<(), Fail> {
-    let mut ends = Ends {
-        done: 0,
-        refused: 0,
-    };
-    for step in 0..100usize {
-        let left = step * 16;
-        ends = ends.with(decoded(rt.alloc(), left)?).ok_or("a decoding")?;
-        ends = ends.with(encoded(rt.alloc(), left)?).ok_or("an encoding")?;
-        ends = ends.with(copied(rt.alloc(), left)?).ok_or("a copy")?;
-    }
-    assert!(rt; ends.refused > 30, "{} refused", ends.refused);
-    assert!(rt; ends.done > 100, "{} done", ends.done);
-    Ok(())
+fn each_allocation_of_a_map_refused(rt: HostRuntime) {
+    holds(&rt, has_both(rt.alloc(), "decoding"), "decoding");
+    holds(&rt, has_both(rt.alloc(), "encoding"), "encoding");
+    holds(&rt, has_both(rt.alloc(), "copy"), "copy");
 }
