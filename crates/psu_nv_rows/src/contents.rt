@@ -137,16 +137,15 @@ D 28159 -> ok 254
 E 0 -> ok 256
 ";
 
-const ZEROS: &[u8] = &[0; 32_768];
-
 fn is_written(contents: &mut Contents<Global>, line: &str) -> Option<bool> {
     let (file, wanted) = row(line)?;
     let (name, cell) = file.split_once(" ")?;
     let length: usize = cell.parse().ok()?;
-    if length > ZEROS.len() {
+    let zeros = [0; 32_768];
+    if length > 32_768 {
         return None;
     }
-    let answer = write(contents, name.as_bytes(), &ZEROS[..length]);
+    let answer = write(contents, name.as_bytes(), &zeros[..length]);
     is_wanted(answer, contents.cost(), wanted)
 }
 
@@ -154,7 +153,11 @@ fn is_written(contents: &mut Contents<Global>, line: &str) -> Option<bool> {
 fn files_fill_256_pages(rt: HostRuntime) {
     let mut contents = Contents::fresh(rt.alloc());
     for line in FILES.lines() {
-        holds(&rt, line.is_empty() || is_written(&mut contents, line) == Some(true), line);
+        holds(
+            &rt,
+            line.is_empty() || is_written(&mut contents, line) == Some(true),
+            line,
+        );
     }
     assert!(rt; contents.names().len() == 5 && contents.fits(256) && !contents.fits(255));
 }
@@ -171,7 +174,12 @@ const SAVES: &str = "
 fn is_saved_of_four(contents: &mut Contents<Global>, line: &str) -> Option<bool> {
     let (saved, wanted) = row(line)?;
     let (register, millivolts) = saved.split_once(" ")?;
-    let answer = save(contents, 4, register.parse().ok()?, millivolts.parse().ok()?);
+    let answer = save(
+        contents,
+        4,
+        register.parse().ok()?,
+        millivolts.parse().ok()?,
+    );
     is_wanted(answer, contents.cost(), wanted)
 }
 
@@ -187,7 +195,11 @@ fn has(contents: &Contents<Global>, number: u8, millivolts: u32) -> bool {
 fn four_pages_hold_two_registers(rt: HostRuntime) {
     let mut contents = Contents::fresh(rt.alloc());
     for line in SAVES.lines() {
-        holds(&rt, line.is_empty() || is_saved_of_four(&mut contents, line) == Some(true), line);
+        holds(
+            &rt,
+            line.is_empty() || is_saved_of_four(&mut contents, line) == Some(true),
+            line,
+        );
     }
     assert!(rt; has(&contents, 2, 1_000));
 }
@@ -217,8 +229,11 @@ fn define_32(contents: &mut Contents<Global>) -> bool {
 // Whether one more is refused until one of them is removed.
 fn are_most(contents: &mut Contents<Global>) -> bool {
     let twice = ScpiError::MacroRedefinitionNotAllowed;
-    refuses(contents, NvCommand::DefineMacro(b"E", b"*CLS"), ScpiError::MediaFull)
-        && refuses(contents, NvCommand::DefineMacro(b"a1", b"*RST"), twice)
+    refuses(
+        contents,
+        NvCommand::DefineMacro(b"E", b"*CLS"),
+        ScpiError::MediaFull,
+    ) && refuses(contents, NvCommand::DefineMacro(b"a1", b"*RST"), twice)
         && does(contents, NvCommand::RemoveMacro(b"b3"))
         && does(contents, NvCommand::DefineMacro(b"E", b"*CLS"))
 }
@@ -247,8 +262,16 @@ fn is_moved(contents: &mut Contents<Global>, register: Register) -> bool {
     does(contents, NvCommand::StoreState(register, b"S"))
         && does(contents, NvCommand::Copy(b"S", b"T"))
         && does(contents, NvCommand::Move(b"S", b"R"))
-        && refuses(contents, NvCommand::Copy(b"T", b"R"), ScpiError::FileNameError)
-        && refuses(contents, NvCommand::Delete(b"S"), ScpiError::FileNameNotFound)
+        && refuses(
+            contents,
+            NvCommand::Copy(b"T", b"R"),
+            ScpiError::FileNameError,
+        )
+        && refuses(
+            contents,
+            NvCommand::Delete(b"S"),
+            ScpiError::FileNameNotFound,
+        )
 }
 
 fn is_copied(alloc: Global) -> Option<bool> {

@@ -14,7 +14,9 @@ fn one(alloc: Global, key: &[u8], value: &[u8]) -> Option<Items<Global>> {
 }
 
 fn put(items: &mut Items<Global>, alloc: Global, key: &[u8], value: &[u8]) -> Option<()> {
-    items.insert(key.to_vec(alloc).ok()?, value.to_vec(alloc).ok()?).ok()?;
+    items
+        .insert(key.to_vec(alloc).ok()?, value.to_vec(alloc).ok()?)
+        .ok()?;
     Some(())
 }
 
@@ -237,7 +239,9 @@ fn whole(alloc: Global) -> Option<Items<Global>> {
     let mut items = Items::new(alloc);
     for line in WHOLE.lines() {
         if let Some((key, value)) = line.split_once(" | ") {
-            items.insert(bytes_of(alloc, key)?, bytes_of(alloc, value)?).ok()?;
+            items
+                .insert(bytes_of(alloc, key)?, bytes_of(alloc, value)?)
+                .ok()?;
         }
     }
     Some(items)
@@ -276,7 +280,10 @@ fn are_same(one: &Items<Global>, other: &Items<Global>) -> bool {
 
 fn a_copy_is_same(alloc: Global) -> Option<bool> {
     let items = whole(alloc)?;
-    let copy = Contents::decode_items(alloc, &items).ok()?.copy(alloc).ok()?;
+    let copy = Contents::decode_items(alloc, &items)
+        .ok()?
+        .copy(alloc)
+        .ok()?;
     Some(are_same(&copy.encode_items(alloc).ok()?, &items))
 }
 

@@ -19,7 +19,11 @@ fn leave(arena: &Bump, left: usize) -> Option<()> {
 
 // Fills the first chunk of an arena, and lets it have one more.
 fn fill(arena: &Bump) -> Option<()> {
-    if arena.try_alloc_slice_fill_clone(arena.chunk_capacity(), 0u8).ok()?.is_empty() {
+    if arena
+        .try_alloc_slice_fill_clone(arena.chunk_capacity(), 0u8)
+        .ok()?
+        .is_empty()
+    {
         return None;
     }
     *arena.try_alloc(0u8).ok()? = 1;
