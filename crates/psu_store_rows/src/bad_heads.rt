@@ -84,17 +84,21 @@ fn put_item(disk: &mut MemDisk<Global>, item: u16) -> Option<()> {
     let page = item.saturating_mul(2).saturating_add(2);
     let [_, key] = item.saturating_add(1).to_be_bytes();
     let [high, low] = page.saturating_add(1).to_be_bytes();
-    put_word(disk, 530 + 2 * u64::from(item), page)?;
+    put_word(
+        disk,
+        u64::from(item).saturating_mul(2).saturating_add(530),
+        page,
+    )?;
     put(
         disk,
-        512 * u64::from(page),
+        u64::from(page).saturating_mul(512),
         &[1, key, 0, 0, 0, 1, 0, 1, high, low],
     )
 }
 
 // An image of this limit with so many items, each of a key and a value of one byte. The second root counts, of the number 9.
 fn with_many(alloc: Global, limit: u16, count: u16) -> Option<MemDisk<Global>> {
-    let size = 1_024 * (1 + u64::from(limit));
+    let size = u64::from(limit).saturating_add(1).saturating_mul(1_024);
     let mut disk = spelled(alloc, size, "512: a5 'PSU 00 02; 527: 09")?;
     put_word(&mut disk, 518, limit)?;
     put_word(&mut disk, 528, count)?;

@@ -55,10 +55,11 @@ fn put_zeros(files: &impl Files<File = File>) -> Option<()> {
 
 // A store that stays broken where it is opened again, as what is in its file is strange.
 fn strange(alloc: Global, broken: BrokenOnFile) -> Option<BrokenOnFile> {
-    match broken.reopen(alloc) {
-        Err(broken) if broken.cause() == BrokenCause::Strange => Some(broken),
-        _ => None,
+    let broken = broken.reopen(alloc).err()?;
+    if broken.cause() != BrokenCause::Strange {
+        return None;
     }
+    Some(broken)
 }
 
 // The store that finds its target in the file, after zeros and another map were strange to it.
