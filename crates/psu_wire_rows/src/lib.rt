@@ -35,6 +35,8 @@ mod status;
 #[cfg(test)]
 mod streams;
 #[cfg(test)]
+mod syntaxes;
+#[cfg(test)]
 mod told;
 #[cfg(test)]
 mod tree;

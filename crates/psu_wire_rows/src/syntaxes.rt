@@ -1,0 +1,176 @@
+// A unit's header and data by their rules; expected values by the rules of the grammar.
+use crate::told::holds;
+use psu_lex::{Datum, DatumClass, ScpiError, Unit, UnitFault, split, syntax};
+use psu_tables::bracketed;
+use std::alloc::Global;
+
+// A unit that is `text`, cut out of a transmission that is no more than it.
+fn unit_of(text: &[u8]) -> Unit<'_> {
+    Unit {
+        text,
+        first: true,
+        fault: None,
+    }
+}
+
+// The class of this name.
+fn class_named(name: &str) -> Option<DatumClass> {
+    match name {
+        "number" => Some(DatumClass::Numeric),
+        "word" => Some(DatumClass::Character),
+        "string" => Some(DatumClass::String),
+        "block" => Some(DatumClass::Block),
+        _ => None,
+    }
+}
+
+// Whether a datum is the one of a cell.
+fn is_datum(datum: Datum<'_>, cell: &str) -> Option<bool> {
+    let (class, text) = cell.split_once(" ")?;
+    Some(class_named(class) == Some(datum.class) && datum.text == text.as_bytes())
+}
+
+// Whether a unit has this header, and these data: each with its class, and no others.
+fn reads(text: &[u8], wanted: &str) -> Option<bool> {
+    let parts = syntax(&unit_of(text)).ok()?;
+    let mut cells = wanted.split(" | ");
+    if cells.next()?.as_bytes() != parts.header.text {
+        return None;
+    }
+    let mut rest = parts.parameters;
+    for cell in cells {
+        let (datum, others) = rest.first()?;
+        if is_datum(datum, cell) != Some(true) {
+            return None;
+        }
+        rest = others;
+    }
+    Some(rest.first().is_none())
+}
+
+// Units in brackets, and the header and the data that each has.
+const UNITS: &str = r#"
+[*IDN?] *IDN?
+[*IDN? ] *IDN?
+[SYST:ERR?] SYST:ERR?
+[:syst:err:count?] :syst:err:count?
+[a_1:B2] a_1:B2
+[x] x
+[*GMC? ] *GMC?
+[VOLT 5] VOLT | number 5
+[VOLT  1 E +2 ] VOLT | number 1 E +2
+[VOLT 5 V] VOLT | number 5 V
+[VOLT -.5,MAX] VOLT | number -.5 | word MAX
+[VOLT? MIN , ON5] VOLT? | word MIN | word ON5
+[F 5ON] F | number 5ON
+[*DMC "A",#13a,b] *DMC | string "A" | block #13a,b
+[D 'it''s' , ";," ] D | string 'it''s' | string ";,"
+[D #10,1] D | block #10 | number 1
+[D 1,#0a, é ] D | number 1 | block #0a, é 
+[D 'é'] D | string 'é'
+"#;
+
+fn has_parts(line: &str) -> Option<bool> {
+    let (text, wanted) = bracketed(line)?;
+    reads(text.as_bytes(), wanted)
+}
+
+#[test]
+fn units_are_read_by_their_parts(rt: HostRuntime) {
+    for line in UNITS.lines() {
+        holds(&rt, line.is_empty() || has_parts(line) == Some(true), line);
+    }
+    assert!(rt; reads(b" \t*CLS\r", "*CLS") == Some(true));
+}
+
+// What is no unit, in brackets.
+const NO_UNITS: &str = r#"
+[] [ ] [?] [*] [:] [1] [*?] [A:] [A::B] [:*IDN?] [*A:B] [VOLT ,1] [VOLT 1,] [VOLT ,] [VOLT 1,,2]
+[*GMC?"A"] [VOLT?MAX] [VOLT ?] [SYST :ERR?] [A? ?] [A 5_] [A 1 2] [A +] [A B C] [A $1] [VO"a"LT]
+"#;
+
+// Whether a unit has this fault.
+fn fails(text: &[u8], error: ScpiError) -> bool {
+    syntax(&unit_of(text)).err() == Some(error)
+}
+
+#[test]
+fn what_is_no_unit_is_a_syntax_error(rt: HostRuntime) {
+    let mut units = 0u32;
+    for cell in NO_UNITS.split("]") {
+        if let Some((_, text)) = cell.split_once("[") {
+            holds(&rt, fails(text.as_bytes(), ScpiError::SyntaxError), text);
+            units = units.saturating_add(1);
+        }
+    }
+    assert!(rt; units == 26);
+}
+
+#[test]
+fn faults_of_a_unit_come_in_order(rt: HostRuntime) {
+    assert!(rt;
+        fails("VOLT \u{ff}".as_bytes(), ScpiError::InvalidCharacter)
+            && fails("\u{7f}".as_bytes(), ScpiError::InvalidCharacter)
+            && fails("A 'b' ,\u{80}".as_bytes(), ScpiError::InvalidCharacter)
+            && fails("A::B \u{e9}".as_bytes(), ScpiError::InvalidCharacter)
+            && fails(b"A #11\xff,\xff", ScpiError::InvalidCharacter)
+    );
+    let faulty = Unit {
+        text: b"A\xff 'b",
+        first: true,
+        fault: Some(UnitFault::String),
+    };
+    assert!(rt; syntax(&faulty).err() == Some(ScpiError::InvalidStringData));
+}
+
+#[test]
+fn many_data_are_read_in_one_pass(rt: HostRuntime) {
+    let mut commas = [b','; 65_536];
+    commas[0] = b'A';
+    commas[1] = b' ';
+    assert!(rt; syntax(&unit_of(&commas)).err() == Some(ScpiError::SyntaxError));
+    for at in 2..65_536 {
+        if at % 2 == 0 {
+            commas[at] = b'1';
+        }
+    }
+    assert!(rt; syntax(&unit_of(&commas)).err() == Some(ScpiError::SyntaxError));
+    commas[65_535] = b'2';
+    assert!(rt; syntax(&unit_of(&commas)).is_ok());
+    let mut quotes = [b'\''; 65_536];
+    quotes[0] = b'A';
+    quotes[1] = b' ';
+    assert!(rt; syntax(&unit_of(&quotes)).is_ok());
+}
+
+// Whether the units of a beginning of a message have the faults that they were cut with.
+fn begins(alloc: Global, text: &[u8]) -> bool {
+    match split(alloc, text) {
+        Ok(units) => {
+            for unit in units.as_slice() {
+                if !keeps_its_fault(unit) {
+                    return false;
+                }
+            }
+            true
+        }
+        Err(_) => false,
+    }
+}
+
+fn keeps_its_fault(unit: &Unit<'_>) -> bool {
+    let error = syntax(unit).err();
+    match unit.fault {
+        Some(fault) => error == Some(fault.error()),
+        None => true,
+    }
+}
+
+// Every beginning of a message reads in one way, and no beginning stops the program.
+#[test]
+fn beginnings_of_a_message_are_read(rt: HostRuntime) {
+    let text = b" *DMC \"a\"\"b\" , #212a;b,c\n'\"#1x ,-1.5 E +2 MV;SYST:ERR? 'x";
+    for length in 0..text.len() {
+        assert!(rt; begins(rt.alloc(), &text[..length]));
+    }
+}
