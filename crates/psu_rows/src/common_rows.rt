@@ -1,6 +1,5 @@
 // Common commands and status in runs: what `*RST`, `*CLS` and a loss of power leave, what is complete, and what the registers tell.
 use crate::transcripts::play;
-use std::test::Fail;
 
 const WHAT_A_RESET_LEAVES: &str = r#"
 The settings alone are reset, and macros are disabled.
@@ -27,8 +26,8 @@ What power-on sets: loads, protection of user data, macros disabled, an empty qu
 "#;
 
 #[test]
-fn what_a_reset_leaves(rt: HostRuntime) -> Result<(), Fail> {
-    play(&rt, rt.alloc(), WHAT_A_RESET_LEAVES)
+fn what_a_reset_leaves(rt: HostRuntime) {
+    play(&rt, rt.alloc(), WHAT_A_RESET_LEAVES);
 }
 
 const WHAT_IS_COMPLETE: &str = r#"
@@ -67,8 +66,8 @@ What power takes with it is never complete.
 "#;
 
 #[test]
-fn what_is_complete(rt: HostRuntime) -> Result<(), Fail> {
-    play(&rt, rt.alloc(), WHAT_IS_COMPLETE)
+fn what_is_complete(rt: HostRuntime) {
+    play(&rt, rt.alloc(), WHAT_IS_COMPLETE);
 }
 
 const THE_FLAG_AND_THE_ENABLES: &str = r#"
@@ -100,8 +99,8 @@ With another number none are kept, and the registers stay till power is lost.
 "#;
 
 #[test]
-fn the_flag_and_the_enables(rt: HostRuntime) -> Result<(), Fail> {
-    play(&rt, rt.alloc(), THE_FLAG_AND_THE_ENABLES)
+fn the_flag_and_the_enables(rt: HostRuntime) {
+    play(&rt, rt.alloc(), THE_FLAG_AND_THE_ENABLES);
 }
 
 const WHAT_THE_REGISTERS_TELL: &str = r#"
@@ -138,6 +137,6 @@ PRESet leaves events; changing a filter or an enable makes none.
 "#;
 
 #[test]
-fn what_the_registers_tell(rt: HostRuntime) -> Result<(), Fail> {
-    play(&rt, rt.alloc(), WHAT_THE_REGISTERS_TELL)
+fn what_the_registers_tell(rt: HostRuntime) {
+    play(&rt, rt.alloc(), WHAT_THE_REGISTERS_TELL);
 }

@@ -1,107 +1,87 @@
 // Runs on disks that stop or fail once: what is written, and what a restart finds.
+use crate::holds::{count, either, holds};
 use crate::images::{least, written_on};
-use crate::runs::{Ran, run_on};
+use crate::runs::{NOT_OPENED, Ran, run_on};
 use psu_disk::{Choice, FailOnce, Fuse, MemDisk};
 use psu_items::Store;
-use psu_server::{RunCause, StartCause};
+use psu_server::RunCause;
 use std::alloc::Global;
-use std::process::Abort;
 
 type Fused = Ran<Fuse<MemDisk<Global>>>;
 
 type Failed = Ran<FailOnce<MemDisk<Global>>>;
 
 // A run on a disk that stops after so many calls.
-fn run_on_fuse(rt: &impl Abort, alloc: Global, input: &[u8], calls: u64) -> Fused {
-    let image = least(alloc).expect(rt, "an image");
-    run_on(alloc, input, Fuse::new(image, calls))
+fn run_on_fuse(alloc: Global, input: &str, calls: u64) -> Option<Fused> {
+    let disk = Fuse::new(least(alloc)?, calls);
+    Some(run_on(alloc, input.as_bytes(), disk))
 }
 
 // A run on a disk of which one call fails.
-fn run_on_failing(rt: &impl Abort, alloc: Global, input: &[u8], call: u64) -> Failed {
-    let image = least(alloc).expect(rt, "an image");
-    run_on(alloc, input, FailOnce::new(image, call))
+fn run_on_failing(alloc: Global, input: &str, call: u64) -> Option<Failed> {
+    let disk = FailOnce::new(least(alloc)?, call);
+    Some(run_on(alloc, input.as_bytes(), disk))
 }
 
 // The five ways in which a loss may leave what was not synced.
-fn choices() -> [Choice; 5] {
-    [
-        Choice::Old,
-        Choice::New,
-        Choice::Fill(0),
-        Choice::Fill(0xa5),
-        Choice::Fill(0xff),
-    ]
-}
+const CHOICES: [Choice; 5] = [
+    Choice::Old,
+    Choice::New,
+    Choice::Fill(0),
+    Choice::Fill(0xa5),
+    Choice::Fill(0xff),
+];
+
+const FILE: &str = "MMEM:DATA \"A\",#13xyz;*OPC?\n";
 
 // Whether the image that a loss leaves has the file; it has that or nothing.
-fn has_file(rt: &impl Abort, alloc: Global, mut disk: MemDisk<Global>, choice: Choice) -> bool {
+fn has_file(alloc: Global, mut disk: MemDisk<Global>, choice: Choice) -> Option<bool> {
     disk.lose(choice);
-    let held = written_on(alloc, disk, b"MMEM:CAT?;:MMEM:DATA? \"A\"\n").expect(
-        rt,
-        "the image opens after a loss",
-    );
-    let has = held.as_slice() == b"1024,1024,\"A,BIN,3\";#13xyz\n".as_slice();
-    assert!(rt;
-        has || held.as_slice() == b"0,2048\n".as_slice(),
-        "{held:?}"
-    );
-    has
+    let held = written_on(alloc, disk, b"MMEM:CAT?;:MMEM:DATA? \"A\"\n")?;
+    either(
+        held.as_slice() == b"0,2048\n".as_slice(),
+        held.as_slice() == b"1024,1024,\"A,BIN,3\";#13xyz\n".as_slice(),
+    )
 }
 
-/// When a disk stopped.
-#[derive(Clone, Copy)]
-enum Stop {
-    /// Before the device was powered on.
-    Early,
-    /// In the commit; the file is there or not.
-    InCommit(bool),
-    /// Never: the file is confirmed.
-    Never,
-}
+// A stop outside the commit, before the device was powered on or once the file was confirmed; in the commit, with no file; and with it.
+const OUTSIDE: usize = 0;
 
-// When the disk stopped, where the text and the file are as they must be then.
-fn stop_of(text: &[u8], cause: Option<RunCause>, has: bool) -> Option<Stop> {
-    match cause {
-        None if text == b"1\n".as_slice() && has => Some(Stop::Never),
-        Some(RunCause::Device) if text.is_empty() => Some(Stop::InCommit(has)),
-        Some(RunCause::Open(StartCause::Device)) if text.is_empty() && !has => Some(Stop::Early),
-        _ => None,
+const WITHOUT: usize = 1;
+
+const WITH: usize = 2;
+
+// Where the disk stopped, where the text and the file are as they must be then.
+fn stop_of(text: &[u8], cause: Option<RunCause>, has: bool) -> Option<usize> {
+    if cause.is_none() {
+        return (has && text == b"1\n".as_slice()).then_some(OUTSIDE);
     }
+    if cause == Some(NOT_OPENED) {
+        return (!has && text.is_empty()).then_some(OUTSIDE);
+    }
+    let in_commit = text.is_empty() && cause == Some(RunCause::Device);
+    in_commit.then_some(if has { WITH } else { WITHOUT })
 }
 
 // A disk that stops after so many calls, with a loss of power then.
-fn stopped(rt: &impl Abort, alloc: Global, calls: u64, choice: Choice) -> Option<Stop> {
-    let Ran { text, cause, disk } = run_on_fuse(
-        rt,
-        alloc,
-        b"MMEM:DATA \"A\",#13xyz;*OPC?\n",
-        calls,
-    );
-    let has = has_file(rt, alloc, disk.into_inner(), choice);
-    stop_of(text.as_slice(), cause, has)
+fn stopped(alloc: Global, calls: u64, choice: Choice) -> Option<usize> {
+    let ran = run_on_fuse(alloc, FILE, calls)?;
+    let has = has_file(alloc, ran.disk.into_inner(), choice)?;
+    stop_of(&ran.text, ran.cause, has)
 }
 
 // The disk stops after each number of calls, and power is lost: the file is there or not, and it is where that was confirmed.
 #[test]
 fn a_disk_that_stops_leaves_the_file_or_none(rt: HostRuntime) {
-    let mut in_commit = 0u32;
-    let mut kept_unconfirmed = 0u32;
+    let mut seen = [0u32; 3];
     for calls in 0..24u64 {
-        for choice in choices() {
-            match stopped(&rt, rt.alloc(), calls, choice) {
-                Some(Stop::InCommit(has)) => {
-                    in_commit = in_commit.saturating_add(1);
-                    kept_unconfirmed = kept_unconfirmed.saturating_add(u32::from(has));
-                }
-                Some(_) => {}
-                None => panic!(&rt; "after {calls}"),
-            }
+        for choice in CHOICES {
+            count(&rt, &mut seen, stopped(rt.alloc(), calls, choice), &calls);
         }
     }
     // Two writes and three syncs at least, each with five losses; after the last write it may be there.
-    assert!(rt; in_commit >= 25, "{in_commit} in the commit");
-    assert!(rt; kept_unconfirmed > 0 && kept_unconfirmed < in_commit);
+    holds(&rt, seen[WITHOUT].saturating_add(seen[WITH]) >= 25, &seen);
+    holds(&rt, seen[WITHOUT] > 0 && seen[WITH] > 0, &seen);
 }
 
 // The bytes of a register: output 1 at 1 volt, the rest as after `*RST`.
@@ -110,12 +90,10 @@ const SAVED: [u8; 28] = [
     0xea, 0x60, 0,
 ];
 
-// Whether the image opens and has register 1 as saved.
-fn has_register(rt: &impl Abort, alloc: Global, disk: MemDisk<Global>) -> bool {
-    match Store::open(alloc, disk) {
-        Ok(store) => store.items().get(&[2, 1]) == Some(SAVED.as_slice()),
-        Err(_) => panic!(rt; "not opened"),
-    }
+// Whether the image has register 1 as saved; none where it does not open.
+fn has_register(alloc: Global, disk: MemDisk<Global>) -> Option<bool> {
+    let store = Store::open(alloc, disk).ok()?;
+    Some(store.items().get(&[2, 1]) == Some(SAVED.as_slice()))
 }
 
 /// What a call that failed came to.
@@ -129,33 +107,37 @@ enum Failure {
     None,
 }
 
+// Whether a call comes to this behind so many that failed in the commit, and so many that did not fail: those of the opening come first.
+fn follows(failure: Option<Failure>, broken: u32, whole: u32) -> bool {
+    match failure {
+        Some(Failure::Opening) => broken == 0,
+        Some(Failure::Commit) => whole == 0,
+        Some(Failure::None) => true,
+        None => false,
+    }
+}
+
+const SAVE: &str = "VOLT 1;*SAV 1;*OPC?\nSYST:ERR?\n*OPC?\n";
+
 // What it came to, where the text and the register are as they must be then.
 fn failure_of(text: &[u8], cause: Option<RunCause>, has: bool) -> Option<Failure> {
-    match cause {
-        None if has && text == b"-320,\"Storage fault\"\n1\n".as_slice() => {
-            Some(Failure::Commit)
-        }
-        None if has && text == b"1\n0,\"No error\"\n1\n".as_slice() => Some(Failure::None),
-        Some(RunCause::Open(StartCause::Device)) if text.is_empty() && !has => {
-            Some(Failure::Opening)
-        }
-        _ => None,
+    if !has {
+        return (text.is_empty() && cause == Some(NOT_OPENED)).then_some(Failure::Opening);
+    }
+    if cause.is_some() {
+        None
+    } else if text == b"-320,\"Storage fault\"\n1\n".as_slice() {
+        Some(Failure::Commit)
+    } else {
+        (text == b"1\n0,\"No error\"\n1\n".as_slice()).then_some(Failure::None)
     }
 }
 
 // A save on a disk of which this call fails.
-fn saved_on_failing(rt: &impl Abort, alloc: Global, call: u64) -> Failure {
-    let Ran { text, cause, disk } = run_on_failing(
-        rt,
-        alloc,
-        b"VOLT 1;*SAV 1;*OPC?\nSYST:ERR?\n*OPC?\n",
-        call,
-    );
-    let has = has_register(rt, alloc, disk.into_inner());
-    match failure_of(text.as_slice(), cause, has) {
-        Some(failure) => failure,
-        None => panic!(rt; "{text:?} at call {call}"),
-    }
+fn saved_on_failing(alloc: Global, call: u64) -> Option<Failure> {
+    let ran = run_on_failing(alloc, SAVE, call)?;
+    let has = has_register(alloc, ran.disk.into_inner())?;
+    failure_of(&ran.text, ran.cause, has)
 }
 
 // Each call of the first commit fails once: the wait ends with -320, the store is opened again, and the save is flushed.
@@ -164,55 +146,41 @@ fn a_commit_that_fails_once_is_made_again(rt: HostRuntime) {
     let mut broken = 0u32;
     let mut whole = 0u32;
     for call in 0..40u64 {
-        match saved_on_failing(&rt, rt.alloc(), call) {
-            Failure::Opening => assert!(rt; broken == 0, "at call {call}"),
-            Failure::Commit => {
-                assert!(rt; whole == 0, "at call {call}");
-                broken = broken.saturating_add(1);
-            }
-            Failure::None => whole = whole.saturating_add(1),
-        }
+        let failure = saved_on_failing(rt.alloc(), call);
+        holds(&rt, follows(failure, broken, whole), &call);
+        broken = broken.saturating_add(u32::from(failure == Some(Failure::Commit)));
+        whole = whole.saturating_add(u32::from(failure == Some(Failure::None)));
     }
     // Two writes and three syncs at least.
-    assert!(rt; broken >= 5 && whole > 0, "{broken} broken, {whole} whole");
+    holds(&rt, broken >= 5 && whole > 0, &(broken, whole));
 }
 
 // What register 1 holds once power is back, in volts.
-fn volts_of(rt: &impl Abort, alloc: Global, disk: MemDisk<Global>) -> usize {
-    let question = b"*RCL 1;VOLT?\n";
-    let held = written_on(alloc, disk, question).expect(rt, "the image opens after a loss");
-    let levels = ["0.000\n", "1.000\n", "2.000\n", "3.000\n"];
-    for (volts, level) in levels.iter().enumerate() {
-        if level.as_bytes() == held.as_slice() {
-            return volts;
-        }
+fn volts_of(alloc: Global, disk: MemDisk<Global>) -> Option<usize> {
+    let held = written_on(alloc, disk, b"*RCL 1;VOLT?\n")?;
+    if held.len() != 6 || !held.ends_with(b".000\n") {
+        return None;
     }
-    panic!(rt; "{held:?}")
+    Some(usize::from(held[0].checked_sub(b'0')?))
 }
 
-// Whether three saves are answered as they must be on a disk that stops after so many calls, and how many of them were confirmed; and
-// what the register holds after a loss.
-fn saves_until_a_stop(
-    rt: &impl Abort,
-    alloc: Global,
-    calls: u64,
-    choice: Choice,
-) -> (usize, usize) {
-    let Ran { text, cause, disk } = run_on_fuse(
-        rt,
-        alloc,
-        b"VOLT 1;*SAV 1;*OPC?\nVOLT 2;*SAV 1;*OPC?\nVOLT 3;*SAV 1;*OPC?\n",
-        calls,
-    );
-    let text = text.as_slice();
-    assert!(rt; b"1\n1\n1\n".starts_with(text), "{text:?} after {calls}");
-    assert!(rt;
-        cause.is_none() == (text.len() == 6),
-        "{text:?} after {calls}"
-    );
-    let mut disk = disk.into_inner();
+const THREE_SAVES: &str = "VOLT 1;*SAV 1;*OPC?\nVOLT 2;*SAV 1;*OPC?\nVOLT 3;*SAV 1;*OPC?\n";
+
+// How many saves are confirmed, where they are answered as they must be.
+fn confirmed_of(text: &[u8], cause: Option<RunCause>) -> Option<usize> {
+    let is_right = b"1\n1\n1\n".starts_with(text) && cause.is_none() == (text.len() == 6);
+    is_right.then_some(text.len() / 2)
+}
+
+// Whether the register holds one save more than the confirmed ones, on a disk that stops after so many calls, after a loss; it holds the
+// last of those, or that.
+fn is_ahead(alloc: Global, calls: u64, choice: Choice) -> Option<bool> {
+    let ran = run_on_fuse(alloc, THREE_SAVES, calls)?;
+    let confirmed = confirmed_of(&ran.text, ran.cause)?;
+    let mut disk = ran.disk.into_inner();
     disk.lose(choice);
-    (text.len() / 2, volts_of(rt, alloc, disk))
+    let volts = volts_of(alloc, disk)?;
+    either(volts == confirmed, volts == confirmed.saturating_add(1))
 }
 
 // Three saves one after another, each confirmed: of those before a stop none is lost, and at most one more is there.
@@ -220,44 +188,39 @@ fn saves_until_a_stop(
 fn confirmed_saves_outlast_a_stop(rt: HostRuntime) {
     let mut ahead = 0u32;
     for calls in 0..36u64 {
-        for choice in choices() {
-            let (confirmed, volts) = saves_until_a_stop(&rt, rt.alloc(), calls, choice);
-            assert!(rt; volts == confirmed || volts == confirmed.saturating_add(1));
-            ahead = ahead.saturating_add(u32::from(volts > confirmed));
+        for choice in CHOICES {
+            let is_ahead = is_ahead(rt.alloc(), calls, choice);
+            holds(&rt, is_ahead.is_some(), &calls);
+            ahead = ahead.saturating_add(u32::from(is_ahead == Some(true)));
         }
     }
-    assert!(rt; ahead > 0, "none was ahead");
+    assert!(rt; ahead > 0);
 }
+
+const SAVE_AND_LOSS: &str = "VOLT 1;*SAV 1;*OPC?\n!POWER\n*RCL 1;VOLT?\n";
 
 // The way in which a save and a loss of power came out, where one call failed: whether the run ended well, its text, and the register.
 fn way_of(ended: bool, text: &[u8], volts: usize) -> Option<usize> {
-    match volts {
-        0 if !ended && text.is_empty() => Some(0),
-        1 if ended && text == b"1.000\n".as_slice() => Some(1),
-        1 if !ended && text == b"1\n".as_slice() => Some(2),
-        1 if ended && text == b"1\n1.000\n".as_slice() => Some(3),
-        _ => None,
+    if volts == 0 {
+        return (!ended && text.is_empty()).then_some(0);
+    }
+    if volts != 1 {
+        None
+    } else if !ended {
+        (text == b"1\n".as_slice()).then_some(2)
+    } else if text == b"1.000\n".as_slice() {
+        Some(1)
+    } else {
+        (text == b"1\n1.000\n".as_slice()).then_some(3)
     }
 }
 
-// A save and a loss of power on a disk of which this call fails.
-fn lost_on_failing(rt: &impl Abort, alloc: Global, call: u64) -> Option<usize> {
-    let Ran { text, cause, disk } = run_on_failing(
-        rt,
-        alloc,
-        b"VOLT 1;*SAV 1;*OPC?\n!POWER\n*RCL 1;VOLT?\n",
-        call,
-    );
-    let ended = match cause {
-        None => true,
-        Some(RunCause::Open(StartCause::Device)) => false,
-        Some(cause) => panic!(rt; "{cause} at {call}"),
-    };
-    way_of(
-        ended,
-        text.as_slice(),
-        volts_of(rt, alloc, disk.into_inner()),
-    )
+// A save and a loss of power on a disk of which this call fails: the run ends well, or is not opened.
+fn lost_on_failing(alloc: Global, call: u64) -> Option<usize> {
+    let ran = run_on_failing(alloc, SAVE_AND_LOSS, call)?;
+    let ended = either(ran.cause == Some(NOT_OPENED), ran.cause.is_none())?;
+    let volts = volts_of(alloc, ran.disk.into_inner())?;
+    way_of(ended, &ran.text, volts)
 }
 
 // A call that fails at any time round a loss of power: the flush goes on behind a commit that failed, so the register is there once
@@ -266,37 +229,24 @@ fn lost_on_failing(rt: &impl Abort, alloc: Global, call: u64) -> Option<usize> {
 fn a_loss_after_a_call_that_failed(rt: HostRuntime) {
     let mut seen = [0u32; 4];
     for call in 0..40u64 {
-        match lost_on_failing(&rt, rt.alloc(), call) {
-            Some(way) if way < 4 => seen[way] = seen[way].saturating_add(1),
-            _ => panic!(&rt; "at {call}"),
-        }
+        count(&rt, &mut seen, lost_on_failing(rt.alloc(), call), &call);
     }
-    assert!(rt;
-        seen[0] > 0 && seen[1] >= 5 && seen[2] > 0 && seen[3] > 0,
-        "{seen:?}"
-    );
+    let all = seen[0] > 0 && seen[1] >= 5 && seen[2] > 0 && seen[3] > 0;
+    holds(&rt, all, &seen);
 }
 
+const PENDING: &str = "*SAV 1;*OPC;*OPC?\n*ESR?;:SYST:ERR?\n";
+
 // What a pending completion came to where this call fails.
-fn completed(rt: &impl Abort, alloc: Global, call: u64) -> Failure {
-    let input = b"*SAV 1;*OPC;*OPC?\n*ESR?;:SYST:ERR?\n";
-    let Ran {
-        text,
-        cause,
-        disk: _,
-    } = run_on_failing(rt, alloc, input, call);
-    let text = text.as_slice();
+fn completed(alloc: Global, call: u64) -> Option<Failure> {
+    let ran = run_on_failing(alloc, PENDING, call)?;
+    let text = ran.text.as_slice();
     if text == b"137;-320,\"Storage fault\"\n".as_slice() {
-        Failure::Commit
-    } else if cause.is_none() {
-        assert!(rt;
-            text == b"1\n129;0,\"No error\"\n".as_slice(),
-            "{text:?} at {call}"
-        );
-        Failure::None
+        Some(Failure::Commit)
+    } else if ran.cause.is_none() {
+        (text == b"1\n129;0,\"No error\"\n".as_slice()).then_some(Failure::None)
     } else {
-        assert!(rt; text.is_empty(), "{text:?} at {call}");
-        Failure::Opening
+        text.is_empty().then_some(Failure::Opening)
     }
 }
 
@@ -306,39 +256,29 @@ fn completed(rt: &impl Abort, alloc: Global, call: u64) -> Failure {
 fn a_pending_completion_outlasts_a_broken_store(rt: HostRuntime) {
     let mut broken = 0u32;
     for call in 0..24u64 {
-        match completed(&rt, rt.alloc(), call) {
-            Failure::Opening => assert!(rt; broken == 0, "at {call}"),
-            Failure::Commit => broken = broken.saturating_add(1),
-            Failure::None => {}
-        }
+        let failure = completed(rt.alloc(), call);
+        holds(&rt, follows(failure, broken, 0), &call);
+        broken = broken.saturating_add(u32::from(failure == Some(Failure::Commit)));
     }
-    assert!(rt; broken >= 5, "{broken} broken");
+    holds(&rt, broken >= 5, &broken);
 }
 
-const WHILE_BROKEN: &[u8] =
-    b"VOLT 1;*SAV 1;*OPC?\nSYST:ERR?\n*SAV 2;*OPC;*WAI;*OPC?;*SRE 4;*SRE?;:SYST:ERR:COUN?;*CLS\n\
+const WHILE_BROKEN: &str =
+    "VOLT 1;*SAV 1;*OPC?\nSYST:ERR?\n*SAV 2;*OPC;*WAI;*OPC?;*SRE 4;*SRE?;:SYST:ERR:COUN?;*CLS\n\
 *PUD #10;:MMEM:DEL \"X\";DATA \"A\",#10;:SYST:ERR?;:SYST:ERR?;:SYST:ERR?\n\
 VOLT 2;*RCL 1;VOLT?;*SAV 100;SYST:ERR?;:MMEM:CAT?\n";
 
-const TOLD_WHILE_BROKEN: &[u8] = b"-320,\"Storage fault\"\n4;4\n\
+const TOLD_WHILE_BROKEN: &str = "-320,\"Storage fault\"\n4;4\n\
 -203,\"Command protected\";-256,\"File name not found\";-320,\"Storage fault\"\n\
 1.000;-222,\"Data out of range\";1024,1024\n";
 
 // Whether the store broke in the first commit, where the disk stops after so many calls; then the text is what it must be.
-fn breaks(rt: &impl Abort, alloc: Global, calls: u64) -> bool {
-    let Ran {
-        text,
-        cause,
-        disk: _,
-    } = run_on_fuse(rt, alloc, WHILE_BROKEN, calls);
-    if cause != Some(RunCause::Device) || text.starts_with(b"1\n") {
-        return false;
+fn breaks(alloc: Global, calls: u64) -> Option<bool> {
+    let ran = run_on_fuse(alloc, WHILE_BROKEN, calls)?;
+    if ran.cause != Some(RunCause::Device) || ran.text.starts_with(b"1\n") {
+        return Some(false);
     }
-    assert!(rt;
-        text.as_slice() == TOLD_WHILE_BROKEN,
-        "{text:?} after {calls}"
-    );
-    true
+    (ran.text.as_slice() == TOLD_WHILE_BROKEN.as_bytes()).then_some(true)
 }
 
 // While the store is broken, what would change it and what would wait for it is -320, behind what the unit itself is refused for; the
@@ -347,7 +287,9 @@ fn breaks(rt: &impl Abort, alloc: Global, calls: u64) -> bool {
 fn a_broken_store_refuses_changes(rt: HostRuntime) {
     let mut broken = 0u32;
     for calls in 0..24u64 {
-        broken = broken.saturating_add(u32::from(breaks(&rt, rt.alloc(), calls)));
+        let breaks = breaks(rt.alloc(), calls);
+        holds(&rt, breaks.is_some(), &calls);
+        broken = broken.saturating_add(u32::from(breaks == Some(true)));
     }
-    assert!(rt; broken >= 5, "{broken} broken");
+    holds(&rt, broken >= 5, &broken);
 }

@@ -1,11 +1,12 @@
 // Runs that end in a fault: readers and writers that fail, input that is too long, images that can't be opened.
+use crate::holds::{count, holds};
 use crate::images::{SIZE, formatted};
-use crate::runs::{cause_of, run_from, run_on};
-use psu_disk::{Disk, FailOnce, MemDisk};
+use crate::runs::{NOT_OPENED, run_from, run_on};
+use crate::spelled::spoiled;
+use psu_disk::{FailOnce, MemDisk};
 use psu_server::{RunCause, StartCause, run};
 use std::alloc::Global;
 use std::io::{self, ErrorKind, Read, Write};
-use std::process::Abort;
 
 /// A reader that gives at most some bytes at a call, and fails after some calls.
 #[derive(Drop)]
@@ -72,152 +73,142 @@ const INPUT: &[u8] = b"*IDN?\n*PSC 0;*SRE 4;*OPC?\n!POWER\n*SRE?";
 
 const OUTPUT: &[u8] = b"EXAMPLE,PSU4,0,1.0\n1\n4\n";
 
-// A run of so many calls of a reader, which gives this much at each. It writes a front of the output, and all of it where it ends well.
-fn read_by(rt: &impl Abort, alloc: Global, piece: usize, calls: u32) {
+// Whether a run of so many calls of a reader, which gives this much at each, writes a front of the output, and all of it where it ends well.
+fn read_by(alloc: Global, piece: usize, calls: u32) -> Option<bool> {
     let mut reader = Halting {
         rest: INPUT,
         piece,
         calls,
     };
-    let disk = formatted(alloc).expect(rt, "an image");
-    let ended = run_from(alloc, alloc, &mut reader, disk);
-    match ended.cause {
-        None => assert!(rt; ended.text.as_slice() == OUTPUT),
-        Some(cause) => assert!(rt; cause == RunCause::Read),
-    }
-    assert!(rt; OUTPUT.starts_with(ended.text.as_slice()));
+    let ended = run_from(alloc, alloc, &mut reader, formatted(alloc)?);
+    let text = ended.text.as_slice();
+    Some(match ended.cause {
+        None => text == OUTPUT,
+        Some(cause) => cause == RunCause::Read && OUTPUT.starts_with(text),
+    })
 }
 
 #[test]
 fn a_reader_that_fails_leaves_what_was_written(rt: HostRuntime) {
     for piece in [1usize, 2, 7, 40] {
         for calls in [0u32, 1, 2, 5, 6, 20, 39, 41] {
-            read_by(&rt, rt.alloc(), piece, calls);
+            holds(
+                &rt,
+                read_by(rt.alloc(), piece, calls) == Some(true),
+                &(piece, calls),
+            );
         }
     }
 }
 
-// A run whose writer takes so many bytes: it ends well where that is all of the output, and else writes as much.
-fn written_into(rt: &impl Abort, alloc: Global, room: usize) {
+// Whether a run whose writer takes so many bytes ends well where that is all of the output, and else writes as much.
+fn written_into(alloc: Global, room: usize) -> Option<bool> {
     let mut reader: &[u8] = INPUT;
     let mut output = Filling {
         bytes: Vec::new(alloc),
         room,
     };
-    let disk = formatted(alloc).expect(rt, "an image");
-    match cause_of(run(alloc, &mut reader, &mut output, disk)) {
-        None => assert!(rt; room >= OUTPUT.len()),
-        Some(cause) => {
-            assert!(rt; cause == RunCause::Write);
-            assert!(rt; room < OUTPUT.len());
-        }
-    }
-    assert!(rt; output.bytes.as_slice() == (&OUTPUT[..room.min(OUTPUT.len())]));
+    let ended_right = match run(alloc, &mut reader, &mut output, formatted(alloc)?) {
+        Ok(_) => room >= OUTPUT.len(),
+        Err(fault) => fault.cause == RunCause::Write && room < OUTPUT.len(),
+    };
+    Some(ended_right && output.bytes.as_slice() == (&OUTPUT[..room.min(OUTPUT.len())]))
 }
 
 #[test]
 fn a_writer_that_fails_is_a_fault(rt: HostRuntime) {
     for room in [0usize, 1, 18, 19, 20, 22, 23, 24] {
-        written_into(&rt, rt.alloc(), room);
+        holds(&rt, written_into(rt.alloc(), room) == Some(true), &room);
     }
 }
 
-// Why a run of so many bytes ends early, if it does. It writes nothing.
-fn flooded(rt: &impl Abort, alloc: Global, left: usize, piece: usize) -> Option<RunCause> {
+// Whether a run of so many bytes, a few at a call, is too long or ends well, as it has to. It writes nothing.
+fn floods(alloc: Global, left: usize, piece: usize, is_too_long: bool) -> Option<bool> {
     let mut reader = Flood {
         byte: b'x',
         left,
         piece,
     };
-    let disk = formatted(alloc).expect(rt, "an image");
-    let ended = run_from(alloc, alloc, &mut reader, disk);
-    assert!(rt; ended.text.is_empty());
-    ended.cause
+    let ended = run_from(alloc, alloc, &mut reader, formatted(alloc)?);
+    let ended_right = match ended.cause {
+        None => !is_too_long,
+        Some(cause) => is_too_long && cause == RunCause::TooLong,
+    };
+    Some(ended_right && ended.text.is_empty())
 }
 
 #[test]
 fn input_is_bounded(rt: HostRuntime) {
-    let floods = [
-        // So many reads of a byte and one more that finds the end; then a read too many.
-        (1_048_575usize, 1usize, None),
-        (1_048_576, 1, Some(RunCause::TooLong)),
-        // So many bytes; then a byte too many.
-        (16_777_216, 65_536, None),
-        (16_777_217, 65_536, Some(RunCause::TooLong)),
-    ];
-    for (left, piece, want) in floods {
-        let cause = flooded(&rt, rt.alloc(), left, piece);
-        assert!(rt; cause == want, "{left} by {piece}");
-    }
+    // So many reads of a byte and one more that finds the end; then a read too many.
+    assert!(rt; floods(rt.alloc(), 1_048_575, 1, false) == Some(true));
+    assert!(rt; floods(rt.alloc(), 1_048_576, 1, true) == Some(true));
+    // So many bytes; then a byte too many.
+    assert!(rt; floods(rt.alloc(), 16_777_216, 65_536, false) == Some(true));
+    assert!(rt; floods(rt.alloc(), 16_777_217, 65_536, true) == Some(true));
 }
 
-// Looks at a run on a disk without a root: it reads and writes nothing.
-fn is_not_opened(rt: &impl Abort, alloc: Global, size: u64) {
+// Whether a run on a disk of so many bytes without a root reads and writes nothing.
+fn is_not_opened(alloc: Global, size: u64) -> Option<bool> {
     let mut reader: &[u8] = INPUT;
-    let disk = MemDisk::new(alloc, size).expect(rt, "memory");
-    let ended = run_from(alloc, alloc, &mut reader, disk);
-    assert!(rt; ended.cause == Some(RunCause::Open(StartCause::NoRoot)));
-    assert!(rt; reader == INPUT);
-    assert!(rt; ended.text.is_empty());
+    let ended = run_from(alloc, alloc, &mut reader, MemDisk::new(alloc, size).ok()?);
+    let is_told = ended.cause == Some(RunCause::Open(StartCause::NoRoot));
+    Some(is_told && reader == INPUT && ended.text.is_empty())
 }
 
 #[test]
 fn an_image_that_is_none_is_not_opened(rt: HostRuntime) {
     for size in [0, 1_023, SIZE] {
-        is_not_opened(&rt, rt.alloc(), size);
+        holds(&rt, is_not_opened(rt.alloc(), size) == Some(true), &size);
     }
 }
 
 const SAVES: &[u8] = b"*PSC 0;*OPC?\n*ESR?\n*OPC?\n!POWER\n*PSC?\n";
 
-// The way in which a run of saves came out, where one call failed.
+// The way in which a run of saves came out, where one call failed: it ended well, or an opening failed.
 fn way_of(cause: Option<RunCause>, text: &[u8]) -> Option<usize> {
-    let opening = Some(RunCause::Open(StartCause::Device));
-    let ways = [
-        (None, "1\n128\n1\n0\n"),
-        (None, "136\n1\n0\n"),
-        (opening, ""),
-        (opening, "1\n128\n1\n"),
-    ];
-    for (way, (ended, told)) in ways.iter().enumerate() {
-        if cause == *ended && text == told.as_bytes() {
-            return Some(way);
+    if cause.is_none() {
+        if text == b"1\n128\n1\n0\n".as_slice() {
+            return Some(0);
         }
+        return (text == b"136\n1\n0\n".as_slice()).then_some(1);
     }
-    None
+    if cause != Some(NOT_OPENED) {
+        None
+    } else if text.is_empty() {
+        Some(2)
+    } else {
+        (text == b"1\n128\n1\n".as_slice()).then_some(3)
+    }
 }
 
 // A run of saves on a disk of which this call fails.
-fn saved_on_failing(rt: &impl Abort, alloc: Global, call: u64) -> Option<usize> {
-    let disk = formatted(alloc).expect(rt, "an image");
-    let ended = run_on(alloc, SAVES, FailOnce::new(disk, call));
-    way_of(ended.cause, ended.text.as_slice())
+fn saved_on_failing(alloc: Global, call: u64) -> Option<usize> {
+    let ended = run_on(alloc, SAVES, FailOnce::new(formatted(alloc)?, call));
+    way_of(ended.cause, &ended.text)
 }
 
 // A commit that fails answers its `*OPC?` with -320, which sets DDE (8) beside PON (128); the store is opened again, and the next
 // `*OPC?` is answered: what it confirmed is there when power returns. An opening that fails ends the run.
 #[test]
 fn a_disk_that_fails_once_is_opened_again(rt: HostRuntime) {
-    let mut seen = [false; 4];
+    let mut seen = [0u32; 4];
     for call in 0..60 {
-        match saved_on_failing(&rt, rt.alloc(), call) {
-            Some(way) if way < 4 => seen[way] = true,
-            _ => panic!(&rt; "at call {call}"),
-        }
+        count(&rt, &mut seen, saved_on_failing(rt.alloc(), call), &call);
     }
-    assert!(rt; seen[0] && seen[1] && seen[2] && seen[3]);
+    let all = seen[0] > 0 && seen[1] > 0 && seen[2] > 0 && seen[3] > 0;
+    holds(&rt, all, &seen);
 }
 
-// Two calls that fail. Where power comes back what was answered is there; where an opening failed no more was written.
-fn fails_twice(rt: &impl Abort, alloc: Global, first: u64, second: u64) {
-    let disk = formatted(alloc).expect(rt, "an image");
-    let failing = FailOnce::new(FailOnce::new(disk, first.saturating_add(second)), first);
-    let ended = run_on(alloc, b"*PSC 0;*OPC?\n*OPC?\n!POWER\n*PSC?\n", failing);
-    if ended.cause.is_none() {
-        assert!(rt; ended.text.ends_with(b"1\n0\n"), "at {first}, {second}");
+// Whether two calls that fail leave what was answered where power comes back, and no more was written where an opening failed.
+fn fails_twice(alloc: Global, first: u64, second: u64) -> Option<bool> {
+    let disk = FailOnce::new(formatted(alloc)?, first.saturating_add(second));
+    let input = b"*PSC 0;*OPC?\n*OPC?\n!POWER\n*PSC?\n";
+    let ended = run_on(alloc, input, FailOnce::new(disk, first));
+    Some(if ended.cause.is_none() {
+        ended.text.ends_with(b"1\n0\n")
     } else {
-        assert!(rt; !ended.text.ends_with(b"0\n"), "at {first}, {second}");
-    }
+        !ended.text.ends_with(b"0\n")
+    })
 }
 
 // One of the commit, and one of the reopening after it.
@@ -225,26 +216,26 @@ fn fails_twice(rt: &impl Abort, alloc: Global, first: u64, second: u64) {
 fn a_reopening_that_fails_is_tried_again(rt: HostRuntime) {
     for first in 3..11u64 {
         for second in 0..4u64 {
-            fails_twice(&rt, rt.alloc(), first, second);
+            holds(
+                &rt,
+                fails_twice(rt.alloc(), first, second) == Some(true),
+                &(first, second),
+            );
         }
     }
 }
 
-// A formatted image whose root has the last number that there is.
-fn of_the_last_number(rt: &impl Abort, alloc: Global) -> MemDisk<Global> {
-    let mut disk = formatted(alloc).expect(rt, "an image");
-    assert!(rt; disk.size() >= 16);
-    assert!(rt; disk.write(8, &[255; 8]).is_ok());
-    assert!(rt; disk.sync().is_ok());
-    disk
+// Whether a formatted image whose root has the last number that there is takes no commit.
+fn last_takes_no_commit(alloc: Global) -> Option<bool> {
+    let disk = spoiled(alloc, formatted(alloc)?, "8: ff*8")?;
+    let input = b"*PSC 0;*OPC?;*ESR?\n!POWER\n*PSC?;*SRE 1;*PSC 0\n";
+    let ended = run_on(alloc, input, disk);
+    Some(ended.cause == Some(RunCause::Device) && ended.text.as_slice() == b"136\n1\n".as_slice())
 }
 
 #[test]
 fn an_image_of_the_last_number_takes_no_commit(rt: HostRuntime) {
-    let input = b"*PSC 0;*OPC?;*ESR?\n!POWER\n*PSC?;*SRE 1;*PSC 0\n";
-    let ended = run_on(rt.alloc(), input, of_the_last_number(&rt, rt.alloc()));
-    assert!(rt; ended.cause == Some(RunCause::Device));
-    assert!(rt; ended.text.as_slice() == b"136\n1\n".as_slice());
+    assert!(rt; last_takes_no_commit(rt.alloc()) == Some(true));
 }
 
 /// A writer that counts the calls of `write`.
@@ -266,16 +257,18 @@ impl Write for Counting {
     }
 }
 
-#[test]
-fn the_lines_of_a_piece_are_answered_in_one_write(rt: HostRuntime) {
+// Whether the lines are answered in two writes: the whole lines of the piece, and the last line that lacks its end.
+fn answers_in_two_writes(alloc: Global) -> Option<bool> {
     let mut reader: &[u8] = INPUT;
     let mut output = Counting {
-        bytes: Vec::new(rt.alloc()),
+        bytes: Vec::new(alloc),
         calls: 0,
     };
-    let disk = formatted(rt.alloc()).expect(&rt, "an image");
-    assert!(rt; run(rt.alloc(), &mut reader, &mut output, disk).is_ok());
-    assert!(rt; output.bytes.as_slice() == OUTPUT);
-    // The whole lines of the piece, and the last line that lacks its end.
-    assert!(rt; output.calls == 2);
+    run(alloc, &mut reader, &mut output, formatted(alloc)?).ok()?;
+    Some(output.bytes.as_slice() == OUTPUT && output.calls == 2)
+}
+
+#[test]
+fn the_lines_of_a_piece_are_answered_in_one_write(rt: HostRuntime) {
+    assert!(rt; answers_in_two_writes(rt.alloc()) == Some(true));
 }

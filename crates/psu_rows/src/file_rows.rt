@@ -1,8 +1,8 @@
 // Files in runs: names, copies, states and macros as files, and their faults in order.
 use crate::images::{least, written_on};
-use crate::transcripts::play;
-use std::alloc::{AllocError, Global};
-use std::test::Fail;
+use crate::transcripts::{play, play_on};
+use psu_tables::bytes;
+use std::alloc::Global;
 
 const NAMES_AND_FOLDERS: &str = r#"
 In byte order of the names, which are told apart by case.
@@ -25,8 +25,8 @@ Bytes replaced.
 "#;
 
 #[test]
-fn names_and_folders(rt: HostRuntime) -> Result<(), Fail> {
-    play(&rt, rt.alloc(), NAMES_AND_FOLDERS)
+fn names_and_folders(rt: HostRuntime) {
+    play(&rt, rt.alloc(), NAMES_AND_FOLDERS);
 }
 
 const COPIES_AND_MOVES: &str = r#"
@@ -49,8 +49,8 @@ Copies and moves keep the type; bytes that are put in make it plain.
 "#;
 
 #[test]
-fn copies_and_moves(rt: HostRuntime) -> Result<(), Fail> {
-    play(&rt, rt.alloc(), COPIES_AND_MOVES)
+fn copies_and_moves(rt: HostRuntime) {
+    play(&rt, rt.alloc(), COPIES_AND_MOVES);
 }
 
 const STATES_AS_FILES: &str = r#"
@@ -74,20 +74,28 @@ Bytes count, not the type.
 "#;
 
 #[test]
-fn states_as_files(rt: HostRuntime) -> Result<(), Fail> {
-    play(&rt, rt.alloc(), STATES_AS_FILES)
+fn states_as_files(rt: HostRuntime) {
+    play(&rt, rt.alloc(), STATES_AS_FILES);
+}
+
+// A file of 28 bytes, with the bytes behind its header.
+const SETTINGS: &str =
+    "'MMEM:DATA 20 '\"D\",#228 03 e8 00 00 ea 60 00*5 ea 60 00*5 ea 60 00*5 ea 60 00 0a";
+
+// What a run on a small image writes that is sent the file, and recalls it.
+fn recalled(alloc: Global) -> Option<Vec<u8>> {
+    let mut input = bytes(alloc, SETTINGS)?;
+    input
+        .extend_from_slice(b"MMEM:LOAD:STAT 1,\"D\";*RCL 1;:VOLT?;:VOLT:PROT?;:MMEM:CAT?\n")
+        .ok()?;
+    written_on(alloc, least(alloc)?, &input)
 }
 
 // The bytes of settings in a file that is none of a state: output 1 at 1 volt.
 #[test]
 fn bytes_of_settings_are_a_state(rt: HostRuntime) {
-    let input =
-        b"MMEM:DATA \"D\",#228\x03\xe8\0\0\xea\x60\0\0\0\0\0\xea\x60\0\0\0\0\0\xea\x60\0\0\0\0\0\xea\x60\0\n\
-MMEM:LOAD:STAT 1,\"D\";*RCL 1;:VOLT?;:VOLT:PROT?;:MMEM:CAT?\n";
-    let want = b"1.000;60.000;2048,0,\"D,BIN,28\"\n";
-    let image = least(rt.alloc()).expect(&rt, "an image");
-    let got = written_on(rt.alloc(), image, input).expect(&rt, "the run ends well");
-    assert!(rt; got.as_slice() == want.as_slice());
+    let told = recalled(rt.alloc()).expect(&rt, "the run ends well");
+    assert!(rt; told.as_slice() == b"1.000;60.000;2048,0,\"D,BIN,28\"\n".as_slice());
 }
 
 const MACROS_AS_FILES: &str = r#"
@@ -105,49 +113,23 @@ The label, the name, the file, the label that is defined.
 "#;
 
 #[test]
-fn macros_as_files(rt: HostRuntime) -> Result<(), Fail> {
-    play(&rt, rt.alloc(), MACROS_AS_FILES)
+fn macros_as_files(rt: HostRuntime) {
+    play(&rt, rt.alloc(), MACROS_AS_FILES);
 }
 
-// A file, and what follows it.
-fn with_file(
-    alloc: Global,
-    before: &[u8],
-    length: usize,
-    behind: &[u8],
-) -> Result<Vec<u8>, AllocError> {
-    let mut input = before.to_vec(alloc)?;
-    let end = input.len().saturating_add(length);
-    input.resize(end, b'x')?;
-    input.extend_from_slice(behind)?;
-    Ok(input)
-}
+const A_FULL_IMAGE: &str = r#"
+> MMEM:DATA "A",#11y;DATA "B",#3511{x*511};COPY "A","C";DEL "C";:SYST:ERR?;:MMEM:CAT?
+< -254,"Media full";2048,0,"A,BIN,1","B,BIN,511"
+
+> MMEM:DATA "A",#11y;DATA "B",#3512{x*512};COPY "A","C";DEL "C";:SYST:ERR?;:MMEM:CAT?
+< -254,"Media full";1024,1024,"A,BIN,1"
+
+> MMEM:DATA "A",#11y;DATA "B",#11z;DATA "B",#3512{x*512};COPY "A","C";DEL "C";:SYST:ERR?;:MMEM:CAT?
+< -254,"Media full";2048,0,"A,BIN,1","B,BIN,1"
+"#;
 
 // What does not fit is refused and leaves all as it was; 511 bytes and the type are one page of value.
 #[test]
 fn a_full_image_stays_as_it_is(rt: HostRuntime) {
-    let rows: [(&[u8], usize, &str); 3] = [
-        (
-            b"MMEM:DATA \"A\",#11y;DATA \"B\",#3511",
-            511,
-            "-254,\"Media full\";2048,0,\"A,BIN,1\",\"B,BIN,511\"\n",
-        ),
-        (
-            b"MMEM:DATA \"A\",#11y;DATA \"B\",#3512",
-            512,
-            "-254,\"Media full\";1024,1024,\"A,BIN,1\"\n",
-        ),
-        (
-            b"MMEM:DATA \"A\",#11y;DATA \"B\",#11z;DATA \"B\",#3512",
-            512,
-            "-254,\"Media full\";2048,0,\"A,BIN,1\",\"B,BIN,1\"\n",
-        ),
-    ];
-    for (before, length, want) in rows {
-        let behind = b";COPY \"A\",\"C\";DEL \"C\";:SYST:ERR?;:MMEM:CAT?\n";
-        let input = with_file(rt.alloc(), before, length, behind).expect(&rt, "memory");
-        let image = least(rt.alloc()).expect(&rt, "an image");
-        let got = written_on(rt.alloc(), image, &input).expect(&rt, "the run ends well");
-        assert!(rt; got.as_slice() == want.as_bytes(), "{got:?}");
-    }
+    play_on(&rt, rt.alloc(), 4, A_FULL_IMAGE);
 }

@@ -1,103 +1,88 @@
 // Images that are refused, each for its cause, and one whose number is the last that there is.
-use crate::images::{SIZE, formatted};
+use crate::holds::holds;
+use crate::images::formatted;
 use crate::runs::run_on;
-use psu_disk::{Disk, MemDisk};
+use crate::spelled::spoiled;
 use psu_server::{RecoverFault, RunCause, recover};
+use psu_tables::row;
 use std::alloc::Global;
 use std::process::Abort;
 
-// A formatted image with these bytes written over it.
-fn spoiled(rt: &impl Abort, alloc: Global, writes: &[(u64, &[u8])]) -> MemDisk<Global> {
-    let mut disk = formatted(alloc).expect(rt, "an image");
-    for (at, bytes) in writes {
-        assert!(rt; disk.size() == SIZE && *at <= 2_048 && bytes.len() <= 512);
-        assert!(rt; disk.write(*at, bytes).is_ok());
-    }
-    assert!(rt; disk.sync().is_ok());
-    disk
-}
-
-// Why an image is refused.
-fn refusal(alloc: Global, disk: MemDisk<Global>) -> Option<RecoverFault> {
-    match recover(alloc, disk) {
-        Ok(_) => None,
-        Err(fault) => Some(fault),
+// Whether a cause is the one of these words.
+fn is_cause(fault: RecoverFault, wanted: &str) -> bool {
+    match fault {
+        RecoverFault::NoRoot => wanted == "no root",
+        RecoverFault::BadRoot => wanted == "bad root",
+        RecoverFault::BadVersion => wanted == "bad version",
+        RecoverFault::BadItems => wanted == "bad items",
+        RecoverFault::Device | RecoverFault::Memory => false,
     }
 }
 
-// Looks at why each of these images is refused, and at the text of that.
-fn are_refused(rt: &impl Abort, alloc: Global, rows: &[(&[(u64, &[u8])], RecoverFault, &str)]) {
-    for (writes, want, text) in rows {
-        let fault = refusal(alloc, spoiled(rt, alloc, writes));
-        assert!(rt; fault == Some(*want), "{fault:?} in the place of {text}");
-        let told = format!(in alloc; "{want}").expect(rt, "memory");
-        assert!(rt; told.as_bytes() == text.as_bytes());
-    }
+// Whether a formatted image with these parts put over it is refused for its cause, which tells itself in the same words.
+fn is_refused(alloc: Global, parts: &str, wanted: &str) -> Option<bool> {
+    let disk = spoiled(alloc, formatted(alloc)?, parts)?;
+    let fault = recover(alloc, disk).err()?;
+    let told = format!(in alloc; "{fault}").ok()?;
+    Some(is_cause(fault, wanted) && told.as_str() == wanted)
 }
 
-// The first root of a formatted image: its gate is open.
-const ROOT: [u8; 18] = [
-    0xa5, 0x50, 0x53, 0x55, 0, 1, 1, 0, 0, 0, 0, 0, 0, 0, 0, 1, 0, 0,
-];
+// Each image of a table is refused for its cause.
+fn are_refused(rt: &impl Abort, alloc: Global, table: &str) {
+    let mut rows = 0u32;
+    for line in table.lines() {
+        if let Some((parts, wanted)) = row(line) {
+            holds(rt, is_refused(alloc, parts, wanted) == Some(true), &line);
+            rows = rows.saturating_add(1);
+        }
+    }
+    holds(rt, rows > 0, &table);
+}
+
+// The first root of a formatted image is of the number 1, and its gate is open.
+const ROOTS: &str = "
+0: 00 -> no root
+0: a4 -> no root
+3: 58 -> bad root
+4: 00 07 -> bad version
+4: 00 00 -> bad version
+
+Both roots are open and have the same number.
+512: a5 'PSU 00 01 01 00 00*7 01 00*2 -> bad root
+";
 
 #[test]
 fn spoiled_roots_are_refused(rt: HostRuntime) {
-    are_refused(
-        &rt,
-        rt.alloc(),
-        &[
-            (&[(0, &[0])], RecoverFault::NoRoot, "no root"),
-            (&[(0, &[0xa4])], RecoverFault::NoRoot, "no root"),
-            (&[(3, &[0x58])], RecoverFault::BadRoot, "bad root"),
-            (&[(4, &[0, 7])], RecoverFault::BadVersion, "bad version"),
-            (&[(4, &[0, 0])], RecoverFault::BadVersion, "bad version"),
-            // Both roots are open and have the same number.
-            (&[(512, &ROOT)], RecoverFault::BadRoot, "bad root"),
-        ],
-    );
+    are_refused(&rt, rt.alloc(), ROOTS);
 }
 
 // A head on page 2 with the key 7 and a value of one byte on page 3. The root's count of items is at 16, and the pool ends at page 513.
-const HEAD: [u8; 10] = [1, 7, 0, 0, 0, 1, 0, 1, 0, 3];
+const HEADS: &str = "
+1024: 01 07 00*3 01 00 01 00 03; 16: 00 01 00 02 -> bad items
+16: 00 01 00 01 -> bad root
+16: 00 01 02 02 -> bad root
+1024: 01 07 00*3 01 00 01 00 03; 1032: 02 02; 16: 00 01 00 02 -> bad root
+
+A page twice: both heads, or the head's own for its value.
+1024: 01 07 00*3 01 00 01 00 03; 16: 00 02 00 02 00 02 -> bad root
+1024: 01 07 00*3 01 00 01 00 03; 1032: 00 02; 16: 00 01 00 02 -> bad root
+";
 
 #[test]
 fn spoiled_heads_are_refused(rt: HostRuntime) {
-    are_refused(
-        &rt,
-        rt.alloc(),
-        &[
-            (
-                &[(1_024, &HEAD), (16, &[0, 1, 0, 2])],
-                RecoverFault::BadItems,
-                "bad items",
-            ),
-            (&[(16, &[0, 1, 0, 1])], RecoverFault::BadRoot, "bad root"),
-            (&[(16, &[0, 1, 2, 2])], RecoverFault::BadRoot, "bad root"),
-            (
-                &[(1_024, &HEAD), (1_032, &[2, 2]), (16, &[0, 1, 0, 2])],
-                RecoverFault::BadRoot,
-                "bad root",
-            ),
-            // A page twice: both heads, or the head's own for its value.
-            (
-                &[(1_024, &HEAD), (16, &[0, 2, 0, 2, 0, 2])],
-                RecoverFault::BadRoot,
-                "bad root",
-            ),
-            (
-                &[(1_024, &HEAD), (1_032, &[0, 2]), (16, &[0, 1, 0, 2])],
-                RecoverFault::BadRoot,
-                "bad root",
-            ),
-        ],
-    );
+    are_refused(&rt, rt.alloc(), HEADS);
+}
+
+// Whether an image of the last number ends a run with changes that are not flushed.
+fn last_takes_no_save(alloc: Global) -> Option<bool> {
+    let disk = spoiled(alloc, formatted(alloc)?, "8: ff*8")?;
+    let ended = run_on(alloc, b"*SAV 1;*OPC?\nSYST:ERR?\n", disk);
+    let is_told = ended.text.as_slice() == b"-320,\"Storage fault\"\n".as_slice();
+    Some(ended.cause == Some(RunCause::Device) && is_told)
 }
 
 // No commit can be made of such an image: the save is refused its end, and the run ends with changes that are not flushed.
 #[test]
 fn the_last_number_takes_no_save(rt: HostRuntime) {
-    let disk = spoiled(&rt, rt.alloc(), &[(8, &[255; 8])]);
-    let ended = run_on(rt.alloc(), b"*SAV 1;*OPC?\nSYST:ERR?\n", disk);
-    assert!(rt; ended.cause == Some(RunCause::Device));
-    assert!(rt; ended.text.as_slice() == b"-320,\"Storage fault\"\n".as_slice());
+    assert!(rt; last_takes_no_save(rt.alloc()) == Some(true));
 }

@@ -1,90 +1,115 @@
 // Lines that no honest controller sends: each is one error, or nothing, and what follows is executed.
+use crate::holds::holds;
 use crate::images::{formatted, written, written_on};
-use crate::runs::{Ran, run_from};
+use crate::runs::run_from;
+use crate::transcripts::play;
 use psu_server::RunCause;
-use std::alloc::{AllocError, Global};
+use psu_tables::{bytes, row};
+use std::alloc::Global;
 use std::io::{self, Read};
-
-// A text, a byte so many times, and another text.
-fn line(
-    alloc: Global,
-    before: &[u8],
-    byte: u8,
-    count: usize,
-    behind: &[u8],
-) -> Result<Vec<u8>, AllocError> {
-    let mut line = before.to_vec(alloc)?;
-    let length = line.len().saturating_add(count);
-    line.resize(length, byte)?;
-    line.extend_from_slice(behind)?;
-    Ok(line)
-}
+use std::process::Abort;
 
 // A length of nine digits where no bytes are; the fault takes the rest of the line into its unit.
+const A_BLOCK_LONGER_THAN_ITS_LINE: &str = r#"
+> *PUD #9999999999
+> SYST:ERR?
+< -161,"Invalid block data"
+> FOO #9999999999;*CLS;*RST
+> SYST:ERR?;:SYST:ERR?
+< -161,"Invalid block data";0,"No error"
+"#;
+
 #[test]
 fn a_block_longer_than_its_line(rt: HostRuntime) {
-    let input = b"*PUD #9999999999\nSYST:ERR?\nFOO #9999999999;*CLS;*RST\nSYST:ERR?;:SYST:ERR?\n";
-    let want = b"-161,\"Invalid block data\"\n-161,\"Invalid block data\";0,\"No error\"\n";
-    let got = written(rt.alloc(), input).expect(&rt, "the run ends well");
-    assert!(rt; got.as_slice() == want.as_slice());
+    play(&rt, rt.alloc(), A_BLOCK_LONGER_THAN_ITS_LINE);
 }
 
-// A line of 65,537 bytes is one -223, whatever is in it, and the next line is executed.
+// Whether a line of these bytes leaves one error, or none.
+fn leaves(alloc: Global, line: &str, wanted: &str) -> Option<bool> {
+    let mut input = bytes(alloc, line)?;
+    input
+        .extend_from_slice(b"\nSYST:ERR?\nSYST:ERR:COUN?\n")
+        .ok()?;
+    let got = written(alloc, &input)?;
+    Some(got.strip_suffix(b"\n0\n".as_slice())? == wanted.as_bytes())
+}
+
+// Each line of a table leaves its error.
+fn leave(rt: &impl Abort, alloc: Global, table: &str) {
+    let mut rows = 0u32;
+    for line in table.lines() {
+        if let Some((sent, wanted)) = row(line) {
+            holds(rt, leaves(alloc, sent, wanted) == Some(true), &line);
+            rows = rows.saturating_add(1);
+        }
+    }
+    holds(rt, rows > 0, &table);
+}
+
+// A line of 65,537 bytes is one -223, whatever is in it, and the next line is executed: `;`, `x`, `:`, `"`, `#`, `*`, a space, and a byte
+// that is no character.
+const TOO_LONG: &str = r#"
+3b*65537 -> -223,"Too much data"
+78*65537 -> -223,"Too much data"
+3a*65537 -> -223,"Too much data"
+22*65537 -> -223,"Too much data"
+23*65537 -> -223,"Too much data"
+2a*65537 -> -223,"Too much data"
+20*65537 -> -223,"Too much data"
+80*65537 -> -223,"Too much data"
+"#;
+
 #[test]
 fn lines_that_are_too_long(rt: HostRuntime) {
-    for byte in [b';', b'x', b':', b'"', b'#', b'*', b' ', 0x80] {
-        let behind = b"\nSYST:ERR?;:SYST:ERR:COUN?\n";
-        let input = line(rt.alloc(), b"", byte, 65_537, behind).expect(&rt, "memory");
-        let got = written(rt.alloc(), input.as_slice()).expect(&rt, "the run ends well");
-        let want = b"-223,\"Too much data\";0\n".as_slice();
-        assert!(rt; got.as_slice() == want, "at {byte}");
-    }
+    leave(&rt, rt.alloc(), TOO_LONG);
 }
 
 // A line of 65,536 bytes is read, into one error at most.
+const OF_THE_GREATEST_LENGTH: &str = r#"
+`;` and a space.
+3b*65536 -> 0,"No error"
+20*65536 -> 0,"No error"
+
+`x`
+78*65536 -> -113,"Undefined header"
+
+`:`, `*` and `"`
+3a*65536 -> -102,"Syntax error"
+2a*65536 -> -102,"Syntax error"
+22*65536 -> -102,"Syntax error"
+
+`#`
+23*65536 -> -161,"Invalid block data"
+
+80*65536 -> -101,"Invalid character"
+"#;
+
 #[test]
 fn lines_of_the_greatest_length(rt: HostRuntime) {
-    let rows: [(u8, &str); 8] = [
-        (b';', "0,\"No error\""),
-        (b' ', "0,\"No error\""),
-        (b'x', "-113,\"Undefined header\""),
-        (b':', "-102,\"Syntax error\""),
-        (b'*', "-102,\"Syntax error\""),
-        (b'"', "-102,\"Syntax error\""),
-        (b'#', "-161,\"Invalid block data\""),
-        (0x80, "-101,\"Invalid character\""),
-    ];
-    for (byte, want) in rows {
-        let behind = b"\nSYST:ERR?\nSYST:ERR:COUN?\n";
-        let input = line(rt.alloc(), b"", byte, 65_536, behind).expect(&rt, "memory");
-        let got = written(rt.alloc(), input.as_slice()).expect(&rt, "the run ends well");
-        let want = line(rt.alloc(), want.as_bytes(), 0, 0, b"\n0\n").expect(&rt, "memory");
-        assert!(rt; got.as_slice() == want.as_slice(), "at {byte}");
-    }
+    leave(&rt, rt.alloc(), OF_THE_GREATEST_LENGTH);
 }
 
 // An expansion of 65,536 bytes is executed, here as one undefined header; a longer one is -223.
+const AN_EXPANSION_THAT_GROWS: &str = r#"
+> *DMC "M",#41024{$1*512};*EMC 1
+> M {x*128}
+> SYST:ERR?
+< -113,"Undefined header"
+
+> *DMC "M",#41024{$1*512};*EMC 1
+> M {x*129}
+> SYST:ERR?
+< -223,"Too much data"
+
+> *DMC "M",#41024{$1*512};*EMC 1
+> M {x*60000}
+> SYST:ERR?
+< -223,"Too much data"
+"#;
+
 #[test]
 fn an_expansion_that_grows(rt: HostRuntime) {
-    let rows = [
-        (128usize, "-113,\"Undefined header\"\n"),
-        (129, "-223,\"Too much data\"\n"),
-        (60_000, "-223,\"Too much data\"\n"),
-    ];
-    for (length, want) in rows {
-        let mut input = b"*DMC \"M\",#41024"
-            .to_vec(rt.alloc())
-            .expect(&rt, "memory");
-        for _ in 0..512 {
-            input.extend_from_slice(b"$1").expect(&rt, "memory");
-        }
-        let call = line(rt.alloc(), b";*EMC 1\nM ", b'x', length, b"\nSYST:ERR?\n");
-        input
-            .extend_from_slice(call.expect(&rt, "memory").as_slice())
-            .expect(&rt, "memory");
-        let got = written(rt.alloc(), input.as_slice()).expect(&rt, "the run ends well");
-        assert!(rt; got.as_slice() == want.as_bytes(), "at {length}");
-    }
+    play(&rt, rt.alloc(), AN_EXPANSION_THAT_GROWS);
 }
 
 /// A reader that gives a byte at each call, of a text first and then without end, and counts the calls.
@@ -109,18 +134,20 @@ impl Read for Dripping<'_> {
     }
 }
 
-// 1,048,576 reads are made; the whole lines before are answered, and nothing is flushed.
-#[test]
-fn a_reader_that_never_ends(rt: HostRuntime) {
+// Whether 1,048,576 reads are made of a reader that never ends, the whole lines before are answered, and nothing is flushed.
+fn is_ended(alloc: Global) -> Option<bool> {
     let mut reader = Dripping {
         rest: b"VOLT 1;*SAV 1;VOLT?\n*IDN?\n*IDN?",
         calls: 0,
     };
-    let image = formatted(rt.alloc()).expect(&rt, "an image");
-    let Ran { text, cause, disk } = run_from(rt.alloc(), rt.alloc(), &mut reader, image);
-    assert!(rt; cause == Some(RunCause::TooLong));
-    assert!(rt; reader.calls == 1_048_576);
-    assert!(rt; text.as_slice() == b"1.000\nEXAMPLE,PSU4,0,1.0\n".as_slice());
-    let held = written_on(rt.alloc(), disk, b"*RCL 1;VOLT?\n").expect(&rt, "the image opens");
-    assert!(rt; held.as_slice() == b"0.000\n".as_slice());
+    let ran = run_from(alloc, alloc, &mut reader, formatted(alloc)?);
+    let ended = ran.cause == Some(RunCause::TooLong) && reader.calls == 1_048_576;
+    let answered = ran.text.as_slice() == b"1.000\nEXAMPLE,PSU4,0,1.0\n".as_slice();
+    let held = written_on(alloc, ran.disk, b"*RCL 1;VOLT?\n")?;
+    Some(ended && answered && held.as_slice() == b"0.000\n".as_slice())
+}
+
+#[test]
+fn a_reader_that_never_ends(rt: HostRuntime) {
+    assert!(rt; is_ended(rt.alloc()) == Some(true));
 }

@@ -1,9 +1,5 @@
 // The worked rows of the whole instrument, as inputs of a run on a formatted image and its output.
-use crate::images::{least, written, written_on};
-use crate::texts::joined;
-use crate::transcripts::play;
-use std::alloc::AllocError;
-use std::test::Fail;
+use crate::transcripts::{play, play_on};
 
 const ROWS_OF_THE_INSTRUMENT: &str = r#"
 Saved settings come back.
@@ -93,99 +89,95 @@ A file is there when power returns.
 "#;
 
 #[test]
-fn rows_of_the_instrument(rt: HostRuntime) -> Result<(), Fail> {
-    play(&rt, rt.alloc(), ROWS_OF_THE_INSTRUMENT)
+fn rows_of_the_instrument(rt: HostRuntime) {
+    play(&rt, rt.alloc(), ROWS_OF_THE_INSTRUMENT);
 }
+
+const USER_DATA_OF_63_BYTES: &str = r#"
+> DIAG:PUD:PROT OFF
+> *PUD #264{x*64}
+> SYST:ERR?
+< -223,"Too much data"
+> *PUD #263{x*63};*PUD?
+< #263{x*63}
+"#;
 
 // User data have 63 bytes at most.
 #[test]
 fn user_data_of_63_bytes(rt: HostRuntime) {
-    let parts: [(&[u8], usize); 5] = [
-        (b"DIAG:PUD:PROT OFF\n*PUD #264", 1),
-        (b"x", 64),
-        (b"\nSYST:ERR?\n*PUD #263", 1),
-        (b"x", 63),
-        (b";*PUD?\n", 1),
-    ];
-    let told: [(&[u8], usize); 3] = [(b"-223,\"Too much data\"\n#263", 1), (b"x", 63), (b"\n", 1)];
-    let input = joined(rt.alloc(), &parts).expect(&rt, "memory");
-    let want = joined(rt.alloc(), &told).expect(&rt, "memory");
-    let got = written(rt.alloc(), input.as_slice()).expect(&rt, "the run ends well");
-    assert!(rt; got.as_slice() == want.as_slice());
+    play(&rt, rt.alloc(), USER_DATA_OF_63_BYTES);
 }
 
-// Some bytes, a byte so many times, and others.
-fn put(
-    text: &mut Vec<u8>,
-    before: &[u8],
-    byte: u8,
-    count: usize,
-    behind: &[u8],
-) -> Result<(), AllocError> {
-    text.extend_from_slice(before)?;
-    let length = text.len().saturating_add(count);
-    text.resize(length, byte)?;
-    text.extend_from_slice(behind)?;
-    Ok(())
-}
+const THE_LAST_PAGE_OF_THE_IMAGE: &str = r#"
+66 pages three times, and 58: all of them.
+> MMEM:DATA "A",#532768{b*32768}
+> MMEM:DATA "B",#532768{b*32768}
+> MMEM:DATA "C",#532768{b*32768}
+> MMEM:DATA "D",#529183{b*29183}
+> MMEM:DATA "E",#10
+> SYST:ERR?
+< -254,"Media full"
+> MMEM:CAT?
+< 131072,0,"A,BIN,32768","B,BIN,32768","C,BIN,32768","D,BIN,29183"
+A page is left, and a file takes two.
+> MMEM:DATA "D",#528671{b*28671}
+> MMEM:DATA "E",#10
+> SYST:ERR?
+< -254,"Media full"
+> MMEM:CAT?
+< 130560,512,"A,BIN,32768","B,BIN,32768","C,BIN,32768","D,BIN,28671"
+Two pages are left.
+> MMEM:DATA "D",#528159{b*28159}
+> MMEM:DATA "E",#10
+> SYST:ERR?
+< 0,"No error"
+> MMEM:CAT?
+< 131072,0,"A,BIN,32768","B,BIN,32768","C,BIN,32768","D,BIN,28159","E,BIN,0"
+> *OPC?
+< 1
+"#;
 
 // Contents of 256 pages fit, and a page more does not.
 #[test]
 fn the_last_page_of_the_image(rt: HostRuntime) {
-    let parts: [(&[u8], usize); 10] = [
-        (b"MMEM:DATA \"A\",#532768", 32_768),
-        (b"MMEM:DATA \"B\",#532768", 32_768),
-        (b"MMEM:DATA \"C\",#532768", 32_768),
-        // 66 pages three times, and 58: all of them.
-        (b"MMEM:DATA \"D\",#529183", 29_183),
-        (b"MMEM:DATA \"E\",#10\nSYST:ERR?\nMMEM:CAT?", 0),
-        // A page is left, and a file takes two.
-        (b"MMEM:DATA \"D\",#528671", 28_671),
-        (b"MMEM:DATA \"E\",#10\nSYST:ERR?\nMMEM:CAT?", 0),
-        // Two pages are left.
-        (b"MMEM:DATA \"D\",#528159", 28_159),
-        (b"MMEM:DATA \"E\",#10\nSYST:ERR?\nMMEM:CAT?", 0),
-        (b"*OPC?", 0),
-    ];
-    let mut input = Vec::new(rt.alloc());
-    for (text, count) in parts {
-        put(&mut input, text, b'b', count, b"\n").expect(&rt, "memory");
-    }
-    let want =
-        "-254,\"Media full\"\n131072,0,\"A,BIN,32768\",\"B,BIN,32768\",\"C,BIN,32768\",\"D,BIN,29183\"\n\
--254,\"Media full\"\n130560,512,\"A,BIN,32768\",\"B,BIN,32768\",\"C,BIN,32768\",\"D,BIN,28671\"\n\
-0,\"No error\"\n131072,0,\"A,BIN,32768\",\"B,BIN,32768\",\"C,BIN,32768\",\"D,BIN,28159\",\"E,BIN,0\"\n1\n";
-    let got = written(rt.alloc(), input.as_slice()).expect(&rt, "the run ends well");
-    assert!(rt; got.as_slice() == want.as_bytes());
+    play(&rt, rt.alloc(), THE_LAST_PAGE_OF_THE_IMAGE);
 }
+
+const TWO_REGISTERS_ON_FOUR_PAGES: &str = r#"
+> VOLT 1
+> *SAV 0
+> *SAV 1
+> *SAV 2
+> SYST:ERR?
+< -254,"Media full"
+> VOLT 0
+> *SAV 0
+> VOLT 1
+> *SAV 2
+> SYST:ERR?
+< 0,"No error"
+> VOLT 3;*RCL 2;VOLT?;*RCL 1;VOLT?;*RCL 0;VOLT?
+< 1.000;1.000;0.000
+"#;
 
 // Two registers fill an image of four pages; one that holds the settings of `*RST` again takes none.
 #[test]
 fn two_registers_on_four_pages(rt: HostRuntime) {
-    let input =
-        b"VOLT 1\n*SAV 0\n*SAV 1\n*SAV 2\nSYST:ERR?\nVOLT 0\n*SAV 0\nVOLT 1\n*SAV 2\nSYST:ERR?\n\
-VOLT 3;*RCL 2;VOLT?;*RCL 1;VOLT?;*RCL 0;VOLT?\n";
-    let want = b"-254,\"Media full\"\n0,\"No error\"\n1.000;1.000;0.000\n";
-    let image = least(rt.alloc()).expect(&rt, "an image");
-    let got = written_on(rt.alloc(), image, input).expect(&rt, "the run ends well");
-    assert!(rt; got.as_slice() == want.as_slice());
+    play_on(&rt, rt.alloc(), 4, TWO_REGISTERS_ON_FOUR_PAGES);
 }
+
+const A_QUEUE_THAT_OVERFLOWS: &str = r#"
+> {FOO\n*17}SYST:ERR:COUN?
+< 16
+> *ESR?
+< 168
+> {SYST:ERR?\n*16}SYST:ERR?
+< {-113,"Undefined header"\n*15}-350,"Queue overflow"
+< 0,"No error"
+"#;
 
 // Sixteen errors are kept; the newest of a full queue tells of the overflow.
 #[test]
 fn a_queue_that_overflows(rt: HostRuntime) {
-    let parts: [(&[u8], usize); 3] = [
-        (b"FOO\n", 17),
-        (b"SYST:ERR:COUN?\n*ESR?\n", 1),
-        (b"SYST:ERR?\n", 17),
-    ];
-    let told: [(&[u8], usize); 3] = [
-        (b"16\n168\n", 1),
-        (b"-113,\"Undefined header\"\n", 15),
-        (b"-350,\"Queue overflow\"\n0,\"No error\"\n", 1),
-    ];
-    let input = joined(rt.alloc(), &parts).expect(&rt, "memory");
-    let want = joined(rt.alloc(), &told).expect(&rt, "memory");
-    let got = written(rt.alloc(), input.as_slice()).expect(&rt, "the run ends well");
-    assert!(rt; got.as_slice() == want.as_slice());
+    play(&rt, rt.alloc(), A_QUEUE_THAT_OVERFLOWS);
 }

@@ -10,6 +10,8 @@ mod faults;
 #[cfg(test)]
 mod file_rows;
 #[cfg(test)]
+mod holds;
+#[cfg(test)]
 mod hostile_images;
 #[cfg(test)]
 mod hostile_lines;
@@ -41,6 +43,8 @@ mod rows;
 mod runs;
 #[cfg(test)]
 mod scarce_lines;
+#[cfg(test)]
+mod spelled;
 #[cfg(test)]
 mod supply_rows;
 #[cfg(test)]

@@ -1,4 +1,5 @@
 // Lines that ask for more than a piece holds: their answers are written whole and in order.
+use crate::holds::holds;
 use crate::images::{formatted, written};
 use psu_server::run;
 use std::alloc::{AllocError, Global};
@@ -18,62 +19,49 @@ fn file(alloc: Global) -> Result<Vec<u8>, AllocError> {
     Ok(bytes)
 }
 
-// A line that stores the file.
-fn storing(alloc: Global, file: &[u8]) -> Result<Vec<u8>, AllocError> {
-    let mut input = b"MMEM:DATA \"F\",#532768".to_vec(alloc)?;
-    input.extend_from_slice(file)?;
-    input.push(b'\n')?;
-    Ok(input)
+// A line that stores the file, one that asks for it so many times, each time behind another query, and one more.
+fn asking(alloc: Global, file: &[u8], times: usize) -> Option<Vec<u8>> {
+    let mut input = b"MMEM:DATA \"F\",#532768".to_vec(alloc).ok()?;
+    input.extend_from_slice(file).ok()?;
+    input.extend_from_slice(b"\n*EMC?;:MMEM:DATA? \"F\"").ok()?;
+    for _ in 1..times {
+        input.extend_from_slice(b";*EMC?;:MMEM:DATA? \"F\"").ok()?;
+    }
+    input.extend_from_slice(b"\n*IDN?\n").ok()?;
+    Some(input)
 }
 
-// A line that asks for the file so many times, each time behind another query, and what it writes.
-fn asking(
-    alloc: Global,
-    file: &[u8],
-    times: usize,
-    input: &mut Vec<u8>,
-) -> Result<Vec<u8>, AllocError> {
-    let mut want = Vec::new(alloc);
-    for time in 0..times {
-        if time > 0 {
-            input.push(b';')?;
-            want.push(b';')?;
-        }
-        input.extend_from_slice(b"*EMC?;:MMEM:DATA? \"F\"")?;
-        want.extend_from_slice(b"0;#532768")?;
-        want.extend_from_slice(file)?;
+// What those lines write.
+fn answers(alloc: Global, file: &[u8], times: usize) -> Option<Vec<u8>> {
+    let mut answers = b"0;#532768".to_vec(alloc).ok()?;
+    answers.extend_from_slice(file).ok()?;
+    for _ in 1..times {
+        answers.extend_from_slice(b";0;#532768").ok()?;
+        answers.extend_from_slice(file).ok()?;
     }
-    input.extend_from_slice(b"\n*IDN?\n")?;
-    want.extend_from_slice(b"\nEXAMPLE,PSU4,0,1.0\n")?;
-    Ok(want)
+    answers.extend_from_slice(b"\nEXAMPLE,PSU4,0,1.0\n").ok()?;
+    Some(answers)
 }
 
 // Whether the run writes what it has to, byte for byte.
-fn is_right(alloc: Global, times: usize) -> Result<bool, AllocError> {
-    let file = file(alloc)?;
-    let mut input = storing(alloc, file.as_slice())?;
-    let want = asking(alloc, file.as_slice(), times, &mut input)?;
-    Ok(match written(alloc, input.as_slice()) {
-        Some(got) => got.as_slice() == want.as_slice(),
-        None => false,
-    })
+fn is_right(alloc: Global, times: usize) -> Option<bool> {
+    let file = file(alloc).ok()?;
+    let got = written(alloc, &asking(alloc, &file, times)?)?;
+    Some(got == answers(alloc, &file, times)?)
 }
 
 // One file is less than 64 KiB, and two are more.
 #[test]
 fn answers_round_the_length_of_a_piece(rt: HostRuntime) {
     for times in 1..6usize {
-        assert!(rt;
-            is_right(rt.alloc(), times).expect(&rt, "memory"),
-            "{times} times"
-        );
+        holds(&rt, is_right(rt.alloc(), times) == Some(true), &times);
     }
 }
 
 // Some 13 MB in one line.
 #[test]
 fn four_hundred_files_in_one_line(rt: HostRuntime) {
-    assert!(rt; is_right(rt.alloc(), 400).expect(&rt, "memory"));
+    assert!(rt; is_right(rt.alloc(), 400) == Some(true));
 }
 
 /// A writer that knows how much it was given, and the most at once.
@@ -95,20 +83,24 @@ impl Write for Measuring {
     }
 }
 
+// How much a run for four hundred files writes, and the most at once.
+fn measured(alloc: Global) -> Option<Measuring> {
+    let input = asking(alloc, &file(alloc).ok()?, 400)?;
+    let mut reader = input.as_slice();
+    let mut writer = Measuring { all: 0, most: 0 };
+    run(alloc, &mut reader, &mut writer, formatted(alloc)?).ok()?;
+    Some(writer)
+}
+
+// Whether all of it is written, and not too much of it at once.
+fn is_in_parts(alloc: Global) -> Option<bool> {
+    let all = answers(alloc, &file(alloc).ok()?, 400)?.len();
+    let writer = measured(alloc)?;
+    Some(writer.all == all && writer.most <= 65_536 + 32_768 + 16)
+}
+
 // What a run gathers is 64 KiB and one answer at most, also in the midst of a line.
 #[test]
 fn a_long_line_is_written_in_parts(rt: HostRuntime) {
-    let file = file(rt.alloc()).expect(&rt, "memory");
-    let mut input = storing(rt.alloc(), file.as_slice()).expect(&rt, "memory");
-    let want = asking(rt.alloc(), file.as_slice(), 400, &mut input).expect(&rt, "memory");
-    let mut reader = input.as_slice();
-    let mut writer = Measuring { all: 0, most: 0 };
-    let disk = formatted(rt.alloc()).expect(&rt, "an image");
-    assert!(rt; run(rt.alloc(), &mut reader, &mut writer, disk).is_ok());
-    assert!(rt; writer.all == want.len());
-    assert!(rt;
-        writer.most <= 65_536 + 32_768 + 16,
-        "{} at once",
-        writer.most
-    );
+    assert!(rt; is_in_parts(rt.alloc()) == Some(true));
 }

@@ -1,8 +1,9 @@
 // Definitions of macros in runs, and the faults of their commands and calls.
+use crate::holds::holds;
 use crate::images::written;
-use crate::transcripts::play;
-use std::alloc::{AllocError, Global};
-use std::test::Fail;
+use crate::transcripts::{lines_behind, play};
+use std::alloc::Global;
+use std::process::Abort;
 
 const DEFINITIONS_AND_THEIR_FAULTS: &str = r#"
 A label is a letter, then letters, digits or `_`, 12 bytes at most.
@@ -30,8 +31,8 @@ A reset disables macros and keeps them; a loss of power too.
 "#;
 
 #[test]
-fn definitions_and_their_faults(rt: HostRuntime) -> Result<(), Fail> {
-    play(&rt, rt.alloc(), DEFINITIONS_AND_THEIR_FAULTS)
+fn definitions_and_their_faults(rt: HostRuntime) {
+    play(&rt, rt.alloc(), DEFINITIONS_AND_THEIR_FAULTS);
 }
 
 const CALLS_AND_THEIR_PARAMETERS: &str = r#"
@@ -62,8 +63,8 @@ Parameters keep their suffix, and lose the white space round them.
 "#;
 
 #[test]
-fn calls_and_their_parameters(rt: HostRuntime) -> Result<(), Fail> {
-    play(&rt, rt.alloc(), CALLS_AND_THEIR_PARAMETERS)
+fn calls_and_their_parameters(rt: HostRuntime) {
+    play(&rt, rt.alloc(), CALLS_AND_THEIR_PARAMETERS);
 }
 
 const CALLS_AND_WHAT_IS_NONE: &str = r#"
@@ -85,89 +86,82 @@ What is wrong in an expansion takes no more than the expansion.
 "#;
 
 #[test]
-fn calls_and_what_is_none(rt: HostRuntime) -> Result<(), Fail> {
-    play(&rt, rt.alloc(), CALLS_AND_WHAT_IS_NONE)
-}
-
-// A definition with a body of so many bytes.
-fn definition(alloc: Global, length: usize, behind: &[u8]) -> Result<Vec<u8>, AllocError> {
-    let mut input = b"*DMC \"M\",#4".to_vec(alloc)?;
-    let digits = [
-        b'0' + (length / 1_000 % 10) as u8,
-        b'0' + (length / 100 % 10) as u8,
-        b'0' + (length / 10 % 10) as u8,
-        b'0' + (length % 10) as u8,
-    ];
-    input.extend_from_slice(&digits)?;
-    let end = input.len().saturating_add(length);
-    input.resize(end, b';')?;
-    input.extend_from_slice(behind)?;
-    Ok(input)
+fn calls_and_what_is_none(rt: HostRuntime) {
+    play(&rt, rt.alloc(), CALLS_AND_WHAT_IS_NONE);
 }
 
 // A body has 1,024 bytes at most; that is looked at before the label is found.
+const BODIES_OF_1024_BYTES: &str = r#"
+> *DMC "M",#41024{;*1024};*LMC?;:SYST:ERR?
+< "M";0,"No error"
+
+> *DMC "M",#41025{;*1025};*LMC?;:SYST:ERR?
+< "";-275,"Macro definition too long"
+
+> *DMC "M",#41024{;*1024};:MMEM:STOR:MACR "M","F";:MMEM:LOAD:MACR "N","F";*LMC?;:SYST:ERR?
+< "M","N";0,"No error"
+"#;
+
 #[test]
 fn bodies_of_1024_bytes(rt: HostRuntime) {
-    let rows: [(usize, &[u8], &str); 3] = [
-        (1_024, b";*LMC?;:SYST:ERR?\n", "\"M\";0,\"No error\"\n"),
-        (
-            1_025,
-            b";*LMC?;:SYST:ERR?\n",
-            "\"\";-275,\"Macro definition too long\"\n",
-        ),
-        (
-            1_024,
-            b";:MMEM:STOR:MACR \"M\",\"F\";:MMEM:LOAD:MACR \"N\",\"F\";*LMC?;:SYST:ERR?\n",
-            "\"M\",\"N\";0,\"No error\"\n",
-        ),
-    ];
-    for (length, behind, want) in rows {
-        let input = definition(rt.alloc(), length, behind).expect(&rt, "memory");
-        let got = written(rt.alloc(), &input).expect(&rt, "the run ends well");
-        assert!(rt; got.as_slice() == want.as_bytes(), "at {length}: {got:?}");
-    }
+    play(&rt, rt.alloc(), BODIES_OF_1024_BYTES);
 }
 
-// The definitions of 32 macros, and what is behind them.
-fn thirty_two(alloc: Global, behind: &[u8]) -> Result<Vec<u8>, AllocError> {
+// The definitions of 32 macros, from AA to DH.
+fn thirty_two(alloc: Global) -> Option<Vec<u8>> {
     let mut input = Vec::new(alloc);
     for first in b"ABCD" {
         for second in b"ABCDEFGH" {
-            input.extend_from_slice(b"*DMC \"")?;
-            input.extend_from_slice(&[*first, *second])?;
-            input.extend_from_slice(b"\",#10\n")?;
+            input.extend_from_slice(b"*DMC \"").ok()?;
+            input.extend_from_slice(&[*first, *second]).ok()?;
+            input.extend_from_slice(b"\",#10\n").ok()?;
         }
     }
-    input.extend_from_slice(behind)?;
-    Ok(input)
+    Some(input)
+}
+
+// Whether a transcript is right behind them.
+fn goes_behind_32(alloc: Global, transcript: &str) -> Option<bool> {
+    let mut input = thirty_two(alloc)?;
+    input
+        .extend_from_slice(&lines_behind(alloc, transcript, "> ")?)
+        .ok()?;
+    Some(written(alloc, &input)? == lines_behind(alloc, transcript, "< ")?)
+}
+
+// Plays a transcript behind the definitions of 32 macros.
+fn play_behind_32(rt: &impl Abort, alloc: Global, transcript: &str) {
+    holds(
+        rt,
+        goes_behind_32(alloc, transcript) == Some(true),
+        &transcript,
+    );
 }
 
 // There are 32 macros at most: one more does not fit, whatever its label, unless it is wrong before that.
+const A_MACRO_MORE: &str = r#"
+> SYST:ERR?;*DMC "E",#10;*DMC "aa",#10;*DMC "1",#10
+< 0,"No error"
+> SYST:ERR?;:SYST:ERR?;:SYST:ERR?
+< -254,"Media full";-277,"Macro redefinition not allowed";-273,"Illegal macro label"
+> *RMC "dh";*DMC "E",#10;*GMC? "e"
+< #10
+"#;
+
 #[test]
 fn thirty_two_macros(rt: HostRuntime) {
-    let input = thirty_two(
-        rt.alloc(),
-        b"SYST:ERR?;*DMC \"E\",#10;*DMC \"aa\",#10;*DMC \"1\",#10\nSYST:ERR?;:SYST:ERR?;:SYST:ERR?\n*RMC \"dh\";*DMC \"E\",#10;*GMC? \"e\"\n",
-    )
-    .expect(&rt, "memory");
-    let want = "0,\"No error\"\n\
--254,\"Media full\";-277,\"Macro redefinition not allowed\";-273,\"Illegal macro label\"\n#10\n";
-    let got = written(rt.alloc(), &input).expect(&rt, "the run ends well");
-    assert!(rt; got.as_slice() == want.as_bytes(), "{got:?}");
+    play_behind_32(&rt, rt.alloc(), A_MACRO_MORE);
 }
 
 // Labels are told in the order of definition, as they were written: what is removed leaves no gap, and what is defined again stands last.
+const MIDDLE_MACROS: &str = r#"
+> *RMC "BC";*RMC "bd";*RMC "Ca"
+> *DMC "bD",#11x;*DMC "CA",#10;*DMC "Bc",#10
+> *LMC?;*GMC? "BD";:SYST:ERR?
+< "AA","AB","AC","AD","AE","AF","AG","AH","BA","BB","BE","BF","BG","BH","CB","CC","CD","CE","CF","CG","CH","DA","DB","DC","DD","DE","DF","DG","DH","bD","CA","Bc";#11x;0,"No error"
+"#;
+
 #[test]
 fn middle_macros_are_defined_again(rt: HostRuntime) {
-    let input = thirty_two(
-        rt.alloc(),
-        b"*RMC \"BC\";*RMC \"bd\";*RMC \"Ca\"\n*DMC \"bD\",#11x;*DMC \"CA\",#10;*DMC \"Bc\",#10\n*LMC?;*GMC? \"BD\";:SYST:ERR?\n",
-    )
-    .expect(&rt, "memory");
-    let want =
-        "\"AA\",\"AB\",\"AC\",\"AD\",\"AE\",\"AF\",\"AG\",\"AH\",\"BA\",\"BB\",\"BE\",\"BF\",\"BG\",\"BH\",\
-\"CB\",\"CC\",\"CD\",\"CE\",\"CF\",\"CG\",\"CH\",\"DA\",\"DB\",\"DC\",\"DD\",\"DE\",\"DF\",\"DG\",\"DH\",\"bD\",\"CA\",\"Bc\";\
-#11x;0,\"No error\"\n";
-    let got = written(rt.alloc(), &input).expect(&rt, "the run ends well");
-    assert!(rt; got.as_slice() == want.as_bytes(), "{got:?}");
+    play_behind_32(&rt, rt.alloc(), MIDDLE_MACROS);
 }

@@ -1,6 +1,5 @@
 // Macros in runs: what a call writes, and where the message that it stands in goes on.
-use crate::images::{formatted, written, written_on};
-use crate::texts::joined;
+use crate::images::{formatted, written_on};
 use crate::transcripts::play;
 use psu_disk::MemDisk;
 use psu_exec::{Ended, Exec};
@@ -8,8 +7,6 @@ use psu_items::Store;
 use psu_lex::Unit;
 use psu_tree::{Path, request};
 use std::alloc::Global;
-use std::process::Abort;
-use std::test::Fail;
 
 type Power = Exec<MemDisk<Global>, Global>;
 
@@ -55,72 +52,73 @@ A fault in an expansion is one of its units, and those behind it are executed.
 "#;
 
 #[test]
-fn rows_of_macros(rt: HostRuntime) -> Result<(), Fail> {
-    play(&rt, rt.alloc(), ROWS_OF_MACROS)
+fn rows_of_macros(rt: HostRuntime) {
+    play(&rt, rt.alloc(), ROWS_OF_MACROS);
 }
 
 // With 1,023 changes that are not flushed the second change of an expansion comes later: a flush, and then the same unit.
+const AN_EXPANSION_THAT_FILLS_THE_TAIL: &str = r#"
+> *DMC "S",#219VOLT?;*SAV 1;*SAV 2;*EMC 1
+> {*SAV 0\n*1022}VOLT 7;S;VOLT?
+< 7.000;7.000
+> !POWER
+> *RCL 1;VOLT?
+< 7.000
+> *RCL 2;VOLT?
+< 0.000
+"#;
+
 #[test]
 fn an_expansion_that_fills_the_tail(rt: HostRuntime) {
-    let parts: [(&[u8], usize); 3] = [
-        (b"*DMC \"S\",#219VOLT?;*SAV 1;*SAV 2;*EMC 1\n", 1),
-        (b"*SAV 0\n", 1_022),
-        (b"VOLT 7;S;VOLT?\n!POWER\n*RCL 1;VOLT?\n*RCL 2;VOLT?\n", 1),
-    ];
-    let input = joined(rt.alloc(), &parts).expect(&rt, "memory");
-    let got = written(rt.alloc(), input.as_slice()).expect(&rt, "the run ends well");
-    assert!(rt; got.as_slice() == b"7.000;7.000\n7.000\n0.000\n".as_slice());
+    play(&rt, rt.alloc(), AN_EXPANSION_THAT_FILLS_THE_TAIL);
+}
+
+// A device on a formatted image.
+fn powered(alloc: Global) -> Option<Power> {
+    let store = Store::open(alloc, formatted(alloc)?).ok()?;
+    Exec::power_on(alloc, store).ok()
 }
 
 // A device that has executed a unit.
-fn executed(rt: &impl Abort, alloc: Global, text: &[u8]) -> Power {
-    let Ok(store) = Store::open(alloc, formatted(alloc).expect(rt, "an image")) else {
-        panic!(rt; "not opened");
-    };
-    let Ok(mut exec) = Exec::power_on(alloc, store) else {
-        panic!(rt; "no power-on");
-    };
-    let Ok(session) = exec.open_session() else {
-        panic!(rt; "crowded");
-    };
+fn executed(alloc: Global, text: &[u8]) -> Option<Power> {
+    let mut exec = powered(alloc)?;
+    let session = exec.open_session().ok()?;
     let unit = Unit {
         text,
         first: true,
         fault: None,
     };
     exec.execute(session, &request(&mut Path::root(), &unit, false));
-    exec
+    Some(exec)
 }
 
 // One job, from its take to its end.
-fn flush(rt: &impl Abort, exec: &mut Power) {
-    match exec.take() {
-        Ok(job) => assert!(rt; exec.give_back(job.run()).is_ok()),
-        Err(_) => panic!(rt; "nothing to flush"),
-    }
-}
-
-// The disk of a device with a whole store.
-fn whole(rt: &impl Abort, exec: Power) -> MemDisk<Global> {
-    match exec.end() {
-        Ended::Whole(store) => store.into_disk(),
-        Ended::Failed(_) | Ended::Out(_) => panic!(rt; "no store"),
-    }
+fn flush(exec: &mut Power) -> Option<()> {
+    let job = exec.take().ok()?;
+    exec.give_back(job.run()).ok()?;
+    Some(())
 }
 
 // An image that holds a macro with a body of two lines.
-fn with_two_lines(rt: &impl Abort, alloc: Global) -> MemDisk<Global> {
+fn with_two_lines(alloc: Global) -> Option<MemDisk<Global>> {
     let definition = b"*DMC \"L\",#231SOUR2:VOLT 1;VOLT?\nVOLT 2;VOLT?";
-    let mut exec = executed(rt, alloc, definition);
-    flush(rt, &mut exec);
-    whole(rt, exec)
+    let mut exec = executed(alloc, definition)?;
+    flush(&mut exec)?;
+    match exec.end() {
+        Ended::Whole(store) => Some(store.into_disk()),
+        Ended::Failed(_) | Ended::Out(_) => None,
+    }
+}
+
+// What a call of that macro writes.
+fn called(alloc: Global) -> Option<Vec<u8>> {
+    let input = b"*EMC 1;SOUR3:VOLT 3;L;VOLT?;:SOUR2:VOLT?;:VOLT?\n";
+    written_on(alloc, with_two_lines(alloc)?, input)
 }
 
 // A line feed in an expansion leads back to the root, and ends no answer.
 #[test]
 fn an_expansion_of_two_lines(rt: HostRuntime) {
-    let disk = with_two_lines(&rt, rt.alloc());
-    let input = b"*EMC 1;SOUR3:VOLT 3;L;VOLT?;:SOUR2:VOLT?;:VOLT?\n";
-    let got = written_on(rt.alloc(), disk, input).expect(&rt, "the run ends well");
-    assert!(rt; got.as_slice() == b"1.000;2.000;3.000;1.000;2.000\n".as_slice());
+    let told = called(rt.alloc()).expect(&rt, "the run ends well");
+    assert!(rt; told.as_slice() == b"1.000;2.000;3.000;1.000;2.000\n".as_slice());
 }

@@ -133,9 +133,9 @@ pub fn leave(arena: &Bump<Global>, left: usize) -> Result<(), AllocError> {
 
 impl Row<'_> {
     // A row of a text.
-    fn of(alloc: Global, text: &str) -> Result<Row<'_>, AllocError> {
+    fn of(alloc: Global, text: &str) -> Option<Row<'_>> {
         let (first, stories) = text.split_once("\n\n").unwrap_or((text, ""));
-        Ok(Row {
+        Some(Row {
             input: lines_behind(alloc, first, "> ")?,
             output: lines_behind(alloc, first, "< ")?,
             question: lines_behind(alloc, first, "? ")?,

@@ -1,6 +1,5 @@
 // Where a message's path stands behind each kind of header, seen by which output a following `CURR` sets.
 use crate::transcripts::play;
-use std::test::Fail;
 
 const ROWS_OF_PATHS: &str = r#"
 A single node leaves the path.
@@ -33,8 +32,8 @@ A common header leaves the path.
 "#;
 
 #[test]
-fn rows_of_paths(rt: HostRuntime) -> Result<(), Fail> {
-    play(&rt, rt.alloc(), ROWS_OF_PATHS)
+fn rows_of_paths(rt: HostRuntime) {
+    play(&rt, rt.alloc(), ROWS_OF_PATHS);
 }
 
 const ROWS_OF_PATHS_BEHIND_REFUSALS: &str = r#"
@@ -59,6 +58,6 @@ A label that hides a command leaves the path as its header does; behind a colon 
 "#;
 
 #[test]
-fn rows_of_paths_behind_refusals(rt: HostRuntime) -> Result<(), Fail> {
-    play(&rt, rt.alloc(), ROWS_OF_PATHS_BEHIND_REFUSALS)
+fn rows_of_paths_behind_refusals(rt: HostRuntime) {
+    play(&rt, rt.alloc(), ROWS_OF_PATHS_BEHIND_REFUSALS);
 }

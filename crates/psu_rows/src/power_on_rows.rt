@@ -1,12 +1,11 @@
 // The settings at power-on: their command, what a restart finds, and losses of power in the commit of a choice.
-use crate::images::{formatted, least, written_on};
-use crate::runs::{Ran, run_on};
+use crate::holds::{count, either, holds};
+use crate::images::{formatted, least, left_by, reported, written_on};
+use crate::runs::run_on;
 use crate::transcripts::play;
 use psu_disk::{Choice, Fuse, MemDisk};
-use psu_server::{recover, report_text};
 use std::alloc::Global;
 use std::process::Abort;
-use std::test::Fail;
 
 const SETTINGS_OF_REGISTER_0_AT_POWER_ON: &str = r#"
 > VOLT 5;*SAV 0;OUTP:PON:STAT RCL0;*OPC?
@@ -55,8 +54,8 @@ The register as it is at power-on, and not as it was when the choice was made; a
 "#;
 
 #[test]
-fn settings_of_register_0_at_power_on(rt: HostRuntime) -> Result<(), Fail> {
-    play(&rt, rt.alloc(), SETTINGS_OF_REGISTER_0_AT_POWER_ON)
+fn settings_of_register_0_at_power_on(rt: HostRuntime) {
+    play(&rt, rt.alloc(), SETTINGS_OF_REGISTER_0_AT_POWER_ON);
 }
 
 const WORDS_AND_FAULTS_OF_THE_CHOICE: &str = r#"
@@ -84,102 +83,90 @@ Beside it the outputs are switched as ever; `*RST` leaves the choice.
 "#;
 
 #[test]
-fn words_and_faults_of_the_choice(rt: HostRuntime) -> Result<(), Fail> {
-    play(&rt, rt.alloc(), WORDS_AND_FAULTS_OF_THE_CHOICE)
+fn words_and_faults_of_the_choice(rt: HostRuntime) {
+    play(&rt, rt.alloc(), WORDS_AND_FAULTS_OF_THE_CHOICE);
 }
 
-// The text of the report on the image that a run leaves; none where it does not end well.
-fn reported(alloc: Global, input: &[u8]) -> Option<Vec<u8>> {
-    let Ran { cause, disk, .. } = run_on(alloc, input, formatted(alloc)?);
-    if cause.is_some() {
-        return None;
-    }
-    let Ok(report) = recover(alloc, disk) else {
-        return None;
-    };
-    report_text(alloc, &report).ok()
+const CHOICE_OF_REGISTER_0: &str =
+    "*PSC 0;*SRE 32;*ESE 128;VOLT 5;*SAV 0;OUTP:PON:STAT RCL0;*OPC?\n";
+
+const REPORT_OF_REGISTER_0: &str =
+    "pages 6 of 256\nenables 32 128\nrequest 96\npower RCL0\nuser 0\nmacros 0\n";
+
+// Whether the report on the image that the choice leaves tells of it.
+fn is_told(alloc: Global) -> Option<bool> {
+    let disk = left_by(alloc, formatted(alloc)?, CHOICE_OF_REGISTER_0.as_bytes())?;
+    Some(reported(alloc, disk)?.ends_with(REPORT_OF_REGISTER_0.as_bytes()))
 }
 
 // Two pages of register 0, two of the enables and two of the choice.
 #[test]
 fn a_report_tells_register_0(rt: HostRuntime) {
-    let input = b"*PSC 0;*SRE 32;*ESE 128;VOLT 5;*SAV 0;OUTP:PON:STAT RCL0;*OPC?\n";
-    let text = reported(rt.alloc(), input).expect(&rt, "a report");
-    let want = b"pages 6 of 256\nenables 32 128\nrequest 96\npower RCL0\nuser 0\nmacros 0\n";
-    assert!(rt; text.as_slice().ends_with(want), "{text:?}");
+    assert!(rt; is_told(rt.alloc()) == Some(true));
 }
-
-type Fused = Ran<Fuse<MemDisk<Global>>>;
 
 // Three ways in which a loss may leave what was not synced.
 const CHOICES: [Choice; 3] = [Choice::Old, Choice::New, Choice::Fill(0xa5)];
 
 // An image with 1 volt in register 0, and the settings at power-on that this line chooses.
-fn chosen(rt: &impl Abort, alloc: Global, line: &[u8]) -> MemDisk<Global> {
-    let image = least(alloc).expect(rt, "an image");
-    let Ran { disk, cause, .. } = run_on(alloc, b"VOLT 1;*SAV 0;*OPC?\n", image);
-    assert!(rt; cause.is_none());
-    let Ran { disk, cause, .. } = run_on(alloc, line, disk);
-    assert!(rt; cause.is_none());
-    disk
+fn chosen(alloc: Global, line: &[u8]) -> Option<MemDisk<Global>> {
+    let saved = left_by(alloc, least(alloc)?, b"VOLT 1;*SAV 0;*OPC?\n")?;
+    left_by(alloc, saved, line)
 }
 
 // Whether a restart after the loss recalls register 0; it does or does not, as its choice says.
-fn recalls(rt: &impl Abort, alloc: Global, mut disk: MemDisk<Global>, choice: Choice) -> bool {
+fn recalls(alloc: Global, mut disk: MemDisk<Global>, choice: Choice) -> Option<bool> {
     disk.lose(choice);
-    let held = written_on(alloc, disk, b"VOLT?;:OUTP:PON:STAT?\n").expect(
-        rt,
-        "the image opens after a loss",
-    );
-    let does = held.as_slice() == b"1.000;RCL0\n".as_slice();
-    assert!(rt;
-        does || held.as_slice() == b"0.000;RST\n".as_slice(),
-        "{held:?}"
-    );
-    does
+    let held = written_on(alloc, disk, b"VOLT?;:OUTP:PON:STAT?\n")?;
+    either(
+        held.as_slice() == b"0.000;RST\n".as_slice(),
+        held.as_slice() == b"1.000;RCL0\n".as_slice(),
+    )
 }
 
-// Whether the choice that a line makes is confirmed on a disk that stops after so many calls, and whether a restart recalls register 0
-// then.
-fn stopped(
-    rt: &impl Abort,
-    alloc: Global,
-    before: &[u8],
-    line: &[u8],
-    calls: u64,
-    choice: Choice,
-) -> (bool, bool) {
-    let image = chosen(rt, alloc, before);
-    let ran: Fused = run_on(alloc, line, Fuse::new(image, calls));
-    let confirmed = ran.text.as_slice() == b"1\n".as_slice();
-    assert!(rt; confirmed || ran.text.is_empty());
-    let recalls = recalls(rt, alloc, ran.disk.into_inner(), choice);
-    (confirmed, recalls)
+// A line that chooses register 0 at power-on, and one that chooses the settings of `*RST`.
+const RECALL: &[u8] = b"OUTP:PON:STAT RCL0;*OPC?\n";
+
+const RESET: &[u8] = b"OUTP:PON:STAT RST;*OPC?\n";
+
+// A restart finds the old choice, the new one before it was confirmed, and the new one as confirmed.
+const OLD: usize = 0;
+
+const NEW: usize = 1;
+
+const CONFIRMED: usize = 2;
+
+// What a restart finds of a line's choice on a disk that stops after so many calls of its commit; none where the old choice stands behind
+// one that was confirmed.
+fn found(alloc: Global, before: &[u8], line: &[u8], calls: u64, choice: Choice) -> Option<usize> {
+    let ran = run_on(alloc, line, Fuse::new(chosen(alloc, before)?, calls));
+    let confirmed = either(
+        ran.text.is_empty(),
+        ran.text.as_slice() == b"1\n".as_slice(),
+    )?;
+    let recalls = recalls(alloc, ran.disk.into_inner(), choice)?;
+    if recalls != (line == RECALL) {
+        (!confirmed).then_some(OLD)
+    } else {
+        Some(if confirmed { CONFIRMED } else { NEW })
+    }
 }
 
 // The disk stops after each number of calls of the commit of a choice, and power is lost: the old choice is found or the new one, and
 // the new one where it was confirmed. Each is found after some stop in the commit.
-fn losses(rt: &impl Abort, alloc: Global, before: &[u8], line: &[u8], new: bool) {
-    let mut old_found = 0u32;
-    let mut new_found = 0u32;
+fn losses(rt: &impl Abort, alloc: Global, before: &[u8], line: &[u8]) {
+    let mut seen = [0u32; 3];
     for calls in 0..24u64 {
         for choice in CHOICES {
-            let (confirmed, recalls) = stopped(rt, alloc, before, line, calls, choice);
-            assert!(rt; !confirmed || recalls == new, "after {calls}");
-            old_found = old_found.saturating_add(u32::from(recalls != new));
-            new_found = new_found.saturating_add(u32::from(!confirmed && recalls == new));
+            let way = found(alloc, before, line, calls, choice);
+            count(rt, &mut seen, way, &calls);
         }
     }
-    assert!(rt;
-        old_found > 0 && new_found > 0,
-        "{old_found} old, {new_found} new"
-    );
+    holds(rt, seen[OLD] > 0 && seen[NEW] > 0, &seen);
 }
 
 #[test]
 fn each_choice_through_a_loss(rt: HostRuntime) {
-    let recall = b"OUTP:PON:STAT RCL0;*OPC?\n";
-    let reset = b"OUTP:PON:STAT RST;*OPC?\n";
-    losses(&rt, rt.alloc(), reset, recall, true);
-    losses(&rt, rt.alloc(), recall, reset, false);
+    losses(&rt, rt.alloc(), RESET, RECALL);
+    losses(&rt, rt.alloc(), RECALL, RESET);
 }

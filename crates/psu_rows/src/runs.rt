@@ -1,8 +1,11 @@
 // A run, and what it came to.
 use psu_disk::Disk;
-use psu_server::{RunCause, RunFault, run};
+use psu_server::{RunCause, StartCause, run};
 use std::alloc::{Allocator, Global};
 use std::io::Read;
+
+/// Why a run ends whose disk fails as it is opened.
+pub const NOT_OPENED: RunCause = RunCause::Open(StartCause::Device);
 
 /// What a run came to: its text, why it ended early, and the disk.
 #[derive(Drop)]
@@ -31,12 +34,4 @@ pub fn run_from<R: Read, D: Disk, A: Allocator + Copy>(
         Err(fault) => (Some(fault.cause), fault.disk),
     };
     Ran { text, cause, disk }
-}
-
-/// Why a run ended early, if it did.
-pub fn cause_of<D: Disk + Drop>(ended: Result<D, RunFault<D>>) -> Option<RunCause> {
-    match ended {
-        Ok(_) => None,
-        Err(fault) => Some(fault.cause),
-    }
 }

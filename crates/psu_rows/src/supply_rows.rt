@@ -1,6 +1,5 @@
 // Levels, loads, measuring and trips in runs.
 use crate::transcripts::play;
-use std::test::Fail;
 
 const LEVELS_AND_THEIR_LIMITS: &str = r#"
 > VOLT MAX;VOLT?;VOLT? MIN;VOLT? maximum;:CURR MAXimum;:CURR?;:CURR? MINimum;:VOLT:PROT? MAX;:VOLT:PROT min;:VOLT:PROT?
@@ -30,8 +29,8 @@ Outputs by their numbers; one that is not there is told after an undefined heade
 "#;
 
 #[test]
-fn levels_and_their_limits(rt: HostRuntime) -> Result<(), Fail> {
-    play(&rt, rt.alloc(), LEVELS_AND_THEIR_LIMITS)
+fn levels_and_their_limits(rt: HostRuntime) {
+    play(&rt, rt.alloc(), LEVELS_AND_THEIR_LIMITS);
 }
 
 const MEASURED_VALUES: &str = r#"
@@ -64,8 +63,8 @@ Each output by itself.
 "#;
 
 #[test]
-fn measured_values(rt: HostRuntime) -> Result<(), Fail> {
-    play(&rt, rt.alloc(), MEASURED_VALUES)
+fn measured_values(rt: HostRuntime) {
+    play(&rt, rt.alloc(), MEASURED_VALUES);
 }
 
 const OUTPUTS_THAT_TRIP: &str = r#"
@@ -99,6 +98,6 @@ It can be switched on again once it is cleared and the level is no longer passed
 "#;
 
 #[test]
-fn outputs_that_trip(rt: HostRuntime) -> Result<(), Fail> {
-    play(&rt, rt.alloc(), OUTPUTS_THAT_TRIP)
+fn outputs_that_trip(rt: HostRuntime) {
+    play(&rt, rt.alloc(), OUTPUTS_THAT_TRIP);
 }

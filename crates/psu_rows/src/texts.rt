@@ -1,13 +1,26 @@
-// Texts that are put together.
-use std::alloc::{AllocError, Global};
+// Texts with parts that stand in them often: `{x*64}` is 64 x, and `{FOO\n*17}` 17 lines.
+use psu_tables::written;
+use std::alloc::Global;
 
-/// These parts one after another, each so many times.
-pub fn joined(alloc: Global, parts: &[(&[u8], usize)]) -> Result<Vec<u8>, AllocError> {
-    let mut text = Vec::new(alloc);
-    for (part, times) in parts {
-        for _ in 0..*times {
-            text.extend_from_slice(part)?;
-        }
+// Adds a part as often as it says.
+fn add_often(alloc: Global, text: &mut Vec<u8>, part: &str) -> Option<()> {
+    let (once, times) = part.rsplit_once("*")?;
+    let once = written(alloc, once)?;
+    for _ in 0..times.parse::<u32>().ok()? {
+        text.extend_from_slice(once.as_bytes()).ok()?;
     }
-    Ok(text)
+    Some(())
+}
+
+/// Adds a line, with its end; none where a part of it has no count, or memory is wanted.
+pub fn add_line(alloc: Global, text: &mut Vec<u8>, line: &str) -> Option<()> {
+    for piece in line.split("{") {
+        let mut rest = piece;
+        if let Some((often, behind)) = piece.split_once("}") {
+            add_often(alloc, text, often)?;
+            rest = behind;
+        }
+        text.extend_from_slice(rest.as_bytes()).ok()?;
+    }
+    text.push(b'\n').ok()
 }

@@ -1,39 +1,42 @@
 // Transcripts of runs as texts: what is sent, and what is written. A text costs a proof far less than an array of rows, and reads as what one
 // types.
-use crate::images::written;
-use std::alloc::{AllocError, Global};
+use crate::holds::holds;
+use crate::images::{image, written_on};
+use crate::texts::add_line;
+use std::alloc::Global;
 use std::process::Abort;
-use std::test::Fail;
 
 /// The lines of a transcript behind this mark, each with its end.
-pub fn lines_behind(alloc: Global, transcript: &str, mark: &str) -> Result<Vec<u8>, AllocError> {
+pub fn lines_behind(alloc: Global, transcript: &str, mark: &str) -> Option<Vec<u8>> {
     let mut lines = Vec::new(alloc);
     for row in transcript.split('\n') {
         if let Some(line) = row.strip_prefix(mark) {
-            lines.extend_from_slice(line.as_bytes())?;
-            lines.push(b'\n')?;
+            add_line(alloc, &mut lines, line)?;
         }
     }
-    Ok(lines)
+    Some(lines)
 }
 
-/// Plays transcripts, each on a fresh image, with an empty line between two. The lines that begin with `> ` are sent, and those that begin
-/// with `< ` are all that is to be written. Other lines tell what a transcript is for.
-pub fn play(rt: &impl Abort, alloc: Global, transcripts: &str) -> Result<(), Fail> {
+// What a transcript writes on a fresh image of so many pages.
+fn written_by(alloc: Global, pages: u16, transcript: &str) -> Option<Vec<u8>> {
+    let input = lines_behind(alloc, transcript, "> ")?;
+    written_on(alloc, image(alloc, pages)?, &input)
+}
+
+/// Plays transcripts, each on a fresh image of so many pages, with an empty line between two. The lines that begin with `> ` are sent, and
+/// those that begin with `< ` are all that is to be written. Other lines tell what a transcript is for.
+pub fn play_on(rt: &impl Abort, alloc: Global, pages: u16, transcripts: &str) {
     let mut written_lines = 0usize;
     for transcript in transcripts.split("\n\n") {
-        let input = lines_behind(alloc, transcript, "> ")?;
-        let want = lines_behind(alloc, transcript, "< ")?;
-        let got = written(alloc, &input).ok_or("the run ends well")?;
-        assert!(rt;
-            got.as_slice() == want.as_slice(),
-            "at {transcript}: {got:?}"
-        );
+        let want = lines_behind(alloc, transcript, "< ").expect(rt, "memory");
+        let got = written_by(alloc, pages, transcript).expect(rt, "the run ends well");
+        holds(rt, got == want, &(transcript, &got));
         written_lines = written_lines.saturating_add(want.len());
     }
-    assert!(rt;
-        written_lines > 0,
-        "nothing is to be written in {transcripts}"
-    );
-    Ok(())
+    holds(rt, written_lines > 0, &transcripts);
+}
+
+/// The same on images of 256 pages.
+pub fn play(rt: &impl Abort, alloc: Global, transcripts: &str) {
+    play_on(rt, alloc, 256, transcripts);
 }
