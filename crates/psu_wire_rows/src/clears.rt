@@ -3,7 +3,7 @@
 // In the conversations `06 .. 'A` is Data with the byte `A`, and `07 .. 'B` DataEnd with `B`, both with MessageID 2; `13` is
 // AsyncDeviceClear, answered by its acknowledgement `17` alone, and `08` DeviceClearComplete, answered by `09` alone.
 use crate::conversations::goes_as_told;
-use crate::frames::{bare, feed_again, has_payload, leave};
+use crate::frames::{bare, feed_again, is_frame, leave};
 use crate::told::holds;
 use bumpalo::Bump;
 use psu_hislip::{Channel, Message, lock_info_response, lock_response, release_response};
@@ -174,7 +174,7 @@ HS\x07\x00\x00\x00\x00\x02\x00\x00\x00\x00\x00\x00\x00\x01B";
 
 // Whether the two frames are fed.
 fn are_both(messages: &[Message<&Bump>]) -> bool {
-    messages.len() == 2 && has_payload(messages.first(), b"A") && has_payload(messages.last(), b"B")
+    messages.len() == 2 && is_frame(messages.first(), 6, b"A") && is_frame(messages.last(), 7, b"B")
 }
 
 // The frames, of which the first has begun, fed with so many bytes of an arena; true where it was refused.

@@ -43,10 +43,11 @@ pub fn feed_again<'a>(
     }
 }
 
-/// Whether a message has this payload.
-pub fn has_payload(message: Option<&Message<&Bump>>, wanted: &[u8]) -> bool {
+/// Whether a message is a frame of this type and payload.
+pub fn is_frame(message: Option<&Message<&Bump>>, kind: u8, wanted: &[u8]) -> bool {
     match message {
-        Some(Message::Frame(_, payload)) => payload.as_slice() == wanted,
+        Some(Message::Frame(header, payload)) => header.kind == kind
+            && payload.as_slice() == wanted,
         _ => false,
     }
 }

@@ -52,14 +52,14 @@ fn add_node(text: &mut Vec<u8>, node: &Node, seed: u32) -> Option<bool> {
     Some(kept == name.len() || kept == short_of(name))
 }
 
-// Whether a header made from a row is defined where all of its nodes are short or long forms.
-fn is_defined(alloc: Global, section: &Section, row: &Row, seed: u32) -> Option<bool> {
+// Whether a header made from a row is defined where all of its nodes are short or long forms. Each node takes the next number.
+fn is_defined(alloc: Global, section: &Section, row: &Row, seed: &mut u32) -> Option<bool> {
     let mut text = Vec::new(alloc);
-    let mut dice = next(seed);
-    let mut good = add_node(&mut text, &section.root, dice)?;
+    *seed = next(*seed);
+    let mut good = add_node(&mut text, &section.root, *seed)?;
     for node in row.nodes {
-        dice = next(dice);
-        good = add_node(&mut text, node, dice)? && good;
+        *seed = next(*seed);
+        good = add_node(&mut text, node, *seed)? && good;
     }
     if row.command.is_none() {
         text.push(b'?').ok()?;
@@ -75,11 +75,8 @@ fn headers_made_from_the_table(rt: HostRuntime) {
     for _ in 0..186 {
         for section in patterns() {
             for row in section.rows {
-                assert!(rt;
-                    is_defined(rt.alloc(), section, row, seed) == Some(true),
-                    "{seed}"
-                );
-                seed = next(seed);
+                let defined = is_defined(rt.alloc(), section, row, &mut seed);
+                assert!(rt; defined == Some(true), "before {seed}");
                 made = made.wrapping_add(1);
             }
         }

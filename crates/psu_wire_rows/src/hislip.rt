@@ -1,5 +1,5 @@
 // Each allocation of a feed, of a message and of an answer refused in turn: nothing has changed.
-use crate::frames::{feed_again, has_payload, leave, origin};
+use crate::frames::{feed_again, is_frame, leave, origin};
 use crate::told::holds;
 use bumpalo::Bump;
 use psu_hislip::{Action, Channel, SessionCore, Side};
@@ -22,7 +22,7 @@ fn feed_is_refused(arena: &Bump, left: usize) -> Option<bool> {
     leave(arena, left)?;
     let mut channel = Channel::new(arena);
     let (messages, refused) = feed_again(&mut channel, arena, END)?;
-    has_payload(messages.first(), b"N?\n").then_some(refused)
+    is_frame(messages.first(), 7, b"N?\n").then_some(refused)
 }
 
 // What a message asks for, with memory of an arena.

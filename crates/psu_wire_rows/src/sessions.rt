@@ -146,6 +146,7 @@ fn locks_and_the_rest_of_the_types(rt: HostRuntime) {
 // First messages of a connection, and what each asks for.
 const FIRST_MESSAGES: &str = "
 'HS 00 00 01 00*10 07 'hislip0 -> start
+'HS 00 00 01 -> start
 'HS 15 -> refused 3
 'HS 11 00 02 -> join 33554432
 'HT -> refused 1
