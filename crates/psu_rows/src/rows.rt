@@ -26,7 +26,7 @@ What no `*OPC?` confirmed may be lost: here all of it is.
 > *IDN?
 < EXAMPLE,PSU4,0,1.0
 
-Headers without regard to case; the last line may lack its end; empty lines and units give nothing.
+Empty lines and units give nothing.
 > 
 >  ;\t;
 > *PSC?
@@ -45,7 +45,7 @@ fn rows(rt: HostRuntime) {
     play(&rt, rt.alloc(), ROWS);
 }
 
-// The last line may lack its end.
+// Headers are read without regard to case, and the last line may lack its end.
 #[test]
 fn a_line_without_its_end(rt: HostRuntime) {
     let got = written(rt.alloc(), b"*idn?").expect(&rt, "the run ends well");

@@ -24,7 +24,7 @@ fn written_by(alloc: Global, pages: u16, transcript: &str) -> Option<Vec<u8>> {
 }
 
 /// Plays transcripts, each on a fresh image of so many pages, with an empty line between two. The lines that begin with `> ` are sent, and
-/// those that begin with `< ` are all that is to be written. Other lines tell what a transcript is for.
+/// those that begin with `< ` are all that is to be written; `{x*64}` in one stands for 64 x. Other lines tell what a transcript is for.
 pub fn play_on(rt: &impl Abort, alloc: Global, pages: u16, transcripts: &str) {
     let mut written_lines = 0usize;
     for transcript in transcripts.split("\n\n") {
