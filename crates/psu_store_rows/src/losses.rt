@@ -1,5 +1,5 @@
 // Losses of power in the midst of a commit and of the opening that follows, and disks that fail once.
-use crate::edits::edits;
+use crate::edits::{assign, assigned, remove};
 use crate::holds::holds;
 use crate::images::formatted;
 use crate::stores::{committed, disk_of, empty, is, is_just, one_edit, opened, stored};
@@ -124,15 +124,31 @@ fn a_loss_in_the_opening_changes_nothing(rt: HostRuntime) {
     }
 }
 
+// A batch for the keys 1 and 2. It is not a text, as those are read slowly in the thousands of turns of a test.
+fn two_edits(alloc: Global) -> Option<Batch<Global>> {
+    let mut batch = assigned(alloc, 1, 10)?;
+    assign(alloc, &mut batch, 2, 20)?;
+    Some(batch)
+}
+
 // A map of the keys 1 and 2, on an image of limit 8.
 fn two_items(alloc: Global) -> Option<MemDisk<Global>> {
     let store = opened(alloc, formatted(alloc, 9_216, 8)?)?;
-    Some(stored(alloc, store, edits(alloc, "01 = 0a; 02 = 14")?)?.into_disk())
+    Some(stored(alloc, store, two_edits(alloc)?)?.into_disk())
+}
+
+// Adds a value of two pages for the key 3.
+fn assign_long(alloc: Global, batch: &mut Batch<Global>) -> Option<()> {
+    let value = vec![in alloc; 7; 600].ok()?;
+    batch.assign([3].to_vec(alloc).ok()?, value).ok()
 }
 
 // A batch that changes the key 1, drops the key 2, and gives the key 3 a value of two pages.
 fn three_edits(alloc: Global) -> Option<Batch<Global>> {
-    edits(alloc, "01 = 24; 02; 03 = 07*600")
+    let mut batch = assigned(alloc, 1, 36)?;
+    remove(alloc, &mut batch, 2)?;
+    assign_long(alloc, &mut batch)?;
+    Some(batch)
 }
 
 // Whether a map is the one after the three edits; it is that or the one before.
