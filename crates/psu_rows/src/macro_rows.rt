@@ -82,7 +82,9 @@ fn powered(alloc: Global) -> Option<Power> {
 // A device that has executed a unit.
 fn executed(alloc: Global, text: &[u8]) -> Option<Power> {
     let mut exec = powered(alloc)?;
-    let session = exec.open_session().ok()?;
+    let Ok(session) = exec.open_session() else {
+        return None;
+    };
     let unit = Unit {
         text,
         first: true,
