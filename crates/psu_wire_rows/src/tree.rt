@@ -46,20 +46,26 @@ fn reads(alloc: Global, message: &str, wanted: &str) -> Option<bool> {
 /// The messages of a table read as its rows say. A row is a line: a message, in which `\n` stands for NL, ` -> `, and the faults of its
 /// units. Other lines tell what the rows below them are for.
 pub fn read_as_told(rt: &impl Abort, alloc: Global, table: &str) {
+    let mut rows = 0u32;
     for line in table.lines() {
         if let Some((message, faults)) = row(line) {
             holds(rt, reads(alloc, message, faults) == Some(true), line);
+            rows = rows.saturating_add(1);
         }
     }
+    holds(rt, rows > 0, table);
 }
 
 /// The units of a table read at the root as its rows say, each by itself.
 pub fn fail_as_told(rt: &impl Abort, table: &str) {
+    let mut rows = 0u32;
     for line in table.lines() {
         if let Some((text, wanted)) = row(line) {
             holds(rt, wanted.parse() == Ok(fault(text.as_bytes())), line);
+            rows = rows.saturating_add(1);
         }
     }
+    holds(rt, rows > 0, table);
 }
 
 /// Whether a header is one of the table, whatever its data: it reads, or wants a parameter.
