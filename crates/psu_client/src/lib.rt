@@ -3,13 +3,16 @@
 #![tactic(auto)]
 
 mod client;
+mod deeds;
 mod joining;
 mod long_answer;
 mod missed;
+mod script;
 mod wire;
 
 pub use client::Client;
 pub use joining::{begun, connected, joined_again, joined_as, joined_soon, settle};
 pub use long_answer::{ask_much, is_drained, repeated};
 pub use missed::{Missed, holds};
+pub use script::Cast;
 pub use wire::{bare, comes, header, is_ended, is_held_back, is_silent, next, send, text_comes};

@@ -17,11 +17,11 @@ struct State {
     is_over: AtomicBool,
 }
 
-/// At this point whoever comes waits until it is let go, for so many looks at most.
+/// At this point, where there is one, whoever comes waits until it is let go, for so many looks at most.
 #[derive(Drop)]
 pub struct Hold<R: Drop> {
     rt: R,
-    point: Point,
+    point: Option<Point>,
     state: Arc<State>,
 }
 
@@ -37,7 +37,7 @@ fn came_true<R: Clock>(rt: &R, flag: &AtomicBool) -> bool {
 }
 
 impl<R: Clock + Copy> Hold<R> {
-    pub fn new(rt: R, alloc: Global, point: Point) -> Result<Hold<R>, AllocError> {
+    pub fn new(rt: R, alloc: Global, point: Option<Point>) -> Result<Hold<R>, AllocError> {
         let state = State {
             is_held: AtomicBool::new(false),
             is_let_go: AtomicBool::new(false),
@@ -72,7 +72,7 @@ impl<R: Clock + Copy> Hold<R> {
 
 impl<R: Clock + Copy> Gate for Hold<R> {
     fn at(&self, point: Point) {
-        if point == self.point {
+        if self.point == Some(point) {
             self.state.is_held.store(true, Ordering::SeqCst);
             if !came_true(&self.rt, &self.state.is_let_go) {
                 self.state.is_over.store(true, Ordering::SeqCst);

@@ -2,7 +2,9 @@
 #![tactic(auto)]
 
 mod hold;
+mod play;
 mod server;
 
 pub use hold::Hold;
+pub use play::{Untrue, plays};
 pub use server::{formatted, new_disk, new_served, removed, served, served_disk};

@@ -7,8 +7,6 @@
 #[cfg(test)]
 mod clears;
 #[cfg(test)]
-mod expansions;
-#[cfg(test)]
 mod frames;
 #[cfg(test)]
 mod images;

@@ -1,94 +1,55 @@
 // A day's use.
-use psu_client::{Client, Missed, is_silent, joined_again, joined_as};
-use psu_hosts::new_served;
-use psu_serve::Open;
-use std::test::Fail;
+use psu_hosts::{Untrue, plays};
 
-// Twelve volts into ten ohms, where one ampere is the limit.
-fn sets_and_measures(client: &mut Client) -> Result<(), Missed> {
-    client.is_served()?;
-    client.say_on(b"VOLT 12;CURR 1;OUTP ON\n")?;
-    client.ask(
-        b"MEAS:VOLT?;:MEAS:CURR?;:STAT:QUES:COND?\n",
-        b"10.000;1.000;2\n",
-    )
-}
+const DAY: &str = "
+# Twelve volts into ten ohms, where one ampere is the limit.
+== a_day.image 48881
+1 joins
+1 named
+1 continues VOLT 12;CURR 1;OUTP ON
+1 asks MEAS:VOLT?;:MEAS:CURR?;:STAT:QUES:COND? -> 10.000;1.000;2
+1 asks *SAV 1;*OPC? -> 1
 
-fn saves(client: &mut Client) -> Result<(), Missed> {
-    client.ask(b"*SAV 1;*OPC?\n", b"1\n")
-}
+# What waits for the lock: a request, and a transmission.
+2 joins
+1 locks
+2 wants 10000
+2 quiet
+2 says VOLT 3;VOLT?
+2 silent
+1 releases 1
+2 told 1
+2 hears 3.000
+2 counts 1 1
+2 releases 1
 
-// What waits for the lock: a request, and a transmission.
-fn waits_for_a_lock(client: &mut Client) -> Result<(), Missed> {
-    client.want_lock(10_000)?;
-    is_silent(&mut client.other)?;
-    client.say(b"VOLT 3;VOLT?\n")?;
-    is_silent(&mut client.sync)
-}
+# All answers are delivered; then service is to be requested where an operation is complete.
+1 status 1 00
+2 status 1 00
+1 says *CLS;*ESE 1;*SRE 32;*OPC
+1 called 60
+1 status 0 60
+1 status 0 20
+2 called 60
+2 status 0 60
+2 status 0 20
+1 asks *ESR? -> 1
+1 status 0 10
+1 status 1 00
+1 says VOLT 4
+1 clears
+1 named
 
-fn has_the_lock(client: &mut Client) -> Result<(), Missed> {
-    client.is_told_of_lock(1)?;
-    client.hear(b"3.000\n")?;
-    client.locks_are(1, 1)?;
-    client.release(1)
-}
-
-// All answers are delivered.
-fn is_at_rest(client: &mut Client) -> Result<(), Missed> {
-    client.status(1, 0)
-}
-
-// Service is to be requested where an operation is complete.
-fn completes(client: &mut Client) -> Result<(), Missed> {
-    client.say(b"*CLS;*ESE 1;*SRE 32;*OPC\n")
-}
-
-fn is_called(client: &mut Client) -> Result<(), Missed> {
-    client.is_requested(0x60)?;
-    client.status(0, 0x60)?;
-    client.status(0, 0x20)
-}
-
-fn looks_why(client: &mut Client) -> Result<(), Missed> {
-    client.ask(b"*ESR?\n", b"1\n")?;
-    client.status(0, 0x10)?;
-    client.status(1, 0)
-}
-
-fn clears(client: &mut Client) -> Result<(), Missed> {
-    client.say(b"VOLT 4\n")?;
-    client.clear()?;
-    client.is_served()
-}
-
-// The settings are recalled as they were saved.
-fn recalls(client: &mut Client) -> Result<(), Missed> {
-    client.ask(b"*RST;VOLT?;OUTP?\n", b"0.000;0\n")?;
-    client.ask(b"*RCL 1;VOLT?;CURR?;OUTP?\n", b"12.000;1.000;1\n")?;
-    client.ask(b"SYST:ERR?\n", b"0,\"No error\"\n")
-}
+# The settings are recalled as they were saved.
+1 leaves
+2 leaves
+1 rejoins
+1 asks *RST;VOLT?;OUTP? -> 0.000;0
+1 asks *RCL 1;VOLT?;CURR?;OUTP? -> 12.000;1.000;1
+1 asks SYST:ERR? -> 0,\"No error\"
+";
 
 #[test]
-fn a_day(rt: HostRuntime) -> Result<(), Fail> {
-    let port = new_served(rt, rt.alloc(), "a_day.image", 48_881, Open)?;
-    let mut one = joined_as(&rt, port, 1)?;
-    sets_and_measures(&mut one)?;
-    saves(&mut one)?;
-    let mut two = joined_as(&rt, port, 2)?;
-    one.lock()?;
-    waits_for_a_lock(&mut two)?;
-    one.release(1)?;
-    has_the_lock(&mut two)?;
-    is_at_rest(&mut one)?;
-    is_at_rest(&mut two)?;
-    completes(&mut one)?;
-    is_called(&mut one)?;
-    is_called(&mut two)?;
-    looks_why(&mut one)?;
-    clears(&mut one)?;
-    drop(one);
-    drop(two);
-    let mut one = joined_again(&rt, port, 1)?;
-    recalls(&mut one)?;
-    Ok(())
+fn a_day(rt: HostRuntime) -> Result<(), Untrue> {
+    plays(rt, rt.alloc(), DAY)
 }

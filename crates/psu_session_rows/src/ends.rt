@@ -25,7 +25,7 @@ fn inherits_nothing(client: &mut Client) -> Result<(), Missed> {
 // It ends at once, and the next of its number is told nothing of the wait.
 #[test]
 fn a_wait_ends_with_its_session(rt: HostRuntime) -> Result<(), Fail> {
-    let hold = Hold::new(rt, rt.alloc(), Point::BeforeRun)?;
+    let hold = Hold::new(rt, rt.alloc(), Some(Point::BeforeRun))?;
     let port = new_served(
         rt,
         rt.alloc(),

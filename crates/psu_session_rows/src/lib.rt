@@ -15,8 +15,6 @@ mod ends;
 #[cfg(test)]
 mod floods;
 #[cfg(test)]
-mod lock_turns;
-#[cfg(test)]
 mod locks;
 #[cfg(test)]
 mod releases;

@@ -1,82 +1,127 @@
-// Locks: who is granted them, and whom they hold back.
-use psu_client::{Client, Missed, header, holds, joined_as, send};
-use psu_hosts::new_served;
-use psu_serve::Open;
-use std::test::Fail;
-use std::time::{Clock, Duration, Instant};
+// Locks: who is granted them, whom they hold back, and how one goes from a session to another.
+use psu_hosts::{Untrue, plays};
 
-fn releases_all(client: &mut Client) -> Result<(), Missed> {
-    client.release(2)?;
-    client.release(3)
-}
+const LOCKS: &str = "
+# Two share a lock; one of them has the exclusive lock beside it, and gives up one after the other.
+== shared_lock.image 48851
+1 joins
+2 joins
+1 shares
+2 shares
+1 locks
+2 denied
+1 counts 1 2
+1 releases 1
+2 hears EXAMPLE,PSU4,0,1.0
+1 releases 2
+1 releases 3
+2 counts 0 1
 
-// Two share a lock; one of them has the exclusive lock beside it, and gives up one after the other.
+# A request without time fails at once, one with some after it; where the lock is given up before, it is granted.
+== lock_timeout.image 48853
+1 joins
+2 joins
+1 locks
+2 wants 0
+2 told 0
+2 fails 300
+2 waits
+1 releases 1
+2 told 1
+2 counts 1 1
+
+# A lock that is held already is refused, and so is a string of more than 256 bytes.
+== lock_twice.image 48855
+1 joins
+1 locks
+1 wants 0
+1 told 3
+1 puts 'HS 04 01 00*4 00*6 01 01
+1 puts 6b*257
+1 told 3
+1 counts 1 1
+
+# Who is denied asks to share the lock, and is denied no more.
+== lock_of_the_denied.image 48891
+1 joins
+2 joins
+1 shares
+2 denied
+2 shares
+2 hears EXAMPLE,PSU4,0,1.0
+";
+
 #[test]
-fn an_exclusive_lock_holds_back_those_that_share(rt: HostRuntime) -> Result<(), Fail> {
-    let port = new_served(rt, rt.alloc(), "shared_lock.image", 48_851, Open)?;
-    let mut one = joined_as(&rt, port, 1)?;
-    let mut two = joined_as(&rt, port, 2)?;
-    one.share()?;
-    two.share()?;
-    one.lock()?;
-    two.is_denied()?;
-    one.locks_are(1, 2)?;
-    one.release(1)?;
-    two.hear(b"EXAMPLE,PSU4,0,1.0\n")?;
-    releases_all(&mut one)?;
-    two.locks_are(0, 1)?;
-    Ok(())
+fn locks_hold_back_and_free(rt: HostRuntime) -> Result<(), Untrue> {
+    plays(rt, rt.alloc(), LOCKS)
 }
 
-// A request that can't be granted fails after its time.
-fn fails_in_time<R: Clock>(rt: &R, client: &mut Client) -> Result<(), Missed> {
-    let Ok(start) = Instant::now(rt) else {
-        return Err(Missed::Ground("a clock"));
-    };
-    client.want_lock(300)?;
-    client.is_told_of_lock(0)?;
-    let Ok(taken) = start.elapsed(rt) else {
-        return Err(Missed::Ground("a clock"));
-    };
-    holds(taken >= Duration::from_millis(299), "not before its time")
-}
+const TURNS: &str = "
+# A session ends while its request waits: the next of its number is told nothing and holds nothing.
+== request_of_an_end.image 48857
+1 joins
+1 locks
+2 joins
+2 waits
+2 leaves
+2 rejoins
+1 releases 1
+2 counts 0 0
+2 quiet
+2 releases 3
+2 named
 
-fn fails_at_once(client: &mut Client) -> Result<(), Missed> {
-    client.want_lock(0)?;
-    client.is_told_of_lock(0)
-}
+# A session ends while it holds the lock: who waits for it is granted it, and what it held back is executed.
+== lock_of_an_end.image 48859
+1 joins
+1 locks
+2 joins
+2 waits
+2 denied
+1 leaves
+2 told 1
+2 hears EXAMPLE,PSU4,0,1.0
 
-// Without time it fails at once, with some after it; where the lock is given up before, it is granted.
+# The same where it has asked for no lock.
+== lock_of_a_holder.image 48919
+1 joins
+1 locks
+2 joins
+2 denied
+1 leaves
+2 hears EXAMPLE,PSU4,0,1.0
+
+# Three ask; each has the lock in the order in which they asked, by a release or an end.
+== lock_in_turn.image 48913
+1 joins
+2 joins
+3 joins
+1 locks
+3 waits
+2 waits
+1 releases 1
+3 told 1
+2 quiet
+3 leaves
+2 told 1
+
+# A release is made once what came before it has been executed; other questions are answered meanwhile.
+== late_release.image 48889 run
+1 joins
+1 locks
+1 says *SAV 1;*OPC?
+1 silent
+1 drops
+1 quiet
+1 status 0 00
+1 counts 1 1
+flusher goes
+1 hears 1
+1 told 1
+1 counts 0 0
+";
+
 #[test]
-fn a_request_for_a_lock_has_its_time(rt: HostRuntime) -> Result<(), Fail> {
-    let port = new_served(rt, rt.alloc(), "lock_timeout.image", 48_853, Open)?;
-    let mut one = joined_as(&rt, port, 1)?;
-    let mut two = joined_as(&rt, port, 2)?;
-    one.lock()?;
-    fails_at_once(&mut two)?;
-    fails_in_time(&rt, &mut two)?;
-    two.wait_for_lock()?;
-    one.release(1)?;
-    two.is_told_of_lock(1)?;
-    two.locks_are(1, 1)?;
-    Ok(())
-}
-
-fn is_refused(client: &mut Client) -> Result<(), Missed> {
-    client.want_lock(0)?;
-    client.is_told_of_lock(3)?;
-    send(&mut client.other, &header(4, 1, 0, 257))?;
-    send(&mut client.other, &[107; 257])?;
-    client.is_told_of_lock(3)
-}
-
-// A lock that is held already is refused, and so is a string of more than 256 bytes.
-#[test]
-fn a_lock_is_not_had_twice(rt: HostRuntime) -> Result<(), Fail> {
-    let port = new_served(rt, rt.alloc(), "lock_twice.image", 48_855, Open)?;
-    let mut one = joined_as(&rt, port, 1)?;
-    one.lock()?;
-    is_refused(&mut one)?;
-    one.locks_are(1, 1)?;
-    Ok(())
+fn a_lock_goes_from_one_to_another(rt: HostRuntime) -> Result<(), Untrue> {
+    plays(rt, rt.alloc(), TURNS)
 }

@@ -1,0 +1,228 @@
+// What those who play a script do, each step by its word and what is written behind it.
+use crate::client::Client;
+use crate::long_answer::{ask_much, is_drained};
+use crate::missed::{Missed, holds};
+use crate::wire::{is_ended, is_silent, send, text_comes};
+use psu_tables::{bytes, written};
+use std::alloc::Global;
+use std::net::TcpStream;
+use std::time::{Clock, Duration, Instant};
+
+/// What is told of a line that is no step.
+pub const UNREAD: Missed = Missed::Ground("a step");
+
+/// A number that is written in a step.
+pub fn number(word: &str) -> Option<u32> {
+    word.parse().ok()
+}
+
+// A byte that is written in a step, by its two digits.
+fn byte(word: &str) -> Option<u8> {
+    u8::from_str_radix(word, 16).ok()
+}
+
+/// The first word of a step, and the rest.
+pub fn parted(step: &str) -> (&str, &str) {
+    step.split_once(" ").unwrap_or((step, ""))
+}
+
+// Bytes are sent as they are spelled.
+fn sends(stream: &mut TcpStream, alloc: Global, cell: &str) -> Result<(), Missed> {
+    match bytes(alloc, cell) {
+        Some(bytes) => send(stream, bytes.as_slice()),
+        None => Err(UNREAD),
+    }
+}
+
+// Bytes come as they are spelled.
+fn gets(stream: &mut TcpStream, alloc: Global, cell: &str) -> Result<(), Missed> {
+    match bytes(alloc, cell) {
+        Some(bytes) => text_comes(stream, bytes.as_slice()),
+        None => Err(UNREAD),
+    }
+}
+
+/// What a connection does by itself.
+pub fn stream_does(
+    stream: &mut TcpStream,
+    alloc: Global,
+    word: &str,
+    rest: &str,
+) -> Result<(), Missed> {
+    match word {
+        "sends" => sends(stream, alloc, rest),
+        "gets" => gets(stream, alloc, rest),
+        "silent" => is_silent(stream),
+        "ends" => is_ended(stream),
+        _ => Err(UNREAD),
+    }
+}
+
+fn says(client: &mut Client, alloc: Global, cell: &str) -> Result<(), Missed> {
+    match written(alloc, cell) {
+        Some(text) => client.say(text.as_bytes()),
+        None => Err(UNREAD),
+    }
+}
+
+fn continues(client: &mut Client, alloc: Global, cell: &str) -> Result<(), Missed> {
+    match written(alloc, cell) {
+        Some(text) => client.say_on(text.as_bytes()),
+        None => Err(UNREAD),
+    }
+}
+
+fn hears(client: &mut Client, alloc: Global, cell: &str) -> Result<(), Missed> {
+    let Some(mut text) = written(alloc, cell) else {
+        return Err(UNREAD);
+    };
+    match text.push('\n') {
+        Ok(()) => client.hear(text.as_bytes()),
+        Err(_) => Err(Missed::Ground("memory")),
+    }
+}
+
+fn asks(client: &mut Client, alloc: Global, row: &str) -> Result<(), Missed> {
+    let Some((question, answer)) = row.split_once(" -> ") else {
+        return Err(UNREAD);
+    };
+    says(client, alloc, question)?;
+    hears(client, alloc, answer)
+}
+
+// What a client says and hears. None where it is another step.
+fn talks(client: &mut Client, alloc: Global, word: &str, rest: &str) -> Option<Result<(), Missed>> {
+    match word {
+        "says" => Some(says(client, alloc, rest)),
+        "continues" => Some(continues(client, alloc, rest)),
+        "hears" => Some(hears(client, alloc, rest)),
+        "asks" => Some(asks(client, alloc, rest)),
+        "named" => Some(client.is_served()),
+        "works" => Some(client.works()),
+        "fills" => Some(client.fill()),
+        "much" => Some(ask_much(client, alloc)),
+        _ => None,
+    }
+}
+
+// What a client waits for. None where it is another step.
+fn listens(client: &mut Client, word: &str) -> Option<Result<(), Missed>> {
+    match word {
+        "denied" => Some(client.is_denied()),
+        "silent" => Some(is_silent(&mut client.sync)),
+        "quiet" => Some(is_silent(&mut client.other)),
+        "awaits" => Some(client.await_message()),
+        "clears" => Some(client.clear()),
+        "clearing" => Some(client.begin_clear()),
+        "cleared" => Some(client.end_clear()),
+        "drained" => Some(is_drained(client)),
+        _ => None,
+    }
+}
+
+fn status(client: &mut Client, rest: &str) -> Result<(), Missed> {
+    let (control, told) = parted(rest);
+    match (byte(control), byte(told)) {
+        (Some(control), Some(told)) => client.status(control, told),
+        _ => Err(UNREAD),
+    }
+}
+
+fn called(client: &mut Client, rest: &str) -> Result<(), Missed> {
+    match byte(rest) {
+        Some(told) => client.is_requested(told),
+        None => Err(UNREAD),
+    }
+}
+
+fn wants(client: &mut Client, rest: &str) -> Result<(), Missed> {
+    match number(rest) {
+        Some(timeout) => client.want_lock(timeout),
+        None => Err(UNREAD),
+    }
+}
+
+fn told(client: &mut Client, rest: &str) -> Result<(), Missed> {
+    match byte(rest) {
+        Some(control) => client.is_told_of_lock(control),
+        None => Err(UNREAD),
+    }
+}
+
+fn counts(client: &mut Client, rest: &str) -> Result<(), Missed> {
+    let (exclusive, holders) = parted(rest);
+    match (byte(exclusive), number(holders)) {
+        (Some(exclusive), Some(holders)) => client.locks_are(exclusive, holders),
+        _ => Err(UNREAD),
+    }
+}
+
+// What a client does with locks, and what it is told of them. None where it is another step.
+fn locks(client: &mut Client, word: &str, rest: &str) -> Option<Result<(), Missed>> {
+    match word {
+        "shares" => Some(client.share()),
+        "locks" => Some(client.lock()),
+        "wants" => Some(wants(client, rest)),
+        "told" => Some(told(client, rest)),
+        "waits" => Some(client.wait_for_lock()),
+        "drops" => Some(client.let_lock_go(client.last)),
+        "counts" => Some(counts(client, rest)),
+        _ => None,
+    }
+}
+
+fn releases(client: &mut Client, rest: &str) -> Result<(), Missed> {
+    client.let_lock_go(client.last)?;
+    told(client, rest)
+}
+
+fn ends(client: &mut Client) -> Result<(), Missed> {
+    is_ended(&mut client.sync)?;
+    is_ended(&mut client.other)
+}
+
+// What a client does with its status and its connections.
+fn exchanges(client: &mut Client, alloc: Global, word: &str, rest: &str) -> Result<(), Missed> {
+    match word {
+        "status" => status(client, rest),
+        "called" => called(client, rest),
+        "releases" => releases(client, rest),
+        "puts" => sends(&mut client.other, alloc, rest),
+        "takes" => gets(&mut client.other, alloc, rest),
+        "ends" => ends(client),
+        _ => stream_does(&mut client.sync, alloc, word, rest),
+    }
+}
+
+/// What a client does by itself.
+pub fn client_does(
+    client: &mut Client,
+    alloc: Global,
+    word: &str,
+    rest: &str,
+) -> Result<(), Missed> {
+    if let Some(done) = talks(client, alloc, word, rest) {
+        return done;
+    }
+    if let Some(done) = listens(client, word) {
+        return done;
+    }
+    match locks(client, word, rest) {
+        Some(done) => done,
+        None => exchanges(client, alloc, word, rest),
+    }
+}
+
+/// The exclusive lock is asked for and not had, and that is told after this time and not before.
+pub fn fails<R: Clock>(rt: &R, client: &mut Client, timeout: u32) -> Result<(), Missed> {
+    let Ok(start) = Instant::now(rt) else {
+        return Err(Missed::Ground("a clock"));
+    };
+    client.want_lock(timeout)?;
+    client.is_told_of_lock(0)?;
+    let Ok(taken) = start.elapsed(rt) else {
+        return Err(Missed::Ground("a clock"));
+    };
+    let least = u64::from(timeout).saturating_sub(1);
+    holds(taken >= Duration::from_millis(least), "not before its time")
+}

@@ -1,0 +1,151 @@
+// Scripts that are played with servers, one after another.
+//
+// A script begins with a heading: `== shared_lock 48851` has the server's image and port, and `== late_wait 48889 run` the point too at which its
+// flusher is held, before a job runs (`run`) or before a page is written (`write`). Its steps are those of `psu_client::Cast`, and two of the
+// flusher's:
+//
+// | step | means |
+// |---|---|
+// | `flusher held` | it is held |
+// | `flusher goes` | it was held till now, and is let go |
+//
+// An empty line, and one that begins with `#`, say nothing.
+use crate::hold::Hold;
+use crate::server::new_served;
+use psu_client::{Cast, Missed};
+use psu_serve::Point;
+use std::alloc::Global;
+use std::fs::File;
+use std::io::{Eprint, Print};
+use std::net::{Net, TcpListener, TcpStream};
+use std::rt::{Clock, Files};
+use std::sync::Wait;
+use std::thread::Threads;
+
+/// A line of a script that is not so, and what was missed.
+#[derive(Clone, Copy, Debug)]
+pub struct Untrue {
+    pub line: &'static str,
+    pub missed: Missed,
+}
+
+/// A server with those who play with it.
+#[derive(Drop)]
+struct Stage<R: Drop> {
+    cast: Cast<R>,
+    hold: Hold<R>,
+}
+
+// What a heading says: the image, the port, and where the flusher is held.
+fn heading(line: &str) -> Option<(&str, u16, Option<Point>)> {
+    let (image, rest) = line.strip_prefix("== ")?.split_once(" ")?;
+    let (port, point) = rest.split_once(" ").unwrap_or((rest, ""));
+    let port = port.parse().ok()?;
+    match point {
+        "" => Some((image, port, None)),
+        "run" => Some((image, port, Some(Point::BeforeRun))),
+        "write" => Some((image, port, Some(Point::BeforeWrite))),
+        _ => None,
+    }
+}
+
+// A new image is served, and nobody plays yet.
+fn begun<R>(rt: R, alloc: Global, line: &'static str) -> Result<Stage<R>, Missed>
+where
+    R: Net<Listener = TcpListener, Stream = TcpStream>
+        + Files<File = File>
+        + Threads
+        + Wait
+        + Clock
+        + Print
+        + Eprint
+        + Copy
+        + Send
+        + Sync
+        + 'static,
+    R::Dir: Send,
+{
+    let Some((image, port, point)) = heading(line) else {
+        return Err(Missed::Ground("a heading"));
+    };
+    let Ok(hold) = Hold::new(rt, alloc, point) else {
+        return Err(Missed::Ground("memory"));
+    };
+    let Ok(gate) = hold.another() else {
+        return Err(Missed::Ground("memory"));
+    };
+    let port = new_served(rt, alloc, image, port, gate)?;
+    Ok(Stage {
+        cast: Cast::new(rt, alloc, port),
+        hold,
+    })
+}
+
+impl<R: Net<Stream = TcpStream> + Clock + Copy> Stage<R> {
+    fn step(&mut self, line: &str) -> Result<(), Missed> {
+        match line {
+            "flusher held" => self.hold.is_held(),
+            "flusher goes" => self.hold.let_go(),
+            _ => self.cast.step(line),
+        }
+    }
+}
+
+// Takes a line: a server begins, or a step is made.
+fn take<R>(
+    stage: &mut Option<Stage<R>>,
+    rt: R,
+    alloc: Global,
+    line: &'static str,
+) -> Result<(), Missed>
+where
+    R: Net<Listener = TcpListener, Stream = TcpStream>
+        + Files<File = File>
+        + Threads
+        + Wait
+        + Clock
+        + Print
+        + Eprint
+        + Copy
+        + Send
+        + Sync
+        + 'static,
+    R::Dir: Send,
+{
+    if line.starts_with("== ") {
+        *stage = Some(begun(rt, alloc, line)?);
+        return Ok(());
+    }
+    match stage {
+        Some(stage) => stage.step(line),
+        None => Err(Missed::Ground("a heading")),
+    }
+}
+
+/// Plays scripts; the line whose step did not come to what it says, and what was missed then.
+pub fn plays<R>(rt: R, alloc: Global, scripts: &'static str) -> Result<(), Untrue>
+where
+    R: Net<Listener = TcpListener, Stream = TcpStream>
+        + Files<File = File>
+        + Threads
+        + Wait
+        + Clock
+        + Print
+        + Eprint
+        + Copy
+        + Send
+        + Sync
+        + 'static,
+    R::Dir: Send,
+{
+    let mut stage = None;
+    for line in scripts.lines() {
+        if line.is_empty() || line.starts_with("#") {
+            continue;
+        }
+        if let Err(missed) = take(&mut stage, rt, alloc, line) {
+            return Err(Untrue { line, missed });
+        }
+    }
+    Ok(())
+}
