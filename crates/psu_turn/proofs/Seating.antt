@@ -48,9 +48,15 @@ module _ {T S E : Type 0} (of : T → S) (allows : S → E → S → Type 0) (st
       subst (λ (y : View S E). IsIn y.stage) same (subst (λ (g : Stage S). IsIn g) is (all id w (set_here s.views id w (at_bound s.views id v me)))))
       (λ n. all j u (set_else s.views id j w n ∙ at)))))
 
-  told : (log : List (Numbered E)) (views : List (View S E)) (w : View S E) → w.seen ≡ log → (x : Inherited E) → Recalls log views x → Tells w x
-  told log views w is Nothing q = tt
-  told log views w is (From k seen mine) q = (subst (λ (l : List (Numbered E)). StartsWith l seen) (sym is) q.0, ap (calls_by k) is ∙ q.1)
+  -- a seat that was taken over is given up, and one that looks has a number
+  told : (log : List (Numbered E)) (views : List (View S E)) (id n own : ℕ) (v w : View S E) → get_elem? views id ≡ some v → v.name ≡ Named n → own ≡ id → w.seen ≡ log
+      → (x : Inherited E) → Recalls log views x → Tells own w x
+  told log views id n own v w me name here is Nothing q = tt
+  told log views id n own v w me name here is (From k seen mine) q = (
+    subst (λ (l : List (Numbered E)). StartsWith l seen) (sym is) q.0,
+    ap (calls_by k) is ∙ q.1,
+    λ e. let same : q.2.0 ≡ v = some-injective q.2.0 v (sym q.2.1 ∙ (ap (get_elem? views) (e ∙ here) ∙ me)) in named_unspent v.name n name (ap (λ (y : View S E). y.name) (sym same) ∙ q.2.2),
+  )
 
   pub looks_on : (n id : ℕ) (m : Sat T S E) (k : ℕ) (o : S) → m.0.opening ≡ Some o → m.0.name ≡ Named k
       → Allows Rule n id m 0 (λ y. y) (looks allows (step n 0 0 0 none) m)
@@ -70,7 +76,7 @@ module _ {T S E : Type 0} (of : T → S) (allows : S → E → S → Type 0) (st
           refl,
           sym r.count,
           (f.seen, (r.state, subst (λ (x : S). Leads allows x r.log r.state) (some_is start o₁ (sym own.0 ∙ opens₁)) r.legal), refl, ap (λ (x : ℕ). calls_by x r.log) same ∙ own.2),
-          told r.log s.views w refl m.0.inherited f.inherited,
+          told r.log s.views id k k₁ m.0 w me name same refl m.0.inherited f.inherited,
         ),
       )
 

@@ -1,5 +1,5 @@
 -- What a whole call tells, put together from its steps.
-use Rattle.std.proofs.Common.{◌≡◌, ℕ, List, [], ◌∷◌, sym, refl, ap, ◌∙◌, subst, Option, Some, None, length}
+use Rattle.std.proofs.Common.{◌≡◌, ◌≢◌, ℕ, List, [], ◌∷◌, sym, refl, ap, ◌∙◌, subst, Option, Some, None, length}
 use Rattle.atomic_table.specs.Table.{Step, rest}
 use Rattle.psu_turn.specs.Turns.{TurnId}
 use Rattle.psu_turn.specs.declared.held.Held.{Held}
@@ -32,9 +32,10 @@ module _ {S E : Type 0} where
   }
 
   -- what was taken over from a seat that was joined
-  pub join_tells : (z : TurnId) (w : View S E) (a : View S E) (s : Sight S E) → IsIdle w → sight z w ≡ s → Tells a (taken_over w.name w) → StartsWith a.seen s.seen × (calls_by s.number a.seen ≡ s.mine)
-  join_tells z w a s idle is tells = subst (λ (y : Sight S E). StartsWith a.seen y.seen × (calls_by y.number a.seen ≡ y.mine)) is
-      (subst (λ (n : Name). Tells a (taken_over n w)) idle.named tells)
+  pub join_tells : (z : TurnId) (own : ℕ) (w : View S E) (a : View S E) (s : Sight S E) → IsIdle w → sight z w ≡ s → Tells own a (taken_over w.name w)
+      → StartsWith a.seen s.seen × (calls_by s.number a.seen ≡ s.mine) × (s.number ≢ own)
+  join_tells z own w a s idle is tells = subst (λ (y : Sight S E). StartsWith a.seen y.seen × (calls_by y.number a.seen ≡ y.mine) × (y.number ≢ own)) is
+      (subst (λ (n : Name). Tells own a (taken_over n w)) idle.named tells)
 
 module _ {T S E : Type 0} where
   -- a seat that was just split off
@@ -70,7 +71,7 @@ module _ {T S E : Type 0} where
       pub look_counts : length a.0.seen ≡ found
       look_counts = (looked idle.opening (number_of v.name) idle.opened idle.named).5
 
-      pub look_tells : Tells a.0 x
+      pub look_tells : Tells (number_of v.name) a.0 x
       look_tells = (looked idle.opening (number_of v.name) idle.opened idle.named).7
 
     -- a look of a seat that another was joined to

@@ -62,11 +62,13 @@ module _ {S E : Type 0} where
       pub mine : w.mine ≡ v.mine
       pub own : calls_by w.number w.seen ≡ w.mine
 
-    -- The seat has seen one legal history, which begins with what each of the two had seen, and has just the calls of each under its number.
+    -- The seat has seen one legal history, which begins with what each of the two had seen, and has just the calls of each under its number. Any two
+    -- seats of a turn may be joined, and had different numbers.
     pub record Joins (v other w : Sight S E) : Type 0 where
       pub sees : Sees v w
       pub seen : StartsWith w.seen other.seen
       pub own : calls_by other.number w.seen ≡ other.mine
+      pub apart : other.number ≢ v.number
 
     -- One legal history leads to the state. It begins with what the seat had seen, and has just the seat's calls under its number.
     pub record Closes (v : Sight S E) (state : S) : Type 0 where

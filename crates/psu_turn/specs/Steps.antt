@@ -36,10 +36,10 @@ module _ {S E : Type 0} where
   abbrev pub joined : View S E → View S E → View S E
   joined v w = view v.name v.opening v.seen v.mine (taken_over w.name w) v.stage
 
-  -- what w has seen of a seat that was taken over
-  abbrev pub Tells : View S E → Inherited E → Type 0
-  Tells w Nothing = Unit {0}
-  Tells w (From k seen mine) = StartsWith w.seen seen × (calls_by k w.seen ≡ mine)
+  -- what w, whose seat has the number own, has seen of a seat that was taken over, which had another number
+  abbrev pub Tells : ℕ → View S E → Inherited E → Type 0
+  Tells own w Nothing = Unit {0}
+  Tells own w (From k seen mine) = StartsWith w.seen seen × (calls_by k w.seen ≡ mine) × (k ≢ own)
 
   module _ (allows : S → E → S → Type 0) where
     -- The history after the call e is legal, begins with all that the seat k had seen, and ends with e. Under the number k it has just the seat's calls.
@@ -81,4 +81,4 @@ module _ {T S E : Type 0} where
   -- the seat has seen the whole history, and its length is the number found
   abbrev pub looks : (S → E → S → Type 0) → Step (Option (Held T)) → Sat T S E → ℕ → Sat T S E → Type 0
   looks allows st m found after = (o : S) (k : ℕ) → m.0.opening ≡ Some o → m.0.name ≡ Named k
-      → (after.1 ≡ m.1) × (after.0.name ≡ m.0.name) × (after.0.opening ≡ m.0.opening) × (after.0.inherited ≡ Nothing) × (after.0.stage ≡ m.0.stage) × (length after.0.seen ≡ found) × Looks allows o k m.0 after.0 × Tells after.0 m.0.inherited
+      → (after.1 ≡ m.1) × (after.0.name ≡ m.0.name) × (after.0.opening ≡ m.0.opening) × (after.0.inherited ≡ Nothing) × (after.0.stage ≡ m.0.stage) × (length after.0.seen ≡ found) × Looks allows o k m.0 after.0 × Tells k after.0 m.0.inherited

@@ -1,4 +1,4 @@
-use Rattle.std.proofs.Common.{rules, sym, subst, ◌∙◌}
+use Rattle.std.proofs.Common.{◌≢◌, rules, sym, subst, ◌∙◌}
 use mathlib.Core.Option.{none}
 use Rattle.atomic_table.specs.Table.{step}
 use Rattle.psu_turn.specs.Seats.{Sight, Joins}
@@ -22,11 +22,12 @@ rest-requires g c = let ready = c.rise-place.ensures.ready in
 pub returns-clause-join : goal.returns-clause-join
 returns-clause-join g c = let ready = c.rise-place.ensures.ready in let theirs = c.rise.ensures in
     let looked = join_looks g.T.Machine.allows (step c.args.self.now.slots 0 0 0 none) c.rise-place.result.me c.rise.result.me.0 c.join_seat.new.seat.me c.load.new.seat.me c.load.result c.join_seat.ensures.2 c.load.ensures.2 in
-    let tells = join_tells _ c.rise.result.me.0 c.load.new.seat.me.0 c.args.other theirs.ready.0 theirs.same (look_tells g.T.Machine.allows (step c.args.self.now.slots 0 0 0 none) c.rise-place.result.me.0 _ _ c.load.new.seat.me _ ready.0 ready.1 looked) in
+    let tells = join_tells _ _ c.rise.result.me.0 c.load.new.seat.me.0 c.args.other theirs.ready.0 theirs.same (look_tells g.T.Machine.allows (step c.args.self.now.slots 0 0 0 none) c.rise-place.result.me.0 _ _ c.load.new.seat.me _ ready.0 ready.1 looked) in
     subst (λ (y : Sight g.row.T-State.Denot g.row.T-Entry.Denot). Joins g.T.Machine.allows c.args.seat.now c.args.other y) (sym c.rest.ensures.same) (record {
       sees = look_sees g.T.Machine.allows (step c.args.self.now.slots 0 0 0 none) c.rise-place.result.me.0 _ _ c.load.new.seat.me _ ready.0 ready.1 looked c.rise-place.result.table_id c.load.new.seat.table_id c.args.seat.now c.rise-place.ensures.same (search rules);
       seen = tells.0;
       own = tells.1;
+      apart = subst (λ (y : Sight g.row.T-State.Denot g.row.T-Entry.Denot). c.args.other.number ≢ y.number) c.rise-place.ensures.same tells.2;
     })
 
 pub returns-clause-own : goal.returns-clause-own
