@@ -1,5 +1,5 @@
 -- What the seat of a thread has seen once the thread has called the device.
-use Rattle.std.specs.Prelude.{◌≡◌, ◌⊎◌, ℕ, Bool, Option, List}
+use Rattle.std.specs.Prelude.{◌⊎◌, ℕ, Bool, Option, List}
 use Rattle.psu_turn.specs.Seats.{Sight, Calls}
 use Rattle.psu_exec.specs.Device.{State}
 use Rattle.psu_exec.specs.Calls.{Entry, JobEnd, Taken, Job}

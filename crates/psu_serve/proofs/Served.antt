@@ -1,0 +1,25 @@
+-- The deeds of an execution, as calls of the seat that executes.
+use Rattle.std.proofs.Common.{◌≡◌, ◌∙◌, ℕ, ap, subst, List, [], ◌∷◌}
+use Rattle.psu_messages.specs.Deeds.{Deed, Runs}
+use Rattle.psu_messages.specs.Courses.{Course, Goes}
+use Rattle.psu_messages.specs.Units.{Source}
+
+module _ {X : Type 0} {does : X → Deed → X → Type 0} where
+  -- what each deed leaves as it is, all leave so
+  kept : {Y : Type 0} (part : X → Y) → ((x y : X) (deed : Deed) → does x deed y → part y ≡ part x) → (x : X) (deeds : List Deed) (y : X) → Runs does x deeds y → part y ≡ part x
+  kept part keeps x [] y same = ap part same
+  kept part keeps x (deed ∷ deeds) y runs = kept part keeps runs.0 deeds y runs.2 ∙ keeps x runs.0 deed runs.1
+
+  pub kept_goes : {Y : Type 0} {source : Source} {x y : X} {c d : Course} → Goes does source x c y d → (part : X → Y) → ((x y : X) (deed : Deed) → does x deed y → part y ≡ part x) → part y ≡ part x
+  kept_goes {Y} {source} {x} {y} goes part keeps = kept part keeps x goes.added y goes.runs
+
+  -- where each deed is one of this kind on a part of what executes, all are
+  on_part : {V : Type 0} (key : X → ℕ) (part : X → V) (made : ℕ → V → Deed → V → Type 0) → ((x y : X) (deed : Deed) → does x deed y → (key y ≡ key x) × made (key x) (part x) deed (part y))
+      → (x : X) (deeds : List Deed) (y : X) → Runs does x deeds y → Runs (made (key x)) (part x) deeds (part y)
+  on_part key part made makes x [] y same = ap part same
+  on_part {V} key part made makes x (deed ∷ deeds) y runs = let step = makes x runs.0 deed runs.1 in
+      (part runs.0, step.1, subst (λ (k : ℕ). Runs (made k) (part runs.0) deeds (part y)) step.0 (on_part key part made makes runs.0 deeds y runs.2))
+
+  pub goes_on_part : {V : Type 0} {source : Source} {x y : X} {c d : Course} → Goes does source x c y d → (key : X → ℕ) (part : X → V) (made : ℕ → V → Deed → V → Type 0)
+      → ((x y : X) (deed : Deed) → does x deed y → (key y ≡ key x) × made (key x) (part x) deed (part y)) → Goes (made (key x)) source (part x) c (part y) d
+  goes_on_part {V} {source} {x} {y} goes key part made makes = record { added = goes.added; runs = on_part key part made makes x goes.added y goes.runs; comes = goes.comes }
