@@ -4,7 +4,7 @@ use clap::{Arg, ArgAction, ArgMatches, Command, value_parser};
 use std::alloc::{AllocError, Global};
 
 /// A command of the program, with its words.
-#[derive(Debug, PartialEq, Drop)]
+#[derive(Drop)]
 pub enum Choice<'a> {
     /// Makes a formatted image at a path.
     Make(&'a str),
@@ -17,7 +17,7 @@ pub enum Choice<'a> {
 }
 
 /// Why no command was read.
-#[derive(Clone, Copy, Debug, PartialEq, Eq)]
+#[derive(Clone, Copy)]
 pub enum WordsFault {
     /// The words ask for no command of the program, or for help.
     Refused,
@@ -42,19 +42,26 @@ pub fn choice_of<'a>(alloc: Global, words: &'a [String]) -> Result<Choice<'a>, W
 }
 
 fn command<'a>(alloc: Global) -> Result<Command<'a>, AllocError> {
-    let make = Command::new(alloc, "make").arg(image(alloc).required(true))?;
-    let run = Command::new(alloc, "run").arg(image(alloc))?;
-    let serve = Command::new(alloc, "serve")
-        .arg(image(alloc).required(true))?
-        .arg(port(alloc))?;
-    let recover = Command::new(alloc, "recover").arg(image(alloc).required(true))?;
-    Command::new(alloc, "psu")
+    let psu = Command::new(alloc, "psu")
         .subcommand_required(true)
-        .disable_help_subcommand(true)
-        .subcommand(make)?
-        .subcommand(run)?
-        .subcommand(serve)?
-        .subcommand(recover)
+        .disable_help_subcommand(true);
+    let psu = psu.subcommand(on_image(alloc, "make")?)?;
+    let psu = psu.subcommand(run(alloc)?)?;
+    let psu = psu.subcommand(serve(alloc)?)?;
+    psu.subcommand(on_image(alloc, "recover")?)
+}
+
+// A command on an image that is named.
+fn on_image<'a>(alloc: Global, name: &'static str) -> Result<Command<'a>, AllocError> {
+    Command::new(alloc, name).arg(image(alloc).required(true))
+}
+
+fn run<'a>(alloc: Global) -> Result<Command<'a>, AllocError> {
+    Command::new(alloc, "run").arg(image(alloc))
+}
+
+fn serve<'a>(alloc: Global) -> Result<Command<'a>, AllocError> {
+    on_image(alloc, "serve")?.arg(port(alloc))
 }
 
 fn image<'a>(alloc: Global) -> Arg<'a> {
