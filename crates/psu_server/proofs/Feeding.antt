@@ -1,34 +1,39 @@
 -- The lines of a piece, one after another.
-use Rattle.std.proofs.Common.{◌≡◌, ℕ, ◌+◌, ◌-◌, ◌≤◌, Bool, true, false, List, [], ◌∷◌, ◌++◌, length, take, drop, refl, sym, ap, ◌∙◌, subst, inl, inr, append_assoc, Option, Some}
+use Rattle.std.proofs.Common.{◌≡◌, ℕ, ◌+◌, ◌-◌, ◌≤◌, Bool, true, false, List, [], ◌∷◌, ◌++◌, length, take, drop, refl, sym, ap, ◌∙◌, subst, inl, inr, append_assoc, arith, Option, Some}
 use Rattle.std.proofs.lemmas.List.{append-nil}
 use Rattle.std.specs.Str.{bytes_eq}
 use Rattle.memchr.specs.Find.{IsFirstByte, is_byte}
-use Rattle.psu_disk.specs.Disk.{DiskState, Left}
+use Rattle.psu_disk.specs.Disk.{DiskState, HasFailed, Left}
 use Rattle.psu_disk.specs.declared.disk.Disk.{Ghosts}
 use Rattle.psu_items.specs.Image.{EachStands}
 use Rattle.psu_map.specs.Map.{Item}
 use Rattle.psu_answers.specs.Gathered.{Text, closed}
 use Rattle.psu_answers.specs.Response.{are_some, end_of, joined, response}
+use Rattle.psu_exec.specs.Consistent.{IsConsistent}
 use Rattle.psu_exec.specs.World.{World}
+use Rattle.psu_exec.specs.declared.condition.Condition.TheVariants.{Worn}
 use Rattle.psu_exec.specs.declared.exec.Exec.{Exec}
 use Rattle.psu_tree.specs.declared.unit_request.Request.{Request}
-use Rattle.psu_server.specs.Failures.{failures_of}
-use Rattle.psu_server.specs.Jobs.{IsExplained}
+use Rattle.psu_server.specs.Causes.{IsWornOut, NotStarted}
+use Rattle.psu_server.specs.Failures.{extent_of, failures_of}
+use Rattle.psu_server.specs.Jobs.{IsWornAtLast}
 use Rattle.psu_server.specs.Lines.{Message, Asks, message_now, message_of, coming, too_much, has, is_power, power_line}
-use Rattle.psu_server.specs.Lives.{born, disk_at, world_of, IsLeftBy, PowersOn}
+use Rattle.psu_server.specs.Lives.{Life, born, disk_at, world_of, IsLeftBy, PowersOn}
 use Rattle.psu_server.specs.Output.{Says, SaysUntil, Telling, telling}
 use Rattle.psu_server.specs.Progress.{Breaks, BreaksOff, Continues, Fed, GoesOn, Halts, Stopped, Stops, StopsHere}
+use Rattle.psu_server.specs.Reasons.{IsAtPower, IsHaltedBy, StopsFor}
 use Rattle.psu_server.specs.Runs.{Mishaps, none, Begins, Flushes, LineBegins, LineRuns, MessageBegins, MessageRuns, NextBegins, Reopens, Runs}
-use Rattle.psu_server.specs.Within.{IsLater}
 use Rattle.psu_server.specs.declared.run_cause.RunCause.{RunCause}
-use Rattle.psu_server.specs.declared.run_cause.RunCause.TheVariants.{Memory as RunMemory}
+use Rattle.psu_server.specs.declared.run_cause.RunCause.TheVariants.{Read, Write, Open, Device, TooLong, Memory as RunMemory}
 use Rattle.psu_server.specs.declared.run_fault.RunFault.{RunFault}
 use Rattle.psu_server.proofs.Calls.{Executes, begins_all, executes_none, flush_calls, job_calls}
 use Rattle.psu_server.proofs.Cuts.{plain_message, power_message, coming_end, found_parts, whole_tail}
 use Rattle.psu_server.proofs.MessageEnds.{line_over}
 use Rattle.psu_server.proofs.Telling.{says_gathered, says_join, says_none, says_still, until_after, until_said}
 use Rattle.psu_server.proofs.UnitEnds.{goes_as, goes_then}
-use Rattle.psu_server.proofs.Within.{later_same, within_as, within_at, within_here, within_later, within_then}
+use Rattle.psu_server.proofs.Lasting.{hands_now, hands_then, lasts_none}
+use Rattle.psu_server.proofs.Starting.{halted_stops, restart_stops}
+use Rattle.psu_server.proofs.Within.{within_as, within_at, within_here, within_later}
 
 -- ---- what a message came to
 
@@ -79,7 +84,7 @@ line_unended m requests old new a b c asks none p written same =
       until_said RunMemory a c f.1.0 (λ e. cc) (subst (λ (z : List ℕ). Says a c z) (append-nil f.1.0) (says_join a b c f.1.0 [] f.1.2 (says_still b c written same))),
       record {
         goes = goes_as old new (λ can w v. LineRuns can w [] requests f.0 v) (λ can w v. MessageBegins can w m f.1.0 v) f.2 (λ can w v u. (requests, asks, f.0, line_over can w v [] f.0 requests u, sym f.1.1));
-        why = λ h since e. tt;
+        why = λ h. tt;
       },
     )
 
@@ -107,18 +112,21 @@ reopens_calls : (can : Mishaps) (w v : World) → Reopens can w v → Executes w
 reopens_calls can w v (inl (shut, same)) = subst (λ (z : World). Executes w [] z) (sym same) (executes_none w)
 reopens_calls can w v (inr (broke, done, mended)) = job_calls can w v done
 
-pub restart_runs : {D A : Type 0} {G : Ghosts D} (old mid new : Exec D A G) (disk : DiskState) (before : ℕ) → GoesOn old mid Reopens → disk ≡ disk_at mid.home
-    → (Ghosts.honest G → PowersOn disk.bytes (world_of (born new) new)) → failures_of new ≡ before → before ≡ failures_of mid
-    → ((since : ℕ) → IsExplained since mid → IsExplained since new) → GoesOn old new (λ can w v. MessageRuns can w Message.Power [] v)
-restart_runs old mid new disk before r at starts works same why = record {
+pub restart_runs : {D A : Type 0} {G : Ghosts D} (old mid new : Exec D A G) (disk : D) → GoesOn old mid Reopens → Ghosts.state G disk ≡ disk_at mid.home
+    → (Ghosts.honest G → PowersOn (Ghosts.state G disk).bytes (world_of (born new) new)) → failures_of new ≡ Ghosts.failures G disk → Ghosts.failures G disk ≡ failures_of mid
+    → extent_of new ≡ Ghosts.extent G disk → Ghosts.extent G disk ≡ extent_of mid → IsWornAtLast new → GoesOn old new (λ can w v. MessageRuns can w Message.Power [] v)
+restart_runs {D} {A} {G} old mid new disk r at starts works same size whole worn = record {
   runs = λ h life. let g = r.runs h life in (
     born new,
     within_at _ _ _ (λ can. MessageRuns can (world_of life old) Message.Power [] (world_of (born new) new)) (works ∙ same)
         (within_as _ _ (λ can. Reopens can (world_of life old) (world_of g.0 mid)) (λ can. MessageRuns can (world_of life old) Message.Power [] (world_of (born new) new)) g.1
         (λ can x. (refl, world_of g.0 mid, x, subst (λ (d : DiskState). PowersOn d.bytes (world_of (born new) new)) at (starts h)))),
   );
-  explained = λ since e. why since (r.explained since e);
-  later = subst (λ (n : ℕ). IsLater (failures_of old) n) (sym (works ∙ same)) r.later;
+  lasts = record {
+    extent = size ∙ whole ∙ r.lasts.extent;
+    later = subst (λ (n : ℕ). failures_of old ≤ n) (sym (works ∙ same)) r.lasts.later;
+    worn = λ e. worn;
+  };
 }
 
 -- calls that execute no unit
@@ -127,74 +135,120 @@ idle_begins can w v [] b = (b, refl)
 idle_begins can w v (m ∷ ms) b = inl (b, refl)
 
 -- a restart that fails behind the device that was opened again
-pub restart_stops_here : {D A : Type 0} {G : Ghosts D} (old mid : Exec D A G) (disk : DiskState) (fault : RunFault D) (before limit : ℕ) (map : List Item) (rest : List Message) → Ghosts.honest G
-    → GoesOn old mid Reopens → disk ≡ disk_at mid.home → before ≡ failures_of mid → before ≤ Ghosts.failures G fault.disk → EachStands disk limit map → EachStands (Ghosts.state G fault.disk) limit map
-    → StopsHere old fault (Message.Power ∷ rest) []
-restart_stops_here {D} {A} {G} old mid disk fault before limit map rest h r at same rose was is life =
-    let g = r.runs h life in (
-      world_of g.0 mid,
-      within_later (failures_of old) (failures_of mid) (Ghosts.failures G fault.disk) (λ can. NextBegins can (world_of life old) (Message.Power ∷ rest) [] (world_of g.0 mid))
-          (inl (subst (λ (n : ℕ). n ≤ Ghosts.failures G fault.disk) same rose))
-          (within_as _ _ (λ can. Reopens can (world_of life old) (world_of g.0 mid)) (λ can. NextBegins can (world_of life old) (Message.Power ∷ rest) [] (world_of g.0 mid)) g.1
-          (λ can x. inl (begins_all (world_of life old) (world_of g.0 mid) [] (reopens_calls can (world_of life old) (world_of g.0 mid) x), refl))),
-      inr (limit, map, subst (λ (d : DiskState). EachStands d limit map) at was, is),
-    )
+pub restart_stops_here : {D A : Type 0} {G : Ghosts D} (old mid : Exec D A G) (disk : D) (fault : RunFault D) (rest : List Message)
+    → GoesOn old mid Reopens → Ghosts.state G disk ≡ disk_at mid.home → Ghosts.failures G disk ≡ failures_of mid → Ghosts.extent G disk ≡ extent_of mid
+    → Ghosts.failures G disk ≤ Ghosts.failures G fault.disk → Ghosts.extent G fault.disk ≡ Ghosts.extent G disk
+    → (Ghosts.honest G → EachStands (Ghosts.state G disk) mid.device.flush.limit mid.device.flush.before)
+    → (Ghosts.honest G → (limit : ℕ) (map : List Item) → EachStands (Ghosts.state G disk) limit map → EachStands (Ghosts.state G fault.disk) limit map)
+    → IsConsistent mid.device.flush → (Ghosts.honest G → NotStarted (Ghosts.state G disk).bytes (Ghosts.failures G disk) (Ghosts.failures G fault.disk) fault.cause)
+    → StopsHere ⊥ old fault (Message.Power ∷ rest) []
+restart_stops_here {D} {A} {G} old mid disk fault rest r at same size rose whole was left consistent why =
+    let later : failures_of old ≤ Ghosts.failures G disk = subst (λ (n : ℕ). failures_of old ≤ n) (sym same) r.lasts.later in
+    record {
+      hands = record { extent = whole ∙ size ∙ r.lasts.extent; later = omega (arith, later, rose) };
+      stops = λ h worn life. let g = r.runs h life in (
+        world_of g.0 mid,
+        within_later (failures_of old) (failures_of mid) (Ghosts.failures G fault.disk) (λ can. NextBegins can (world_of life old) (Message.Power ∷ rest) [] (world_of g.0 mid))
+            (subst (λ (n : ℕ). n ≤ Ghosts.failures G fault.disk) same rose)
+            (within_as _ _ (λ can. Reopens can (world_of life old) (world_of g.0 mid)) (λ can. NextBegins can (world_of life old) (Message.Power ∷ rest) [] (world_of g.0 mid)) g.1
+            (λ can x. inl (begins_all (world_of life old) (world_of g.0 mid) [] (reopens_calls can (world_of life old) (world_of g.0 mid) x), refl))),
+        inr (mid.device.flush.limit, mid.device.flush.before, subst (λ (d : DiskState). EachStands d mid.device.flush.limit mid.device.flush.before) at (was h), left h _ _ (was h)),
+        restart_stops ⊥ (failures_of old) (Ghosts.failures G disk) (Ghosts.failures G fault.disk) rest (world_of g.0 mid) (Ghosts.state G disk) (Ghosts.state G fault.disk).bytes fault.cause mid.device.flush
+            later consistent (was h) (why h),
+      );
+    }
 
 -- ---- a device that stops
 
 left_in : (disk : DiskState) (w : World) → disk ≡ w.disk → IsLeftBy w disk
 left_in disk w e = inl (λ image left. subst (λ (d : DiskState). Left d image) e left)
 
+-- what is asked of a fault of the device: the disk that was at home, and the device's reason
+pub record FaultOf {D A : Type 0} {G : Ghosts D} (exec : Exec D A G) (fault : RunFault D) (cause : RunCause) : Type 0 where
+  pub told : fault.cause ≡ cause
+  pub failures : Ghosts.failures G fault.disk ≡ failures_of exec
+  pub extent : Ghosts.extent G fault.disk ≡ extent_of exec
+  pub state : Ghosts.state G fault.disk ≡ disk_at exec.home
+  pub reason : Ghosts.honest G → IsWornAtLast exec → exec.device.flush.store ≡ Worn → IsWornOut (Ghosts.state G fault.disk).bytes
+
+-- a line that isn't that of a power loss comes next
+pub not_at_power : (m : Message) (rest : List Message) → is_power m ≡ false → IsAtPower (m ∷ rest) → ⊥
+not_at_power Message.Power rest plain at = cc
+not_at_power Message.Overlong rest plain at = absurd at
+not_at_power (Message.Units bytes) rest plain at = absurd at
+
 -- in a message
-pub broken_stop : {D A : Type 0} {G : Ghosts D} (old new : Exec D A G) (fault : RunFault D) (m : Message) (rest : List Message) (part : List ℕ) (cause : RunCause) → Ghosts.honest G
-    → Breaks old new (λ can w v. MessageBegins can w m part v) cause → Ghosts.failures G fault.disk ≡ failures_of new → Ghosts.state G fault.disk ≡ disk_at new.home → StopsHere old fault (m ∷ rest) part
-broken_stop {D} {A} {G} old new fault m rest part cause h s same at life =
-    let k = s.goes.runs h life in (
-      world_of k.0 new,
-      within_at _ _ _ (λ can. NextBegins can (world_of life old) (m ∷ rest) part (world_of k.0 new)) same
-          (within_as _ _ (λ can. MessageBegins can (world_of life old) m part (world_of k.0 new)) (λ can. NextBegins can (world_of life old) (m ∷ rest) part (world_of k.0 new)) k.1 (λ can x. inr x)),
-      left_in (Ghosts.state G fault.disk) (world_of k.0 new) at,
-    )
+pub broken_stop : {D A : Type 0} {G : Ghosts D} (old new : Exec D A G) (fault : RunFault D) (m : Message) (rest : List Message) (part : List ℕ) (cause : RunCause)
+    → Breaks old new (λ can w v. MessageBegins can w m part v) cause → FaultOf new fault cause → is_power m ≡ false → StopsHere ⊥ old fault (m ∷ rest) part
+broken_stop {D} {A} {G} old new fault m rest part cause s f plain = record {
+  hands = hands_now old new fault.disk s.goes.lasts f.extent f.failures;
+  stops = λ h worn life. let k = s.goes.runs h life in (
+    world_of k.0 new,
+    within_at _ _ _ (λ can. NextBegins can (world_of life old) (m ∷ rest) part (world_of k.0 new)) f.failures
+        (within_as _ _ (λ can. MessageBegins can (world_of life old) m part (world_of k.0 new)) (λ can. NextBegins can (world_of life old) (m ∷ rest) part (world_of k.0 new)) k.1 (λ can x. inr x)),
+    left_in (Ghosts.state G fault.disk) (world_of k.0 new) f.state,
+    halted_stops ⊥ old new (Ghosts.failures G fault.disk) (m ∷ rest) k.0 (Ghosts.state G fault.disk).bytes cause fault.cause f.told f.failures (not_at_power m rest plain) (s.why h)
+        (f.reason h (s.goes.lasts.worn worn)),
+  );
+}
 
 -- with no unit begun
-pub halts_idle : {D A : Type 0} {G : Ghosts D} (old new : Exec D A G) (fault : RunFault D) (rest : List Message) (cause : RunCause) → Ghosts.honest G
-    → Halts old new [] cause → Ghosts.failures G fault.disk ≡ failures_of new → Ghosts.state G fault.disk ≡ disk_at new.home → StopsHere old fault rest []
-halts_idle {D} {A} {G} old new fault rest cause h s same at life =
-    let k = s.begun h life in (
-      world_of k.0 new,
-      (none, subst (λ (n : ℕ). IsLater (failures_of old) n) (sym same) s.later, (λ e. cc), (λ can cov. idle_begins can (world_of life old) (world_of k.0 new) rest k.1)),
-      left_in (Ghosts.state G fault.disk) (world_of k.0 new) at,
-    )
+pub halts_idle : {D A : Type 0} {G : Ghosts D} (old new : Exec D A G) (fault : RunFault D) (rest : List Message) (cause : RunCause) → Halts old new [] cause → FaultOf new fault cause
+    → (Ghosts.honest G → IsWornAtLast old → (life : Life) → StopsFor ⊥ (failures_of old) (Ghosts.failures G fault.disk) rest (world_of life new) (Ghosts.state G fault.disk).bytes fault.cause)
+    → StopsHere ⊥ old fault rest []
+halts_idle {D} {A} {G} old new fault rest cause s f why = record {
+  hands = hands_now old new fault.disk s.lasts f.extent f.failures;
+  stops = λ h worn life. let k = s.begun h life in (
+    world_of k.0 new,
+    (none, subst (λ (n : ℕ). failures_of old ≤ n) (sym f.failures) s.lasts.later, (λ e. cc), (λ can cov. idle_begins can (world_of life old) (world_of k.0 new) rest k.1)),
+    left_in (Ghosts.state G fault.disk) (world_of k.0 new) f.state,
+    why h worn k.0,
+  );
+}
 
-pub stops_now : {D A : Type 0} {G : Ghosts D} (exec : Exec D A G) (fault : RunFault D) (rest : List Message) → Ghosts.failures G fault.disk ≡ failures_of exec
-    → Ghosts.state G fault.disk ≡ disk_at exec.home → StopsHere exec fault rest []
-stops_now {D} {A} {G} exec fault rest same at life = (
-  world_of life exec,
-  within_at _ _ _ (λ can. NextBegins can (world_of life exec) rest [] (world_of life exec)) same
-      (within_here _ (λ can. NextBegins can (world_of life exec) rest [] (world_of life exec))
-      (λ can. idle_begins can (world_of life exec) (world_of life exec) rest (begins_all (world_of life exec) (world_of life exec) [] (executes_none (world_of life exec))))),
-  left_in (Ghosts.state G fault.disk) (world_of life exec) at,
-)
+-- a store that can't be opened again
+pub reopen_stops : {D A : Type 0} {G : Ghosts D} (old new : Exec D A G) (fault : RunFault D) (rest : List Message) (cause : RunCause) → Halts old new [] cause → FaultOf new fault cause
+    → (Ghosts.honest G → cause ≡ Device → HasFailed (failures_of old) (failures_of new)) → StopsHere ⊥ old fault (Message.Power ∷ rest) []
+reopen_stops {D} {A} {G} old new fault rest cause s f failed =
+    halts_idle old new fault (Message.Power ∷ rest) cause s f
+    (λ h worn life. subst (StopsFor ⊥ (failures_of old) (Ghosts.failures G fault.disk) (Message.Power ∷ rest) (world_of life new) (Ghosts.state G fault.disk).bytes) (sym f.told) (by cause (s.why h) (failed h) life))
+  where
+    by : (cause : RunCause) → IsHaltedBy old new cause → (cause ≡ Device → HasFailed (failures_of old) (failures_of new)) → (life : Life)
+        → StopsFor ⊥ (failures_of old) (Ghosts.failures G fault.disk) (Message.Power ∷ rest) (world_of life new) (Ghosts.state G fault.disk).bytes cause
+    by Device w only life = inl (subst (λ (n : ℕ). HasFailed (failures_of old) n) (sym f.failures) (only refl))
+    by RunMemory w only life = tt
+    by (Open c) w only life = absurd w
+    by Read w only life = tt
+    by Write w only life = tt
+    by TooLong w only life = absurd w
 
-pub stops_then : {D A : Type 0} {G : Ghosts D} (old mid : Exec D A G) (fault : RunFault D) (done rest : List Message) (text part : List ℕ) → Ghosts.honest G
-    → GoesOn old mid (λ can w v. Runs can w done text v) → StopsHere mid fault rest part → Stops old fault done rest text part
-stops_then {D} {A} {G} old mid fault done rest text part h goes stop life =
-    let g = goes.runs h life in
-    let s = stop g.0 in (
-      world_of g.0 mid,
-      s.0,
-      within_then (failures_of old) (failures_of mid) (Ghosts.failures G fault.disk) (λ can. Runs can (world_of life old) done text (world_of g.0 mid)) (λ can. NextBegins can (world_of g.0 mid) rest part s.0)
-          (λ can. Runs can (world_of life old) done text (world_of g.0 mid) × NextBegins can (world_of g.0 mid) rest part s.0) g.1 s.1 (λ can x y. (x, y)),
-      s.2,
-    )
+pub stops_now : {D A : Type 0} {G : Ghosts D} (long : Type 0) (exec : Exec D A G) (fault : RunFault D) (rest : List Message) (cause : RunCause) → FaultOf exec fault cause
+    → ((last : World) → StopsFor long (failures_of exec) (Ghosts.failures G fault.disk) rest last (Ghosts.state G fault.disk).bytes cause) → StopsHere long exec fault rest []
+stops_now {D} {A} {G} long exec fault rest cause f why = record {
+  hands = hands_now exec exec fault.disk (lasts_none exec) f.extent f.failures;
+  stops = λ h worn life. (
+    world_of life exec,
+    within_at _ _ _ (λ can. NextBegins can (world_of life exec) rest [] (world_of life exec)) f.failures
+        (within_here _ (λ can. NextBegins can (world_of life exec) rest [] (world_of life exec))
+        (λ can. idle_begins can (world_of life exec) (world_of life exec) rest (begins_all (world_of life exec) (world_of life exec) [] (executes_none (world_of life exec))))),
+    left_in (Ghosts.state G fault.disk) (world_of life exec) f.state,
+    subst (StopsFor long (failures_of exec) (Ghosts.failures G fault.disk) rest (world_of life exec) (Ghosts.state G fault.disk).bytes) (sym f.told) (why (world_of life exec)),
+  );
+}
+
+pub stops_then : {D A : Type 0} {G : Ghosts D} (long : Type 0) (old mid : Exec D A G) (fault : RunFault D) (done rest : List Message) (text part : List ℕ)
+    → GoesOn old mid (λ can w v. Runs can w done text v) → StopsHere long mid fault rest part → Stops long old fault done rest text part
+stops_then long old mid fault done rest text part goes stop = record {
+  hands = hands_then old mid fault.disk goes.lasts stop.hands;
+  stops = λ h worn life. let g = goes.runs h life in let s = stop.stops h (goes.lasts.worn worn) g.0 in (world_of g.0 mid, s.0, failures_of mid, g.1, s.1, s.2, s.3);
+}
 
 -- ---- runs of messages
 
 pub runs_none : {D A : Type 0} {G : Ghosts D} (exec : Exec D A G) → GoesOn exec exec (λ can w v. Runs can w [] [] v)
 runs_none exec = record {
   runs = λ h life. (life, within_here _ (λ can. Runs can (world_of life exec) [] [] (world_of life exec)) (λ can. (refl, refl)));
-  explained = λ since e. e;
-  later = later_same _;
+  lasts = lasts_none exec;
 }
 
 pub runs_one : (can : Mishaps) (w new : World) (m : Message) (text : List ℕ) → MessageRuns can w m text new → Runs can w (m ∷ []) text new
@@ -278,9 +332,9 @@ feed_end before mid after piece rest s s1 t0 t1 f moved =
     (g.0, g.1, g.2, (λ input. ap before (append_assoc f.0 rest input) ∙ g.3 (rest ++ input) ∙ ap (λ (z : List Message). g.0 ++ z) (moved input)), g.4)
 
 -- a fault after these lines
-pub feed_stops : {D A : Type 0} {G : Ghosts D} (before mid : List ℕ → List Message) (piece rest : List ℕ) (s s1 : Exec D A G) (fault : RunFault D) (t0 t1 t2 : Telling) (part : List ℕ) → Ghosts.honest G
-    → FedSo before piece rest mid s s1 t0 t1 → SaysUntil fault.cause t1 t2 part → ((input : List ℕ) → StopsHere s1 fault (mid (rest ++ input)) part) → Stopped before piece s fault t0 t2
-feed_stops before mid piece rest s s1 fault t0 t1 t2 part h f until stop =
+pub feed_stops : {D A : Type 0} {G : Ghosts D} (before mid : List ℕ → List Message) (piece rest : List ℕ) (s s1 : Exec D A G) (fault : RunFault D) (t0 t1 t2 : Telling) (part : List ℕ)
+    → FedSo before piece rest mid s s1 t0 t1 → SaysUntil fault.cause t1 t2 part → ((input : List ℕ) → StopsHere ⊥ s1 fault (mid (rest ++ input)) part) → Stopped before piece s fault t0 t2
+feed_stops before mid piece rest s s1 fault t0 t1 t2 part f until stop =
     let g = f.2 in (
       g.0,
       g.1,
@@ -289,7 +343,7 @@ feed_stops before mid piece rest s s1 fault t0 t1 t2 part h f until stop =
       λ input. (
         mid (rest ++ input),
         ap before (ap (λ (z : List ℕ). z ++ input) f.1 ∙ append_assoc f.0 rest input) ∙ g.3 (rest ++ input),
-        stops_then s s1 fault g.0 (mid (rest ++ input)) g.1 part h g.4 (stop input),
+        stops_then ⊥ s s1 fault g.0 (mid (rest ++ input)) g.1 part g.4 (stop input),
       ),
     )
 
@@ -301,14 +355,23 @@ line_first mid rest at over line input found moved free =
     ap (λ (z : List ℕ). mid (z ++ input)) (found_parts 10 rest at found) ∙ ap mid (append_assoc (take at rest) (10 ∷ drop (at + 1) rest) input)
     ∙ moved (10 ∷ (drop (at + 1) rest ++ input)) ∙ coming_end over line (drop (at + 1) rest ++ input) free
 
+-- a flush that stops
+pub flush_stops : {D A : Type 0} {G : Ghosts D} (old new : Exec D A G) (fault : RunFault D) (cause : RunCause) → Halts old new [] cause → FaultOf new fault cause → StopsHere ⊥ old fault [] []
+flush_stops {D} {A} {G} old new fault cause s f =
+    halts_idle old new fault [] cause s f
+    (λ h worn life. halted_stops ⊥ old new (Ghosts.failures G fault.disk) [] life (Ghosts.state G fault.disk).bytes cause fault.cause f.told f.failures (λ at. at) (s.why h) (f.reason h (s.lasts.worn worn)))
+
 -- a stop after a flush
-pub flushed_stops : {D A : Type 0} {G : Ghosts D} (old new : Exec D A G) (fault : RunFault D) → Ghosts.honest G → GoesOn old new Flushes → Ghosts.failures G fault.disk ≡ failures_of new
-    → Ghosts.state G fault.disk ≡ disk_at new.home → StopsHere old fault [] []
-flushed_stops {D} {A} {G} old new fault h f same at life =
-    let g = f.runs h life in (
-      world_of g.0 new,
-      within_at _ _ _ (λ can. NextBegins can (world_of life old) [] [] (world_of g.0 new)) same
-          (within_as _ _ (λ can. Flushes can (world_of life old) (world_of g.0 new)) (λ can. NextBegins can (world_of life old) [] [] (world_of g.0 new)) g.1
-          (λ can x. (begins_all (world_of life old) (world_of g.0 new) [] (flush_calls can (world_of life old) (world_of g.0 new) x), refl))),
-      left_in (Ghosts.state G fault.disk) (world_of g.0 new) at,
-    )
+pub flushed_stops : {D A : Type 0} {G : Ghosts D} (old new : Exec D A G) (fault : RunFault D) → GoesOn old new Flushes → FaultOf new fault Device → (Ghosts.honest G → IsHaltedBy old new Device)
+    → StopsHere ⊥ old fault [] []
+flushed_stops {D} {A} {G} old new fault g f why = record {
+  hands = hands_now old new fault.disk g.lasts f.extent f.failures;
+  stops = λ h worn life. let k = g.runs h life in (
+    world_of k.0 new,
+    within_at _ _ _ (λ can. NextBegins can (world_of life old) [] [] (world_of k.0 new)) f.failures
+        (within_as _ _ (λ can. Flushes can (world_of life old) (world_of k.0 new)) (λ can. NextBegins can (world_of life old) [] [] (world_of k.0 new)) k.1
+        (λ can x. (begins_all (world_of life old) (world_of k.0 new) [] (flush_calls can (world_of life old) (world_of k.0 new) x), refl))),
+    left_in (Ghosts.state G fault.disk) (world_of k.0 new) f.state,
+    halted_stops ⊥ old new (Ghosts.failures G fault.disk) [] k.0 (Ghosts.state G fault.disk).bytes Device fault.cause f.told f.failures (λ at. at) (why h) (f.reason h (g.lasts.worn worn)),
+  );
+}

@@ -1,5 +1,6 @@
 pub mod Alone
 pub mod Within
+pub mod Lasting
 pub mod Telling
 pub mod Calls
 pub mod JobEnds

@@ -1,4 +1,4 @@
-use Rattle.std.proofs.Common.{◌≡◌, [], false, List, ℕ, length, ◌-◌, ◌≤◌}
+use Rattle.std.proofs.Common.{◌≡◌, List, ℕ, length, ◌-◌, ◌≤◌}
 use Rattle.std.specs.Io.KnownBytes.{Consumes}
 use Rattle.psu_server.specs.Lines.{coming}
 use Rattle.psu_server.proofs.Reading.{Ran}
@@ -10,7 +10,7 @@ invariant-reading g l = record {
   consumed : Consumes (g.R.Read.remaining l.initial.reader) (g.R.Read.remaining l.reader) seen;
   taken : length seen ≡ l.intake.bytes;
   reads : l.intake.reads ≤ l.intake.bytes;
-  ran : Ran (coming false []) (coming l.lines.is_over l.lines.line.items) l.initial.powered.exec l.powered.exec
+  ran : Ran (coming l.lines.is_over l.lines.line.items) l.initial.powered.exec l.powered.exec
       (g.R.Read.remaining l.initial.reader) (g.R.Read.remaining l.reader) (g.W.Write.contents l.initial.writer) (g.W.Write.contents l.writer);
 }
 

@@ -1,7 +1,14 @@
 use Rattle.std.proofs.Common.{ap, ◌∙◌, subst, sym}
 use Rattle.psu_items.specs.Image.{EachStands}
-use Rattle.psu_server.proofs.Starting.{first_opens, not_opened, not_powered, opened_one, powers_on}
+use Rattle.psu_exec.specs.Starts.{start_of_opening, start_of_power_on}
+use Rattle.psu_server.proofs.Starting.{first_opens, not_opened, not_write_start, not_powered, opened_one, powers_on}
 use Rattle.psu_server.proofs.powered.Powered.on.Goals as goal
+
+pub returns-in-Err-clause-other : goal.returns-in-Err-clause-other
+returns-in-Err-clause-other g c = λ e. not_write_start (start_of_opening c.in-Err.refused.cause) (sym c.from.ensures ∙ e)
+
+pub returns-in-Err-power_on-clause-other : goal.returns-in-Err-power_on-clause-other
+returns-in-Err-power_on-clause-other g c = λ e. not_write_start (start_of_power_on c.in-Err-power_on.fault.cause) (sym c.from-in-Err-power_on.ensures ∙ e)
 
 pub returns-in-Err-clause-refused : goal.returns-in-Err-clause-refused
 returns-in-Err-clause-refused g c = λ h.
