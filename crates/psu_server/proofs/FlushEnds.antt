@@ -3,11 +3,12 @@ use Rattle.std.proofs.Common.{◌≡◌, ◌⊎◌, ℕ, suc, ◌+◌, ◌-◌, 
 use Rattle.psu_disk.specs.Disk.{HasFailed}
 use Rattle.psu_disk.specs.declared.disk.Disk.{Ghosts}
 use Rattle.psu_items.specs.declared.commit.UnstartedCause.TheVariants as unstarted
+use Rattle.psu_items.specs.Image.{IsEither}
 use Rattle.psu_map.specs.Map.{Item}
-use Rattle.psu_exec.specs.Calls.{JobKind, Commit, Reopen, JobData, JobEnd, Stored, Unstarted, Failed, Reopened, Job, Nothing, Took, GaveBack, Allows, HasWork, job_out, kind_for, stored}
+use Rattle.psu_exec.specs.Calls.{JobKind, Commit, Reopen, JobData, JobEnd, Stored, Unstarted, Failed, Reopened, Job, Nothing, Took, GaveBack, Allows, HasWork, job_of, job_out, kind_for, stored}
 use Rattle.psu_exec.specs.Device.{State, Flush, is_whole, is_broken, wait_of}
 use Rattle.psu_nv.specs.Contents.{items_of}
-use Rattle.psu_exec.specs.Jobs.{job_data, job_home}
+use Rattle.psu_exec.specs.Jobs.{job_data, job_disk, job_home}
 use Rattle.psu_exec.specs.World.{World}
 use Rattle.psu_exec.proofs.Giving.{FlushGives, flush_gives}
 use Rattle.psu_exec.specs.declared.condition.Condition.{Condition}
@@ -15,14 +16,17 @@ use Rattle.psu_exec.specs.declared.condition.Condition.TheVariants.{Whole, Broke
 use Rattle.psu_exec.specs.declared.exec.Exec.{Exec}
 use Rattle.psu_exec.specs.declared.home.Home.{Home}
 use Rattle.psu_exec.specs.declared.job.Job.{Job as AnyJob}
+use Rattle.psu_exec.specs.declared.job.Job.TheVariants as job
 use Rattle.psu_server.specs.Failures.{failures_at, failures_of}
 use Rattle.psu_server.specs.Jobs.{Counts, HasRun}
 use Rattle.psu_server.specs.Lives.{Life, disk_at, world_of, Calls}
 use Rattle.psu_server.specs.Runs.{is_short, EndsJob, JobDone, Jobs, Flushes, Reopens}
 use Rattle.psu_server.specs.Within.{Within}
-use Rattle.psu_server.specs.Progress.{GoesOn, Halts, Lasts}
+use Rattle.psu_server.specs.Moments.{IsBetween, Leads, Since, disk_in}
+use Rattle.psu_server.specs.Progress.{GoesOn, Halts, Lasts, Spans}
 use Rattle.psu_server.specs.declared.run_cause.RunCause.TheVariants.{Memory as RunMemory, Device as RunDevice}
-use Rattle.psu_server.proofs.Calls.{Executes, executes_one, executes_join, jobs_calls, begins_none}
+use Rattle.psu_server.proofs.Calls.{Executes, executes_one, executes_join, jobs_calls, begins_none, leads_join, leads_one, prefix_of_either, reached_made}
+use Rattle.psu_server.proofs.Moments.{since_as, spans_none, spans_same}
 use Rattle.psu_server.proofs.Lasting.{lasts_none}
 use Rattle.psu_server.proofs.Within.{within_itself, failed_before, failed_on, within_as, within_here, within_at, within_then}
 use Rattle.psu_server.proofs.JobEnds.{broken_failed, count_at, gave_store, job_done, size_at}
@@ -144,6 +148,26 @@ job_executes old taken new j life short h took run =
     (executes_one (world_of life old) (Took (Job (job_data j))) mid (disk_at old.home, (taken.device, refl, took, refl, refl)))
     (executes_one mid (GaveBack run.finished (Some run.over)) (world_of life new) (disk_at new.home, (new.device, refl, run.give, run.stands h, refl)))
 
+-- what a power loss at any moment of a job may leave
+pub job_spans : {D A : Type 0} {G : Ghosts D} (old taken new : Exec D A G) (j : AnyJob D A G) (life : Life) (short : Bool) → Ghosts.honest G
+    → Allows old.device (Took (Job (job_data j))) taken.device → old.home ≡ Some (job_home j) → HasRun taken j new short → Spans old new (world_of life old) (world_of life new)
+job_spans {D} {A} {G} old taken new j life short h took there run =
+    let w = world_of life old in
+    let mid : World = record w { state = taken.device } in
+    let takes : Leads w mid = leads_one w mid (Took (Job (job_data j))) (disk_at old.home, (taken.device, refl, took, refl, refl)) in
+    let gives : Leads mid (world_of life new) = leads_one mid (world_of life new) (GaveBack run.finished (Some run.over)) (disk_at new.home, (new.device, refl, run.give, run.stands h, refl)) in
+    let own : job_data j ≡ job_of taken.device.flush = took.0.2 ∙ ap job_of (sym (ap (λ (s : State). s.flush) took.1)) in
+    record {
+      leads = leads_join w mid (world_of life new) takes gives;
+      time = λ t now r. subst (λ (z : Option D). Since G z (disk_in new.home) (IsBetween w (world_of life new))) (sym (ap (λ (z : Option (Home D A G)). disk_in z) there ∙ disk_of_job j))
+          (since_as G (Some (job_disk j)) (disk_in new.home) (IsEither (job_data j).limit (job_data j).before (job_data j).target) (IsBetween w (world_of life new)) (run.time h t)
+          (λ x either. (mid, takes, gives, prefix_of_either mid x (reached_made w mid takes r) refl (subst (λ (d : JobData). IsEither d.limit d.before d.target x) own either))));
+    }
+  where
+    disk_of_job : (j : AnyJob D A G) → disk_in (let z : Option (Home D A G) = Some (job_home j) in z) ≡ Some (job_disk j)
+    disk_of_job (job.Commit planned) = refl
+    disk_of_job (job.Reopen alloc broken) = refl
+
 -- after these jobs
 pub jobs_execute : {D A : Type 0} {G : Ghosts D} (first old : Exec D A G) (life : Life) (i : ℕ) → Within (failures_of first) (failures_of old) (λ can. Jobs i can (world_of life first) (world_of life old))
     → Executes (world_of life first) [] (world_of life old)
@@ -154,11 +178,14 @@ pub same_world : {D A : Type 0} {G : Ghosts D} (old new : Exec D A G) (life : Li
 same_world {D} {A} {G} old new life same there = ap (λ (d : State). record (world_of life old) { state = d; disk = disk_at new.home }) same
     ∙ ap (λ (z : Option (Home D A G)). record (world_of life old) { disk = disk_at z }) there
 
+pub still_spans : {D A : Type 0} {G : Ghosts D} (old new : Exec D A G) (life : Life) → new.device ≡ old.device → new.home ≡ old.home → Spans old new (world_of life old) (world_of life new)
+still_spans old new life same there = spans_same old new life (world_of life new) there ([], same_world old new life same there)
+
 -- a halt for want of memory
-pub halts_short : {D A : Type 0} {G : Ghosts D} (old new : Exec D A G) → (Ghosts.honest G → (life : Life) → Executes (world_of life old) [] (world_of life new))
+pub halts_short : {D A : Type 0} {G : Ghosts D} (old new : Exec D A G) → (Ghosts.honest G → (life : Life) → Executes (world_of life old) [] (world_of life new) × Spans old new (world_of life old) (world_of life new))
     → Lasts old new → Halts old new [] RunMemory
 halts_short old new calls lasts = record {
-  begun = λ h life. (life, begins_none (world_of life old) (world_of life new) [] (calls h life));
+  begun = λ h life. let c = calls h life in (life, begins_none (world_of life old) (world_of life new) [] c.0, c.1);
   lasts = lasts;
   why = λ h. tt;
   own = λ e. cc;
@@ -174,7 +201,7 @@ out_free s taken d took free = ap (λ (z : State). wait_of z.flush 1) took.1 ∙
 
 pub reopens_none : {D A : Type 0} {G : Ghosts D} (exec : Exec D A G) → is_broken exec.device.flush.store ≡ false → GoesOn exec exec Reopens
 reopens_none exec shut = record {
-  runs = λ h life. (life, within_here _ (λ can. Reopens can (world_of life exec) (world_of life exec)) (λ can. inl (shut, refl)));
+  runs = λ h life. (life, within_here _ (λ can. Reopens can (world_of life exec) (world_of life exec)) (λ can. inl (shut, refl)), spans_none exec life);
   lasts = lasts_none exec;
 }
 
@@ -186,6 +213,7 @@ reopens_done old taken new j short broke took there run long mended = record {
     life,
     within_as _ _ (λ can. JobDone can (world_of life old) (world_of life new)) (λ can. Reopens can (world_of life old) (world_of life new))
         (job_done old taken new j life short h took there run long) (λ can done. inr (broke, done, mended)),
+    job_spans old taken new j life short h took there run,
   );
   lasts = run_lasts old taken new j short there run;
 }
@@ -197,10 +225,10 @@ still_broken {D} {A} {G} old taken new j short h there run long broke =
     subst (λ (n : ℕ). HasFailed n (failures_of new)) (sym (count_at old j there))
     (broken_failed run.finished new.device.flush.store _ _ (gave_store run.finished taken.device new.device run.over run.give) broke (run.counts h (sym run.short_is ∙ long)))
 
-pub halts_broken : {D A : Type 0} {G : Ghosts D} (old new : Exec D A G) → (Ghosts.honest G → (life : Life) → Executes (world_of life old) [] (world_of life new))
+pub halts_broken : {D A : Type 0} {G : Ghosts D} (old new : Exec D A G) → (Ghosts.honest G → (life : Life) → Executes (world_of life old) [] (world_of life new) × Spans old new (world_of life old) (world_of life new))
     → Lasts old new → (Ghosts.honest G → HasFailed (failures_of old) (failures_of new)) → Halts old new [] RunDevice
 halts_broken old new calls lasts failed = record {
-  begun = λ h life. (life, begins_none (world_of life old) (world_of life new) [] (calls h life));
+  begun = λ h life. let c = calls h life in (life, begins_none (world_of life old) (world_of life new) [] c.0, c.1);
   lasts = lasts;
   why = λ h. inl (failed h);
   own = λ e. cc;

@@ -1,9 +1,10 @@
 -- A job that goes out, runs and is given back.
 use Rattle.std.proofs.Common.{◌≡◌, ◌≢◌, ℕ, ◌+◌, ◌≤◌, ◌^◌, Bool, true, false, Option, Some, None, List, [], ◌∷◌, refl, sym, ap, ◌∙◌, subst, inl, inr, ⊎_elim, map, slice_index_or, option_map}
-use Rattle.psu_disk.specs.Disk.{HasFailed}
+use Rattle.psu_disk.specs.Disk.{HasFailed, LeavesOnly}
 use Rattle.psu_disk.specs.Ranges.{reads_left}
 use Rattle.psu_disk.specs.declared.disk.Disk.{Ghosts}
 use Rattle.psu_items.specs.declared.commit.UnstartedCause.TheVariants as unstarted
+use Rattle.psu_items.specs.Image.{IsEither}
 use Rattle.psu_map.specs.Batch.{Edit}
 use Rattle.psu_map.specs.Map.{Item}
 use Rattle.psu_items.specs.declared.broken.BrokenCause.{BrokenCause}
@@ -25,6 +26,7 @@ use Rattle.psu_exec.specs.declared.wait.Wait.{Wait}
 use Rattle.psu_server.specs.Failures.{extent_at, extent_of, failures_at, failures_of}
 use Rattle.psu_server.specs.Jobs.{Counts, HasRun, Wears, WearsOutLast, home_number}
 use Rattle.psu_server.specs.Lives.{Life, disk_at, world_of}
+use Rattle.psu_server.specs.Moments.{Since, disk_in}
 use Rattle.psu_server.specs.Runs.{Mishaps, none, is_short, IsSound, EndsJob, JobDone}
 use Rattle.psu_server.specs.Within.{Covers, Within}
 
@@ -153,7 +155,7 @@ worn_for (job.Reopen alloc old) (finished.Unstarted new back cause) runs = absur
 worn_for (job.Reopen alloc old) (finished.Broken broken) runs = λ e. cc
 worn_for (job.Reopen alloc old) (finished.Reopened new) runs = λ e. cc
 
-the_home : {D A : Type 0} {G : Ghosts D} (a b : Home D A G) → Some a ≡ Some b → a ≡ b
+pub the_home : {D A : Type 0} {G : Ghosts D} (a b : Home D A G) → Some a ≡ Some b → a ≡ b
 the_home a b e = cc
 
 gave_worn : {D A : Type 0} {G : Ghosts D} (s new : State) (over : List ℕ) (j : AnyJob D A G) (end : Finished D A G) (there : Option (Home D A G))
@@ -197,8 +199,9 @@ same_disk (finished.Reopened store) = refl
 pub has_run : {D A : Type 0} {G : Ghosts D} (old : Exec D A G) (j : AnyJob D A G) (new : Exec D A G) (end : Finished D A G) (over : List ℕ) (short : Bool)
     → RunsTo j end → Ghosts.extent G (finished_disk end) ≡ Ghosts.extent G (job_disk j) → Ghosts.failures G (job_disk j) ≤ Ghosts.failures G (finished_disk end)
     → IsAccepted old.device (finished_of end) over new.device → new.home ≡ Some (home_of end)
-    → (Ghosts.honest G → IsTrueOf (target old.device.flush) (finished_of end) (Ghosts.state G (finished_disk end))) → (Ghosts.honest G → EndStands end) → short ≡ is_short (finished_of end) → HasRun old j new short
-has_run {D} {A} {G} old j new end over short runs extent later gave is true_of stands short_is = record {
+    → (Ghosts.honest G → IsTrueOf (target old.device.flush) (finished_of end) (Ghosts.state G (finished_disk end))) → (Ghosts.honest G → EndStands end) → short ≡ is_short (finished_of end)
+    → (Ghosts.honest G → Ghosts.tells G → LeavesOnly (Ghosts.moment G) (Ghosts.left_since G) (job_disk j) (finished_disk end) (IsEither (job_data j).limit (job_data j).before (job_data j).target)) → HasRun old j new short
+has_run {D} {A} {G} old j new end over short runs extent later gave is true_of stands short_is time = record {
   finished = finished_of end;
   over = over;
   give = gave;
@@ -210,6 +213,8 @@ has_run {D} {A} {G} old j new end over short runs extent later gave is true_of s
   extent = subst (λ (there : Option (Home D A G)). extent_at there ≡ Ghosts.extent G (job_disk j)) (sym is) (subst (λ (d : D). Ghosts.extent G d ≡ Ghosts.extent G (job_disk j)) (same_disk end) extent);
   worn = gave_worn old.device new.device over j end new.home runs gave is;
   wears = λ h long. subst (λ (there : Option (Home D A G)). Wears (finished_of end) (disk_at there).bytes) (sym is) (wears_of j end runs (stands h) long);
+  time = λ h t. subst (λ (there : Option (Home D A G)). Since G (Some (job_disk j)) (disk_in there) (IsEither (job_data j).limit (job_data j).before (job_data j).target)) (sym is)
+      (subst (λ (d : D). LeavesOnly (Ghosts.moment G) (Ghosts.left_since G) (job_disk j) d (IsEither (job_data j).limit (job_data j).before (job_data j).target)) (same_disk end) (time h t));
   counts = λ h long. subst (λ (there : Option (Home D A G)). Counts (finished_of end) (Ghosts.failures G (job_disk j)) (failures_at there)) (sym is) (counts_of j end runs h long);
 }
 

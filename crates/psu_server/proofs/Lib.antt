@@ -3,6 +3,7 @@ pub mod Within
 pub mod Lasting
 pub mod Telling
 pub mod Calls
+pub mod Moments
 pub mod JobEnds
 pub mod FlushEnds
 pub mod SessionOne

@@ -17,6 +17,7 @@ use Rattle.psu_server.specs.declared.run_cause.RunCause.TheVariants.{Memory, Wri
 use Rattle.psu_server.proofs.Calls.{begins_all, begins_none, executes_none, unit_calls}
 use Rattle.psu_server.proofs.Telling.{not_write, says_on_join, says_on_none, until_none, until_on_join, until_on_none}
 use Rattle.psu_server.proofs.Lasting.{lasts_none}
+use Rattle.psu_server.proofs.Moments.{spans_none}
 use Rattle.psu_server.proofs.Within.{within_here}
 use Rattle.psu_server.proofs.UnitEnds.{goes_as, goes_then, halted_since}
 
@@ -24,7 +25,7 @@ use Rattle.psu_server.proofs.UnitEnds.{goes_as, goes_then, halted_since}
 
 pub goes_none : {D A : Type 0} {G : Ghosts D} (exec : Exec D A G) (P : Mishaps → World → World → Type 0) → ((can : Mishaps) (w : World) → P can w w) → GoesOn exec exec P
 goes_none exec P here = record {
-  runs = λ h life. (life, within_here _ (λ can. P can (world_of life exec) (world_of life exec)) (λ can. here can (world_of life exec)));
+  runs = λ h life. (life, within_here _ (λ can. P can (world_of life exec) (world_of life exec)) (λ can. here can (world_of life exec)), spans_none exec life);
   lasts = lasts_none exec;
 }
 
@@ -89,7 +90,7 @@ unit_stops old new t request P cause s turn answers begun = (
   until_on_none cause t t answers (until_none cause t s.own),
   record {
     goes = record {
-      runs = λ h life. let k = s.begun h life in (k.0, (none, s.lasts.later, (λ e. cc), λ can cov. turn answers can (world_of life old) (world_of k.0 new) k.1));
+      runs = λ h life. let k = s.begun h life in (k.0, (none, s.lasts.later, (λ e. cc), λ can cov. turn answers can (world_of life old) (world_of k.0 new) k.1), k.2);
       lasts = s.lasts;
     };
     why = s.why;

@@ -1,8 +1,12 @@
 -- What a whole run came to, said of the image that it began on.
-use Rattle.std.proofs.Common.{◌≡◌, ℕ, List, Option, Some, None, IfSome, IsErrAnd, Result, Ok, Err, subst, sym}
-use Rattle.psu_disk.specs.Disk.{DiskState}
+use Rattle.std.proofs.Common.{◌≡◌, ℕ, List, Option, Some, None, IfSome, IsErrAnd, Result, Ok, Err, ◌++◌, inl, inr, subst, sym}
+use Rattle.std.specs.Option.{ForSome}
+use Rattle.psu_disk.specs.Disk.{DiskState, LeavesOnly}
 use Rattle.psu_disk.specs.declared.disk.Disk.{Ghosts}
 use Rattle.psu_items.proofs.Fitting.{stands_readable}
+use Rattle.psu_items.specs.Finding.{IsOldOrSame}
+use Rattle.psu_exec.proofs.Moments.{keeps_map}
+use Rattle.psu_exec.specs.Jobs.{home_disk}
 use Rattle.psu_items.specs.Image.{EachStands}
 use Rattle.psu_nv.specs.Contents.{items_of}
 use Rattle.psu_exec.specs.World.{World}
@@ -10,7 +14,9 @@ use Rattle.psu_exec.specs.declared.exec.Exec.{Exec}
 use Rattle.psu_server.specs.Failures.{failures_of}
 use Rattle.psu_server.specs.Jobs.{IsWornAtLast}
 use Rattle.psu_server.specs.Lines.{Message, Brings}
-use Rattle.psu_server.specs.Lives.{born, world_of, PowersOn}
+use Rattle.psu_server.specs.Lives.{Reached, born, world_of, PowersOn}
+use Rattle.psu_server.specs.Moments.{IsNow, IsOfRun, IsWhile, Since, disk_in}
+use Rattle.psu_server.proofs.Moments.{since_then, since_to}
 use Rattle.psu_server.specs.Reasons.{EndsFor}
 use Rattle.psu_server.specs.Results.{WritesFirst, WritesRun, disk_of}
 use Rattle.psu_server.specs.Runs.{Mishaps, none, Flushes, NextBegins, Runs}
@@ -18,7 +24,7 @@ use Rattle.psu_server.specs.Script.{IsScript}
 use Rattle.psu_server.specs.Within.{Within}
 use Rattle.psu_server.specs.declared.run_fault.RunFault.{RunFault}
 use Rattle.psu_server.proofs.Alone.{script_is_alone}
-use Rattle.psu_server.proofs.Calls.{Reached, flush_calls, flush_running, flushed_stands, leaves_prefix, reached_calls, reached_next, reached_on, reached_runs}
+use Rattle.psu_server.proofs.Calls.{flush_calls, flush_running, flushed_stands, leaves_prefix, reached_calls, reached_next, reached_on, reached_runs}
 use Rattle.psu_server.proofs.Causes.{ends_late}
 use Rattle.psu_server.proofs.Reading.{Early, MayBeLong, Whole}
 use Rattle.psu_server.proofs.Starting.{stops_since}
@@ -108,3 +114,21 @@ run_whole {D} {A} {G} from u v image s disk before h starts same (due, brought, 
       flushed = e.3;
       kept = subst (λ (d : DiskState). EachStands d e.1.limit (items_of e.1.state.flush.contents)) e.4 (flushed_stands e.1 reached (flush_running went.0 e.0 e.1 both.1) e.3);
     }
+
+-- ---- at each moment
+
+pub run_moments : {D A : Type 0} {G : Ghosts D} (from : Option (List ℕ)) (given over : D) (s : Exec D A G) (due : List Message) → Ghosts.tells G → IsNow G → PowersOn (Ghosts.state G given).bytes (world_of (born s) s)
+    → (s.home ≡ None → ⊥) → ForSome s.home (λ h. LeavesOnly (Ghosts.moment G) (Ghosts.left_since G) given (home_disk h) (IsOldOrSame (Ghosts.state G given))) → Brings from due
+    → (Ghosts.tells G → IsNow G → Reached (world_of (born s) s) → Since G (disk_in s.home) (Some over) (IsWhile (world_of (born s) s) due))
+    → LeavesOnly (Ghosts.moment G) (Ghosts.left_since G) given over (IsOfRun (Ghosts.state G given) from)
+run_moments {D} {A} {G} from given over s due t now starts some opens brought runs =
+    let first = world_of (born s) s in
+    since_then G (Some given) (disk_in s.home) (Some over) (IsOldOrSame (Ghosts.state G given)) (IsWhile first due) (IsOfRun (Ghosts.state G given) from)
+    (since_to s.home given (IsOldOrSame (Ghosts.state G given)) some opens) (runs t now (reached_on (Ghosts.state G given).bytes first starts))
+    (λ x kept. inl (keeps_map (Ghosts.state G given) x kept)) (λ x while. inr (first, due, starts, brought, while))
+
+pub early_moments : {D A : Type 0} {G : Ghosts D} (from u v : Option (List ℕ)) (given : D) (s : Exec D A G) (fault : RunFault D) → Ghosts.honest G → Ghosts.tells G → IsNow G → PowersOn (Ghosts.state G given).bytes (world_of (born s) s)
+    → IsWornAtLast s → (s.home ≡ None → ⊥) → ForSome s.home (λ h. LeavesOnly (Ghosts.moment G) (Ghosts.left_since G) given (home_disk h) (IsOldOrSame (Ghosts.state G given))) → Early s fault from u v
+    → LeavesOnly (Ghosts.moment G) (Ghosts.left_since G) given fault.disk (IsOfRun (Ghosts.state G given) from)
+early_moments from u v given s fault h t now starts worn some opens (due, brought, p) =
+    run_moments from given fault.disk s (p.done ++ p.rest) t now starts some opens (subst (Brings from) p.is brought) (p.stops.stops h worn (born s)).7

@@ -6,7 +6,9 @@ use Rattle.std.proofs.lemmas.Grind.{common_steps}
 use Rattle.std.proofs.KnownBytes.{Appends-trans, Appends-nil, Consumes-trans, Consumes-nil}
 use Rattle.std.specs.Io.KnownBytes.{Appends, Consumes, IsAtEnd}
 use Rattle.std.specs.Io.{StartsWith}
+use Rattle.std.specs.Option.{ForSome}
 use Rattle.psu_disk.specs.declared.disk.Disk.{Ghosts}
+use Rattle.psu_exec.specs.Jobs.{home_disk}
 use Rattle.psu_exec.specs.declared.exec.Exec.{Exec}
 use Rattle.psu_exec.specs.World.{World}
 use Rattle.psu_server.specs.Failures.{extent_of, failures_of}
@@ -18,9 +20,11 @@ use Rattle.psu_server.specs.declared.run_cause.RunCause.{RunCause}
 use Rattle.psu_server.specs.declared.run_cause.RunCause.TheVariants.{Write}
 use Rattle.psu_server.specs.declared.run_fault.RunFault.{RunFault}
 use Rattle.psu_server.specs.Runs.{Flushes, Runs}
-use Rattle.psu_server.specs.Progress.{Answered, Answers, EndsEarly, Fed, GoesOn, RanAll, Stopped, Stops, StopsHere}
+use Rattle.psu_server.specs.Moments.{IsWhile, Since, disk_in}
+use Rattle.psu_server.specs.Progress.{Answered, Answers, EndsEarly, Fed, GoesOn, RanAll, RunsOn, Stopped, Stops, StopsHere}
 use Rattle.psu_server.proofs.Causes.{is_write, never_long}
-use Rattle.psu_server.proofs.Feeding.{FaultOf, runs_all, runs_join, runs_none, stops_now, stops_then}
+use Rattle.psu_server.proofs.Feeding.{FaultOf, flush_moments, runs_all, runs_join, runs_none, stops_now, stops_then, then_moments}
+use Rattle.psu_server.proofs.Moments.{since_back}
 use Rattle.psu_server.proofs.Lasting.{hands_now, hands_then}
 use Rattle.psu_server.proofs.Fronts.{starts_after, starts_whole}
 use Rattle.psu_server.proofs.Cuts.{coming_end, coming_last, coming_none}
@@ -30,8 +34,8 @@ use Rattle.psu_server.proofs.Within.{within_at, within_then}
 -- ---- ends
 
 stops_more : {D A : Type 0} {G : Ghosts D} (long : Type 0) (old mid : Exec D A G) (fault : RunFault D) (xs done rest : List Message) (text more part : List ℕ)
-    → GoesOn old mid (λ can w v. Runs can w xs text v) → Stops long mid fault done rest more part → Stops long old fault (xs ++ done) rest (text ++ more) part
-stops_more long old mid fault xs done rest text more part goes stop = record {
+    → RunsOn old mid xs text → Stops long mid fault done rest more part → Stops long old fault (xs ++ done) rest (text ++ more) part
+stops_more {D} {A} {G} long old mid fault xs done rest text more part goes stop = record {
   hands = hands_then old mid fault.disk goes.lasts stop.hands;
   stops = λ h worn life. let g = goes.runs h life in let s = stop.stops h (goes.lasts.worn worn) g.0 in (
     s.0,
@@ -42,6 +46,8 @@ stops_more long old mid fault xs done rest text more part goes stop = record {
     s.4,
     s.5,
     s.6,
+    λ t now r. subst (λ (m : List Message). Since G (disk_in old.home) (Some fault.disk) (IsWhile (world_of life old) m)) (sym (append_assoc xs done rest))
+        (then_moments old mid (Some fault.disk) xs (done ++ rest) text goes h life s.7 t now r),
   );
 }
 
@@ -64,7 +70,7 @@ early_here long old fault due w cause f other why = record {
 
 -- after messages that were answered
 pub early_after : {D A : Type 0} {G : Ghosts D} (long : Type 0) (old mid : Exec D A G) (fault : RunFault D) (due done more : List Message) (text : List ℕ) (u v w : Option (List ℕ)) → due ≡ done ++ more
-    → GoesOn old mid (λ can a b. Runs can a done text b) → Appends u v text → EndsEarly long mid fault more v w → EndsEarly long old fault due u w
+    → RunsOn old mid done text → Appends u v text → EndsEarly long mid fault more v w → EndsEarly long old fault due u w
 early_after long old mid fault due done more text u v w is goes p b = record {
   done = done ++ b.done;
   rest = b.rest;
@@ -90,7 +96,7 @@ early_never_long {D} {A} {G} long old fault due u v p = record {
   stops = record {
     hands = p.stops.hands;
     stops = λ h worn life. let s = p.stops.stops h worn life in
-        (s.0, s.1, s.2, s.3, s.4, s.5, never_long long s.2 (Ghosts.failures G fault.disk) p.rest s.1 (Ghosts.state G fault.disk).bytes fault.cause s.6);
+        (s.0, s.1, s.2, s.3, s.4, s.5, never_long long s.2 (Ghosts.failures G fault.disk) p.rest s.1 (Ghosts.state G fault.disk).bytes fault.cause s.6, s.7);
   };
   front = p.front;
   appends = p.appends;
@@ -188,7 +194,7 @@ ran_front mid s s1 fault from to u v cause r f other why =
 
 -- the end of what was read
 ran_all_after : {D A : Type 0} {G : Ghosts D} (s s1 : Exec D A G) (disk : D) (due done more : List Message) (text : List ℕ) (u v w : Option (List ℕ)) → due ≡ done ++ more
-    → GoesOn s s1 (λ can a b. Runs can a done text b) → Appends u v text → RanAll s1 more disk v w → RanAll s due disk u w
+    → RunsOn s s1 done text → Appends u v text → RanAll s1 more disk v w → RanAll s due disk u w
 ran_all_after {D} {A} {G} s s1 disk due done more text u v w is goes p q = record {
   hands = hands_then s s1 disk goes.lasts q.hands;
   text = text ++ q.text;
@@ -201,6 +207,7 @@ ran_all_after {D} {A} {G} s s1 disk due done more text u v w is goes p q = recor
         (λ can x y. (subst (λ (m : List Message). Runs can (world_of life s) m (text ++ q.text) e.0) (sym is) (runs_join can (world_of life s) (world_of g.0 s1) e.0 text q.text done more x y.0), y.1)),
     e.3,
     e.4,
+    λ t now r. subst (λ (m : List Message). Since G (disk_in s.home) (Some disk) (IsWhile (world_of life s) m)) (sym is) (then_moments s s1 (Some disk) done more text goes h life e.5 t now r),
   );
 }
 
@@ -295,7 +302,7 @@ write_instead {D} {A} {G} s old fault done rest text part p is same =
     subst (λ (e : D). Stops ⊥ s (record fault { disk = e }) done rest text part) (sym same) (record {
       hands = p.hands;
       stops = λ h worn life. let q = p.stops h worn life in
-          (q.0, q.1, q.2, q.3, q.4, q.5, is_write ⊥ q.2 (Ghosts.failures G old.disk) rest q.1 (Ghosts.state G old.disk).bytes fault.cause is);
+          (q.0, q.1, q.2, q.3, q.4, q.5, is_write ⊥ q.2 (Ghosts.failures G old.disk) rest q.1 (Ghosts.state G old.disk).bytes fault.cause is, q.7);
     })
 
 -- and the writer failed then
@@ -327,7 +334,7 @@ pub last_answered : {D A : Type 0} {G : Ghosts D} (over next_over : Bool) (line 
     → piece ≡ 10 ∷ [] → Answered (coming over line) piece (coming next_over next) s s1 u v → Answers (coming over line []) s s1 u v
 last_answered over next_over line next piece s s1 u v begun free none is p =
     let due = last_done over next_over line next p.0 begun free none (λ input. ap (λ (z : List ℕ). coming over line (z ++ input)) (sym is) ∙ p.3 input) in
-    (p.1, p.2, subst (λ (m : List Message). GoesOn s s1 (λ can a b. Runs can a m p.1 b)) (sym due) p.4)
+    (p.1, p.2, subst (λ (m : List Message). RunsOn s s1 m p.1) (sym due) p.4)
 
 pub last_early : {D A : Type 0} {G : Ghosts D} (over : Bool) (line piece : List ℕ) (s : Exec D A G) (fault : RunFault D) (u v : Option (List ℕ)) → is_none_begun over line ≡ false → has 10 line ≡ false
     → piece ≡ 10 ∷ [] → ((input : List ℕ) → EndsEarly ⊥ s fault (coming over line (piece ++ input)) u v) → EndsEarly ⊥ s fault (coming over line []) u v
@@ -357,8 +364,8 @@ answers_early due s s1 fault u v p other stop = record {
 
 -- and then a flush that leaves nothing
 pub answers_flushed : {D A : Type 0} {G : Ghosts D} (due : List Message) (s s1 s2 : Exec D A G) (disk : D) (u v : Option (List ℕ)) → Answers due s s1 u v → GoesOn s1 s2 Flushes
-    → s2.device.flush.unflushed ≡ 0 → Ghosts.failures G disk ≡ failures_of s2 → Ghosts.extent G disk ≡ extent_of s2 → Ghosts.state G disk ≡ disk_at s2.home → RanAll s due disk u v
-answers_flushed due s s1 s2 disk u v p f clean same size at = record {
+    → s2.device.flush.unflushed ≡ 0 → Ghosts.failures G disk ≡ failures_of s2 → Ghosts.extent G disk ≡ extent_of s2 → Ghosts.state G disk ≡ disk_at s2.home → ForSome s2.home (λ h. disk ≡ home_disk h) → RanAll s due disk u v
+answers_flushed {D} {A} {G} due s s1 s2 disk u v p f clean same size at there = record {
   hands = hands_then s s1 disk p.2.lasts (hands_now s1 s2 disk f.lasts size same);
   text = p.0;
   written = p.1;
@@ -370,6 +377,9 @@ answers_flushed due s s1 s2 disk u v p f clean same size at = record {
         (λ can. Runs can (world_of life s) due p.0 (world_of g.0 s1) × Flushes can (world_of g.0 s1) (world_of k.0 s2)) g.1 k.1 (λ can x y. (x, y))),
     clean,
     sym at,
+    λ t now r. since_back (disk_in s.home) s2.home disk (IsWhile (world_of life s) due) there
+        (subst (λ (m : List Message). Since G (disk_in s.home) (disk_in s2.home) (IsWhile (world_of life s) m)) (append-nil due)
+        (then_moments s s1 (disk_in s2.home) due [] p.0 p.2 h life (flush_moments s1 s2 [] f h g.0) t now r)),
   );
 }
 

@@ -1,7 +1,9 @@
 -- How a device powers on, and why one doesn't.
 use Rattle.std.proofs.Common.{◌≡◌, ◌≢◌, ◌⊎◌, ℕ, zero, suc, ◌≤◌, ◌^◌, ◌+◌, true, false, Option, Some, None, List, [], ◌∷◌, refl, sym, ap, ◌∙◌, subst, inl, inr, arith, ⊎_elim, length, nat_le}
 use Rattle.std.proofs.lemmas.Bool.Decides.{nat_tests}
-use Rattle.psu_disk.specs.Disk.{DiskState, HasFailed}
+use Rattle.psu_disk.specs.Disk.{DiskState, HasFailed, LeavesOnly}
+use Rattle.psu_items.specs.Finding.{IsOldOrSame}
+use Rattle.psu_exec.specs.Jobs.{home_disk}
 use Rattle.psu_disk.specs.Ranges.{reads_left}
 use Rattle.psu_disk.specs.declared.disk.Disk.{Ghosts}
 use Rattle.psu_map.specs.Map.{Item}
@@ -83,6 +85,15 @@ powers_on {D} {A} {G} image store on new stood stands state found sound fitting 
       found = subst (λ (n : ℕ). Stands image n (items_of on.device.flush.contents)) (sym limit) (subst (λ (m : List Item). Stands image store.limit m) (sym found) stood);
       opens = called on new (born on) (Opened (Some 1)) opens same (λ d e. e);
     })
+
+-- the store at home is the one that was opened
+pub opened_moments : {D A : Type 0} {G : Ghosts D} (given : D) (store : MapOn D) (there : Home D A G) (new : Exec D A G) → new.home ≡ Some (home.Whole store) → new.home ≡ Some there
+    → LeavesOnly (Ghosts.moment G) (Ghosts.left_since G) given store.disk (IsOldOrSame (Ghosts.state G given)) → LeavesOnly (Ghosts.moment G) (Ghosts.left_since G) given (home_disk there) (IsOldOrSame (Ghosts.state G given))
+opened_moments {D} {A} {G} given store there new is at time =
+    subst (λ (z : Home D A G). LeavesOnly (Ghosts.moment G) (Ghosts.left_since G) given (home_disk z) (IsOldOrSame (Ghosts.state G given))) (one (home.Whole store) there (sym is ∙ at)) time
+  where
+    one : (a b : Home D A G) → Some a ≡ Some b → a ≡ b
+    one a b e = cc
 
 -- a whole store isn't worn
 pub worn_whole : {D A : Type 0} {G : Ghosts D} (exec : Exec D A G) → exec.device.flush.store ≡ Whole → IsWornAtLast exec

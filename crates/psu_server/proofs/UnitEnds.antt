@@ -23,12 +23,13 @@ use Rattle.psu_lex.specs.declared.scpi_error.ScpiError.{ScpiError}
 use Rattle.psu_lex.specs.declared.scpi_error.ScpiError.TheVariants.{StorageFault}
 use Rattle.psu_server.specs.Failures.{failures_of}
 use Rattle.psu_server.specs.Lives.{Life, lived, world_of, Calls}
-use Rattle.psu_server.specs.Progress.{Acted, GoesOn, Halts, Lasts, WaitEnds}
+use Rattle.psu_server.specs.Progress.{Acted, GoesOn, Halts, Lasts, Spans, WaitEnds}
 use Rattle.psu_server.specs.Reasons.{IsHaltedBy}
 use Rattle.psu_server.specs.Runs.{Mishaps, Acts, Flushes, IsMeant, UnitRuns, is_final, is_later, is_out_of_memory, is_parked}
 use Rattle.psu_server.specs.declared.run_cause.RunCause.{RunCause}
 use Rattle.psu_server.specs.declared.run_cause.RunCause.TheVariants.{Read, Write, Open, Device, TooLong, Memory}
-use Rattle.psu_server.proofs.Calls.{Executes, executes_join, executes_one, flush_calls, begins_all, begins_idle, begins_more, begins_then}
+use Rattle.psu_server.proofs.Calls.{Executes, executes_join, executes_one, flush_calls, begins_all, begins_idle, begins_more, begins_then, leads_one}
+use Rattle.psu_server.proofs.Moments.{spans_same, spans_then}
 use Rattle.psu_server.proofs.Lasting.{lasts_same, lasts_then}
 use Rattle.psu_server.proofs.Within.{failed_before, failed_on, within_as, within_at, within_here, within_itself, within_then}
 use Rattle.psu_server.proofs.SessionOne.{cleared_calls, count_same, executed_calls, settle_store, settled_calls, until}
@@ -37,19 +38,19 @@ use Rattle.psu_server.proofs.SessionOne.{cleared_calls, count_same, executed_cal
 
 -- what went on was executed
 pub record HasExecuted {D A : Type 0} {G : Ghosts D} (old new : Exec D A G) (requests : List Request) : Type 0 where
-  pub calls : Ghosts.honest G → (life : Life) → (next : Life) × Executes (world_of life old) requests (world_of next new)
+  pub calls : Ghosts.honest G → (life : Life) → (next : Life) × Executes (world_of life old) requests (world_of next new) × Spans old new (world_of life old) (world_of next new)
   pub lasts : Lasts old new
 
 pub has_executed : {D A : Type 0} {G : Ghosts D} (old new : Exec D A G) (requests : List Request) (P : Mishaps → World → World → Type 0) → GoesOn old new P
     → ((can : Mishaps) (w v : World) → P can w v → Executes w requests v) → HasExecuted old new requests
 has_executed old new requests P goes turn = record {
-  calls = λ h life. let g = goes.runs h life in (g.0, turn g.1.0 (world_of life old) (world_of g.0 new) (within_itself _ _ (λ can. P can (world_of life old) (world_of g.0 new)) g.1));
+  calls = λ h life. let g = goes.runs h life in (g.0, turn g.1.0 (world_of life old) (world_of g.0 new) (within_itself _ _ (λ can. P can (world_of life old) (world_of g.0 new)) g.1), g.2);
   lasts = goes.lasts;
 }
 
 pub executed_join : {D A : Type 0} {G : Ghosts D} (old mid new : Exec D A G) (xs ys : List Request) → HasExecuted old mid xs → HasExecuted mid new ys → HasExecuted old new (xs ++ ys)
 executed_join old mid new xs ys p q = record {
-  calls = λ h life. let g = p.calls h life in let k = q.calls h g.0 in (k.0, executes_join (world_of life old) (world_of g.0 mid) (world_of k.0 new) xs ys g.1 k.1);
+  calls = λ h life. let g = p.calls h life in let k = q.calls h g.0 in (k.0, executes_join (world_of life old) (world_of g.0 mid) (world_of k.0 new) xs ys g.1 k.1, spans_then old mid new _ _ _ g.2 k.2);
   lasts = lasts_then old mid new p.lasts q.lasts;
 }
 
@@ -57,7 +58,7 @@ executed_join old mid new xs ys p q = record {
 pub halts_here : {D A : Type 0} {G : Ghosts D} (old new : Exec D A G) (done more : List Request) (cause : RunCause) → HasExecuted old new done
     → (Ghosts.honest G → IsHaltedBy old new cause) → cause ≢ Write → Halts old new (done ++ more) cause
 halts_here old new done more cause p why own = record {
-  begun = λ h life. let g = p.calls h life in (g.0, begins_more _ _ done more (begins_all _ _ done g.1));
+  begun = λ h life. let g = p.calls h life in (g.0, begins_more _ _ done more (begins_all _ _ done g.1), g.2);
   lasts = p.lasts;
   why = why;
   own = own;
@@ -75,7 +76,7 @@ halted_since old mid new TooLong lasts w = absurd w
 pub halts_after : {D A : Type 0} {G : Ghosts D} (old mid new : Exec D A G) (done rest : List Request) (cause : RunCause) → HasExecuted old mid done → Halts mid new rest cause
     → Halts old new (done ++ rest) cause
 halts_after old mid new done rest cause p s = record {
-  begun = λ h life. let g = p.calls h life in let k = s.begun h g.0 in (k.0, begins_then (world_of life old) (world_of g.0 mid) (world_of k.0 new) done rest g.1 k.1);
+  begun = λ h life. let g = p.calls h life in let k = s.begun h g.0 in (k.0, begins_then (world_of life old) (world_of g.0 mid) (world_of k.0 new) done rest g.1 k.1, spans_then old mid new _ _ _ g.2 k.2);
   lasts = lasts_then old mid new p.lasts s.lasts;
   why = λ h. halted_since old mid new cause p.lasts (s.why h);
   own = s.own;
@@ -83,7 +84,7 @@ halts_after old mid new done rest cause p s = record {
 
 pub halts_more : {D A : Type 0} {G : Ghosts D} (old new : Exec D A G) (some more : List Request) (cause : RunCause) → Halts old new some cause → Halts old new (some ++ more) cause
 halts_more old new some more cause s = record {
-  begun = λ h life. let k = s.begun h life in (k.0, begins_more _ _ some more k.1);
+  begun = λ h life. let k = s.begun h life in (k.0, begins_more _ _ some more k.1, k.2);
   lasts = s.lasts;
   why = s.why;
   own = s.own;
@@ -102,6 +103,7 @@ settled_goes old new reply t there = record {
     lived life old.device (Settled 1 reply),
     within_at _ _ _ (λ can. Calls (world_of life old) (Settled 1 reply) (world_of (lived life old.device (Settled 1 reply)) new)) (count_same old new there)
         (within_here _ (λ can. Calls (world_of life old) (Settled 1 reply) (world_of (lived life old.device (Settled 1 reply)) new)) (λ can. settled_calls old new life reply t there)),
+    spans_same old new life _ there (leads_one _ _ (Settled 1 reply) (settled_calls old new life reply t there)),
   );
   lasts = lasts_same old new (settle_store old.device new.device reply t).0 there;
 }
@@ -112,6 +114,7 @@ cleared_goes old new t there = record {
     lived life old.device (Cleared 1),
     within_at _ _ _ (λ can. Calls (world_of life old) (Cleared 1) (world_of (lived life old.device (Cleared 1)) new)) (count_same old new there)
         (within_here _ (λ can. Calls (world_of life old) (Cleared 1) (world_of (lived life old.device (Cleared 1)) new)) (λ can. cleared_calls old new life t there)),
+    spans_same old new life _ there (leads_one _ _ (Cleared 1) (cleared_calls old new life t there)),
   );
   lasts = lasts_same old new (ap (λ (s : State). s.flush.store) t.1) there;
 }
@@ -137,6 +140,7 @@ executed_goes old new request reply t there = record {
     lived life old.device (Executed 1 request reply),
     within_at _ _ _ (λ can. IsMeant can reply × Calls (world_of life old) (Executed 1 request reply) (world_of (lived life old.device (Executed 1 request reply)) new)) (count_same old new there)
         (record { refused = is_refused_for reply; failed = false; worn = false }, omega arith, (λ e. cc), λ can cov. (meant can reply cov.refused, executed_calls old new life request reply t there)),
+    spans_same old new life _ there (leads_one _ _ (Executed 1 request reply) (executed_calls old new life request reply t there)),
   );
   lasts = lasts_same old new (ap (λ (s : State). s.flush.store) t.1.is) there;
 }
@@ -148,6 +152,7 @@ goes_then old mid new P Q R p q join = record {
     k.0,
     within_then _ _ _ (λ can. P can (world_of life old) (world_of g.0 mid)) (λ can. Q can (world_of g.0 mid) (world_of k.0 new)) (λ can. R can (world_of life old) (world_of k.0 new)) g.1 k.1
         (λ can x y. join can (world_of life old) (world_of g.0 mid) (world_of k.0 new) x y),
+    spans_then old mid new _ _ _ g.2 k.2,
   );
   lasts = lasts_then old mid new p.lasts q.lasts;
 }
@@ -157,6 +162,7 @@ goes_as old new P R p turn = record {
   runs = λ h life. let g = p.runs h life in (
     g.0,
     within_as _ _ (λ can. P can (world_of life old) (world_of g.0 new)) (λ can. R can (world_of life old) (world_of g.0 new)) g.1 (λ can x. turn can (world_of life old) (world_of g.0 new) x),
+    g.2,
   );
   lasts = p.lasts;
 }
@@ -206,7 +212,7 @@ pub halts_cleared : {D A : Type 0} {G : Ghosts D} (old mid new : Exec D A G) (ca
 halts_cleared old mid new cause s t there =
     let c = cleared_goes mid new t there in record {
       begun = λ h life. let k = s.begun h life in let n = c.runs h k.0 in
-          (n.0, begins_idle (world_of life old) (world_of k.0 mid) (world_of n.0 new) (Cleared 1) [] k.1 (within_itself _ _ (λ can. Calls (world_of k.0 mid) (Cleared 1) (world_of n.0 new)) n.1) refl);
+          (n.0, begins_idle (world_of life old) (world_of k.0 mid) (world_of n.0 new) (Cleared 1) [] k.1 (within_itself _ _ (λ can. Calls (world_of k.0 mid) (Cleared 1) (world_of n.0 new)) n.1) refl, spans_then old mid new _ _ _ k.2 n.2);
       lasts = lasts_then old mid new s.lasts c.lasts;
       why = λ h. still_halted cause (s.why h);
       own = s.own;

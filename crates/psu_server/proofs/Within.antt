@@ -1,7 +1,7 @@
 -- What may happen with what went wrong, step by step.
 use Rattle.std.proofs.Common.{◌≡◌, ◌⊎◌, ℕ, ◌≤◌, ◌||◌, Bool, true, false, refl, subst, inl, inr, arith, ⊎_elim}
 use Rattle.psu_disk.specs.Disk.{HasFailed}
-use Rattle.psu_server.specs.Runs.{Mishaps, none}
+use Rattle.psu_server.specs.Runs.{Mishaps, any, none}
 use Rattle.psu_server.specs.Within.{Covers, Within}
 
 or_left : (a b : Bool) → a ≡ true → (a || b) ≡ true
@@ -70,3 +70,7 @@ within_itself a b P w = w.3 w.0 (covers_itself w.0)
 -- some time goes by
 pub within_later : (a b c : ℕ) (P : Mishaps → Type 0) → b ≤ c → Within a b P → Within a c P
 within_later a b c P later w = (w.0, omega (arith, w.1, later), (λ e. failed_on a b c later (w.2 e)), w.3)
+
+-- and where anything may
+pub within_any : (a b : ℕ) (P : Mishaps → Type 0) → Within a b P → P any
+within_any a b P w = w.3 any (record { refused = λ e. refl; failed = λ e. refl; worn = λ e. refl })

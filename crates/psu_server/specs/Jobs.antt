@@ -3,6 +3,7 @@ use Rattle.std.specs.Prelude.{◌≡◌, ℕ, ◌≤◌, ◌+◌, ◌^◌, Bool,
 use Rattle.std.specs.Option.{ForSome}
 use Rattle.psu_disk.specs.Disk.{HasFailed}
 use Rattle.psu_disk.specs.declared.disk.Disk.{Ghosts}
+use Rattle.psu_items.specs.Image.{IsEither}
 use Rattle.psu_exec.specs.Device.{target}
 use Rattle.psu_exec.specs.Calls.{JobEnd, Unstarted, Failed, GaveBack, Allows}
 use Rattle.psu_exec.specs.Jobs.{job_data, job_disk}
@@ -16,6 +17,7 @@ use Rattle.psu_exec.specs.declared.job.Job.{Job}
 use Rattle.psu_server.specs.Causes.{IsWornOut}
 use Rattle.psu_server.specs.Failures.{extent_of, failures_of}
 use Rattle.psu_server.specs.Lives.{disk_at}
+use Rattle.psu_server.specs.Moments.{Since, disk_in}
 use Rattle.psu_server.specs.Runs.{EndsJob, is_short}
 
 -- The count of failures: where the job broke the store, or left it broken, a call of the disk failed, and else none did.
@@ -52,4 +54,6 @@ pub record HasRun {D A : Type 0} {G : Ghosts D} (old : Exec D A G) (job : Job D 
   pub extent : extent_of new ≡ Ghosts.extent G (job_disk job)
   pub worn : IsWornAtLast new
   pub wears : Ghosts.honest G → is_short finished ≡ false → Wears finished (disk_at new.home).bytes
+  pub time : Ghosts.honest G → Ghosts.tells G
+      → Since G (Some (job_disk job)) (disk_in new.home) (IsEither (job_data job).limit (job_data job).before (job_data job).target)
   pub counts : Ghosts.honest G → is_short finished ≡ false → Counts finished (Ghosts.failures G (job_disk job)) (failures_of new)

@@ -1,5 +1,5 @@
 -- How far a run has come: what each of its parts has executed and told.
-use Rattle.std.specs.Prelude.{◌≡◌, ◌≢◌, ◌⊎◌, ℕ, ◌<◌, ◌≤◌, List, ◌++◌, length, Option}
+use Rattle.std.specs.Prelude.{◌≡◌, ◌≢◌, ◌⊎◌, ℕ, ◌<◌, ◌≤◌, List, ◌++◌, length, Option, Some}
 use Rattle.std.specs.Io.KnownBytes.{Appends}
 use Rattle.std.specs.Io.{StartsWith}
 use Rattle.psu_disk.specs.declared.disk.Disk.{Ghosts}
@@ -12,7 +12,8 @@ use Rattle.psu_exec.specs.declared.exec.Exec.{Exec}
 use Rattle.psu_server.specs.Failures.{extent_of, failures_of}
 use Rattle.psu_server.specs.Jobs.{IsWornAtLast}
 use Rattle.psu_server.specs.Lines.{Message}
-use Rattle.psu_server.specs.Lives.{Life, world_of, Calls, IsLeftBy}
+use Rattle.psu_server.specs.Lives.{Life, world_of, Calls, IsLeftBy, Reached}
+use Rattle.psu_server.specs.Moments.{IsBetween, IsNow, IsWhile, Leads, Since, disk_in}
 use Rattle.psu_server.specs.Output.{Telling, Says, SaysOn, SaysOnUntil, SaysUntil}
 use Rattle.psu_server.specs.Reasons.{IsHaltedBy, StopsFor}
 use Rattle.psu_server.specs.Runs.{Mishaps, Acts, Begins, Flushes, NextBegins, Runs}
@@ -37,14 +38,20 @@ pub record HandsBack {D A : Type 0} {G : Ghosts D} (old : Exec D A G) (disk : D)
 
 -- ---- units
 
+-- Calls led from one world to another, and at each moment what may be left stands for a prefix of what was executed by then.
+pub record Spans {D A : Type 0} {G : Ghosts D} (old new : Exec D A G) (w v : World) : Type 0 where
+  pub leads : Leads w v
+  pub time : Ghosts.tells G → IsNow G → Reached w → Since G (disk_in old.home) (disk_in new.home) (IsBetween w v)
+
 -- The device went on, in a life that goes on, and this may have happened with what went wrong.
 pub record GoesOn {D A : Type 0} {G : Ghosts D} (old new : Exec D A G) (P : Mishaps → World → World → Type 0) : Type 0 where
   pub runs : Ghosts.honest G → (life : Life) → (next : Life) × Within (failures_of old) (failures_of new) (λ can. P can (world_of life old) (world_of next new))
+      × Spans old new (world_of life old) (world_of next new)
   pub lasts : Lasts old new
 
 -- The device stops for this cause, after some first of these requests.
 pub record Halts {D A : Type 0} {G : Ghosts D} (old new : Exec D A G) (requests : List Request) (cause : RunCause) : Type 0 where
-  pub begun : Ghosts.honest G → (life : Life) → (next : Life) × Begins (world_of life old) requests (world_of next new)
+  pub begun : Ghosts.honest G → (life : Life) → (next : Life) × Begins (world_of life old) requests (world_of next new) × Spans old new (world_of life old) (world_of next new)
   pub lasts : Lasts old new
   pub why : Ghosts.honest G → IsHaltedBy old new cause
   pub own : cause ≢ Write
@@ -80,6 +87,12 @@ BreaksOff old new told now P cause = (answers : List (List ℕ)) → told.begun 
 
 -- ---- messages
 
+-- The device went on, in a life that goes on or in others behind it: these messages were executed and told this text.
+pub record RunsOn {D A : Type 0} {G : Ghosts D} (old new : Exec D A G) (done : List Message) (text : List ℕ) : Type 0 where
+  pub runs : Ghosts.honest G → (life : Life) → (next : Life) × Within (failures_of old) (failures_of new) (λ can. Runs can (world_of life old) done text (world_of next new))
+      × (Ghosts.tells G → IsNow G → Reached (world_of life old) → Since G (disk_in old.home) (disk_in new.home) (IsWhile (world_of life old) done))
+  pub lasts : Lasts old new
+
 -- A run ended early, for a reason: of these messages the first may have begun, and `part` is what was to be told of it.
 pub record StopsHere {D A : Type 0} {G : Ghosts D} (long : Type 0) (old : Exec D A G) (fault : RunFault D) (rest : List Message) (part : List ℕ) : Type 0 where
   pub hands : HandsBack old fault.disk
@@ -87,6 +100,7 @@ pub record StopsHere {D A : Type 0} {G : Ghosts D} (long : Type 0) (old : Exec D
       × Within (failures_of old) (Ghosts.failures G fault.disk) (λ can. NextBegins can (world_of life old) rest part last)
       × IsLeftBy last (Ghosts.state G fault.disk)
       × StopsFor long (failures_of old) (Ghosts.failures G fault.disk) rest last (Ghosts.state G fault.disk).bytes fault.cause
+      × (Ghosts.tells G → IsNow G → Reached (world_of life old) → Since G (disk_in old.home) (Some fault.disk) (IsWhile (world_of life old) rest))
 
 -- A run ended early, for a reason: these messages were executed, and of those after them the first may have begun.
 pub record Stops {D A : Type 0} {G : Ghosts D} (long : Type 0) (old : Exec D A G) (fault : RunFault D) (done rest : List Message) (text part : List ℕ) : Type 0 where
@@ -96,13 +110,14 @@ pub record Stops {D A : Type 0} {G : Ghosts D} (long : Type 0) (old : Exec D A G
       × Within count (Ghosts.failures G fault.disk) (λ can. NextBegins can mid rest part last)
       × IsLeftBy last (Ghosts.state G fault.disk)
       × StopsFor long count (Ghosts.failures G fault.disk) rest last (Ghosts.state G fault.disk).bytes fault.cause
+      × (Ghosts.tells G → IsNow G → Reached (world_of life old) → Since G (disk_in old.home) (Some fault.disk) (IsWhile (world_of life old) (done ++ rest)))
 
 -- The messages before the piece are those that end in it, and those after it. They were executed, and their text told.
 abbrev pub Fed : {D A : Type 0} {G : Ghosts D} → (List ℕ → List Message) → List ℕ → (List ℕ → List Message) → Exec D A G → Exec D A G → Telling → Telling → Type 0
 Fed before piece after old new told now =
     (done : List Message) × (text : List ℕ) × Says told now text
     × ((input : List ℕ) → before (piece ++ input) ≡ done ++ after input)
-    × GoesOn old new (λ can w v. Runs can w done text v)
+    × RunsOn old new done text
 
 -- the same up to a fault
 abbrev pub Stopped : {D A : Type 0} {G : Ghosts D} → (List ℕ → List Message) → List ℕ → Exec D A G → RunFault D → Telling → Telling → Type 0
@@ -115,12 +130,12 @@ abbrev pub Answered : {D A : Type 0} {G : Ghosts D} → (List ℕ → List Messa
 Answered before piece after old new old_written new_written =
     (done : List Message) × (text : List ℕ) × Appends old_written new_written text
     × ((input : List ℕ) → before (piece ++ input) ≡ done ++ after input)
-    × GoesOn old new (λ can w v. Runs can w done text v)
+    × RunsOn old new done text
 
 -- the messages were executed, and the writer gained their text
 abbrev pub Answers : {D A : Type 0} {G : Ghosts D} → List Message → Exec D A G → Exec D A G → Option (List ℕ) → Option (List ℕ) → Type 0
 Answers due old new old_written new_written =
-    (text : List ℕ) × Appends old_written new_written text × GoesOn old new (λ can w v. Runs can w due text v)
+    (text : List ℕ) × Appends old_written new_written text × RunsOn old new due text
 
 -- A run ended early. What the executed messages told is written, and what was told of the next one; where the writer failed, a
 -- front of it, and some of it is missing.
@@ -145,3 +160,4 @@ pub record RanAll {D A : Type 0} {G : Ghosts D} (old : Exec D A G) (due : List M
   pub ends : Ghosts.honest G → (life : Life) → (last : World) × (over : World)
       × Within (failures_of old) (Ghosts.failures G disk) (λ can. Runs can (world_of life old) due text last × Flushes can last over)
       × (over.state.flush.unflushed ≡ 0) × (over.disk ≡ Ghosts.state G disk)
+      × (Ghosts.tells G → IsNow G → Reached (world_of life old) → Since G (disk_in old.home) (Some disk) (IsWhile (world_of life old) due))

@@ -3,8 +3,8 @@ ghost use Rattle.std.specs.Prelude.{◌≡◌, ◌≢◌, ◌∷◌, [], List, �
 ghost use Rattle.psu_tree.specs.declared.unit_request.Request.{Request as RequestData};
 ghost use Rattle.psu_server.specs.Lines.{Asks, Message, coming, is_power, message_now};
 ghost use Rattle.psu_server.specs.Output.{Says, SaysUntil, telling};
-ghost use Rattle.psu_server.specs.Progress.{Breaks, BreaksOff, Continues, Fed, GoesOn, Stopped, StopsHere};
-ghost use Rattle.psu_server.specs.Runs.{LineBegins, LineRuns, MessageBegins, MessageRuns};
+ghost use Rattle.psu_server.specs.Progress.{Breaks, BreaksOff, Continues, Fed, RunsOn, Stopped, StopsHere};
+ghost use Rattle.psu_server.specs.Runs.{LineBegins, LineRuns, MessageBegins};
 
 use crate::jobs::reopen;
 use crate::lines::Lines;
@@ -23,7 +23,7 @@ pub fn restart<D: Disk, A: Allocator + Copy>(
     alloc: A,
     powered: Powered<D, A>,
 ) -> Result<Powered<D, A>, RunFault<D>>
-    ensures runs { IfOk result (λ p. GoesOn powered.exec p.exec (λ can w v. MessageRuns can w Message.Power [] v)) }
+    ensures runs { IfOk result (λ p. RunsOn powered.exec p.exec (Message.Power ∷ []) []) }
     ensures stops { IfErr result (λ f. (rest : List Message) → StopsHere ⊥ powered.exec f (Message.Power ∷ rest) []) }
     ensures other { IfErr result (λ f. f.cause ≢ RunCause.Write) }
 {
@@ -48,7 +48,7 @@ pub fn answer_line<W: Write, D: Disk, A: Allocator + Copy>(
     requires power { is_power (message_now lines.old.is_over lines.old.line.items) ≡ false }
     requires answered { gathered.old.answered ≡ false }
     ensures runs { OnOk result ((text : List ℕ) × Says (telling (W.contents writer.old) gathered.old) (telling (W.contents writer.new) gathered.new) text
-        × GoesOn powered.old.exec powered.new.exec (λ can w v. MessageRuns can w (message_now lines.old.is_over lines.old.line.items) text v)) }
+        × RunsOn powered.old.exec powered.new.exec (message_now lines.old.is_over lines.old.line.items ∷ []) text) }
     ensures answered { OnOk result (gathered.new.answered ≡ false) }
     ensures over { OnOk result (lines.new.is_over ≡ false) }
     ensures empty { OnOk result (lines.new.line.items ≡ []) }

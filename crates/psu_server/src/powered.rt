@@ -1,8 +1,12 @@
 // The device that is powered on.
 ghost use Rattle.std.specs.Prelude.{◌≡◌, ◌≢◌, ◌≤◌, ℕ, List, IfOk, IfErr, true, false, None};
+ghost use Rattle.std.specs.Option.{ForSome};
+ghost use Rattle.psu_disk.specs.Disk.{LeavesOnly};
+ghost use Rattle.psu_items.specs.Finding.{IsOldOrSame};
 ghost use Rattle.psu_items.specs.Image.{EachStands};
 ghost use Rattle.psu_map.specs.Map.{Item};
 ghost use Rattle.psu_exec.specs.Device.{is_broken, is_denied, is_open, wait_of};
+ghost use Rattle.psu_exec.specs.Jobs.{home_disk};
 ghost use Rattle.psu_exec.specs.declared.condition.Condition.TheVariants.{Worn};
 ghost use Rattle.psu_server.specs.Failures.{extent_of, failures_of};
 ghost use Rattle.psu_server.specs.Jobs.{IsWornAtLast};
@@ -39,6 +43,10 @@ impl<D: Disk, A: Allocator + Copy> Powered<D, A> {
         ensures refused { D.honest → IfErr result (λ f. NotStarted (D.state disk).bytes (D.failures disk) (D.failures f.disk) f.cause) }
         ensures later { IfErr result (λ f. D.failures disk ≤ D.failures f.disk) }
         ensures extent { IfErr result (λ f. D.extent f.disk ≡ D.extent disk) }
+        // At each moment since it began, each image is one from before, or has the root that counted as it was read.
+        ensures time { D.honest → D.tells → IfOk result (λ p. ForSome p.exec.home (λ h. LeavesOnly D.moment D.left_since disk (home_disk h) (IsOldOrSame (D.state disk)))) }
+        ensures time_refused { D.honest → D.tells → IfErr result (λ f. LeavesOnly D.moment D.left_since disk f.disk (IsOldOrSame (D.state disk))) }
+
         // Also a disk that isn't powered on keeps the map that each of its images stood for.
         ensures left { D.honest → IfErr result (λ f. (limit : ℕ) (map : List Item) → EachStands (D.state disk) limit map → EachStands (D.state f.disk) limit map) }
     {
@@ -68,6 +76,7 @@ impl<D: Disk, A: Allocator + Copy> Powered<D, A> {
 
     /// The end: the disk.
     pub fn into_disk(self) -> D
+        ensures same { ForSome self.exec.home (λ h. result ≡ home_disk h) }
         ensures failures { D.failures result ≡ failures_of self.exec }
         ensures extent { D.extent result ≡ extent_of self.exec }
         ensures state { D.state result ≡ disk_at self.exec.home }
@@ -85,6 +94,7 @@ impl<D: Disk, A: Allocator + Copy> Powered<D, A> {
     /// The early end of a run.
     pub fn fault(self, cause: RunCause) -> RunFault<D>
         ensures cause { result.cause ≡ cause }
+        ensures same { ForSome self.exec.home (λ h. result.disk ≡ home_disk h) }
         ensures failures { D.failures result.disk ≡ failures_of self.exec }
         ensures extent { D.extent result.disk ≡ extent_of self.exec }
         ensures state { D.state result.disk ≡ disk_at self.exec.home }

@@ -13,7 +13,7 @@ returns-in_default-clause-early g c =
     fed_front (coming c.args.lines.now.is_over c.args.lines.now.line.items) (coming c.feed.new.lines.is_over c.feed.new.lines.line.items) c.args.piece.now c.args.powered.exec c.in-Ok.powered.exec
     c.fault.result (telling (g.W.Write.contents c.args.writer.now) c.new-gathered.result) (telling (g.W.Write.contents c.feed.new.writer) c.feed.new.gathered) c.text.result.now _ c.in-Ok.ensures.fed
     (ap (λ t. t.rest) c.new-gathered.ensures) c.text.ensures c.in_default.ensures.short
-    (record { told = f.cause; failures = f.failures; extent = f.extent; state = f.state; reason = f.reason })
+    (record { told = f.cause; failures = f.failures; extent = f.extent; state = f.state; reason = f.reason; disk = f.same })
 
 pub returns-in-Ok-clause-whole : goal.returns-in-Ok-clause-whole
 returns-in-Ok-clause-whole g c =

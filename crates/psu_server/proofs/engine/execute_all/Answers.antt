@@ -19,7 +19,7 @@ pub returns-in_default-clause-early : goal.returns-in_default-clause-early
 returns-in_default-clause-early g c =
     let f = c.fault.ensures in
     ran_front (coming c.reading.lines.is_over c.reading.lines.line.items) c.args.powered.exec c.reading.powered.exec c.fault.result _ _ _ _ Read c.reading.invariant.ran
-    (record { told = f.cause; failures = f.failures; extent = f.extent; state = f.state; reason = f.reason }) (λ w. cc) (λ rest last. tt)
+    (record { told = f.cause; failures = f.failures; extent = f.extent; state = f.state; reason = f.reason; disk = f.same }) (λ w. cc) (λ rest last. tt)
 
 pub returns-then-count-eq0-clause-whole : goal.returns-then-count-eq0-clause-whole
 returns-then-count-eq0-clause-whole g c =
@@ -47,7 +47,7 @@ returns-then-count-room-clause-early g c =
     let all = taken_more c.reading.invariant.seen c.read.new.buf c.in-Ok.count _ _ _ c.reading.invariant.taken c.in-Ok.ensures.bound.0 c.count_read.ensures.bytes refl in
     ran_cut (coming c.reading.lines.is_over c.reading.lines.line.items) (coming c.answer.new.lines.is_over c.answer.new.lines.line.items)
     c.room-room.result c.in-Ok.count c.read.new.buf c.args.powered.exec c.reading.powered.exec c.in_ok-powered.powered.exec fault.result _ _ _ _ _ _ TooLong (omega (arith, c.if-count-room.true))
-    c.reading.invariant.ran c.in-Ok.ensures.bytes.0 c.in_ok-powered.ensures.whole (record { told = f.cause; failures = f.failures; extent = f.extent; state = f.state; reason = f.reason }) (λ w. cc)
+    c.reading.invariant.ran c.in-Ok.ensures.bytes.0 c.in_ok-powered.ensures.whole (record { told = f.cause; failures = f.failures; extent = f.extent; state = f.state; reason = f.reason; disk = f.same }) (λ w. cc)
     (λ rest last. taken_of 1048576 (c.reading.invariant.seen ++ take c.in-Ok.count c.read.new.buf) (g.R.Read.remaining c.args.reader.now) _
     (Consumes-trans _ _ _ c.reading.invariant.seen (take c.in-Ok.count c.read.new.buf) c.reading.invariant.consumed c.in-Ok.ensures.bytes.0) (omega (arith, all, c.room-room.ensures, c.if-count-room.true, c.count_read.ensures.bytes)))
 
@@ -79,5 +79,5 @@ pub returns-clause-early : goal.returns-clause-early
 returns-clause-early g c =
     let f = c.fault-2.ensures in
     ran_front (coming c.reading.lines.is_over c.reading.lines.line.items) c.args.powered.exec c.reading.powered.exec c.fault-2.result _ _ _ _ TooLong c.reading.invariant.ran
-    (record { told = f.cause; failures = f.failures; extent = f.extent; state = f.state; reason = f.reason }) (λ w. cc)
+    (record { told = f.cause; failures = f.failures; extent = f.extent; state = f.state; reason = f.reason; disk = f.same }) (λ w. cc)
     (λ rest last. taken_of 1048576 c.reading.invariant.seen (g.R.Read.remaining c.args.reader.now) _ c.reading.invariant.consumed (grind (arith, c.reading-test.ensures, c.reading.invariant.reads, c.reading.invariant.taken)))

@@ -1,9 +1,15 @@
-use Rattle.std.proofs.Common.{inl, inr, refl, ◌∙◌, ◌≡◌, ◌≤◌, arith}
+use Rattle.std.proofs.Common.{ap, inl, inr, is_none, refl, sym, ◌∙◌, ◌≡◌, ◌≤◌, arith}
 use Rattle.std.proofs.KnownBytes.{Appends-nil}
 use Rattle.psu_server.specs.declared.run_cause.RunCause.TheVariants.{Memory}
 use Rattle.psu_server.proofs.Causes.{ends_at_once}
 use Rattle.psu_server.proofs.Fronts.{passed}
-use Rattle.psu_server.proofs.Outcomes.{passed_disk, run_cause, run_early, run_whole}
+use Rattle.psu_disk.specs.Disk.{LeavesOnly}
+use Rattle.psu_disk.specs.Moments.{weaken}
+use Rattle.psu_items.specs.Finding.{IsOldOrSame}
+use Rattle.psu_exec.proofs.Moments.{keeps_map}
+use Rattle.psu_server.specs.Lives.{born}
+use Rattle.psu_server.specs.Moments.{IsOfRun}
+use Rattle.psu_server.proofs.Outcomes.{early_moments, passed_disk, run_cause, run_early, run_moments, run_whole}
 use Rattle.psu_server.proofs.Reading.{early_unread}
 use Rattle.psu_server.proofs.engine.run.Goals as goal
 
@@ -31,7 +37,7 @@ returns-in_default-clause-early g c = λ h.
     let f = c.fault.ensures in
     inr (run_early (g.R.Read.remaining c.args.reader.now) _ _ (g.D.Disk.state c.args.disk).bytes c.in-Ok.powered.exec c.fault.result (g.D.Disk.failures c.args.disk) h (on.starts h) on.works on.last
     (early_unread c.in-Ok.powered.exec c.fault.result (g.R.Read.remaining c.args.reader.now) (g.W.Write.contents c.args.writer.now) Memory
-    (record { told = f.cause; failures = f.failures; extent = f.extent; state = f.state; reason = f.reason }) (λ e. cc) (λ rest last. tt)))
+    (record { told = f.cause; failures = f.failures; extent = f.extent; state = f.state; reason = f.reason; disk = f.same }) (λ e. cc) (λ rest last. tt)))
 
 pub returns-in_default-clause-cause : goal.returns-in_default-clause-cause
 returns-in_default-clause-cause g c = λ h.
@@ -39,7 +45,7 @@ returns-in_default-clause-cause g c = λ h.
     let f = c.fault.ensures in
     run_cause (g.R.Read.remaining c.args.reader.now) _ _ (g.D.Disk.state c.args.disk).bytes c.in-Ok.powered.exec c.fault.result (g.D.Disk.failures c.args.disk) h (on.starts h) on.works on.last
     (early_unread c.in-Ok.powered.exec c.fault.result (g.R.Read.remaining c.args.reader.now) (g.W.Write.contents c.args.writer.now) Memory
-    (record { told = f.cause; failures = f.failures; extent = f.extent; state = f.state; reason = f.reason }) (λ e. cc) (λ rest last. tt))
+    (record { told = f.cause; failures = f.failures; extent = f.extent; state = f.state; reason = f.reason; disk = f.same }) (λ e. cc) (λ rest last. tt))
 
 pub returns-in_err-disk-clause-extent : goal.returns-in_err-disk-clause-extent
 returns-in_err-disk-clause-extent g c =
@@ -74,3 +80,33 @@ returns-clause-extent g c = c.in_ok-disk.ensures.whole.2.hands.extent ∙ c.in-O
 
 pub returns-clause-later : goal.returns-clause-later
 returns-clause-later g c = omega (arith, c.in_ok-disk.ensures.whole.2.hands.later, c.in-Ok.ensures.works)
+
+pub returns-in-Err-clause-time : goal.returns-in-Err-clause-time
+returns-in-Err-clause-time g c = λ h t.
+    weaken g.D.Disk.moment g.D.Disk.left_since c.args.disk c.in-Err.fault.disk (IsOldOrSame (g.D.Disk.state c.args.disk)) (IsOfRun (g.D.Disk.state c.args.disk) (g.R.Read.remaining c.args.reader.now))
+    (c.in-Err.ensures.time_refused h t) (λ x kept. inl (keeps_map (g.D.Disk.state c.args.disk) x kept))
+
+pub returns-in_default-clause-time : goal.returns-in_default-clause-time
+returns-in_default-clause-time g c = λ h t.
+    let on = c.in-Ok.ensures in
+    let p = c.in-Ok.powered in
+    let f = c.fault.ensures in
+    early_moments (g.R.Read.remaining c.args.reader.now) _ _ c.args.disk p.exec c.fault.result h t (g.met.D.Disk.only_now t) (on.starts h) on.last (λ none. let bad = sym p.idle ∙ p.exec.away ∙ ap is_none none in cc) (on.time h t)
+    (early_unread p.exec c.fault.result (g.R.Read.remaining c.args.reader.now) (g.W.Write.contents c.args.writer.now) Memory
+    (record { told = f.cause; failures = f.failures; extent = f.extent; state = f.state; reason = f.reason; disk = f.same }) (λ e. cc) (λ rest last. tt))
+
+pub returns-in_err-disk-clause-time : goal.returns-in_err-disk-clause-time
+returns-in_err-disk-clause-time g c = λ h t.
+    let on = c.in-Ok.ensures in
+    let p = c.in-Ok.powered in
+    passed_disk c.from_residual.result c.in_err-disk.field-0.0 (λ d. LeavesOnly g.D.Disk.moment g.D.Disk.left_since c.args.disk d (IsOfRun (g.D.Disk.state c.args.disk) (g.R.Read.remaining c.args.reader.now))) c.from_residual.ensures.1
+    (early_moments (g.R.Read.remaining c.args.reader.now) _ _ c.args.disk p.exec c.in_err-disk.field-0.0 h t (g.met.D.Disk.only_now t) (on.starts h) on.last
+    (λ none. let bad = sym p.idle ∙ p.exec.away ∙ ap is_none none in cc) (on.time h t) c.in_err-disk.ensures.early)
+
+pub returns-clause-time : goal.returns-clause-time
+returns-clause-time g c = λ h t.
+    let on = c.in-Ok.ensures in
+    let p = c.in-Ok.powered in
+    let whole = c.in_ok-disk.ensures.whole in
+    run_moments (g.R.Read.remaining c.args.reader.now) c.args.disk c.in_ok-disk.disk p.exec whole.0 t (g.met.D.Disk.only_now t) (on.starts h) (λ none. let bad = sym p.idle ∙ p.exec.away ∙ ap is_none none in cc) (on.time h t)
+    whole.1 (whole.2.ends h (born p.exec)).5

@@ -5,8 +5,9 @@ use Rattle.psu_server.specs.Lives.{world_of}
 use Rattle.psu_server.specs.Runs.{Jobs}
 use Rattle.psu_server.proofs.Calls.{Executes, executes_join}
 use Rattle.psu_server.proofs.JobEnds.{gave_free, gave_home, gave_locks, gave_open, job_done}
-use Rattle.psu_server.proofs.FlushEnds.{calm_after, flush_ends, flush_full, halts_short, job_executes, jobs_execute, jobs_more, out_free, run_lasts, same_world}
+use Rattle.psu_server.proofs.FlushEnds.{calm_after, flush_ends, flush_full, halts_short, job_executes, job_spans, jobs_execute, jobs_more, out_free, run_lasts, same_world, still_spans}
 use Rattle.psu_server.proofs.Lasting.{lasts_none, lasts_same, lasts_then}
+use Rattle.psu_server.proofs.Moments.{spans_none, spans_then}
 use Rattle.psu_server.proofs.Within.{within_here}
 use Rattle.psu_server.proofs.jobs.flush.Goals as goal
 
@@ -18,6 +19,7 @@ loop-init g c = record {
   free = λ e. e;
   count = omega arith;
   jobs = λ h life. within_here _ (λ can. Jobs 0 can (world_of life c.args.exec.now) (world_of life c.args.exec.now)) (λ can. refl);
+  spans = λ h life. spans_none c.args.exec.now life;
   lasts = lasts_none c.args.exec.now;
   calm = λ h. inr (inr (inl refl));
 }
@@ -25,8 +27,12 @@ loop-init g c = record {
 pub returns-then-run_job-clause-halts : goal.returns-then-run_job-clause-halts
 returns-then-run_job-clause-halts g c =
     halts_short c.args.exec.now c.run_job.new.exec
-    (λ h life. executes_join _ (world_of life c.loop.exec) _ _ _ (jobs_execute c.args.exec.now c.loop.exec life c.loop.counter (c.loop.invariant.jobs h life))
-    (job_executes c.loop.exec c.take.new.self c.run_job.new.exec c.in-Ok.job life c.run_job.result h c.in-Ok.ensures.step c.run_job.ensures.run))
+    (λ h life. (
+      executes_join _ (world_of life c.loop.exec) _ _ _ (jobs_execute c.args.exec.now c.loop.exec life c.loop.counter (c.loop.invariant.jobs h life))
+          (job_executes c.loop.exec c.take.new.self c.run_job.new.exec c.in-Ok.job life c.run_job.result h c.in-Ok.ensures.step c.run_job.ensures.run),
+      spans_then c.args.exec.now c.loop.exec c.run_job.new.exec _ _ _ (c.loop.invariant.spans h life)
+          (job_spans c.loop.exec c.take.new.self c.run_job.new.exec c.in-Ok.job life c.run_job.result h c.in-Ok.ensures.step c.in-Ok.ensures.job c.run_job.ensures.run),
+    ))
     (lasts_then c.args.exec.now c.loop.exec c.run_job.new.exec c.loop.invariant.lasts (run_lasts c.loop.exec c.take.new.self c.run_job.new.exec c.in-Ok.job c.run_job.result c.in-Ok.ensures.job c.run_job.ensures.run))
 
 pub returns-in-Err-Nothing-clause-flushes : goal.returns-in-Err-Nothing-clause-flushes
@@ -35,6 +41,7 @@ returns-in-Err-Nothing-clause-flushes g c = record {
     life,
     flush_ends c.args.exec.now c.loop.exec c.take.new.self life c.loop.counter c.loop.invariant.count (c.loop.invariant.jobs h life)
         (rw c.in-Err-Nothing.field-0-is at c.in-Err-Nothing.ensures.step) c.in-Err-Nothing.ensures.same c.in-Err-Nothing.ensures.home,
+    spans_then c.args.exec.now c.loop.exec c.take.new.self _ _ _ (c.loop.invariant.spans h life) (still_spans c.loop.exec c.take.new.self life c.in-Err-Nothing.ensures.same c.in-Err-Nothing.ensures.home),
   );
   lasts = lasts_then c.args.exec.now c.loop.exec c.take.new.self c.loop.invariant.lasts
       (lasts_same c.loop.exec c.take.new.self (ap (λ (s : State). s.flush.store) c.in-Err-Nothing.ensures.same) c.in-Err-Nothing.ensures.home);
@@ -43,8 +50,11 @@ returns-in-Err-Nothing-clause-flushes g c = record {
 pub returns-in-Err-Memory-clause-halts : goal.returns-in-Err-Memory-clause-halts
 returns-in-Err-Memory-clause-halts g c =
     halts_short c.args.exec.now c.take.new.self
-    (λ h life. subst (λ w. Executes (world_of life c.args.exec.now) [] w) (sym (same_world c.loop.exec c.take.new.self life c.in-Err-Memory.ensures.same c.in-Err-Memory.ensures.home))
-    (jobs_execute c.args.exec.now c.loop.exec life c.loop.counter (c.loop.invariant.jobs h life)))
+    (λ h life. (
+      subst (λ w. Executes (world_of life c.args.exec.now) [] w) (sym (same_world c.loop.exec c.take.new.self life c.in-Err-Memory.ensures.same c.in-Err-Memory.ensures.home))
+          (jobs_execute c.args.exec.now c.loop.exec life c.loop.counter (c.loop.invariant.jobs h life)),
+      spans_then c.args.exec.now c.loop.exec c.take.new.self _ _ _ (c.loop.invariant.spans h life) (still_spans c.loop.exec c.take.new.self life c.in-Err-Memory.ensures.same c.in-Err-Memory.ensures.home),
+    ))
     (lasts_then c.args.exec.now c.loop.exec c.take.new.self c.loop.invariant.lasts
     (lasts_same c.loop.exec c.take.new.self (ap (λ (s : State). s.flush.store) c.in-Err-Memory.ensures.same) c.in-Err-Memory.ensures.home))
 
@@ -60,6 +70,8 @@ loop-preserved g c =
       count = omega (arith, c.loop-test.true);
       jobs = λ h life. jobs_more c.args.exec.now c.loop.exec c.run_job.new.exec life c.loop.counter (c.loop.invariant.jobs h life)
           (job_done c.loop.exec c.take.new.self c.run_job.new.exec c.in-Ok.job life c.run_job.result h c.in-Ok.ensures.step c.in-Ok.ensures.job run long);
+      spans = λ h life. spans_then c.args.exec.now c.loop.exec c.run_job.new.exec _ _ _ (c.loop.invariant.spans h life)
+          (job_spans c.loop.exec c.take.new.self c.run_job.new.exec c.in-Ok.job life c.run_job.result h c.in-Ok.ensures.step c.in-Ok.ensures.job run);
       lasts = lasts_then c.args.exec.now c.loop.exec c.run_job.new.exec c.loop.invariant.lasts (run_lasts c.loop.exec c.take.new.self c.run_job.new.exec c.in-Ok.job c.run_job.result c.in-Ok.ensures.job run);
       calm = λ h. calm_after c.args.exec.now c.loop.counter c.loop.exec c.take.new.self c.run_job.new.exec c.in-Ok.job c.run_job.result h c.in-Ok.ensures.step c.in-Ok.ensures.job run long
           c.loop.invariant.lasts.later (c.loop.invariant.calm h);
@@ -67,7 +79,11 @@ loop-preserved g c =
 
 pub returns-clause-flushes : goal.returns-clause-flushes
 returns-clause-flushes g c = record {
-  runs = λ h life. (life, flush_full c.args.exec.now c.loop.exec life c.loop.counter (omega (arith, c.loop.invariant.count, c.loop-test.false)) (c.loop.invariant.jobs h life));
+  runs = λ h life. (
+    life,
+    flush_full c.args.exec.now c.loop.exec life c.loop.counter (omega (arith, c.loop.invariant.count, c.loop-test.false)) (c.loop.invariant.jobs h life),
+    c.loop.invariant.spans h life,
+  );
   lasts = c.loop.invariant.lasts;
 }
 

@@ -2,7 +2,7 @@ use Rattle.std.proofs.Common.{[], ap, subst, sym, ◌∙◌}
 use Rattle.psu_exec.specs.Device.{State, is_broken}
 use Rattle.psu_server.specs.Lives.{world_of}
 use Rattle.psu_server.proofs.Calls.{Executes, executes_none}
-use Rattle.psu_server.proofs.FlushEnds.{halts_broken, halts_short, job_executes, reopens_done, reopens_none, run_lasts, same_world, still_broken}
+use Rattle.psu_server.proofs.FlushEnds.{halts_broken, halts_short, job_executes, job_spans, reopens_done, reopens_none, run_lasts, same_world, still_broken, still_spans}
 use Rattle.psu_server.proofs.Lasting.{lasts_same}
 use Rattle.psu_server.proofs.jobs.reopen.Goals as goal
 
@@ -12,14 +12,20 @@ returns-then-not-is_broken-clause-reopens g c = reopens_none c.args.exec.now (ap
 pub returns-then-run_job-clause-halts : goal.returns-then-run_job-clause-halts
 returns-then-run_job-clause-halts g c =
     halts_short c.args.exec.now c.run_job.new.exec
-    (λ h life. job_executes c.args.exec.now c.take.new.self c.run_job.new.exec c.in-Ok.job life c.run_job.result h c.in-Ok.ensures.step c.run_job.ensures.run)
+    (λ h life. (
+      job_executes c.args.exec.now c.take.new.self c.run_job.new.exec c.in-Ok.job life c.run_job.result h c.in-Ok.ensures.step c.run_job.ensures.run,
+      job_spans c.args.exec.now c.take.new.self c.run_job.new.exec c.in-Ok.job life c.run_job.result h c.in-Ok.ensures.step c.in-Ok.ensures.job c.run_job.ensures.run,
+    ))
     (run_lasts c.args.exec.now c.take.new.self c.run_job.new.exec c.in-Ok.job c.run_job.result c.in-Ok.ensures.job c.run_job.ensures.run)
 
 pub returns-in-Err-Memory-clause-halts : goal.returns-in-Err-Memory-clause-halts
 returns-in-Err-Memory-clause-halts g c =
     halts_short c.args.exec.now c.take.new.self
-    (λ h life. subst (λ w. Executes (world_of life c.args.exec.now) [] w) (sym (same_world c.args.exec.now c.take.new.self life c.in-Err-Memory.ensures.same c.in-Err-Memory.ensures.home))
-    (executes_none (world_of life c.args.exec.now)))
+    (λ h life. (
+      subst (λ w. Executes (world_of life c.args.exec.now) [] w) (sym (same_world c.args.exec.now c.take.new.self life c.in-Err-Memory.ensures.same c.in-Err-Memory.ensures.home))
+          (executes_none (world_of life c.args.exec.now)),
+      still_spans c.args.exec.now c.take.new.self life c.in-Err-Memory.ensures.same c.in-Err-Memory.ensures.home,
+    ))
     (lasts_same c.args.exec.now c.take.new.self (ap (λ (s : State). s.flush.store) c.in-Err-Memory.ensures.same) c.in-Err-Memory.ensures.home)
 
 pub returns-then-is_broken-clause-failed : goal.returns-then-is_broken-clause-failed
@@ -30,7 +36,10 @@ returns-then-is_broken-clause-failed g c = λ h device.
 pub returns-then-is_broken-clause-halts : goal.returns-then-is_broken-clause-halts
 returns-then-is_broken-clause-halts g c =
     halts_broken c.args.exec.now c.run_job.new.exec
-    (λ h life. job_executes c.args.exec.now c.take.new.self c.run_job.new.exec c.in-Ok.job life c.run_job.result h c.in-Ok.ensures.step c.run_job.ensures.run)
+    (λ h life. (
+      job_executes c.args.exec.now c.take.new.self c.run_job.new.exec c.in-Ok.job life c.run_job.result h c.in-Ok.ensures.step c.run_job.ensures.run,
+      job_spans c.args.exec.now c.take.new.self c.run_job.new.exec c.in-Ok.job life c.run_job.result h c.in-Ok.ensures.step c.in-Ok.ensures.job c.run_job.ensures.run,
+    ))
     (run_lasts c.args.exec.now c.take.new.self c.run_job.new.exec c.in-Ok.job c.run_job.result c.in-Ok.ensures.job c.run_job.ensures.run)
     (λ h. still_broken c.args.exec.now c.take.new.self c.run_job.new.exec c.in-Ok.job c.run_job.result h c.in-Ok.ensures.job c.run_job.ensures.run c.if-run_job.false
     (ap is_broken (sym c.condition-2.ensures) ∙ sym c.is_broken-2.ensures ∙ c.if-is_broken.true))

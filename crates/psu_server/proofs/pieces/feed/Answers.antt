@@ -29,7 +29,7 @@ returns-in_default-extend-clause-stopped g c =
     feed_stops (coming c.args.lines.now.is_over c.args.lines.now.line.items) (coming c.loop-at.lines.is_over c.loop-at.lines.line.items) c.args.piece.now c.loop-at.rest.now
     c.args.powered.exec c.loop-at.powered.exec fault _ _ _ [] c.loop-at.invariant.fed
     (until_none fault.cause (telling (g.W.Write.contents c.loop-at.writer) c.loop-at.gathered) (not_write fault.cause f.cause))
-    (λ input. stops_now ⊥ c.loop-at.powered.exec fault _ Memory (record { told = f.cause; failures = f.failures; extent = f.extent; state = f.state; reason = f.reason }) (λ last. tt))
+    (λ input. stops_now ⊥ c.loop-at.powered.exec fault _ Memory (record { told = f.cause; failures = f.failures; extent = f.extent; state = f.state; reason = f.reason; disk = f.same }) (λ last. tt))
 
 pub returns-in_default-extend-2-clause-stopped : goal.returns-in_default-extend-2-clause-stopped
 returns-in_default-extend-2-clause-stopped g c =
@@ -38,7 +38,7 @@ returns-in_default-extend-2-clause-stopped g c =
     feed_stops (coming c.args.lines.now.is_over c.args.lines.now.line.items) (coming c.loop-at.lines.is_over c.loop-at.lines.line.items) c.args.piece.now c.loop-at.rest.now
     c.args.powered.exec c.loop-at.powered.exec fault _ _ _ [] c.loop-at.invariant.fed
     (until_none fault.cause (telling (g.W.Write.contents c.loop-at.writer) c.loop-at.gathered) (not_write fault.cause f.cause))
-    (λ input. stops_now ⊥ c.loop-at.powered.exec fault _ Memory (record { told = f.cause; failures = f.failures; extent = f.extent; state = f.state; reason = f.reason }) (λ last. tt))
+    (λ input. stops_now ⊥ c.loop-at.powered.exec fault _ Memory (record { told = f.cause; failures = f.failures; extent = f.extent; state = f.state; reason = f.reason; disk = f.same }) (λ last. tt))
 
 pub returns-in_err-powered-clause-stopped : goal.returns-in_err-powered-clause-stopped
 returns-in_err-powered-clause-stopped g c =
@@ -68,7 +68,7 @@ returns-in-Err-clause-stopped g c =
     (λ input. subst (λ z. StopsHere ⊥ c.loop-at.powered.exec fault z s.0)
     (sym (line_first mid c.loop-at.rest.now c.in-Some.at over line input c.in-Some.ensures c.in-Ok.ensures c.extend.new.self.free))
     (broken_stop c.loop-at.powered.exec c.answer_line.new.powered.exec fault (message_now over line) (coming false [] (drop (c.in-Some.at + 1) c.loop-at.rest.now ++ input)) s.0 c.in-Err.cause s.2
-    (record { told = f.cause; failures = f.failures; extent = f.extent; state = f.state; reason = f.reason }) (sym c.is_power.ensures ∙ c.if-is_power.false)))
+    (record { told = f.cause; failures = f.failures; extent = f.extent; state = f.state; reason = f.reason; disk = f.same }) (sym c.is_power.ensures ∙ c.if-is_power.false)))
 
 pub returns-clause-fed : goal.returns-clause-fed
 returns-clause-fed g c =

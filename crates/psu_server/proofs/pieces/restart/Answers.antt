@@ -1,4 +1,4 @@
-use Rattle.std.proofs.Common.{◌∙◌, sym}
+use Rattle.std.proofs.Common.{◌∙◌, ap, is_none, sym}
 use Rattle.psu_server.proofs.Feeding.{reopen_stops, restart_runs, restart_stops_here}
 use Rattle.psu_server.proofs.Fronts.{passed}
 use Rattle.psu_server.proofs.SessionOne.{still_allowed}
@@ -8,7 +8,7 @@ pub returns-in-Err-clause-stops : goal.returns-in-Err-clause-stops
 returns-in-Err-clause-stops g c = λ rest.
     let f = c.fault.ensures in
     reopen_stops c.args.powered.exec c.reopen.new.exec c.fault.result rest c.in-Err.cause c.in-Err.ensures.halts
-    (record { told = f.cause; failures = f.failures; extent = f.extent; state = f.state; reason = f.reason }) c.in-Err.ensures.failed
+    (record { told = f.cause; failures = f.failures; extent = f.extent; state = f.state; reason = f.reason; disk = f.same }) c.in-Err.ensures.failed
 
 pub returns-in-Err-clause-other : goal.returns-in-Err-clause-other
 returns-in-Err-clause-other g c = λ e. c.in-Err.ensures.halts.own (sym c.fault.ensures.cause ∙ e)
@@ -40,10 +40,11 @@ returns-in_err-powered-clause-stops g c =
     let disk = c.into_disk.ensures in
     passed c.from_residual.result c.in_err-powered.field-0.0 _ c.from_residual.ensures.1 (λ rest.
     restart_stops_here c.args.powered.exec c.reopen.new.exec c.into_disk.result c.in_err-powered.field-0.0 rest
-    c.in-Ok.ensures.reopens disk.state disk.failures disk.extent on.later on.extent (λ h. disk.stands h c.in-Ok.ensures.mended) on.left c.contents.ensures.consistent on.refused)
+    c.in-Ok.ensures.reopens disk.state disk.same disk.failures disk.extent on.later on.extent (λ h. disk.stands h c.in-Ok.ensures.mended) on.left c.contents.ensures.consistent on.refused on.time_refused)
 
 pub returns-clause-runs : goal.returns-clause-runs
 returns-clause-runs g c =
     let on = c.in_ok-powered.ensures in
     let disk = c.into_disk.ensures in
-    restart_runs c.args.powered.exec c.reopen.new.exec c.in_ok-powered.powered.exec c.into_disk.result c.in-Ok.ensures.reopens disk.state on.starts on.works disk.failures on.size disk.extent on.last
+    restart_runs c.args.powered.exec c.reopen.new.exec c.in_ok-powered.powered.exec c.into_disk.result c.in-Ok.ensures.reopens disk.state disk.same (λ h. disk.stands h c.in-Ok.ensures.mended)
+    on.starts on.works disk.failures on.size disk.extent on.last (λ none. let bad = sym c.in_ok-powered.powered.idle ∙ c.in_ok-powered.powered.exec.away ∙ ap is_none none in cc) on.time
