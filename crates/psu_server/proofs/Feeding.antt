@@ -22,10 +22,10 @@ use Rattle.psu_server.specs.Causes.{IsWornOut, NotStarted}
 use Rattle.psu_server.specs.Failures.{extent_of, failures_of}
 use Rattle.psu_server.specs.Jobs.{IsWornAtLast}
 use Rattle.psu_server.specs.Lines.{Message, Asks, message_now, message_of, coming, too_much, has, is_power, power_line}
-use Rattle.psu_server.specs.Lives.{Life, Reached, StandsForPrefix, born, disk_at, world_of, IsLeftBy, PowersOn}
+use Rattle.psu_server.specs.Lives.{Life, StandsForPrefix, born, disk_at, world_of, IsLeftBy, PowersOn}
 use Rattle.psu_server.specs.Output.{Says, SaysUntil, Telling, telling}
-use Rattle.psu_server.specs.Moments.{IsBetween, IsNow, IsWhile, Since, disk_in}
-use Rattle.psu_server.specs.Progress.{Breaks, BreaksOff, Continues, Fed, GoesOn, Halts, RunsOn, Spans, Stopped, Stops, StopsHere}
+use Rattle.psu_server.specs.Moments.{IsBetween, IsWhile, Since, disk_in}
+use Rattle.psu_server.specs.Progress.{Breaks, BreaksOff, Continues, EachMoment, Fed, GoesOn, Halts, RunsOn, Spans, Stopped, Stops, StopsHere}
 use Rattle.psu_server.specs.Reasons.{IsAtPower, IsHaltedBy, StopsFor}
 use Rattle.psu_server.specs.Runs.{Mishaps, any, none, Begins, Flushes, LineBegins, LineRuns, MessageBegins, MessageRuns, NextBegins, Reopens, Runs}
 use Rattle.psu_server.specs.declared.run_cause.RunCause.{RunCause}
@@ -206,7 +206,7 @@ reopens_calls can w v (inr (broke, done, mended)) = job_calls can w v done
 restart_moments : {D A : Type 0} {G : Ghosts D} (old mid : Exec D A G) (disk : D) (to : Option D) (life next : Life) (rest : List Message) → Executes (world_of life old) [] (world_of next mid)
     → Spans old mid (world_of life old) (world_of next mid) → Ghosts.state G disk ≡ disk_at mid.home → ForSome mid.home (λ h. disk ≡ home_disk h)
     → EachStands (Ghosts.state G disk) mid.device.flush.limit mid.device.flush.before → Since G (Some disk) to (IsOldOrSame (Ghosts.state G disk))
-    → Ghosts.tells G → IsNow G → Reached (world_of life old) → Since G (disk_in old.home) to (IsWhile (world_of life old) (Message.Power ∷ rest))
+    → EachMoment life old to (Message.Power ∷ rest)
 restart_moments {D} {A} {G} old mid disk to life next rest e spans at same was opens t now r =
     let w = world_of life old in
     let over = world_of next mid in
@@ -362,8 +362,7 @@ stops_now {D} {A} {G} long exec fault rest cause f why = record {
 
 -- at each moment of messages, and of what follows them
 pub then_moments : {D A : Type 0} {G : Ghosts D} (old mid : Exec D A G) (to : Option D) (xs ys : List Message) (text : List ℕ) (goes : RunsOn old mid xs text) (h : Ghosts.honest G) (life : Life)
-    → (let g = goes.runs h life in Ghosts.tells G → IsNow G → Reached (world_of g.0 mid) → Since G (disk_in mid.home) to (IsWhile (world_of g.0 mid) ys))
-    → Ghosts.tells G → IsNow G → Reached (world_of life old) → Since G (disk_in old.home) to (IsWhile (world_of life old) (xs ++ ys))
+    → EachMoment (goes.runs h life).0 mid to ys → EachMoment life old to (xs ++ ys)
 then_moments {D} {A} {G} old mid to xs ys text goes h life more t now r =
     let g = goes.runs h life in
     let w = world_of life old in
@@ -490,8 +489,7 @@ flush_stops {D} {A} {G} old new fault cause s f =
     (λ h worn life. halted_stops ⊥ old new (Ghosts.failures G fault.disk) [] life (Ghosts.state G fault.disk).bytes cause fault.cause f.told f.failures (λ at. at) (s.why h) (f.reason h (s.lasts.worn worn)))
 
 -- at each moment of a flush
-pub flush_moments : {D A : Type 0} {G : Ghosts D} (old new : Exec D A G) (due : List Message) → GoesOn old new Flushes → (h : Ghosts.honest G) (life : Life) → Ghosts.tells G → IsNow G → Reached (world_of life old)
-    → Since G (disk_in old.home) (disk_in new.home) (IsWhile (world_of life old) due)
+pub flush_moments : {D A : Type 0} {G : Ghosts D} (old new : Exec D A G) (due : List Message) → GoesOn old new Flushes → (h : Ghosts.honest G) (life : Life) → EachMoment life old (disk_in new.home) due
 flush_moments {D} {A} {G} old new due g h life t now r =
     let k = g.runs h life in
     let w = world_of life old in

@@ -15,9 +15,10 @@ use Rattle.psu_server.specs.Failures.{failures_of}
 use Rattle.psu_server.specs.Jobs.{IsWornAtLast}
 use Rattle.psu_server.specs.Lines.{Message, Brings}
 use Rattle.psu_server.specs.Lives.{Reached, born, world_of, PowersOn}
-use Rattle.psu_server.specs.Moments.{IsNow, IsOfRun, IsWhile, Since, disk_in}
+use Rattle.psu_server.specs.Moments.{IsNow, IsOfRun, IsWhile, disk_in}
 use Rattle.psu_server.proofs.Moments.{since_then, since_to}
 use Rattle.psu_server.specs.Reasons.{EndsFor}
+use Rattle.psu_server.specs.Progress.{EachMoment}
 use Rattle.psu_server.specs.Results.{WritesFirst, WritesRun, disk_of}
 use Rattle.psu_server.specs.Runs.{Mishaps, none, Flushes, NextBegins, Runs}
 use Rattle.psu_server.specs.Script.{IsScript}
@@ -119,7 +120,7 @@ run_whole {D} {A} {G} from u v image s disk before h starts same (due, brought, 
 
 pub run_moments : {D A : Type 0} {G : Ghosts D} (from : Option (List ℕ)) (given over : D) (s : Exec D A G) (due : List Message) → Ghosts.tells G → IsNow G → PowersOn (Ghosts.state G given).bytes (world_of (born s) s)
     → (s.home ≡ None → ⊥) → ForSome s.home (λ h. LeavesOnly (Ghosts.moment G) (Ghosts.left_since G) given (home_disk h) (IsOldOrSame (Ghosts.state G given))) → Brings from due
-    → (Ghosts.tells G → IsNow G → Reached (world_of (born s) s) → Since G (disk_in s.home) (Some over) (IsWhile (world_of (born s) s) due))
+    → EachMoment (born s) s (Some over) due
     → LeavesOnly (Ghosts.moment G) (Ghosts.left_since G) given over (IsOfRun (Ghosts.state G given) from)
 run_moments {D} {A} {G} from given over s due t now starts some opens brought runs =
     let first = world_of (born s) s in

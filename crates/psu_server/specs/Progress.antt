@@ -87,10 +87,15 @@ BreaksOff old new told now P cause = (answers : List (List ℕ)) → told.begun 
 
 -- ---- messages
 
+-- From this device on, each image at any moment until the disk is there is one while these messages are executed.
+abbrev pub EachMoment : {D A : Type 0} {G : Ghosts D} → Life → Exec D A G → Option D → List Message → Type 0
+EachMoment {D} {A} {G} life old disk due =
+    Ghosts.tells G → IsNow G → Reached (world_of life old) → Since G (disk_in old.home) disk (IsWhile (world_of life old) due)
+
 -- The device went on, in a life that goes on or in others behind it: these messages were executed and told this text.
 pub record RunsOn {D A : Type 0} {G : Ghosts D} (old new : Exec D A G) (done : List Message) (text : List ℕ) : Type 0 where
   pub runs : Ghosts.honest G → (life : Life) → (next : Life) × Within (failures_of old) (failures_of new) (λ can. Runs can (world_of life old) done text (world_of next new))
-      × (Ghosts.tells G → IsNow G → Reached (world_of life old) → Since G (disk_in old.home) (disk_in new.home) (IsWhile (world_of life old) done))
+      × EachMoment life old (disk_in new.home) done
   pub lasts : Lasts old new
 
 -- A run ended early, for a reason: of these messages the first may have begun, and `part` is what was to be told of it.
@@ -100,7 +105,7 @@ pub record StopsHere {D A : Type 0} {G : Ghosts D} (long : Type 0) (old : Exec D
       × Within (failures_of old) (Ghosts.failures G fault.disk) (λ can. NextBegins can (world_of life old) rest part last)
       × IsLeftBy last (Ghosts.state G fault.disk)
       × StopsFor long (failures_of old) (Ghosts.failures G fault.disk) rest last (Ghosts.state G fault.disk).bytes fault.cause
-      × (Ghosts.tells G → IsNow G → Reached (world_of life old) → Since G (disk_in old.home) (Some fault.disk) (IsWhile (world_of life old) rest))
+      × EachMoment life old (Some fault.disk) rest
 
 -- A run ended early, for a reason: these messages were executed, and of those after them the first may have begun.
 pub record Stops {D A : Type 0} {G : Ghosts D} (long : Type 0) (old : Exec D A G) (fault : RunFault D) (done rest : List Message) (text part : List ℕ) : Type 0 where
@@ -110,7 +115,7 @@ pub record Stops {D A : Type 0} {G : Ghosts D} (long : Type 0) (old : Exec D A G
       × Within count (Ghosts.failures G fault.disk) (λ can. NextBegins can mid rest part last)
       × IsLeftBy last (Ghosts.state G fault.disk)
       × StopsFor long count (Ghosts.failures G fault.disk) rest last (Ghosts.state G fault.disk).bytes fault.cause
-      × (Ghosts.tells G → IsNow G → Reached (world_of life old) → Since G (disk_in old.home) (Some fault.disk) (IsWhile (world_of life old) (done ++ rest)))
+      × EachMoment life old (Some fault.disk) (done ++ rest)
 
 -- The messages before the piece are those that end in it, and those after it. They were executed, and their text told.
 abbrev pub Fed : {D A : Type 0} {G : Ghosts D} → (List ℕ → List Message) → List ℕ → (List ℕ → List Message) → Exec D A G → Exec D A G → Telling → Telling → Type 0
@@ -160,4 +165,4 @@ pub record RanAll {D A : Type 0} {G : Ghosts D} (old : Exec D A G) (due : List M
   pub ends : Ghosts.honest G → (life : Life) → (last : World) × (over : World)
       × Within (failures_of old) (Ghosts.failures G disk) (λ can. Runs can (world_of life old) due text last × Flushes can last over)
       × (over.state.flush.unflushed ≡ 0) × (over.disk ≡ Ghosts.state G disk)
-      × (Ghosts.tells G → IsNow G → Reached (world_of life old) → Since G (disk_in old.home) (Some disk) (IsWhile (world_of life old) due))
+      × EachMoment life old (Some disk) due

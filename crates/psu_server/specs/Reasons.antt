@@ -32,10 +32,9 @@ IsAtPower (Message.Power ∷ ms) = ⊤
 IsAtPower (m ∷ ms) = ⊥
 
 -- Why a run ends before the first of these messages, or in it. `before` and `now` are the counts of failures before it and at the
--- end, `last` the device then, and `left` what its disk reads as. A restart is refused only where the disk failed in it, and what it
--- stood for still stands. A unit or the last flush can't be ended, nor a store be opened again, only where the disk failed since;
--- and but for a restart where changes are left and there is no number for a commit. An input is too long only as `long` says. A want
--- of memory can't be seen, nor that a reader or a writer fails.
+-- end, `last` is the device then, and `left` what its disk reads as. Open: a restart was refused, and only as the disk failed in it,
+-- since what it stood for still stands. Device: the disk failed meanwhile, or, but for a restart, changes are left on a store whose
+-- root has the last number. TooLong: as `long` says. That memory is refused, or that a reader or a writer fails, can't be seen.
 abbrev pub StopsFor : Type 0 → ℕ → ℕ → List Message → World → List ℕ → RunCause → Type 0
 StopsFor long before now rest last left (Open start.Device) = IsAtPower rest × HasFailed before now
 StopsFor long before now rest last left (Open cause) = ⊥
