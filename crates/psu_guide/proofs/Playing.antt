@@ -18,10 +18,10 @@ new_disk disk limit number map size stands is_limit is_map numbered is_number = 
 
 -- a run whose writer held nothing
 pub plays : (disk over : DiskState) (sent old text : List ℕ) → IsNew disk → old ≡ []
-    → WritesRun disk.bytes sent 0 0 (Some old) (Some text) over → Plays sent text
+    → WritesRun disk.bytes (Some sent) 0 0 (Some old) (Some text) over → Plays sent text
 plays disk over sent old text is_new is_empty writes = record {
   disk = disk;
   is_new = is_new;
   over = over;
-  writes = subst (λ (x : List ℕ). WritesRun disk.bytes sent 0 0 (Some x) (Some text) over) is_empty writes;
+  writes = subst (λ (x : List ℕ). WritesRun disk.bytes (Some sent) 0 0 (Some x) (Some text) over) is_empty writes;
 }

@@ -44,6 +44,7 @@ impl<D: Disk, A: Allocator + Copy> Store<D, A> {
         requires { CanHold self.limit (changed self.items batch) }
         ensures stored { IfStored result (HasStored self batch) }
         ensures works { IfStored result (λ store. D.failures store.disk ≡ D.failures self.disk) }
+        ensures later { D.failures self.disk ≤ D.failures (disk_of result) }
         ensures unstarted { IfUnstarted result (IsUnchanged self batch) }
         ensures worn { 2 ^ 64 ≤ self.number + 1 → IsWorn result }
         ensures broken { IfBroken result (HasBroken self batch) }

@@ -43,6 +43,7 @@ pub fn put<D: Disk, A: Allocator + Copy>(
     requires kept { D.honest → AllByRecursion (StandsWritten (D.state pages.old.disk).bytes (aimed target.now)) layout.slots.items }
     ensures extent { D.extent pages.new.disk ≡ D.extent pages.old.disk }
     ensures works { OnOk result (D.failures pages.new.disk ≡ D.failures pages.old.disk) }
+    ensures later { D.failures pages.old.disk ≤ D.failures pages.new.disk }
     ensures device { IfErr result (λ cause. HasFailed (D.failures pages.old.disk) (D.failures pages.new.disk)) }
     ensures shows { OnOk result (ShowsMap pages.new (aimed target.now)) }
     ensures spare { OnOk result (IsSpare pages.new pages.new.heads.items) }

@@ -1,5 +1,5 @@
 //! The map after a batch, in the place of the one before.
-ghost use Rattle.std.specs.Prelude.{◌≡◌, ◌+◌, ◌<◌, ◌^◌, OnOk, IsErrOf};
+ghost use Rattle.std.specs.Prelude.{◌≡◌, ◌+◌, ◌<◌, ◌≤◌, ◌^◌, OnOk, IsErrOf};
 ghost use Rattle.psu_disk.specs.Disk.{Left, Follows, LeavesOnly, HasFailed};
 ghost use Rattle.psu_pages.specs.Outcome.{HasSameRoots};
 ghost use Rattle.psu_pages.specs.Writing.{Reaches};
@@ -42,6 +42,7 @@ pub fn renew<D: Disk, A: Allocator + Copy>(
     ensures number { OnOk result (pages.new.number ≡ pages.old.number + 1) }
     ensures heads { OnOk result (HaveKept batch.now before.now pages.old.heads.items pages.new.heads.items) }
     ensures works { OnOk result (D.failures pages.new.disk ≡ D.failures pages.old.disk) }
+    ensures later { D.failures pages.old.disk ≤ D.failures pages.new.disk }
     ensures limit { pages.new.limit ≡ pages.old.limit }
     ensures extent { D.extent pages.new.disk ≡ D.extent pages.old.disk }
     ensures same { IsErrOf result Memory → HasSameRoots pages.old pages.new × KeepsMap pages.new before.now }

@@ -4,22 +4,21 @@ use Rattle.psu_disk.specs.Disk.{DiskState, Left}
 use Rattle.psu_disk.specs.Ranges.{reads_left}
 use Rattle.psu_disk.specs.declared.disk.Disk.{Ghosts}
 use Rattle.psu_map.specs.Map.{Item}
-use Rattle.psu_items.specs.Image.{Stands, EachStands}
+use Rattle.psu_items.specs.Image.{Stands, EachIsEither, EachStands, IsEither}
 use Rattle.psu_items.proofs.Standing.{one_stands}
 use Rattle.psu_nv.specs.Contents.{items_of}
 use Rattle.psu_exec.specs.Device.{Reply, Done, Answer, Error, Expand, Parked, Held, Later, count_held, target}
 use Rattle.psu_exec.specs.Calls.{Entry, Executed, Settled, Took, GaveBack, Opened, Job, Allows}
-use Rattle.psu_exec.specs.Consistent.{MayBeKept}
-use Rattle.psu_exec.specs.Headline.{IsPrefix}
-use Rattle.psu_exec.specs.World.{World, Running, Event, Call, Happens, Run, IsStart, DiskAfter, after}
+use Rattle.psu_exec.specs.World.{World, Running, Event, Call, Happens, Run, DiskAfter, after, without_power}
 use Rattle.psu_exec.specs.declared.exec.Exec.{Exec}
 use Rattle.psu_exec.specs.declared.home.Home.{Home}
 use Rattle.psu_tree.specs.declared.unit_request.Request.{Request}
 use Rattle.psu_nv.specs.Commands.{Command as Change, applied}
-use Rattle.psu_exec.proofs.Events.{prefix_is_left, run_keeps, while_running}
-use Rattle.psu_exec.proofs.Invariant.{kept_at_start}
+use Rattle.psu_exec.proofs.Events.{other_disk, prefix_is_left, run_keeps, while_running}
+use Rattle.psu_exec.proofs.Invariant.{kept_at_start, left_in_life, only_left}
 use Rattle.psu_server.specs.Lines.{Message}
-use Rattle.psu_server.specs.Lives.{Life, disk_at, world_of, lived, Calls, CallsAll, unit_in, units_in, PowersOn, IsLeftBy, LeavesPrefix}
+use Rattle.psu_server.specs.Lives.{Life, disk_at, world_of, lived, Calls, CallsAll, unit_in, units_in, PowersOn, IsLeftBy, LeavesPrefix, Reached, StandsForPrefix}
+use Rattle.psu_server.specs.Moments.{Leads}
 use Rattle.psu_server.specs.Runs.{Mishaps, JobDone, Jobs, Flushes, Acts, Begins, UnitRuns, UnitsBegin, UnitsRun, ReplyBegins, ReplyRuns, LineBegins, LineRuns, MessageRuns, NextBegins, Runs, is_final}
 
 -- ---- one call of the code
@@ -107,25 +106,26 @@ unit_calls can w new request reply (inr (late, over, c, f, a)) =
     executes_join w over new [] (request ∷ []) (executes_join w late over [] [] (executes_one w (Executed 1 request Later) late c) (flush_calls can late over f))
     (acts_calls can over new request reply a)
 
--- calls, whatever they execute
-abbrev pub Made : World → World → Type 0
-Made w new = (requests : List Request) × Executes w requests new
+-- ---- calls, whatever they execute
 
-made_none : (w new : World) → new ≡ w → Made w new
-made_none w new same = ([], subst (λ (z : World). Executes w [] z) (sym same) (executes_none w))
+made_none : (w new : World) → new ≡ w → Leads w new
+made_none w new same = ([], same)
 
-made_then : (w mid new : World) (requests : List Request) → Executes w requests mid → Made mid new → Made w new
-made_then w mid new requests e m = (requests ++ m.0, executes_join w mid new requests m.0 e m.1)
+pub leads_join : (w mid new : World) → Leads w mid → Leads mid new → Leads w new
+leads_join w mid new m n = (m.0 ++ n.0, calls_join m.0 n.0 w mid new m.1 n.1)
 
-made_join : (w mid new : World) → Made w mid → Made mid new → Made w new
-made_join w mid new m n = made_then w mid new m.0 m.1 n
+pub leads_one : (w new : World) (entry : Entry) → Calls w entry new → Leads w new
+leads_one w new entry c = (entry ∷ [], (new, c, refl))
 
-units_made : (requests : List Request) (can : Mishaps) (w new : World) (answers all : List (List ℕ)) → UnitsRun can w answers requests all new → Made w new
+made_then : (w mid new : World) (requests : List Request) → Executes w requests mid → Leads mid new → Leads w new
+made_then w mid new requests e m = leads_join w mid new (e.entries, e.calls) m
+
+units_made : (requests : List Request) (can : Mishaps) (w new : World) (answers all : List (List ℕ)) → UnitsRun can w answers requests all new → Leads w new
 units_made [] can w new answers all u = made_none w new u.0
 units_made (request ∷ requests) can w new answers all (reply, mid, u, more) =
     made_then w mid new (request ∷ []) (unit_calls can w mid request reply u) (units_made requests can mid new _ all more)
 
-reply_made : (reply : Reply) (can : Mishaps) (w new : World) (answers all : List (List ℕ)) → ReplyRuns can w answers reply all new → Made w new
+reply_made : (reply : Reply) (can : Mishaps) (w new : World) (answers all : List (List ℕ)) → ReplyRuns can w answers reply all new → Leads w new
 reply_made (Expand bytes) can w new answers all (requests, asks, u) = units_made requests can w new answers all u
 reply_made Done can w new answers all u = made_none w new u.0
 reply_made (Answer a) can w new answers all u = made_none w new u.0
@@ -134,24 +134,24 @@ reply_made Parked can w new answers all u = made_none w new u.0
 reply_made Held can w new answers all u = made_none w new u.0
 reply_made Later can w new answers all u = made_none w new u.0
 
-line_made : (requests : List Request) (can : Mishaps) (w new : World) (answers all : List (List ℕ)) → LineRuns can w answers requests all new → Made w new
+line_made : (requests : List Request) (can : Mishaps) (w new : World) (answers all : List (List ℕ)) → LineRuns can w answers requests all new → Leads w new
 line_made [] can w new answers all u = made_none w new u.0
 line_made (request ∷ requests) can w new answers all (reply, mid, some, after, u, told, more) =
     made_then w mid new (request ∷ []) (unit_calls can w mid request reply u)
-    (made_join mid after new (reply_made reply can mid after answers some told) (line_made requests can after new some all more))
+    (leads_join mid after new (reply_made reply can mid after answers some told) (line_made requests can after new some all more))
 
 -- ---- what has begun, as calls
 
-begins_made : (requests : List Request) (w new : World) → Begins w requests new → Made w new
-begins_made requests w new b = (units_in b.0, record { entries = b.0; calls = b.1; are = refl })
+begins_made : (requests : List Request) (w new : World) → Begins w requests new → Leads w new
+begins_made requests w new b = (b.0, b.1)
 
-units_begun : (requests : List Request) (can : Mishaps) (w new : World) (answers all : List (List ℕ)) → UnitsBegin can w answers requests all new → Made w new
+units_begun : (requests : List Request) (can : Mishaps) (w new : World) (answers all : List (List ℕ)) → UnitsBegin can w answers requests all new → Leads w new
 units_begun [] can w new answers all u = made_none w new u.0
 units_begun (request ∷ requests) can w new answers all (inl (b, is)) = begins_made (request ∷ []) w new b
 units_begun (request ∷ requests) can w new answers all (inr (reply, mid, u, more)) =
     made_then w mid new (request ∷ []) (unit_calls can w mid request reply u) (units_begun requests can mid new _ all more)
 
-reply_begun : (reply : Reply) (can : Mishaps) (w new : World) (answers all : List (List ℕ)) → ReplyBegins can w answers reply all new → Made w new
+reply_begun : (reply : Reply) (can : Mishaps) (w new : World) (answers all : List (List ℕ)) → ReplyBegins can w answers reply all new → Leads w new
 reply_begun (Expand bytes) can w new answers all (requests, asks, u) = units_begun requests can w new answers all u
 reply_begun Done can w new answers all u = made_none w new u.0
 reply_begun (Answer a) can w new answers all u = made_none w new u.0
@@ -160,16 +160,16 @@ reply_begun Parked can w new answers all u = made_none w new u.0
 reply_begun Held can w new answers all u = made_none w new u.0
 reply_begun Later can w new answers all u = made_none w new u.0
 
-line_begun : (requests : List Request) (can : Mishaps) (w new : World) (answers all : List (List ℕ)) → LineBegins can w answers requests all new → Made w new
+line_begun : (requests : List Request) (can : Mishaps) (w new : World) (answers all : List (List ℕ)) → LineBegins can w answers requests all new → Leads w new
 line_begun [] can w new answers all u = made_none w new u.0
 line_begun (request ∷ requests) can w new answers all (inl (b, is)) = begins_made (request ∷ []) w new b
 line_begun (request ∷ requests) can w new answers all (inr (inl (reply, mid, u, r))) =
     made_then w mid new (request ∷ []) (unit_calls can w mid request reply u) (reply_begun reply can mid new answers all r)
 line_begun (request ∷ requests) can w new answers all (inr (inr (reply, mid, some, after, u, told, more))) =
     made_then w mid new (request ∷ []) (unit_calls can w mid request reply u)
-    (made_join mid after new (reply_made reply can mid after answers some told) (line_begun requests can after new some all more))
+    (leads_join mid after new (reply_made reply can mid after answers some told) (line_begun requests can after new some all more))
 
-next_begun : (ms : List Message) (can : Mishaps) (w new : World) (text : List ℕ) → NextBegins can w ms text new → Made w new
+next_begun : (ms : List Message) (can : Mishaps) (w new : World) (text : List ℕ) → NextBegins can w ms text new → Leads w new
 next_begun [] can w new text n = begins_made [] w new n.0
 next_begun (m ∷ ms) can w new text (inl n) = begins_made [] w new n.0
 next_begun (m ∷ ms) can w new text (inr n) = line_begun n.0 can w new [] n.2 n.3
@@ -212,13 +212,6 @@ begins_more w new some more b = (b.0, b.1, b.2 ++ more, ap (λ (z : List Request
 
 -- ---- what power loss may leave
 
--- a world that events lead to, from a device that has just been powered on
-pub record Reached (w : World) : Type 0 where
-  pub first : World
-  pub events : List Event
-  pub start : IsStart first
-  pub run : Run first events w
-
 run_more : (events : List Event) (first w new : World) (event : Event) → Run first events w → Happens w event new → Run first (events ++ event ∷ []) new
 run_more [] first w new event r h = (new, subst (λ (z : World). Happens z event new) r h, refl)
 run_more (e ∷ events) first w new event r h = (r.0, r.1, run_more events r.0 w new event r.2 h)
@@ -230,8 +223,8 @@ pub reached_calls : (entries : List Entry) (w new : World) → CallsAll w entrie
 reached_calls [] w new c r = subst Reached (sym c) r
 reached_calls (entry ∷ entries) w new c r = reached_calls entries c.0 new c.2 (reached_call w c.0 entry c.1 r)
 
-reached_made : (w new : World) → Made w new → Reached w → Reached new
-reached_made w new m r = reached_calls m.1.entries w new m.1.calls r
+pub reached_made : (w new : World) → Leads w new → Reached w → Reached new
+reached_made w new m r = reached_calls m.0 w new m.1 r
 
 pub reached_on : (image : List ℕ) (new : World) → PowersOn image new → Reached new
 reached_on image new p = reached_call p.on new (Opened (Some 1)) p.opens (record { first = p.on; events = []; start = p.start; run = refl })
@@ -248,8 +241,18 @@ reached_runs (m ∷ ms) can w new text q r = reached_runs ms can q.2 new q.1 q.4
 pub reached_next : (ms : List Message) (can : Mishaps) (w new : World) (text : List ℕ) → NextBegins can w ms text new → Reached w → Reached new
 reached_next ms can w new text n r = reached_made w new (next_begun ms can w new text n) r
 
-pub prefix_of_reached : (w : World) (image : List ℕ) → Reached w → Left w.disk image → (k : ℕ) × IsPrefix w k × MayBeKept w.limit (after w k) × Stands image w.limit (items_of (after w k))
+pub prefix_of_reached : (w : World) (image : List ℕ) → Reached w → Left w.disk image → StandsForPrefix w image
 prefix_of_reached w image r left = prefix_is_left r.first w r.events image r.start r.run left
+
+-- while a job is out: an image that stands for the map before, or for the target
+pub prefix_of_either : (w : World) (image : List ℕ) → Reached w → w.mode ≡ Running → IsEither w.state.flush.limit w.state.flush.before (target w.state.flush) image → StandsForPrefix w image
+prefix_of_either w image r running either =
+    let f = w.state.flush in
+    let alone = without_power image in
+    let l = while_running w running (run_keeps r.first w r.events r.run (kept_at_start r.first r.start)) in
+    let each : EachIsEither alone f.limit f.before (target f) = λ x left. subst (IsEither f.limit f.before (target f)) (sym (only_left image x left)) either in
+    let p = left_in_life (record w { disk = alone }) (other_disk w alone each l) image (reads_left alone) in
+    (p.k, record { from = p.prefix.from; to = p.prefix.to }, p.kept, p.stands)
 
 -- where each image stands for one map, and did so in a world that was reached
 same_prefix : (w : World) (disk : DiskState) (limit : ℕ) (map : List Item) → Reached w → EachStands w.disk limit map → EachStands disk limit map → LeavesPrefix w disk
@@ -257,6 +260,11 @@ same_prefix w disk limit map r was is image left =
     let p = prefix_of_reached w w.disk.bytes r (reads_left w.disk) in
     let one = one_stands limit w.limit map (items_of (after w p.0)) w.disk.bytes (was w.disk.bytes (reads_left w.disk)) p.3 in
     (p.0, p.1, p.2, subst (λ (m : List Item). Stands image w.limit m) one.1 (subst (λ (n : ℕ). Stands image n map) one.0 (is image left)))
+
+-- one image that stands for the map that each stood for
+pub prefix_of_map : (w : World) (limit : ℕ) (map : List Item) (image : List ℕ) → Reached w → EachStands w.disk limit map → Stands image limit map → StandsForPrefix w image
+prefix_of_map w limit map image r was is =
+    same_prefix w (without_power image) limit map r was (λ x left. subst (λ (z : List ℕ). Stands z limit map) (sym (only_left image x left)) is) image (reads_left (without_power image))
 
 pub leaves_prefix : (w : World) (disk : DiskState) → Reached w → IsLeftBy w disk → LeavesPrefix w disk
 leaves_prefix w disk r (inl same) = λ image left. prefix_of_reached w image r (same image left)

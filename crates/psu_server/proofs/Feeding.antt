@@ -1,39 +1,133 @@
 -- The lines of a piece, one after another.
-use Rattle.std.proofs.Common.{◌≡◌, ℕ, ◌+◌, ◌-◌, ◌≤◌, Bool, true, false, List, [], ◌∷◌, ◌++◌, length, take, drop, refl, sym, ap, ◌∙◌, subst, inl, inr, append_assoc, Option, Some}
+use Rattle.std.proofs.Common.{◌≡◌, ℕ, ◌+◌, ◌-◌, ◌≤◌, Bool, true, false, List, [], ◌∷◌, ◌++◌, length, take, drop, refl, sym, ap, ◌∙◌, subst, inl, inr, append_assoc, arith, Option, Some, None}
 use Rattle.std.proofs.lemmas.List.{append-nil}
 use Rattle.std.specs.Str.{bytes_eq}
 use Rattle.memchr.specs.Find.{IsFirstByte, is_byte}
-use Rattle.psu_disk.specs.Disk.{DiskState, Left}
+use Rattle.std.specs.Option.{ForSome}
+use Rattle.psu_disk.specs.Disk.{DiskState, HasFailed, Left, LeavesOnly}
 use Rattle.psu_disk.specs.declared.disk.Disk.{Ghosts}
+use Rattle.psu_items.specs.Finding.{IsOldOrSame}
 use Rattle.psu_items.specs.Image.{EachStands}
+use Rattle.psu_items.proofs.Opening.{still_stands}
+use Rattle.psu_exec.specs.Jobs.{home_disk}
 use Rattle.psu_map.specs.Map.{Item}
 use Rattle.psu_answers.specs.Gathered.{Text, closed}
 use Rattle.psu_answers.specs.Response.{are_some, end_of, joined, response}
+use Rattle.psu_exec.specs.Consistent.{IsConsistent}
 use Rattle.psu_exec.specs.World.{World}
+use Rattle.psu_exec.specs.declared.condition.Condition.TheVariants.{Worn}
 use Rattle.psu_exec.specs.declared.exec.Exec.{Exec}
 use Rattle.psu_tree.specs.declared.unit_request.Request.{Request}
-use Rattle.psu_server.specs.Failures.{failures_of}
-use Rattle.psu_server.specs.Jobs.{IsExplained}
+use Rattle.psu_server.specs.Causes.{IsWornOut, NotStarted}
+use Rattle.psu_server.specs.Failures.{extent_of, failures_of}
+use Rattle.psu_server.specs.Jobs.{IsWornAtLast}
 use Rattle.psu_server.specs.Lines.{Message, Asks, message_now, message_of, coming, too_much, has, is_power, power_line}
-use Rattle.psu_server.specs.Lives.{born, disk_at, world_of, IsLeftBy, PowersOn}
+use Rattle.psu_server.specs.Lives.{Life, StandsForPrefix, born, disk_at, world_of, IsLeftBy, PowersOn}
 use Rattle.psu_server.specs.Output.{Says, SaysUntil, Telling, telling}
-use Rattle.psu_server.specs.Progress.{Breaks, BreaksOff, Continues, Fed, GoesOn, Halts, Stopped, Stops, StopsHere}
-use Rattle.psu_server.specs.Runs.{Mishaps, none, Begins, Flushes, LineBegins, LineRuns, MessageBegins, MessageRuns, NextBegins, Reopens, Runs}
-use Rattle.psu_server.specs.Within.{IsLater}
+use Rattle.psu_server.specs.Moments.{IsBetween, IsWhile, Since, disk_in}
+use Rattle.psu_server.specs.Progress.{Breaks, BreaksOff, Continues, EachMoment, Fed, GoesOn, Halts, RunsOn, Spans, Stopped, Stops, StopsHere}
+use Rattle.psu_server.specs.Reasons.{IsAtPower, IsHaltedBy, StopsFor}
+use Rattle.psu_server.specs.Runs.{Mishaps, any, none, Begins, Flushes, LineBegins, LineRuns, MessageBegins, MessageRuns, NextBegins, Reopens, Runs}
 use Rattle.psu_server.specs.declared.run_cause.RunCause.{RunCause}
-use Rattle.psu_server.specs.declared.run_cause.RunCause.TheVariants.{Memory as RunMemory}
+use Rattle.psu_server.specs.declared.run_cause.RunCause.TheVariants.{Read, Write, Open, Device, TooLong, Memory as RunMemory}
 use Rattle.psu_server.specs.declared.run_fault.RunFault.{RunFault}
-use Rattle.psu_server.proofs.Calls.{Executes, begins_all, executes_none, flush_calls, job_calls}
+use Rattle.psu_server.proofs.Calls.{Executes, begins_all, executes_none, flush_calls, job_calls, prefix_of_map, prefix_of_reached, reached_made, reached_runs}
 use Rattle.psu_server.proofs.Cuts.{plain_message, power_message, coming_end, found_parts, whole_tail}
 use Rattle.psu_server.proofs.MessageEnds.{line_over}
 use Rattle.psu_server.proofs.Telling.{says_gathered, says_join, says_none, says_still, until_after, until_said}
-use Rattle.psu_server.proofs.UnitEnds.{goes_as, goes_then}
-use Rattle.psu_server.proofs.Within.{later_same, within_as, within_at, within_here, within_later, within_then}
+use Rattle.psu_server.proofs.UnitEnds.{goes_as}
+use Rattle.psu_server.proofs.Lasting.{hands_now, hands_then, lasts_none, lasts_then}
+use Rattle.psu_server.proofs.Moments.{here, leads_none, since_as, since_back, since_from, since_home, since_then, since_to}
+use Rattle.psu_server.proofs.Starting.{halted_stops, restart_stops}
+use Rattle.psu_server.proofs.Within.{within_as, within_at, within_any, within_here, within_later, within_then}
+
+-- ---- messages, one after another
+
+pub runs_one : (can : Mishaps) (w new : World) (m : Message) (text : List ℕ) → MessageRuns can w m text new → Runs can w (m ∷ []) text new
+runs_one can w new m text r = (text, [], new, r, (refl, refl), sym (append-nil text))
+
+pub runs_join : (can : Mishaps) (w mid new : World) (text more : List ℕ) (xs ys : List Message) → Runs can w xs text mid → Runs can mid ys more new
+    → Runs can w (xs ++ ys) (text ++ more) new
+runs_join can w mid new text more [] ys p q =
+    subst (λ (z : World). Runs can z ys (text ++ more) new) p.0 (subst (λ (z : List ℕ). Runs can mid ys (z ++ more) new) (sym p.1) q)
+runs_join can w mid new text more (x ∷ xs) ys p q =
+    (p.0, p.1 ++ more, p.2, p.3, runs_join can p.2 mid new p.1 more xs ys p.4 q, ap (λ (z : List ℕ). z ++ more) p.5 ∙ append_assoc p.0 p.1 more)
+
+-- ---- a moment of messages
+
+-- calls that execute no unit
+idle_begins : (can : Mishaps) (w v : World) (rest : List Message) → Begins w [] v → NextBegins can w rest [] v
+idle_begins can w v [] b = (b, refl)
+idle_begins can w v (m ∷ ms) b = inl (b, refl)
+
+next_more : (can : Mishaps) (w v : World) (rest ys : List Message) (part : List ℕ) → NextBegins can w rest part v → NextBegins can w (rest ++ ys) part v
+next_more can w v [] ys part n = subst (λ (z : List ℕ). NextBegins can w ys z v) (sym n.1) (idle_begins can w v ys n.0)
+next_more can w v (m ∷ ms) ys part n = n
+
+-- where more messages are to come
+pub while_more : (w : World) (xs ys : List Message) (image : List ℕ) → IsWhile w xs image → IsWhile w (xs ++ ys) image
+while_more w xs ys image r = record {
+  done = r.done;
+  rest = r.rest ++ ys;
+  is = ap (λ (z : List Message). z ++ ys) r.is ∙ append_assoc r.done r.rest ys;
+  text = r.text;
+  mid = r.mid;
+  runs = r.runs;
+  part = r.part;
+  last = r.last;
+  begun = next_more any r.mid r.last r.rest ys r.part r.begun;
+  between = r.between;
+}
+
+-- behind messages that were executed
+pub while_behind : (w mid : World) (xs ys : List Message) (text image : List ℕ) → Runs any w xs text mid → IsWhile mid ys image → IsWhile w (xs ++ ys) image
+while_behind w mid xs ys text image before r = record {
+  done = xs ++ r.done;
+  rest = r.rest;
+  is = ap (λ (z : List Message). xs ++ z) r.is ∙ sym (append_assoc xs r.done r.rest);
+  text = text ++ r.text;
+  mid = r.mid;
+  runs = runs_join any w mid r.mid text r.text xs r.done before r.runs;
+  part = r.part;
+  last = r.last;
+  begun = r.begun;
+  between = r.between;
+}
+
+-- while the next one has begun, or calls are made that execute no unit
+pub while_begun : (w v : World) (due : List Message) (part image : List ℕ) → NextBegins any w due part v → IsBetween w v image → IsWhile w due image
+while_begun w v due part image begun between = record { done = []; rest = due; is = refl; text = []; mid = w; runs = (refl, refl); part = part; last = v; begun = begun; between = between }
+
+pub while_idle : (w v : World) (due : List Message) (image : List ℕ) → Begins w [] v → IsBetween w v image → IsWhile w due image
+while_idle w v due image b between = while_begun w v due [] image (idle_begins any w v due b) between
+
+pub while_here : (w : World) (due : List Message) (image : List ℕ) → StandsForPrefix w image → IsWhile w due image
+while_here w due image p = while_idle w w due image (begins_all w w [] (executes_none w)) (here w w image (leads_none w) p)
+
+-- a message with all its units
+message_begun : (can : Mishaps) (w v : World) (m : Message) (text : List ℕ) → is_power m ≡ false → MessageRuns can w m text v → (part : List ℕ) × MessageBegins can w m part v
+message_begun can w v Message.Power text plain r = cc
+message_begun can w v Message.Overlong text plain r = (joined r.2, (r.0, r.1, r.2, line_over can w v [] r.2 r.0 r.3, refl))
+message_begun can w v (Message.Units bytes) text plain r = (joined r.2, (r.0, r.1, r.2, line_over can w v [] r.2 r.0 r.3, refl))
+
+-- one message, at each moment
+pub run_one : {D A : Type 0} {G : Ghosts D} (old new : Exec D A G) (m : Message) (text : List ℕ) → is_power m ≡ false → GoesOn old new (λ can w v. MessageRuns can w m text v) → RunsOn old new (m ∷ []) text
+run_one {D} {A} {G} old new m text plain goes = record {
+  runs = λ h life. let g = goes.runs h life in
+      let w = world_of life old in
+      let v = world_of g.0 new in
+      let b = message_begun any w v m text plain (within_any _ _ (λ can. MessageRuns can w m text v) g.1) in (
+        g.0,
+        within_as _ _ (λ can. MessageRuns can w m text v) (λ can. Runs can w (m ∷ []) text v) g.1 (λ can x. runs_one can w v m text x),
+        λ t now r. since_as G (disk_in old.home) (disk_in new.home) (IsBetween w v) (IsWhile w (m ∷ [])) (g.2.time t now r) (λ x between. while_begun w v (m ∷ []) b.0 x (inr b.1) between),
+      );
+  lasts = goes.lasts;
+}
 
 -- ---- what a message came to
 
 abbrev pub ToldLine : {D A : Type 0} {G : Ghosts D} → Message → Exec D A G → Exec D A G → Telling → Telling → Type 0
-ToldLine m old new told now = (text : List ℕ) × Says told now text × GoesOn old new (λ can w v. MessageRuns can w m text v)
+ToldLine m old new told now = (text : List ℕ) × Says told now text × RunsOn old new (m ∷ []) text
 
 -- its units told these answers, and a line feed ends them
 pub told_line : {D A : Type 0} {G : Ghosts D} (m : Message) (requests : List Request) (old new : Exec D A G) (a : Telling) (was_written written : Option (List ℕ)) (before after : Text) → Asks m requests → is_power m ≡ false → a.begun ≡ false
@@ -43,7 +137,8 @@ told_line m requests old new a was_written written before after asks plain none 
       response f.0,
       subst (λ (z : List ℕ). Says a (telling written after) z) (whole f.0 f.1.0 f.1.1) (says_join a (telling was_written before) (telling written after) f.1.0 (end_of (are_some f.0)) f.1.2
           (says_gathered (telling was_written before) (telling written after) (end_of (are_some f.0)) same (ap (λ (t : Text). t.rest) ended ∙ ap (λ (z : Bool). before.rest ++ end_of z) f.1.3))),
-      goes_as old new (λ can w v. LineRuns can w [] requests f.0 v) (λ can w v. MessageRuns can w m (response f.0) v) f.2 (λ can w v u. by m plain asks f.0 can w v u),
+      run_one old new m (response f.0) plain
+          (goes_as old new (λ can w v. LineRuns can w [] requests f.0 v) (λ can w v. MessageRuns can w m (response f.0) v) f.2 (λ can w v u. by m plain asks f.0 can w v u)),
     )
   where
     whole : (all : List (List ℕ)) (more : List ℕ) → joined all ≡ more → more ++ end_of (are_some all) ≡ response all
@@ -79,7 +174,7 @@ line_unended m requests old new a b c asks none p written same =
       until_said RunMemory a c f.1.0 (λ e. cc) (subst (λ (z : List ℕ). Says a c z) (append-nil f.1.0) (says_join a b c f.1.0 [] f.1.2 (says_still b c written same))),
       record {
         goes = goes_as old new (λ can w v. LineRuns can w [] requests f.0 v) (λ can w v. MessageBegins can w m f.1.0 v) f.2 (λ can w v u. (requests, asks, f.0, line_over can w v [] f.0 requests u, sym f.1.1));
-        why = λ h since e. tt;
+        why = λ h. tt;
       },
     )
 
@@ -107,116 +202,205 @@ reopens_calls : (can : Mishaps) (w v : World) → Reopens can w v → Executes w
 reopens_calls can w v (inl (shut, same)) = subst (λ (z : World). Executes w [] z) (sym same) (executes_none w)
 reopens_calls can w v (inr (broke, done, mended)) = job_calls can w v done
 
-pub restart_runs : {D A : Type 0} {G : Ghosts D} (old mid new : Exec D A G) (disk : DiskState) (before : ℕ) → GoesOn old mid Reopens → disk ≡ disk_at mid.home
-    → (Ghosts.honest G → PowersOn disk.bytes (world_of (born new) new)) → failures_of new ≡ before → before ≡ failures_of mid
-    → ((since : ℕ) → IsExplained since mid → IsExplained since new) → GoesOn old new (λ can w v. MessageRuns can w Message.Power [] v)
-restart_runs old mid new disk before r at starts works same why = record {
-  runs = λ h life. let g = r.runs h life in (
-    born new,
-    within_at _ _ _ (λ can. MessageRuns can (world_of life old) Message.Power [] (world_of (born new) new)) (works ∙ same)
-        (within_as _ _ (λ can. Reopens can (world_of life old) (world_of g.0 mid)) (λ can. MessageRuns can (world_of life old) Message.Power [] (world_of (born new) new)) g.1
-        (λ can x. (refl, world_of g.0 mid, x, subst (λ (d : DiskState). PowersOn d.bytes (world_of (born new) new)) at (starts h)))),
-  );
-  explained = λ since e. why since (r.explained since e);
-  later = subst (λ (n : ℕ). IsLater (failures_of old) n) (sym (works ∙ same)) r.later;
+-- at each moment of a reopening, and of what follows it on the disk
+restart_moments : {D A : Type 0} {G : Ghosts D} (old mid : Exec D A G) (disk : D) (to : Option D) (life next : Life) (rest : List Message) → Executes (world_of life old) [] (world_of next mid)
+    → Spans old mid (world_of life old) (world_of next mid) → Ghosts.state G disk ≡ disk_at mid.home → ForSome mid.home (λ h. disk ≡ home_disk h)
+    → EachStands (Ghosts.state G disk) mid.device.flush.limit mid.device.flush.before → Since G (Some disk) to (IsOldOrSame (Ghosts.state G disk))
+    → EachMoment life old to (Message.Power ∷ rest)
+restart_moments {D} {A} {G} old mid disk to life next rest e spans at same was opens t now r =
+    let w = world_of life old in
+    let over = world_of next mid in
+    let f = mid.device.flush in
+    let b = begins_all w over [] e in
+    since_then G (disk_in old.home) (disk_in mid.home) to (IsBetween w over) (IsOldOrSame (Ghosts.state G disk)) (IsWhile w (Message.Power ∷ rest)) (spans.time t now r)
+    (since_from mid.home disk to (IsOldOrSame (Ghosts.state G disk)) same opens)
+    (λ x between. while_idle w over (Message.Power ∷ rest) x b between)
+    (λ x kept. while_idle w over (Message.Power ∷ rest) x b (
+      over,
+      spans.leads,
+      leads_none over,
+      prefix_of_map over f.limit f.before x (reached_made w over spans.leads r) (subst (λ (d : DiskState). EachStands d f.limit f.before) at was) (still_stands (Ghosts.state G disk) f.limit f.before was x kept),
+    ))
+
+pub restart_runs : {D A : Type 0} {G : Ghosts D} (old mid new : Exec D A G) (disk : D) → GoesOn old mid Reopens → Ghosts.state G disk ≡ disk_at mid.home → ForSome mid.home (λ h. disk ≡ home_disk h)
+    → (Ghosts.honest G → EachStands (Ghosts.state G disk) mid.device.flush.limit mid.device.flush.before)
+    → (Ghosts.honest G → PowersOn (Ghosts.state G disk).bytes (world_of (born new) new)) → failures_of new ≡ Ghosts.failures G disk → Ghosts.failures G disk ≡ failures_of mid
+    → extent_of new ≡ Ghosts.extent G disk → Ghosts.extent G disk ≡ extent_of mid → IsWornAtLast new
+    → (new.home ≡ None → ⊥) → (Ghosts.honest G → Ghosts.tells G → ForSome new.home (λ h. LeavesOnly (Ghosts.moment G) (Ghosts.left_since G) disk (home_disk h) (IsOldOrSame (Ghosts.state G disk))))
+    → RunsOn old new (Message.Power ∷ []) []
+restart_runs {D} {A} {G} old mid new disk r at same_disk was starts works same size whole worn some time = record {
+  runs = λ h life. let g = r.runs h life in
+      let w = world_of life old in
+      let over = world_of g.0 mid in (
+        born new,
+        within_at _ _ _ (λ can. Runs can w (Message.Power ∷ []) [] (world_of (born new) new)) (works ∙ same)
+            (within_as _ _ (λ can. Reopens can w over) (λ can. Runs can w (Message.Power ∷ []) [] (world_of (born new) new)) g.1
+            (λ can x. runs_one can w (world_of (born new) new) Message.Power [] (refl, over, x, subst (λ (d : DiskState). PowersOn d.bytes (world_of (born new) new)) at (starts h)))),
+        λ t now reached. restart_moments old mid disk (disk_in new.home) life g.0 [] (reopens_calls any w over (within_any _ _ (λ can. Reopens can w over) g.1)) g.2 at same_disk (was h)
+            (since_to new.home disk (IsOldOrSame (Ghosts.state G disk)) some (time h t)) t now reached,
+      );
+  lasts = record {
+    extent = size ∙ whole ∙ r.lasts.extent;
+    later = subst (λ (n : ℕ). failures_of old ≤ n) (sym (works ∙ same)) r.lasts.later;
+    worn = λ e. worn;
+  };
 }
 
--- calls that execute no unit
-idle_begins : (can : Mishaps) (w v : World) (rest : List Message) → Begins w [] v → NextBegins can w rest [] v
-idle_begins can w v [] b = (b, refl)
-idle_begins can w v (m ∷ ms) b = inl (b, refl)
-
 -- a restart that fails behind the device that was opened again
-pub restart_stops_here : {D A : Type 0} {G : Ghosts D} (old mid : Exec D A G) (disk : DiskState) (fault : RunFault D) (before limit : ℕ) (map : List Item) (rest : List Message) → Ghosts.honest G
-    → GoesOn old mid Reopens → disk ≡ disk_at mid.home → before ≡ failures_of mid → before ≤ Ghosts.failures G fault.disk → EachStands disk limit map → EachStands (Ghosts.state G fault.disk) limit map
-    → StopsHere old fault (Message.Power ∷ rest) []
-restart_stops_here {D} {A} {G} old mid disk fault before limit map rest h r at same rose was is life =
-    let g = r.runs h life in (
-      world_of g.0 mid,
-      within_later (failures_of old) (failures_of mid) (Ghosts.failures G fault.disk) (λ can. NextBegins can (world_of life old) (Message.Power ∷ rest) [] (world_of g.0 mid))
-          (inl (subst (λ (n : ℕ). n ≤ Ghosts.failures G fault.disk) same rose))
-          (within_as _ _ (λ can. Reopens can (world_of life old) (world_of g.0 mid)) (λ can. NextBegins can (world_of life old) (Message.Power ∷ rest) [] (world_of g.0 mid)) g.1
-          (λ can x. inl (begins_all (world_of life old) (world_of g.0 mid) [] (reopens_calls can (world_of life old) (world_of g.0 mid) x), refl))),
-      inr (limit, map, subst (λ (d : DiskState). EachStands d limit map) at was, is),
-    )
+pub restart_stops_here : {D A : Type 0} {G : Ghosts D} (old mid : Exec D A G) (disk : D) (fault : RunFault D) (rest : List Message)
+    → GoesOn old mid Reopens → Ghosts.state G disk ≡ disk_at mid.home → ForSome mid.home (λ h. disk ≡ home_disk h) → Ghosts.failures G disk ≡ failures_of mid → Ghosts.extent G disk ≡ extent_of mid
+    → Ghosts.failures G disk ≤ Ghosts.failures G fault.disk → Ghosts.extent G fault.disk ≡ Ghosts.extent G disk
+    → (Ghosts.honest G → EachStands (Ghosts.state G disk) mid.device.flush.limit mid.device.flush.before)
+    → (Ghosts.honest G → (limit : ℕ) (map : List Item) → EachStands (Ghosts.state G disk) limit map → EachStands (Ghosts.state G fault.disk) limit map)
+    → IsConsistent mid.device.flush → (Ghosts.honest G → NotStarted (Ghosts.state G disk).bytes (Ghosts.failures G disk) (Ghosts.failures G fault.disk) fault.cause)
+    → (Ghosts.honest G → Ghosts.tells G → LeavesOnly (Ghosts.moment G) (Ghosts.left_since G) disk fault.disk (IsOldOrSame (Ghosts.state G disk)))
+    → StopsHere ⊥ old fault (Message.Power ∷ rest) []
+restart_stops_here {D} {A} {G} old mid disk fault rest r at same_disk same size rose whole was left consistent why time =
+    let later : failures_of old ≤ Ghosts.failures G disk = subst (λ (n : ℕ). failures_of old ≤ n) (sym same) r.lasts.later in
+    record {
+      hands = record { extent = whole ∙ size ∙ r.lasts.extent; later = omega (arith, later, rose) };
+      stops = λ h worn life. let g = r.runs h life in (
+        world_of g.0 mid,
+        within_later (failures_of old) (failures_of mid) (Ghosts.failures G fault.disk) (λ can. NextBegins can (world_of life old) (Message.Power ∷ rest) [] (world_of g.0 mid))
+            (subst (λ (n : ℕ). n ≤ Ghosts.failures G fault.disk) same rose)
+            (within_as _ _ (λ can. Reopens can (world_of life old) (world_of g.0 mid)) (λ can. NextBegins can (world_of life old) (Message.Power ∷ rest) [] (world_of g.0 mid)) g.1
+            (λ can x. inl (begins_all (world_of life old) (world_of g.0 mid) [] (reopens_calls can (world_of life old) (world_of g.0 mid) x), refl))),
+        inr (mid.device.flush.limit, mid.device.flush.before, subst (λ (d : DiskState). EachStands d mid.device.flush.limit mid.device.flush.before) at (was h), left h _ _ (was h)),
+        restart_stops ⊥ (failures_of old) (Ghosts.failures G disk) (Ghosts.failures G fault.disk) rest (world_of g.0 mid) (Ghosts.state G disk) (Ghosts.state G fault.disk).bytes fault.cause mid.device.flush
+            later consistent (was h) (why h),
+        λ t now reached. restart_moments old mid disk (Some fault.disk) life g.0 rest (reopens_calls any (world_of life old) (world_of g.0 mid) (within_any _ _ (λ can. Reopens can (world_of life old) (world_of g.0 mid)) g.1))
+            g.2 at same_disk (was h) (time h t) t now reached,
+      );
+    }
 
 -- ---- a device that stops
 
 left_in : (disk : DiskState) (w : World) → disk ≡ w.disk → IsLeftBy w disk
 left_in disk w e = inl (λ image left. subst (λ (d : DiskState). Left d image) e left)
 
+-- what is asked of a fault of the device: the disk that was at home, and the device's reason
+pub record FaultOf {D A : Type 0} {G : Ghosts D} (exec : Exec D A G) (fault : RunFault D) (cause : RunCause) : Type 0 where
+  pub told : fault.cause ≡ cause
+  pub failures : Ghosts.failures G fault.disk ≡ failures_of exec
+  pub extent : Ghosts.extent G fault.disk ≡ extent_of exec
+  pub state : Ghosts.state G fault.disk ≡ disk_at exec.home
+  pub disk : ForSome exec.home (λ h. fault.disk ≡ home_disk h)
+  pub reason : Ghosts.honest G → IsWornAtLast exec → exec.device.flush.store ≡ Worn → IsWornOut (Ghosts.state G fault.disk).bytes
+
+-- a line that isn't that of a power loss comes next
+pub not_at_power : (m : Message) (rest : List Message) → is_power m ≡ false → IsAtPower (m ∷ rest) → ⊥
+not_at_power Message.Power rest plain at = cc
+not_at_power Message.Overlong rest plain at = absurd at
+not_at_power (Message.Units bytes) rest plain at = absurd at
+
 -- in a message
-pub broken_stop : {D A : Type 0} {G : Ghosts D} (old new : Exec D A G) (fault : RunFault D) (m : Message) (rest : List Message) (part : List ℕ) (cause : RunCause) → Ghosts.honest G
-    → Breaks old new (λ can w v. MessageBegins can w m part v) cause → Ghosts.failures G fault.disk ≡ failures_of new → Ghosts.state G fault.disk ≡ disk_at new.home → StopsHere old fault (m ∷ rest) part
-broken_stop {D} {A} {G} old new fault m rest part cause h s same at life =
-    let k = s.goes.runs h life in (
-      world_of k.0 new,
-      within_at _ _ _ (λ can. NextBegins can (world_of life old) (m ∷ rest) part (world_of k.0 new)) same
-          (within_as _ _ (λ can. MessageBegins can (world_of life old) m part (world_of k.0 new)) (λ can. NextBegins can (world_of life old) (m ∷ rest) part (world_of k.0 new)) k.1 (λ can x. inr x)),
-      left_in (Ghosts.state G fault.disk) (world_of k.0 new) at,
-    )
+pub broken_stop : {D A : Type 0} {G : Ghosts D} (old new : Exec D A G) (fault : RunFault D) (m : Message) (rest : List Message) (part : List ℕ) (cause : RunCause)
+    → Breaks old new (λ can w v. MessageBegins can w m part v) cause → FaultOf new fault cause → is_power m ≡ false → StopsHere ⊥ old fault (m ∷ rest) part
+broken_stop {D} {A} {G} old new fault m rest part cause s f plain = record {
+  hands = hands_now old new fault.disk s.goes.lasts f.extent f.failures;
+  stops = λ h worn life. let k = s.goes.runs h life in (
+    world_of k.0 new,
+    within_at _ _ _ (λ can. NextBegins can (world_of life old) (m ∷ rest) part (world_of k.0 new)) f.failures
+        (within_as _ _ (λ can. MessageBegins can (world_of life old) m part (world_of k.0 new)) (λ can. NextBegins can (world_of life old) (m ∷ rest) part (world_of k.0 new)) k.1 (λ can x. inr x)),
+    left_in (Ghosts.state G fault.disk) (world_of k.0 new) f.state,
+    halted_stops ⊥ old new (Ghosts.failures G fault.disk) (m ∷ rest) k.0 (Ghosts.state G fault.disk).bytes cause fault.cause f.told f.failures (not_at_power m rest plain) (s.why h)
+        (f.reason h (s.goes.lasts.worn worn)),
+    λ t now r. since_back (disk_in old.home) new.home fault.disk (IsWhile (world_of life old) (m ∷ rest)) f.disk
+        (since_as G (disk_in old.home) (disk_in new.home) (IsBetween (world_of life old) (world_of k.0 new)) (IsWhile (world_of life old) (m ∷ rest)) (k.2.time t now r)
+        (λ x between. while_begun (world_of life old) (world_of k.0 new) (m ∷ rest) part x (inr (within_any _ _ (λ can. MessageBegins can (world_of life old) m part (world_of k.0 new)) k.1)) between)),
+  );
+}
 
 -- with no unit begun
-pub halts_idle : {D A : Type 0} {G : Ghosts D} (old new : Exec D A G) (fault : RunFault D) (rest : List Message) (cause : RunCause) → Ghosts.honest G
-    → Halts old new [] cause → Ghosts.failures G fault.disk ≡ failures_of new → Ghosts.state G fault.disk ≡ disk_at new.home → StopsHere old fault rest []
-halts_idle {D} {A} {G} old new fault rest cause h s same at life =
-    let k = s.begun h life in (
-      world_of k.0 new,
-      (none, subst (λ (n : ℕ). IsLater (failures_of old) n) (sym same) s.later, (λ e. cc), (λ can cov. idle_begins can (world_of life old) (world_of k.0 new) rest k.1)),
-      left_in (Ghosts.state G fault.disk) (world_of k.0 new) at,
-    )
+pub halts_idle : {D A : Type 0} {G : Ghosts D} (old new : Exec D A G) (fault : RunFault D) (rest : List Message) (cause : RunCause) → Halts old new [] cause → FaultOf new fault cause
+    → (Ghosts.honest G → IsWornAtLast old → (life : Life) → StopsFor ⊥ (failures_of old) (Ghosts.failures G fault.disk) rest (world_of life new) (Ghosts.state G fault.disk).bytes fault.cause)
+    → StopsHere ⊥ old fault rest []
+halts_idle {D} {A} {G} old new fault rest cause s f why = record {
+  hands = hands_now old new fault.disk s.lasts f.extent f.failures;
+  stops = λ h worn life. let k = s.begun h life in (
+    world_of k.0 new,
+    (none, subst (λ (n : ℕ). failures_of old ≤ n) (sym f.failures) s.lasts.later, (λ e. cc), (λ can cov. idle_begins can (world_of life old) (world_of k.0 new) rest k.1)),
+    left_in (Ghosts.state G fault.disk) (world_of k.0 new) f.state,
+    why h worn k.0,
+    λ t now r. since_back (disk_in old.home) new.home fault.disk (IsWhile (world_of life old) rest) f.disk
+        (since_as G (disk_in old.home) (disk_in new.home) (IsBetween (world_of life old) (world_of k.0 new)) (IsWhile (world_of life old) rest) (k.2.time t now r)
+        (λ x between. while_idle (world_of life old) (world_of k.0 new) rest x k.1 between)),
+  );
+}
 
-pub stops_now : {D A : Type 0} {G : Ghosts D} (exec : Exec D A G) (fault : RunFault D) (rest : List Message) → Ghosts.failures G fault.disk ≡ failures_of exec
-    → Ghosts.state G fault.disk ≡ disk_at exec.home → StopsHere exec fault rest []
-stops_now {D} {A} {G} exec fault rest same at life = (
-  world_of life exec,
-  within_at _ _ _ (λ can. NextBegins can (world_of life exec) rest [] (world_of life exec)) same
-      (within_here _ (λ can. NextBegins can (world_of life exec) rest [] (world_of life exec))
-      (λ can. idle_begins can (world_of life exec) (world_of life exec) rest (begins_all (world_of life exec) (world_of life exec) [] (executes_none (world_of life exec))))),
-  left_in (Ghosts.state G fault.disk) (world_of life exec) at,
-)
+-- a store that can't be opened again
+pub reopen_stops : {D A : Type 0} {G : Ghosts D} (old new : Exec D A G) (fault : RunFault D) (rest : List Message) (cause : RunCause) → Halts old new [] cause → FaultOf new fault cause
+    → (Ghosts.honest G → cause ≡ Device → HasFailed (failures_of old) (failures_of new)) → StopsHere ⊥ old fault (Message.Power ∷ rest) []
+reopen_stops {D} {A} {G} old new fault rest cause s f failed =
+    halts_idle old new fault (Message.Power ∷ rest) cause s f
+    (λ h worn life. subst (StopsFor ⊥ (failures_of old) (Ghosts.failures G fault.disk) (Message.Power ∷ rest) (world_of life new) (Ghosts.state G fault.disk).bytes) (sym f.told) (by cause (s.why h) (failed h) life))
+  where
+    by : (cause : RunCause) → IsHaltedBy old new cause → (cause ≡ Device → HasFailed (failures_of old) (failures_of new)) → (life : Life)
+        → StopsFor ⊥ (failures_of old) (Ghosts.failures G fault.disk) (Message.Power ∷ rest) (world_of life new) (Ghosts.state G fault.disk).bytes cause
+    by Device w only life = inl (subst (λ (n : ℕ). HasFailed (failures_of old) n) (sym f.failures) (only refl))
+    by RunMemory w only life = tt
+    by (Open c) w only life = absurd w
+    by Read w only life = tt
+    by Write w only life = tt
+    by TooLong w only life = absurd w
 
-pub stops_then : {D A : Type 0} {G : Ghosts D} (old mid : Exec D A G) (fault : RunFault D) (done rest : List Message) (text part : List ℕ) → Ghosts.honest G
-    → GoesOn old mid (λ can w v. Runs can w done text v) → StopsHere mid fault rest part → Stops old fault done rest text part
-stops_then {D} {A} {G} old mid fault done rest text part h goes stop life =
+pub stops_now : {D A : Type 0} {G : Ghosts D} (long : Type 0) (exec : Exec D A G) (fault : RunFault D) (rest : List Message) (cause : RunCause) → FaultOf exec fault cause
+    → ((last : World) → StopsFor long (failures_of exec) (Ghosts.failures G fault.disk) rest last (Ghosts.state G fault.disk).bytes cause) → StopsHere long exec fault rest []
+stops_now {D} {A} {G} long exec fault rest cause f why = record {
+  hands = hands_now exec exec fault.disk (lasts_none exec) f.extent f.failures;
+  stops = λ h worn life. (
+    world_of life exec,
+    within_at _ _ _ (λ can. NextBegins can (world_of life exec) rest [] (world_of life exec)) f.failures
+        (within_here _ (λ can. NextBegins can (world_of life exec) rest [] (world_of life exec))
+        (λ can. idle_begins can (world_of life exec) (world_of life exec) rest (begins_all (world_of life exec) (world_of life exec) [] (executes_none (world_of life exec))))),
+    left_in (Ghosts.state G fault.disk) (world_of life exec) f.state,
+    subst (StopsFor long (failures_of exec) (Ghosts.failures G fault.disk) rest (world_of life exec) (Ghosts.state G fault.disk).bytes) (sym f.told) (why (world_of life exec)),
+    λ t now r. since_back (disk_in exec.home) exec.home fault.disk (IsWhile (world_of life exec) rest) f.disk
+        (since_home exec.home (IsWhile (world_of life exec) rest) now (λ x left. while_here (world_of life exec) rest x (prefix_of_reached (world_of life exec) x r left))),
+  );
+}
+
+-- at each moment of messages, and of what follows them
+pub then_moments : {D A : Type 0} {G : Ghosts D} (old mid : Exec D A G) (to : Option D) (xs ys : List Message) (text : List ℕ) (goes : RunsOn old mid xs text) (h : Ghosts.honest G) (life : Life)
+    → EachMoment (goes.runs h life).0 mid to ys → EachMoment life old to (xs ++ ys)
+then_moments {D} {A} {G} old mid to xs ys text goes h life more t now r =
     let g = goes.runs h life in
-    let s = stop g.0 in (
-      world_of g.0 mid,
-      s.0,
-      within_then (failures_of old) (failures_of mid) (Ghosts.failures G fault.disk) (λ can. Runs can (world_of life old) done text (world_of g.0 mid)) (λ can. NextBegins can (world_of g.0 mid) rest part s.0)
-          (λ can. Runs can (world_of life old) done text (world_of g.0 mid) × NextBegins can (world_of g.0 mid) rest part s.0) g.1 s.1 (λ can x y. (x, y)),
-      s.2,
-    )
+    let w = world_of life old in
+    let u = world_of g.0 mid in
+    let ran = within_any _ _ (λ can. Runs can w xs text u) g.1 in
+    since_then G (disk_in old.home) (disk_in mid.home) to (IsWhile w xs) (IsWhile u ys) (IsWhile w (xs ++ ys)) (g.2 t now r) (more t now (reached_runs xs any w u text ran r))
+    (λ x m. while_more w xs ys x m) (λ x m. while_behind w u xs ys text x ran m)
+
+pub stops_then : {D A : Type 0} {G : Ghosts D} (long : Type 0) (old mid : Exec D A G) (fault : RunFault D) (done rest : List Message) (text part : List ℕ)
+    → RunsOn old mid done text → StopsHere long mid fault rest part → Stops long old fault done rest text part
+stops_then long old mid fault done rest text part goes stop = record {
+  hands = hands_then old mid fault.disk goes.lasts stop.hands;
+  stops = λ h worn life. let g = goes.runs h life in let s = stop.stops h (goes.lasts.worn worn) g.0 in
+      (world_of g.0 mid, s.0, failures_of mid, g.1, s.1, s.2, s.3, then_moments old mid (Some fault.disk) done rest text goes h life s.4);
+}
 
 -- ---- runs of messages
 
-pub runs_none : {D A : Type 0} {G : Ghosts D} (exec : Exec D A G) → GoesOn exec exec (λ can w v. Runs can w [] [] v)
+pub runs_none : {D A : Type 0} {G : Ghosts D} (exec : Exec D A G) → RunsOn exec exec [] []
 runs_none exec = record {
-  runs = λ h life. (life, within_here _ (λ can. Runs can (world_of life exec) [] [] (world_of life exec)) (λ can. (refl, refl)));
-  explained = λ since e. e;
-  later = later_same _;
+  runs = λ h life. (
+    life,
+    within_here _ (λ can. Runs can (world_of life exec) [] [] (world_of life exec)) (λ can. (refl, refl)),
+    λ t now r. since_home exec.home (IsWhile (world_of life exec) []) now (λ x left. while_here (world_of life exec) [] x (prefix_of_reached (world_of life exec) x r left)),
+  );
+  lasts = lasts_none exec;
 }
 
-pub runs_one : (can : Mishaps) (w new : World) (m : Message) (text : List ℕ) → MessageRuns can w m text new → Runs can w (m ∷ []) text new
-runs_one can w new m text r = (text, [], new, r, (refl, refl), sym (append-nil text))
-
-pub runs_join : (can : Mishaps) (w mid new : World) (text more : List ℕ) (xs ys : List Message) → Runs can w xs text mid → Runs can mid ys more new
-    → Runs can w (xs ++ ys) (text ++ more) new
-runs_join can w mid new text more [] ys p q =
-    subst (λ (z : World). Runs can z ys (text ++ more) new) p.0 (subst (λ (z : List ℕ). Runs can mid ys (z ++ more) new) (sym p.1) q)
-runs_join can w mid new text more (x ∷ xs) ys p q =
-    (p.0, p.1 ++ more, p.2, p.3, runs_join can p.2 mid new p.1 more xs ys p.4 q, ap (λ (z : List ℕ). z ++ more) p.5 ∙ append_assoc p.0 p.1 more)
-
-pub runs_all : {D A : Type 0} {G : Ghosts D} (old mid new : Exec D A G) (text more : List ℕ) (xs ys : List Message) → GoesOn old mid (λ can w v. Runs can w xs text v)
-    → GoesOn mid new (λ can w v. Runs can w ys more v) → GoesOn old new (λ can w v. Runs can w (xs ++ ys) (text ++ more) v)
-runs_all old mid new text more xs ys p q =
-    goes_then old mid new (λ can w v. Runs can w xs text v) (λ can w v. Runs can w ys more v) (λ can w v. Runs can w (xs ++ ys) (text ++ more) v) p q
-    (λ can w u v x y. runs_join can w u v text more xs ys x y)
-
-pub runs_then : {D A : Type 0} {G : Ghosts D} (old mid new : Exec D A G) (text more : List ℕ) (xs : List Message) (m : Message) → GoesOn old mid (λ can w v. Runs can w xs text v)
-    → GoesOn mid new (λ can w v. MessageRuns can w m more v) → GoesOn old new (λ can w v. Runs can w (xs ++ m ∷ []) (text ++ more) v)
-runs_then old mid new text more xs m p q =
-    runs_all old mid new text more xs (m ∷ []) p (goes_as mid new (λ can w v. MessageRuns can w m more v) (λ can w v. Runs can w (m ∷ []) more v) q (λ can w v x. runs_one can w v m more x))
+pub runs_all : {D A : Type 0} {G : Ghosts D} (old mid new : Exec D A G) (text more : List ℕ) (xs ys : List Message) → RunsOn old mid xs text → RunsOn mid new ys more → RunsOn old new (xs ++ ys) (text ++ more)
+runs_all old mid new text more xs ys p q = record {
+  runs = λ h life. let g = p.runs h life in let k = q.runs h g.0 in (
+    k.0,
+    within_then _ _ _ (λ can. Runs can (world_of life old) xs text (world_of g.0 mid)) (λ can. Runs can (world_of g.0 mid) ys more (world_of k.0 new)) (λ can. Runs can (world_of life old) (xs ++ ys) (text ++ more) (world_of k.0 new)) g.1 k.1
+        (λ can x y. runs_join can (world_of life old) (world_of g.0 mid) (world_of k.0 new) text more xs ys x y),
+    then_moments old mid (disk_in new.home) xs ys text p h life k.2,
+  );
+  lasts = lasts_then old mid new p.lasts q.lasts;
+}
 
 -- ---- the loop over the lines of a piece
 
@@ -235,7 +419,7 @@ fed_line before mid front part over line s s1 s2 t0 t1 t2 f moved free told = (
   λ input. ap before (append_assoc front (part ++ 10 ∷ []) input ∙ ap (λ (z : List ℕ). front ++ z) (append_assoc part (10 ∷ []) input))
       ∙ f.3 (part ++ 10 ∷ input) ∙ ap (λ (z : List Message). f.0 ++ z) (moved (10 ∷ input) ∙ coming_end over line input free)
       ∙ sym (append_assoc f.0 (message_now over line ∷ []) (coming false [] input)),
-  runs_then s s1 s2 f.1 told.0 f.0 (message_now over line) f.4 told.2,
+  runs_all s s1 s2 f.1 told.0 f.0 (message_now over line ∷ []) f.4 told.2,
 )
 
 -- what was fed of a piece, of which this is the rest
@@ -257,17 +441,14 @@ feed_step before mid piece rest at over next_over line next s s1 s2 t0 t1 t2 fou
       (fed_line before mid f.0 (take at rest) over line s s1 s2 t0 t1 t2 f.2 moved free told)),
 )
 
--- the line of a power loss tells nothing
-pub told_power : {D A : Type 0} {G : Ghosts D} (m : Message) (old new : Exec D A G) (t : Telling) → is_power m ≡ true → GoesOn old new (λ can w v. MessageRuns can w Message.Power [] v)
-    → ToldLine m old new t t
-told_power Message.Power old new t p goes = ([], says_none t, goes)
-told_power Message.Overlong old new t p goes = cc
-told_power (Message.Units bytes) old new t p goes = cc
-
 pub is_power_line : (m : Message) → is_power m ≡ true → m ≡ Message.Power
 is_power_line Message.Power p = refl
 is_power_line Message.Overlong p = cc
 is_power_line (Message.Units bytes) p = cc
+
+-- the line of a power loss tells nothing
+pub told_power : {D A : Type 0} {G : Ghosts D} (m : Message) (old new : Exec D A G) (t : Telling) → is_power m ≡ true → RunsOn old new (Message.Power ∷ []) [] → ToldLine m old new t t
+told_power m old new t p goes = subst (λ (z : Message). ToldLine z old new t t) (sym (is_power_line m p)) ([], says_none t, goes)
 
 -- the rest of the piece has no line feed
 pub feed_end : {D A : Type 0} {G : Ghosts D} (before mid after : List ℕ → List Message) (piece rest : List ℕ) (s s1 : Exec D A G) (t0 t1 : Telling)
@@ -278,9 +459,9 @@ feed_end before mid after piece rest s s1 t0 t1 f moved =
     (g.0, g.1, g.2, (λ input. ap before (append_assoc f.0 rest input) ∙ g.3 (rest ++ input) ∙ ap (λ (z : List Message). g.0 ++ z) (moved input)), g.4)
 
 -- a fault after these lines
-pub feed_stops : {D A : Type 0} {G : Ghosts D} (before mid : List ℕ → List Message) (piece rest : List ℕ) (s s1 : Exec D A G) (fault : RunFault D) (t0 t1 t2 : Telling) (part : List ℕ) → Ghosts.honest G
-    → FedSo before piece rest mid s s1 t0 t1 → SaysUntil fault.cause t1 t2 part → ((input : List ℕ) → StopsHere s1 fault (mid (rest ++ input)) part) → Stopped before piece s fault t0 t2
-feed_stops before mid piece rest s s1 fault t0 t1 t2 part h f until stop =
+pub feed_stops : {D A : Type 0} {G : Ghosts D} (before mid : List ℕ → List Message) (piece rest : List ℕ) (s s1 : Exec D A G) (fault : RunFault D) (t0 t1 t2 : Telling) (part : List ℕ)
+    → FedSo before piece rest mid s s1 t0 t1 → SaysUntil fault.cause t1 t2 part → ((input : List ℕ) → StopsHere ⊥ s1 fault (mid (rest ++ input)) part) → Stopped before piece s fault t0 t2
+feed_stops before mid piece rest s s1 fault t0 t1 t2 part f until stop =
     let g = f.2 in (
       g.0,
       g.1,
@@ -289,7 +470,7 @@ feed_stops before mid piece rest s s1 fault t0 t1 t2 part h f until stop =
       λ input. (
         mid (rest ++ input),
         ap before (ap (λ (z : List ℕ). z ++ input) f.1 ∙ append_assoc f.0 rest input) ∙ g.3 (rest ++ input),
-        stops_then s s1 fault g.0 (mid (rest ++ input)) g.1 part h g.4 (stop input),
+        stops_then ⊥ s s1 fault g.0 (mid (rest ++ input)) g.1 part g.4 (stop input),
       ),
     )
 
@@ -301,14 +482,33 @@ line_first mid rest at over line input found moved free =
     ap (λ (z : List ℕ). mid (z ++ input)) (found_parts 10 rest at found) ∙ ap mid (append_assoc (take at rest) (10 ∷ drop (at + 1) rest) input)
     ∙ moved (10 ∷ (drop (at + 1) rest ++ input)) ∙ coming_end over line (drop (at + 1) rest ++ input) free
 
+-- a flush that stops
+pub flush_stops : {D A : Type 0} {G : Ghosts D} (old new : Exec D A G) (fault : RunFault D) (cause : RunCause) → Halts old new [] cause → FaultOf new fault cause → StopsHere ⊥ old fault [] []
+flush_stops {D} {A} {G} old new fault cause s f =
+    halts_idle old new fault [] cause s f
+    (λ h worn life. halted_stops ⊥ old new (Ghosts.failures G fault.disk) [] life (Ghosts.state G fault.disk).bytes cause fault.cause f.told f.failures (λ at. at) (s.why h) (f.reason h (s.lasts.worn worn)))
+
+-- at each moment of a flush
+pub flush_moments : {D A : Type 0} {G : Ghosts D} (old new : Exec D A G) (due : List Message) → GoesOn old new Flushes → (h : Ghosts.honest G) (life : Life) → EachMoment life old (disk_in new.home) due
+flush_moments {D} {A} {G} old new due g h life t now r =
+    let k = g.runs h life in
+    let w = world_of life old in
+    let v = world_of k.0 new in
+    since_as G (disk_in old.home) (disk_in new.home) (IsBetween w v) (IsWhile w due) (k.2.time t now r)
+    (λ x between. while_idle w v due x (begins_all w v [] (flush_calls any w v (within_any _ _ (λ can. Flushes can w v) k.1))) between)
+
 -- a stop after a flush
-pub flushed_stops : {D A : Type 0} {G : Ghosts D} (old new : Exec D A G) (fault : RunFault D) → Ghosts.honest G → GoesOn old new Flushes → Ghosts.failures G fault.disk ≡ failures_of new
-    → Ghosts.state G fault.disk ≡ disk_at new.home → StopsHere old fault [] []
-flushed_stops {D} {A} {G} old new fault h f same at life =
-    let g = f.runs h life in (
-      world_of g.0 new,
-      within_at _ _ _ (λ can. NextBegins can (world_of life old) [] [] (world_of g.0 new)) same
-          (within_as _ _ (λ can. Flushes can (world_of life old) (world_of g.0 new)) (λ can. NextBegins can (world_of life old) [] [] (world_of g.0 new)) g.1
-          (λ can x. (begins_all (world_of life old) (world_of g.0 new) [] (flush_calls can (world_of life old) (world_of g.0 new) x), refl))),
-      left_in (Ghosts.state G fault.disk) (world_of g.0 new) at,
-    )
+pub flushed_stops : {D A : Type 0} {G : Ghosts D} (old new : Exec D A G) (fault : RunFault D) → GoesOn old new Flushes → FaultOf new fault Device → (Ghosts.honest G → IsHaltedBy old new Device)
+    → StopsHere ⊥ old fault [] []
+flushed_stops {D} {A} {G} old new fault g f why = record {
+  hands = hands_now old new fault.disk g.lasts f.extent f.failures;
+  stops = λ h worn life. let k = g.runs h life in (
+    world_of k.0 new,
+    within_at _ _ _ (λ can. NextBegins can (world_of life old) [] [] (world_of k.0 new)) f.failures
+        (within_as _ _ (λ can. Flushes can (world_of life old) (world_of k.0 new)) (λ can. NextBegins can (world_of life old) [] [] (world_of k.0 new)) k.1
+        (λ can x. (begins_all (world_of life old) (world_of k.0 new) [] (flush_calls can (world_of life old) (world_of k.0 new) x), refl))),
+    left_in (Ghosts.state G fault.disk) (world_of k.0 new) f.state,
+    halted_stops ⊥ old new (Ghosts.failures G fault.disk) [] k.0 (Ghosts.state G fault.disk).bytes Device fault.cause f.told f.failures (λ at. at) (why h) (f.reason h (g.lasts.worn worn)),
+    λ t now r. since_back (disk_in old.home) new.home fault.disk (IsWhile (world_of life old) []) f.disk (flush_moments old new [] g h life t now r),
+  );
+}

@@ -3,8 +3,9 @@ use Rattle.std.proofs.Common.{◌≡◌, ◌⊎◌, ℕ, suc, ◌+◌, ◌-◌, 
 use Rattle.psu_disk.specs.Disk.{HasFailed}
 use Rattle.psu_disk.specs.declared.disk.Disk.{Ghosts}
 use Rattle.psu_items.specs.declared.commit.UnstartedCause.TheVariants as unstarted
+use Rattle.psu_items.specs.Image.{IsEither}
 use Rattle.psu_map.specs.Map.{Item}
-use Rattle.psu_exec.specs.Calls.{JobKind, Commit, Reopen, JobData, JobEnd, Stored, Unstarted, Failed, Reopened, Job, Nothing, Took, GaveBack, Allows, HasWork, job_out, kind_for, stored}
+use Rattle.psu_exec.specs.Calls.{JobKind, Commit, Reopen, JobData, JobEnd, Stored, Unstarted, Failed, Reopened, Job, Nothing, Took, GaveBack, Allows, HasWork, job_of, job_out, kind_for, stored}
 use Rattle.psu_exec.specs.Device.{State, Flush, is_whole, is_broken, wait_of}
 use Rattle.psu_nv.specs.Contents.{items_of}
 use Rattle.psu_exec.specs.Jobs.{job_data, job_disk, job_home}
@@ -17,15 +18,18 @@ use Rattle.psu_exec.specs.declared.home.Home.{Home}
 use Rattle.psu_exec.specs.declared.job.Job.{Job as AnyJob}
 use Rattle.psu_exec.specs.declared.job.Job.TheVariants as job
 use Rattle.psu_server.specs.Failures.{failures_at, failures_of}
-use Rattle.psu_server.specs.Jobs.{HasRun, HasReasons, IsExplained}
+use Rattle.psu_server.specs.Jobs.{Counts, HasRun}
 use Rattle.psu_server.specs.Lives.{Life, disk_at, world_of, Calls}
 use Rattle.psu_server.specs.Runs.{is_short, EndsJob, JobDone, Jobs, Flushes, Reopens}
-use Rattle.psu_server.specs.Within.{IsLater, Within}
-use Rattle.psu_server.specs.Progress.{GoesOn, Halts}
+use Rattle.psu_server.specs.Within.{Within}
+use Rattle.psu_server.specs.Moments.{IsBetween, Leads, Since, disk_in}
+use Rattle.psu_server.specs.Progress.{GoesOn, Halts, Lasts, Spans}
 use Rattle.psu_server.specs.declared.run_cause.RunCause.TheVariants.{Memory as RunMemory, Device as RunDevice}
-use Rattle.psu_server.proofs.Calls.{Executes, executes_one, executes_join, jobs_calls, begins_none}
-use Rattle.psu_server.proofs.Within.{within_itself, failed_on, later_same, within_as, within_here, within_at, within_then}
-use Rattle.psu_server.proofs.JobEnds.{job_done}
+use Rattle.psu_server.proofs.Calls.{Executes, executes_one, executes_join, jobs_calls, begins_none, leads_join, leads_one, prefix_of_either, reached_made}
+use Rattle.psu_server.proofs.Moments.{since_as, spans_none, spans_same}
+use Rattle.psu_server.proofs.Lasting.{lasts_none}
+use Rattle.psu_server.proofs.Within.{within_itself, failed_before, failed_on, within_as, within_here, within_at, within_then}
+use Rattle.psu_server.proofs.JobEnds.{broken_failed, count_at, gave_store, job_done, size_at}
 
 -- ---- a flush
 
@@ -66,8 +70,8 @@ flush_full first new life i all w = within_as _ _ (λ can. Jobs i can (world_of 
 abbrev pub IsClean : ℕ → Flush → Type 0
 IsClean i f = (i ≡ 0) ⊎ ((f.store ≡ Whole) × (2 ≤ i → f.unflushed ≡ 0))
 
-abbrev pub IsCalm : {D A : Type 0} {G : Ghosts D} → ℕ → ℕ → Exec D A G → Type 0
-IsCalm since i exec = HasFailed since (failures_of exec) ⊎ (exec.device.flush.store ≡ Worn) ⊎ IsClean i exec.device.flush
+abbrev pub IsCalm : {D A : Type 0} {G : Ghosts D} → Exec D A G → ℕ → Exec D A G → Type 0
+IsCalm first i exec = HasFailed (failures_of first) (failures_of exec) ⊎ (exec.device.flush.store ≡ Worn) ⊎ IsClean i exec.device.flush
 
 nothing_left : (n : ℕ) → n - n ≡ 0
 nothing_left n = omega arith
@@ -80,9 +84,17 @@ stored_clean f taken new limit map whole out gave =
     committing : (f : Flush) → f.store ≡ Whole → job_out f ≡ record f { out = true; held = Some (record { count = f.unflushed; map = items_of f.contents }) }
     committing f w = rw w refl
 
+-- what lasts of a job
+pub run_lasts : {D A : Type 0} {G : Ghosts D} (old taken new : Exec D A G) (j : AnyJob D A G) (short : Bool) → old.home ≡ Some (job_home j) → HasRun taken j new short → Lasts old new
+run_lasts {D} {A} {G} old taken new j short there run = record {
+  extent = run.extent ∙ sym (size_at old j there);
+  later = subst (λ (n : ℕ). n ≤ failures_of new) (sym (count_at old j there)) run.later;
+  worn = λ e. run.worn;
+}
+
 after_clean : (end : JobEnd) (i : ℕ) (f taken new : Flush) (kind : JobKind) → kind ≡ kind_for f.store → (f.store ≡ Worn → ⊥) → IsClean i f → taken ≡ job_out f → FlushGives taken end new
-    → EndsJob kind end → is_short end ≡ false → (new.store ≡ Broken) ⊎ (new.store ≡ Worn) ⊎ IsClean (i + 1) new
-after_clean (Stored limit map) i f taken new kind is fit clean out gave own long =
+    → EndsJob kind end → is_short end ≡ false → (m n : ℕ) → Counts end m n → HasFailed m n ⊎ (new.store ≡ Worn) ⊎ IsClean (i + 1) new
+after_clean (Stored limit map) i f taken new kind is fit clean out gave own long m n counts =
     let whole : f.store ≡ Whole = of_kind f.store kind is fit own in
     inr (inr (inr (ap (λ (z : Flush). z.store) gave, λ many. stored_clean f taken new limit map whole out gave)))
   where
@@ -91,10 +103,10 @@ after_clean (Stored limit map) i f taken new kind is fit clean out gave own long
     of_kind Broken Commit is fit own = cc
     of_kind Broken Reopen is fit own = absurd own
     of_kind Worn kind is fit own = absurd (fit refl)
-after_clean (Unstarted limit before edits unstarted.Memory) i f taken new kind is fit clean out gave own long = cc
-after_clean (Unstarted limit before edits unstarted.Worn) i f taken new kind is fit clean out gave own long = inr (inl (ap (λ (z : Flush). z.store) gave))
-after_clean (Failed limit before edits cause) i f taken new kind is fit clean out gave own long = inl (ap (λ (z : Flush). z.store) gave)
-after_clean (Reopened limit map) i f taken new kind is fit clean out gave own long =
+after_clean (Unstarted limit before edits unstarted.Memory) i f taken new kind is fit clean out gave own long m n counts = cc
+after_clean (Unstarted limit before edits unstarted.Worn) i f taken new kind is fit clean out gave own long m n counts = inr (inl (ap (λ (z : Flush). z.store) gave))
+after_clean (Failed limit before edits cause) i f taken new kind is fit clean out gave own long m n counts = inl counts
+after_clean (Reopened limit map) i f taken new kind is fit clean out gave own long m n counts =
     inr (inr (inr (⊎_elim (λ all. ap (λ (z : Flush). z.store) all.1) (λ none. ap (λ (z : Flush). z.store) none.1) gave, λ many. absurd (first i many kind is own clean))))
   where
     first : (i : ℕ) → 2 ≤ i + 1 → (kind : JobKind) → kind ≡ kind_for f.store → EndsJob kind (Reopened limit map) → IsClean i f → ⊥
@@ -102,20 +114,19 @@ after_clean (Reopened limit map) i f taken new kind is fit clean out gave own lo
     first i many Commit is own (inr whole) = absurd own
     first i many Reopen is own (inr whole) = let bad = is ∙ ap kind_for whole.0 in cc
 
-pub calm_after : {D A : Type 0} {G : Ghosts D} (since i : ℕ) (old taken new : Exec D A G) (j : AnyJob D A G) (short : Bool) → Allows old.device (Took (Job (job_data j))) taken.device
-    → old.home ≡ Some (job_home j) → HasRun taken j new short → short ≡ false → IsExplained since new → (new.home ≡ None → ⊥) → IsCalm since i old → IsCalm since (i + 1) new
-calm_after {D} {A} {G} since i old taken new j short took there run long why home_is calm =
+pub calm_after : {D A : Type 0} {G : Ghosts D} (first : Exec D A G) (i : ℕ) (old taken new : Exec D A G) (j : AnyJob D A G) (short : Bool) → Ghosts.honest G → Allows old.device (Took (Job (job_data j))) taken.device
+    → old.home ≡ Some (job_home j) → HasRun taken j new short → short ≡ false → failures_of first ≤ failures_of old → IsCalm first i old → IsCalm first (i + 1) new
+calm_after {D} {A} {G} first i old taken new j short h took there run long later calm =
+    let still : is_short run.finished ≡ false = sym run.short_is ∙ long in
     ⊎_elim
-    (λ failed. inl (failed_on since _ _ (subst (λ (n : ℕ). IsLater n (failures_of new)) (sym (ap (λ (z : Option (Home D A G)). failures_at z) there ∙ job_count j)) run.later) failed))
-    (λ rest. ⊎_elim (λ worn. absurd (not_worn old.device.flush worn took.0.1)) (λ clean. told new.home refl (after_clean run.finished i old.device.flush taken.device.flush new.device.flush (job_data j).kind
+    (λ failed. inl (failed_on _ _ _ (run_lasts old taken new j short there run).later failed))
+    (λ rest. ⊎_elim (λ worn. absurd (not_worn old.device.flush worn took.0.1)) (λ clean. ⊎_elim (λ failed. inl (failed_before _ _ _ later failed)) inr
+    (after_clean run.finished i old.device.flush taken.device.flush new.device.flush (job_data j).kind
     (ap (λ (d : JobData). d.kind) took.0.2 ∙ kind_out old.device.flush) (λ worn. not_worn old.device.flush worn took.0.1) clean
-    (ap (λ (s : State). s.flush) took.1) (flush_gives taken.device new.device run.finished run.give.gives) run.own (sym run.short_is ∙ long))) rest)
+    (ap (λ (s : State). s.flush) took.1) (flush_gives taken.device new.device run.finished run.give.gives) run.own still (failures_of old) (failures_of new)
+    (subst (λ (n : ℕ). Counts run.finished n (failures_of new)) (sym (count_at old j there)) (run.counts h still)))) rest)
     calm
   where
-    job_count : (j : AnyJob D A G) → failures_at (let z : Option (Home D A G) = Some (job_home j) in z) ≡ Ghosts.failures G (job_disk j)
-    job_count (job.Commit planned) = refl
-    job_count (job.Reopen alloc broken) = refl
-
     not_worn : (f : Flush) → f.store ≡ Worn → HasWork f → ⊥
     not_worn f worn work = ⊎_elim (λ broken. let bad = sym worn ∙ broken in cc) (λ whole. let bad = sym worn ∙ whole.0 in cc) work
 
@@ -126,35 +137,7 @@ calm_after {D} {A} {G} since i old taken new j short took there run long why hom
     kind_out : (f : Flush) → kind_for (job_out f).store ≡ kind_for f.store
     kind_out f = ap kind_for (store_if f (is_whole f.store))
 
-    told : (there : Option (Home D A G)) → new.home ≡ there → (new.device.flush.store ≡ Broken) ⊎ (new.device.flush.store ≡ Worn) ⊎ IsClean (i + 1) new.device.flush → IsCalm since (i + 1) new
-    told None e r = absurd (home_is e)
-    told (Some h) e (inl broken) = inl (subst (λ (z : Option (Home D A G)). HasFailed since (failures_at z)) (sym e) (why.broken h e broken))
-    told (Some h) e (inr rest) = inr rest
-
 -- ---- one turn of a flush, as its loop tells it
-
-count_at : {D A : Type 0} {G : Ghosts D} (old : Exec D A G) (j : AnyJob D A G) → old.home ≡ Some (job_home j) → failures_of old ≡ Ghosts.failures G (job_disk j)
-count_at {D} {A} {G} old j there = ap (λ (z : Option (Home D A G)). failures_at z) there ∙ by j where
-  by : (j : AnyJob D A G) → failures_at (let z : Option (Home D A G) = Some (job_home j) in z) ≡ Ghosts.failures G (job_disk j)
-  by (job.Commit planned) = refl
-  by (job.Reopen alloc broken) = refl
-
-pub run_later : {D A : Type 0} {G : Ghosts D} (old taken new : Exec D A G) (j : AnyJob D A G) (short : Bool) → old.home ≡ Some (job_home j) → HasRun taken j new short
-    → IsLater (failures_of old) (failures_of new)
-run_later old taken new j short there run = subst (λ (n : ℕ). IsLater n (failures_of new)) (sym (count_at old j there)) run.later
-
-store_out : (f : Flush) → (job_out f).store ≡ f.store
-store_out f = by f (is_whole f.store) where
-  by : (f : Flush) (b : Bool) → (if b then record f { out = true; held = Some (record { count = f.unflushed; map = items_of f.contents }) } else record f { out = true }).store ≡ f.store
-  by f true = refl
-  by f false = refl
-
--- the reasons of a store stay while its job is out
-pub out_reasons : {D A : Type 0} {G : Ghosts D} (since : ℕ) (old taken : Exec D A G) (j : AnyJob D A G) → Allows old.device (Took (Job (job_data j))) taken.device
-    → old.home ≡ Some (job_home j) → IsExplained since old → HasReasons since taken.device.flush.store (Some (job_home j))
-out_reasons {D} {A} {G} since old taken j took there why =
-    subst (λ (c : Condition). HasReasons since c (Some (job_home j))) (sym (ap (λ (s : State). s.flush.store) took.1 ∙ store_out old.device.flush))
-    (subst (λ (z : Option (Home D A G)). HasReasons since old.device.flush.store z) there why)
 
 -- the calls of a job, whatever it came to
 pub job_executes : {D A : Type 0} {G : Ghosts D} (old taken new : Exec D A G) (j : AnyJob D A G) (life : Life) (short : Bool) → Ghosts.honest G
@@ -164,6 +147,26 @@ job_executes old taken new j life short h took run =
     executes_join (world_of life old) mid (world_of life new) [] []
     (executes_one (world_of life old) (Took (Job (job_data j))) mid (disk_at old.home, (taken.device, refl, took, refl, refl)))
     (executes_one mid (GaveBack run.finished (Some run.over)) (world_of life new) (disk_at new.home, (new.device, refl, run.give, run.stands h, refl)))
+
+-- what a power loss at any moment of a job may leave
+pub job_spans : {D A : Type 0} {G : Ghosts D} (old taken new : Exec D A G) (j : AnyJob D A G) (life : Life) (short : Bool) → Ghosts.honest G
+    → Allows old.device (Took (Job (job_data j))) taken.device → old.home ≡ Some (job_home j) → HasRun taken j new short → Spans old new (world_of life old) (world_of life new)
+job_spans {D} {A} {G} old taken new j life short h took there run =
+    let w = world_of life old in
+    let mid : World = record w { state = taken.device } in
+    let takes : Leads w mid = leads_one w mid (Took (Job (job_data j))) (disk_at old.home, (taken.device, refl, took, refl, refl)) in
+    let gives : Leads mid (world_of life new) = leads_one mid (world_of life new) (GaveBack run.finished (Some run.over)) (disk_at new.home, (new.device, refl, run.give, run.stands h, refl)) in
+    let own : job_data j ≡ job_of taken.device.flush = took.0.2 ∙ ap job_of (sym (ap (λ (s : State). s.flush) took.1)) in
+    record {
+      leads = leads_join w mid (world_of life new) takes gives;
+      time = λ t now r. subst (λ (z : Option D). Since G z (disk_in new.home) (IsBetween w (world_of life new))) (sym (ap (λ (z : Option (Home D A G)). disk_in z) there ∙ disk_of_job j))
+          (since_as G (Some (job_disk j)) (disk_in new.home) (IsEither (job_data j).limit (job_data j).before (job_data j).target) (IsBetween w (world_of life new)) (run.time h t)
+          (λ x either. (mid, takes, gives, prefix_of_either mid x (reached_made w mid takes r) refl (subst (λ (d : JobData). IsEither d.limit d.before d.target x) own either))));
+    }
+  where
+    disk_of_job : (j : AnyJob D A G) → disk_in (let z : Option (Home D A G) = Some (job_home j) in z) ≡ Some (job_disk j)
+    disk_of_job (job.Commit planned) = refl
+    disk_of_job (job.Reopen alloc broken) = refl
 
 -- after these jobs
 pub jobs_execute : {D A : Type 0} {G : Ghosts D} (first old : Exec D A G) (life : Life) (i : ℕ) → Within (failures_of first) (failures_of old) (λ can. Jobs i can (world_of life first) (world_of life old))
@@ -175,18 +178,16 @@ pub same_world : {D A : Type 0} {G : Ghosts D} (old new : Exec D A G) (life : Li
 same_world {D} {A} {G} old new life same there = ap (λ (d : State). record (world_of life old) { state = d; disk = disk_at new.home }) same
     ∙ ap (λ (z : Option (Home D A G)). record (world_of life old) { disk = disk_at z }) there
 
-pub same_explained : {D A : Type 0} {G : Ghosts D} (since : ℕ) (old new : Exec D A G) → new.device.flush.store ≡ old.device.flush.store → new.home ≡ old.home → IsExplained since old → IsExplained since new
-same_explained {D} {A} {G} since old new store there why =
-    subst (λ (c : Condition). HasReasons since c new.home) (sym store) (subst (λ (z : Option (Home D A G)). HasReasons since old.device.flush.store z) (sym there) why)
+pub still_spans : {D A : Type 0} {G : Ghosts D} (old new : Exec D A G) (life : Life) → new.device ≡ old.device → new.home ≡ old.home → Spans old new (world_of life old) (world_of life new)
+still_spans old new life same there = spans_same old new life (world_of life new) there ([], same_world old new life same there)
 
 -- a halt for want of memory
-pub halts_short : {D A : Type 0} {G : Ghosts D} (old new : Exec D A G) → (Ghosts.honest G → (life : Life) → Executes (world_of life old) [] (world_of life new))
-    → ((since : ℕ) → IsExplained since old → IsExplained since new) → IsLater (failures_of old) (failures_of new) → Halts old new [] RunMemory
-halts_short old new calls why later = record {
-  begun = λ h life. (life, begins_none (world_of life old) (world_of life new) [] (calls h life));
-  explained = why;
-  later = later;
-  why = λ h since e. tt;
+pub halts_short : {D A : Type 0} {G : Ghosts D} (old new : Exec D A G) → (Ghosts.honest G → (life : Life) → Executes (world_of life old) [] (world_of life new) × Spans old new (world_of life old) (world_of life new))
+    → Lasts old new → Halts old new [] RunMemory
+halts_short old new calls lasts = record {
+  begun = λ h life. let c = calls h life in (life, begins_none (world_of life old) (world_of life new) [] c.0, c.1);
+  lasts = lasts;
+  why = λ h. tt;
   own = λ e. cc;
 }
 
@@ -200,41 +201,35 @@ out_free s taken d took free = ap (λ (z : State). wait_of z.flush 1) took.1 ∙
 
 pub reopens_none : {D A : Type 0} {G : Ghosts D} (exec : Exec D A G) → is_broken exec.device.flush.store ≡ false → GoesOn exec exec Reopens
 reopens_none exec shut = record {
-  runs = λ h life. (life, within_here _ (λ can. Reopens can (world_of life exec) (world_of life exec)) (λ can. inl (shut, refl)));
-  explained = λ since why. why;
-  later = later_same _;
+  runs = λ h life. (life, within_here _ (λ can. Reopens can (world_of life exec) (world_of life exec)) (λ can. inl (shut, refl)), spans_none exec life);
+  lasts = lasts_none exec;
 }
 
 pub reopens_done : {D A : Type 0} {G : Ghosts D} (old taken new : Exec D A G) (j : AnyJob D A G) (short : Bool) → is_broken old.device.flush.store ≡ true
     → Allows old.device (Took (Job (job_data j))) taken.device → old.home ≡ Some (job_home j) → HasRun taken j new short → short ≡ false
-    → ((since : ℕ) → HasReasons since taken.device.flush.store (Some (job_home j)) → IsExplained since new) → is_broken new.device.flush.store ≡ false → GoesOn old new Reopens
-reopens_done old taken new j short broke took there run long why mended = record {
+    → is_broken new.device.flush.store ≡ false → GoesOn old new Reopens
+reopens_done old taken new j short broke took there run long mended = record {
   runs = λ h life. (
     life,
     within_as _ _ (λ can. JobDone can (world_of life old) (world_of life new)) (λ can. Reopens can (world_of life old) (world_of life new))
         (job_done old taken new j life short h took there run long) (λ can done. inr (broke, done, mended)),
+    job_spans old taken new j life short h took there run,
   );
-  explained = λ since e. why since (out_reasons since old taken j took there e);
-  later = run_later old taken new j short there run;
+  lasts = run_lasts old taken new j short there run;
 }
 
-broken_is : (c : Condition) → is_broken c ≡ true → c ≡ Broken
-broken_is Whole e = cc
-broken_is Broken e = refl
-broken_is Worn e = cc
+-- the store is still broken: a call of the disk failed
+pub still_broken : {D A : Type 0} {G : Ghosts D} (old taken new : Exec D A G) (j : AnyJob D A G) (short : Bool) → Ghosts.honest G → old.home ≡ Some (job_home j) → HasRun taken j new short → short ≡ false
+    → is_broken new.device.flush.store ≡ true → HasFailed (failures_of old) (failures_of new)
+still_broken {D} {A} {G} old taken new j short h there run long broke =
+    subst (λ (n : ℕ). HasFailed n (failures_of new)) (sym (count_at old j there))
+    (broken_failed run.finished new.device.flush.store _ _ (gave_store run.finished taken.device new.device run.over run.give) broke (run.counts h (sym run.short_is ∙ long)))
 
--- the store is still broken
-pub halts_broken : {D A : Type 0} {G : Ghosts D} (old new : Exec D A G) → (Ghosts.honest G → (life : Life) → Executes (world_of life old) [] (world_of life new))
-    → ((since : ℕ) → IsExplained since old → IsExplained since new) → IsLater (failures_of old) (failures_of new) → is_broken new.device.flush.store ≡ true → (new.home ≡ None → ⊥)
-    → Halts old new [] RunDevice
-halts_broken {D} {A} {G} old new calls why later broke home_is = record {
-  begun = λ h life. (life, begins_none (world_of life old) (world_of life new) [] (calls h life));
-  explained = why;
-  later = later;
-  why = λ h since e. inl (told new.home refl (why since e));
+pub halts_broken : {D A : Type 0} {G : Ghosts D} (old new : Exec D A G) → (Ghosts.honest G → (life : Life) → Executes (world_of life old) [] (world_of life new) × Spans old new (world_of life old) (world_of life new))
+    → Lasts old new → (Ghosts.honest G → HasFailed (failures_of old) (failures_of new)) → Halts old new [] RunDevice
+halts_broken old new calls lasts failed = record {
+  begun = λ h life. let c = calls h life in (life, begins_none (world_of life old) (world_of life new) [] c.0, c.1);
+  lasts = lasts;
+  why = λ h. inl (failed h);
   own = λ e. cc;
 }
-  where
-    told : {since : ℕ} (there : Option (Home D A G)) → new.home ≡ there → IsExplained since new → HasFailed since (failures_of new)
-    told None e r = absurd (home_is e)
-    told {since} (Some h) e r = subst (λ (z : Option (Home D A G)). HasFailed since (failures_at z)) (sym e) (r.broken h e (broken_is new.device.flush.store broke))

@@ -1,15 +1,16 @@
 -- A job that goes out, runs and is given back.
-use Rattle.std.proofs.Common.{◌≡◌, ◌≢◌, ℕ, ◌+◌, ◌≤◌, ◌^◌, Bool, true, false, Option, Some, None, List, [], ◌∷◌, refl, sym, ap, ◌∙◌, subst, inl, inr, arith, ⊎_elim, map, slice_index_or, option_map}
-use Rattle.psu_disk.specs.Disk.{HasFailed}
+use Rattle.std.proofs.Common.{◌≡◌, ◌≢◌, ℕ, ◌+◌, ◌≤◌, ◌^◌, Bool, true, false, Option, Some, None, List, [], ◌∷◌, refl, sym, ap, ◌∙◌, subst, inl, inr, ⊎_elim, map, slice_index_or, option_map}
+use Rattle.psu_disk.specs.Disk.{HasFailed, LeavesOnly}
 use Rattle.psu_disk.specs.Ranges.{reads_left}
 use Rattle.psu_disk.specs.declared.disk.Disk.{Ghosts}
 use Rattle.psu_items.specs.declared.commit.UnstartedCause.TheVariants as unstarted
+use Rattle.psu_items.specs.Image.{IsEither}
 use Rattle.psu_map.specs.Batch.{Edit}
 use Rattle.psu_map.specs.Map.{Item}
 use Rattle.psu_items.specs.declared.broken.BrokenCause.{BrokenCause}
 use Rattle.psu_items.specs.declared.broken.BrokenCause.TheVariants as broken_cause
-use Rattle.psu_exec.specs.Calls.{JobData, JobEnd, Stored, Unstarted, Failed, Reopened, Job, Took, IsExpected, IsAccepted, Allows, job_of, kind_for, wait_less, wait_cut}
-use Rattle.psu_exec.specs.Device.{State, Flush, count_held, is_open, target, wait_of}
+use Rattle.psu_exec.specs.Calls.{JobData, JobEnd, Stored, Unstarted, Failed, Reopened, Job, Took, IsExpected, IsAccepted, Allows, job_of, wait_less, wait_cut}
+use Rattle.psu_exec.specs.Device.{State, Flush, count_held, is_broken, is_open, target, wait_of}
 use Rattle.psu_exec.specs.Jobs.{finished_of, finished_disk, home_of, home_disk, job_data, job_disk, job_home, EndStands, RunsTo}
 use Rattle.psu_exec.specs.World.{IsTrueOf}
 use Rattle.psu_exec.proofs.Giving.{FlushGives, flush_gives, locks_after, open_after}
@@ -22,17 +23,17 @@ use Rattle.psu_exec.specs.declared.home.Home.{Home}
 use Rattle.psu_exec.specs.declared.job.Job.{Job as AnyJob}
 use Rattle.psu_exec.specs.declared.job.Job.TheVariants as job
 use Rattle.psu_exec.specs.declared.wait.Wait.{Wait}
-use Rattle.psu_server.specs.Failures.{failures_at, failures_of}
-use Rattle.psu_server.specs.Jobs.{Counts, HasRun, HasReasons, Wears, home_number}
+use Rattle.psu_server.specs.Failures.{extent_at, extent_of, failures_at, failures_of}
+use Rattle.psu_server.specs.Jobs.{Counts, HasRun, Wears, WearsOutLast, home_number}
 use Rattle.psu_server.specs.Lives.{Life, disk_at, world_of}
+use Rattle.psu_server.specs.Moments.{Since, disk_in}
 use Rattle.psu_server.specs.Runs.{Mishaps, none, is_short, IsSound, EndsJob, JobDone}
-use Rattle.psu_server.specs.Within.{Covers, IsLater, Within}
-use Rattle.psu_server.proofs.Within.{failed_before, failed_on, later_on, later_failed}
+use Rattle.psu_server.specs.Within.{Covers, Within}
 
 -- ---- what a job's end leaves of the state
 
 -- what the store is once this is given back
-abbrev store_after : JobEnd → Condition
+abbrev pub store_after : JobEnd → Condition
 store_after (Stored limit map) = Whole
 store_after (Unstarted limit before edits unstarted.Memory) = Whole
 store_after (Unstarted limit before edits unstarted.Worn) = Worn
@@ -140,43 +141,10 @@ wears_of (job.Reopen alloc old) (finished.Unstarted store back cause) runs stand
 wears_of (job.Reopen alloc old) (finished.Broken broken) runs stands long = tt
 wears_of (job.Reopen alloc old) (finished.Reopened store) runs stands long = tt
 
--- the count of failures is a later one, however the job ended
-pub later_of : {D A : Type 0} {G : Ghosts D} (j : AnyJob D A G) (end : Finished D A G) → RunsTo j end
-    → IsLater (Ghosts.failures G (job_disk j)) (Ghosts.failures G (home_disk (home_of end)))
-later_of (job.Commit planned) (finished.Stored store) runs = let same = runs.1 in inl (omega (arith, same))
-later_of {D} {A} {G} (job.Commit planned) (finished.Unstarted store back cause) runs =
-    let same : Ghosts.failures G store.disk ≡ Ghosts.failures G planned.store.disk = ap (λ s. Ghosts.failures G s.disk) runs.store in inl (omega (arith, same))
-later_of (job.Commit planned) (finished.Broken broken) runs = later_failed _ _ runs.failures
-later_of (job.Commit planned) (finished.Reopened store) runs = absurd runs
-later_of (job.Reopen alloc old) (finished.Stored store) runs = absurd runs
-later_of (job.Reopen alloc old) (finished.Unstarted store back cause) runs = absurd runs
-later_of (job.Reopen alloc old) (finished.Broken broken) runs = inl runs.later
-later_of (job.Reopen alloc old) (finished.Reopened store) runs = let same = runs.failures in inl (omega (arith, same))
-
 -- ---- why a store can't take a commit
 
--- of a broken store the disk failed, of a worn one the number is the last
-abbrev BrokenFor : {D A : Type 0} {G : Ghosts D} → ℕ → Condition → Finished D A G → Type 0
-BrokenFor {D} {A} {G} since store end = store ≡ Broken → HasFailed since (Ghosts.failures G (home_disk (home_of end)))
-
-abbrev WornFor : {D A : Type 0} {G : Ghosts D} → Condition → Finished D A G → Type 0
-WornFor store end = store ≡ Worn → 2 ^ 64 ≤ home_number (home_of end) + 1
-
-broken_for : {D A : Type 0} {G : Ghosts D} (since : ℕ) (store : Condition) (j : AnyJob D A G) (end : Finished D A G) → (store ≡ Worn → ⊥) → (job_data j).kind ≡ kind_for store
-    → HasReasons since store (Some (job_home j)) → RunsTo j end → BrokenFor since (store_after (finished_of end)) end
-broken_for since store (job.Commit planned) (finished.Stored new) fit kind why runs = λ e. cc
-broken_for since store (job.Commit planned) (finished.Unstarted new back unstarted.Memory) fit kind why runs = λ e. cc
-broken_for since store (job.Commit planned) (finished.Unstarted new back unstarted.Worn) fit kind why runs = λ e. cc
-broken_for since store (job.Commit planned) (finished.Broken broken) fit kind why runs = λ e. failed_before since _ _ (why.later _ refl) runs.failures
-broken_for since store (job.Commit planned) (finished.Reopened new) fit kind why runs = absurd runs
-broken_for since store (job.Reopen alloc old) (finished.Stored new) fit kind why runs = absurd runs
-broken_for since store (job.Reopen alloc old) (finished.Unstarted new back cause) fit kind why runs = absurd runs
-broken_for since Whole (job.Reopen alloc old) (finished.Broken broken) fit kind why runs = λ e. cc
-broken_for since Broken (job.Reopen alloc old) (finished.Broken broken) fit kind why runs = λ e. failed_on since _ _ (inl runs.later) (why.broken _ refl refl)
-broken_for since Worn (job.Reopen alloc old) (finished.Broken broken) fit kind why runs = absurd (fit refl)
-broken_for since store (job.Reopen alloc old) (finished.Reopened new) fit kind why runs = λ e. cc
-
-worn_for : {D A : Type 0} {G : Ghosts D} (j : AnyJob D A G) (end : Finished D A G) → RunsTo j end → WornFor (store_after (finished_of end)) end
+-- a store is worn only where its number is the last
+worn_for : {D A : Type 0} {G : Ghosts D} (j : AnyJob D A G) (end : Finished D A G) → RunsTo j end → store_after (finished_of end) ≡ Worn → 2 ^ 64 ≤ home_number (home_of end) + 1
 worn_for (job.Commit planned) (finished.Stored new) runs = λ e. cc
 worn_for (job.Commit planned) (finished.Unstarted new back unstarted.Memory) runs = λ e. cc
 worn_for (job.Commit planned) (finished.Unstarted new back unstarted.Worn) runs = λ e. subst (λ s. 2 ^ 64 ≤ s.number + 1) (sym runs.store) (runs.worn refl)
@@ -187,25 +155,38 @@ worn_for (job.Reopen alloc old) (finished.Unstarted new back cause) runs = absur
 worn_for (job.Reopen alloc old) (finished.Broken broken) runs = λ e. cc
 worn_for (job.Reopen alloc old) (finished.Reopened new) runs = λ e. cc
 
-the_home : {D A : Type 0} {G : Ghosts D} (a b : Home D A G) → Some a ≡ Some b → a ≡ b
+pub the_home : {D A : Type 0} {G : Ghosts D} (a b : Home D A G) → Some a ≡ Some b → a ≡ b
 the_home a b e = cc
 
-pub gave_reasons : {D A : Type 0} {G : Ghosts D} (since : ℕ) (s new : State) (over : List ℕ) (j : AnyJob D A G) (end : Finished D A G) (there : Option (Home D A G))
-    → (s.flush.store ≡ Worn → ⊥) → job_data j ≡ job_of s.flush → HasReasons since s.flush.store (Some (job_home j)) → RunsTo j end → IsAccepted s (finished_of end) over new
-    → there ≡ Some (home_of end) → HasReasons since new.flush.store there
-gave_reasons {D} {A} {G} since s new over j end there fit own why runs gave is =
-    let store : new.flush.store ≡ store_after (finished_of end) = gave_store (finished_of end) s new over gave in
-    let reasons : HasReasons since (store_after (finished_of end)) (Some (home_of end)) = record {
-      later = λ h e. subst (λ (z : Home D A G). IsLater since (Ghosts.failures G (home_disk z))) (the_home (home_of end) h e) (later_on since _ _ (first j why.later) (later_of j end runs));
-      broken = λ h e. subst (λ (z : Home D A G). store_after (finished_of end) ≡ Broken → HasFailed since (Ghosts.failures G (home_disk z))) (the_home (home_of end) h e)
-          (broken_for since s.flush.store j end fit (ap (λ (d : JobData). d.kind) own) why runs);
-      worn = λ h e. subst (λ (z : Home D A G). store_after (finished_of end) ≡ Worn → 2 ^ 64 ≤ home_number z + 1) (the_home (home_of end) h e) (worn_for j end runs);
-    } in
-    subst (λ (c : Condition). HasReasons since c there) (sym store) (subst (λ (h : Option (Home D A G)). HasReasons since (store_after (finished_of end)) h) (sym is) reasons)
-  where
-    first : (j : AnyJob D A G) → ((h : Home D A G) → Some (job_home j) ≡ Some h → IsLater since (Ghosts.failures G (home_disk h))) → IsLater since (Ghosts.failures G (job_disk j))
-    first (job.Commit planned) later = later _ refl
-    first (job.Reopen alloc old) later = later _ refl
+gave_worn : {D A : Type 0} {G : Ghosts D} (s new : State) (over : List ℕ) (j : AnyJob D A G) (end : Finished D A G) (there : Option (Home D A G))
+    → RunsTo j end → IsAccepted s (finished_of end) over new → there ≡ Some (home_of end) → WearsOutLast new.flush.store there
+gave_worn {D} {A} {G} s new over j end there runs gave is =
+    subst (λ (c : Condition). WearsOutLast c there) (sym (gave_store (finished_of end) s new over gave))
+    (subst (λ (z : Option (Home D A G)). WearsOutLast (store_after (finished_of end)) z) (sym is)
+    (λ h e. subst (λ (z : Home D A G). store_after (finished_of end) ≡ Worn → 2 ^ 64 ≤ home_number z + 1) (the_home (home_of end) h e) (worn_for j end runs)))
+
+-- a store that is broken then is so for a failed call
+pub broken_failed : (end : JobEnd) (store : Condition) (a b : ℕ) → store ≡ store_after end → is_broken store ≡ true → Counts end a b → HasFailed a b
+broken_failed (Stored limit map) store a b is broke counts = let bad = sym (ap is_broken is) ∙ broke in cc
+broken_failed (Unstarted limit before edits unstarted.Memory) store a b is broke counts = let bad = sym (ap is_broken is) ∙ broke in cc
+broken_failed (Unstarted limit before edits unstarted.Worn) store a b is broke counts = let bad = sym (ap is_broken is) ∙ broke in cc
+broken_failed (Failed limit before edits cause) store a b is broke counts = counts
+broken_failed (Reopened limit map) store a b is broke counts = let bad = sym (ap is_broken is) ∙ broke in cc
+
+-- ---- the disk of a job
+
+-- it is the one that was at home
+pub count_at : {D A : Type 0} {G : Ghosts D} (old : Exec D A G) (j : AnyJob D A G) → old.home ≡ Some (job_home j) → failures_of old ≡ Ghosts.failures G (job_disk j)
+count_at {D} {A} {G} old j there = ap (λ (z : Option (Home D A G)). failures_at z) there ∙ by j where
+  by : (j : AnyJob D A G) → failures_at (let z : Option (Home D A G) = Some (job_home j) in z) ≡ Ghosts.failures G (job_disk j)
+  by (job.Commit planned) = refl
+  by (job.Reopen alloc broken) = refl
+
+pub size_at : {D A : Type 0} {G : Ghosts D} (old : Exec D A G) (j : AnyJob D A G) → old.home ≡ Some (job_home j) → extent_of old ≡ Ghosts.extent G (job_disk j)
+size_at {D} {A} {G} old j there = ap (λ (z : Option (Home D A G)). extent_at z) there ∙ by j where
+  by : (j : AnyJob D A G) → extent_at (let z : Option (Home D A G) = Some (job_home j) in z) ≡ Ghosts.extent G (job_disk j)
+  by (job.Commit planned) = refl
+  by (job.Reopen alloc broken) = refl
 
 -- ---- the run's own words
 
@@ -216,9 +197,11 @@ same_disk (finished.Broken broken) = refl
 same_disk (finished.Reopened store) = refl
 
 pub has_run : {D A : Type 0} {G : Ghosts D} (old : Exec D A G) (j : AnyJob D A G) (new : Exec D A G) (end : Finished D A G) (over : List ℕ) (short : Bool)
-    → RunsTo j end → IsAccepted old.device (finished_of end) over new.device → new.home ≡ Some (home_of end)
-    → (Ghosts.honest G → IsTrueOf (target old.device.flush) (finished_of end) (Ghosts.state G (finished_disk end))) → (Ghosts.honest G → EndStands end) → short ≡ is_short (finished_of end) → HasRun old j new short
-has_run {D} {A} {G} old j new end over short runs gave is true_of stands short_is = record {
+    → RunsTo j end → Ghosts.extent G (finished_disk end) ≡ Ghosts.extent G (job_disk j) → Ghosts.failures G (job_disk j) ≤ Ghosts.failures G (finished_disk end)
+    → IsAccepted old.device (finished_of end) over new.device → new.home ≡ Some (home_of end)
+    → (Ghosts.honest G → IsTrueOf (target old.device.flush) (finished_of end) (Ghosts.state G (finished_disk end))) → (Ghosts.honest G → EndStands end) → short ≡ is_short (finished_of end)
+    → (Ghosts.honest G → Ghosts.tells G → LeavesOnly (Ghosts.moment G) (Ghosts.left_since G) (job_disk j) (finished_disk end) (IsEither (job_data j).limit (job_data j).before (job_data j).target)) → HasRun old j new short
+has_run {D} {A} {G} old j new end over short runs extent later gave is true_of stands short_is time = record {
   finished = finished_of end;
   over = over;
   give = gave;
@@ -226,8 +209,12 @@ has_run {D} {A} {G} old j new end over short runs gave is true_of stands short_i
   own = ends_job j end runs;
   stands = λ h. subst (λ (there : Option (Home D A G)). IsTrueOf (target old.device.flush) (finished_of end) (disk_at there)) (sym is)
       (subst (λ (d : D). IsTrueOf (target old.device.flush) (finished_of end) (Ghosts.state G d)) (same_disk end) (true_of h));
-  later = subst (λ (there : Option (Home D A G)). IsLater (Ghosts.failures G (job_disk j)) (failures_at there)) (sym is) (later_of j end runs);
+  later = subst (λ (there : Option (Home D A G)). Ghosts.failures G (job_disk j) ≤ failures_at there) (sym is) (subst (λ (d : D). Ghosts.failures G (job_disk j) ≤ Ghosts.failures G d) (same_disk end) later);
+  extent = subst (λ (there : Option (Home D A G)). extent_at there ≡ Ghosts.extent G (job_disk j)) (sym is) (subst (λ (d : D). Ghosts.extent G d ≡ Ghosts.extent G (job_disk j)) (same_disk end) extent);
+  worn = gave_worn old.device new.device over j end new.home runs gave is;
   wears = λ h long. subst (λ (there : Option (Home D A G)). Wears (finished_of end) (disk_at there).bytes) (sym is) (wears_of j end runs (stands h) long);
+  time = λ h t. subst (λ (there : Option (Home D A G)). Since G (Some (job_disk j)) (disk_in there) (IsEither (job_data j).limit (job_data j).before (job_data j).target)) (sym is)
+      (subst (λ (d : D). LeavesOnly (Ghosts.moment G) (Ghosts.left_since G) (job_disk j) d (IsEither (job_data j).limit (job_data j).before (job_data j).target)) (same_disk end) (time h t));
   counts = λ h long. subst (λ (there : Option (Home D A G)). Counts (finished_of end) (Ghosts.failures G (job_disk j)) (failures_at there)) (sym is) (counts_of j end runs h long);
 }
 
@@ -258,7 +245,7 @@ pub job_done : {D A : Type 0} {G : Ghosts D} (old taken new : Exec D A G) (j : A
     → Within (failures_of old) (failures_of new) (λ can. JobDone can (world_of life old) (world_of life new))
 job_done {D} {A} {G} old taken new j life short h took there run long =
     let calm : is_short run.finished ≡ false = sym run.short_is ∙ long in
-    let count : failures_of old ≡ Ghosts.failures G (job_disk j) = ap (λ (z : Option (Home D A G)). failures_at z) there ∙ job_count j in
+    let count = count_at old j there in
     subst (λ (n : ℕ). Within n (failures_of new) (λ can. JobDone can (world_of life old) (world_of life new))) (sym count) (
       gone_of run.finished,
       run.later,
@@ -275,7 +262,3 @@ job_done {D} {A} {G} old taken new j life short h took there run long =
         long = calm;
       },
     )
-  where
-    job_count : (j : AnyJob D A G) → failures_at (let z : Option (Home D A G) = Some (job_home j) in z) ≡ Ghosts.failures G (job_disk j)
-    job_count (job.Commit planned) = refl
-    job_count (job.Reopen alloc broken) = refl

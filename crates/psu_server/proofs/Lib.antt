@@ -1,7 +1,9 @@
 pub mod Alone
 pub mod Within
+pub mod Lasting
 pub mod Telling
 pub mod Calls
+pub mod Moments
 pub mod JobEnds
 pub mod FlushEnds
 pub mod SessionOne

@@ -16,16 +16,17 @@ use Rattle.psu_server.specs.declared.run_cause.RunCause.{RunCause}
 use Rattle.psu_server.specs.declared.run_cause.RunCause.TheVariants.{Memory, Write}
 use Rattle.psu_server.proofs.Calls.{begins_all, begins_none, executes_none, unit_calls}
 use Rattle.psu_server.proofs.Telling.{not_write, says_on_join, says_on_none, until_none, until_on_join, until_on_none}
-use Rattle.psu_server.proofs.Within.{later_same, within_here}
-use Rattle.psu_server.proofs.UnitEnds.{goes_as, goes_then}
+use Rattle.psu_server.proofs.Lasting.{lasts_none}
+use Rattle.psu_server.proofs.Moments.{spans_none}
+use Rattle.psu_server.proofs.Within.{within_here}
+use Rattle.psu_server.proofs.UnitEnds.{goes_as, goes_then, halted_since}
 
 -- ---- the device goes on, or breaks off
 
 pub goes_none : {D A : Type 0} {G : Ghosts D} (exec : Exec D A G) (P : Mishaps → World → World → Type 0) → ((can : Mishaps) (w : World) → P can w w) → GoesOn exec exec P
 goes_none exec P here = record {
-  runs = λ h life. (life, within_here _ (λ can. P can (world_of life exec) (world_of life exec)) (λ can. here can (world_of life exec)));
-  explained = λ since e. e;
-  later = later_same _;
+  runs = λ h life. (life, within_here _ (λ can. P can (world_of life exec) (world_of life exec)) (λ can. here can (world_of life exec)), spans_none exec life);
+  lasts = lasts_none exec;
 }
 
 pub continues_none : {D A : Type 0} {G : Ghosts D} (exec : Exec D A G) (t : Telling) (P : Way) → ((answers : List (List ℕ)) (can : Mishaps) (w : World) → P answers answers can w w) → Continues exec exec t t P
@@ -50,7 +51,7 @@ breaks_then old mid new a b c P Q R cause p q join answers begun =
       until_on_join cause a b c answers f.0 s.0 f.1 s.1,
       record {
         goes = goes_then old mid new (P answers f.0) (Q f.0 s.0) (R answers s.0) f.2 s.2.goes (λ can w u v x y. join answers f.0 s.0 can w u v x y);
-        why = λ h since e. s.2.why h since (f.2.explained since e);
+        why = λ h. halted_since old mid new cause f.2.lasts (s.2.why h);
       },
     )
 
@@ -69,7 +70,7 @@ goes_breaks old mid new a b P Q R cause p q join answers begun =
       s.1,
       record {
         goes = goes_then old mid new P (Q answers s.0) (R answers s.0) p s.2.goes (λ can w u v x y. join answers s.0 can w u v x y);
-        why = λ h since e. s.2.why h since (p.explained since e);
+        why = λ h. halted_since old mid new cause p.lasts (s.2.why h);
       },
     )
 
@@ -78,7 +79,7 @@ pub breaks_at_once : {D A : Type 0} {G : Ghosts D} (exec : Exec D A G) (t : Tell
 breaks_at_once exec t P here answers begun = (
   answers,
   until_on_none Memory t t answers (until_none Memory t (not_write Memory refl)),
-  record { goes = goes_none exec (P answers answers) (λ can w. here answers can w); why = λ h since e. tt },
+  record { goes = goes_none exec (P answers answers) (λ can w. here answers can w); why = λ h. tt },
 )
 
 -- a unit that stops
@@ -89,16 +90,15 @@ unit_stops old new t request P cause s turn answers begun = (
   until_on_none cause t t answers (until_none cause t s.own),
   record {
     goes = record {
-      runs = λ h life. let k = s.begun h life in (k.0, (none, s.later, (λ e. cc), λ can cov. turn answers can (world_of life old) (world_of k.0 new) k.1));
-      explained = s.explained;
-      later = s.later;
+      runs = λ h life. let k = s.begun h life in (k.0, (none, s.lasts.later, (λ e. cc), λ can cov. turn answers can (world_of life old) (world_of k.0 new) k.1), k.2);
+      lasts = s.lasts;
     };
     why = s.why;
   },
 )
 
-halted_by : {D A : Type 0} {G : Ghosts D} (since : ℕ) (exec : Exec D A G) (cause : RunCause) → (cause ≡ Memory) ⊎ (cause ≡ Write) → IsHaltedBy since exec cause
-halted_by since exec cause own = ⊎_elim (λ e. subst (λ (z : RunCause). IsHaltedBy since exec z) (sym e) tt) (λ e. subst (λ (z : RunCause). IsHaltedBy since exec z) (sym e) tt) own
+halted_by : {D A : Type 0} {G : Ghosts D} (old new : Exec D A G) (cause : RunCause) → (cause ≡ Memory) ⊎ (cause ≡ Write) → IsHaltedBy old new cause
+halted_by old new cause own = ⊎_elim (λ e. subst (IsHaltedBy old new) (sym e) tt) (λ e. subst (IsHaltedBy old new) (sym e) tt) own
 
 -- a unit that is executed, and then a fault before its answer is told
 pub unit_untold : {D A : Type 0} {G : Ghosts D} (old new : Exec D A G) (a b : Telling) (request : Request) (reply : Reply) (P : Way) (cause : RunCause) → GoesOn old new (λ can w v. UnitRuns can w request reply v)
@@ -109,7 +109,7 @@ unit_untold old new a b request reply P cause u until own turn answers begun = (
   record {
     goes = goes_as old new (λ can w v. UnitRuns can w request reply v) (P answers answers) u
         (λ can w v x. turn answers can w v (begins_all w v (request ∷ []) (unit_calls can w v request reply x)));
-    why = λ h since e. halted_by since new cause own;
+    why = λ h. halted_by old new cause own;
   },
 )
 

@@ -1,89 +1,135 @@
 -- What a whole run came to, said of the image that it began on.
-use Rattle.std.proofs.Common.{◌≡◌, ◌≢◌, ◌⊎◌, ℕ, List, Option, Some, None, IfSome, subst, inr}
-use Rattle.psu_disk.specs.Disk.{DiskState}
+use Rattle.std.proofs.Common.{◌≡◌, ℕ, List, Option, Some, None, IfSome, IsErrAnd, Result, Ok, Err, ◌++◌, inl, inr, subst, sym}
+use Rattle.std.specs.Option.{ForSome}
+use Rattle.psu_disk.specs.Disk.{DiskState, LeavesOnly}
 use Rattle.psu_disk.specs.declared.disk.Disk.{Ghosts}
+use Rattle.psu_items.proofs.Fitting.{stands_readable}
+use Rattle.psu_items.specs.Finding.{IsOldOrSame}
+use Rattle.psu_exec.proofs.Moments.{keeps_map}
+use Rattle.psu_exec.specs.Jobs.{home_disk}
 use Rattle.psu_items.specs.Image.{EachStands}
 use Rattle.psu_nv.specs.Contents.{items_of}
 use Rattle.psu_exec.specs.World.{World}
 use Rattle.psu_exec.specs.declared.exec.Exec.{Exec}
 use Rattle.psu_server.specs.Failures.{failures_of}
-use Rattle.psu_server.specs.Lines.{messages}
-use Rattle.psu_server.specs.Lives.{born, disk_at, world_of, PowersOn}
-use Rattle.psu_server.specs.Progress.{EndsEarly, RanAll}
-use Rattle.psu_server.specs.Results.{WritesFirst, WritesRun}
-use Rattle.psu_server.specs.Runs.{Mishaps, Flushes, NextBegins, Runs}
+use Rattle.psu_server.specs.Jobs.{IsWornAtLast}
+use Rattle.psu_server.specs.Lines.{Message, Brings}
+use Rattle.psu_server.specs.Lives.{Reached, born, world_of, PowersOn}
+use Rattle.psu_server.specs.Moments.{IsNow, IsOfRun, IsWhile, disk_in}
+use Rattle.psu_server.proofs.Moments.{since_then, since_to}
+use Rattle.psu_server.specs.Reasons.{EndsFor}
+use Rattle.psu_server.specs.Progress.{EachMoment}
+use Rattle.psu_server.specs.Results.{WritesFirst, WritesRun, disk_of}
+use Rattle.psu_server.specs.Runs.{Mishaps, none, Flushes, NextBegins, Runs}
+use Rattle.psu_server.specs.Script.{IsScript}
 use Rattle.psu_server.specs.Within.{Within}
-use Rattle.psu_server.specs.declared.run_cause.RunCause.TheVariants.{Write}
 use Rattle.psu_server.specs.declared.run_fault.RunFault.{RunFault}
 use Rattle.psu_server.proofs.Alone.{script_is_alone}
-use Rattle.psu_server.proofs.Calls.{Reached, flush_calls, flush_running, flushed_stands, leaves_prefix, reached_calls, reached_next, reached_on, reached_runs}
-use Rattle.psu_server.proofs.Reading.{early_here}
-use Rattle.psu_server.proofs.Within.{covers_itself}
+use Rattle.psu_server.proofs.Calls.{flush_calls, flush_running, flushed_stands, leaves_prefix, reached_calls, reached_next, reached_on, reached_runs}
+use Rattle.psu_server.proofs.Causes.{ends_late}
+use Rattle.psu_server.proofs.Reading.{Early, MayBeLong, Whole}
+use Rattle.psu_server.proofs.Starting.{stops_since}
+use Rattle.psu_server.proofs.Within.{covers_itself, within_itself}
 
--- nothing is read, and nothing is written
-pub early_none : {D A : Type 0} {G : Ghosts D} (from old : Option (List ℕ)) (s : Exec D A G) (fault : RunFault D) → Ghosts.honest G → fault.cause ≢ Write → Ghosts.failures G fault.disk ≡ failures_of s
-    → Ghosts.state G fault.disk ≡ disk_at s.home → IfSome from (λ input. EndsEarly s fault (messages input) old old)
-early_none None old s fault h other same at = tt
-early_none (Some x) old s fault h other same at = early_here s fault (messages x) old h other same at
+-- the disk of a fault that is passed on
+pub passed_disk : {D : Type 0} (r : Result D (RunFault D)) (fault : RunFault D) (P : D → Type 0) → IsErrAnd r (λ told. told ≡ fault) → P fault.disk → P (disk_of r)
+passed_disk (Ok disk) fault P is p = absurd is
+passed_disk {D} (Err told) fault P is p = subst (λ (z : RunFault D). P z.disk) (sym is) p
 
 -- the run ended early
-pub run_early : {D A : Type 0} {G : Ghosts D} (from u v : Option (List ℕ)) (image : List ℕ) (s : Exec D A G) (fault : RunFault D) (before : ℕ) (Q : Type 0) → PowersOn image (world_of (born s) s)
-    → failures_of s ≡ before → IfSome from (λ input. EndsEarly s fault (messages input) u v)
-    → Q ⊎ IfSome from (λ input. WritesFirst fault.cause image input before (Ghosts.failures G fault.disk) u v (Ghosts.state G fault.disk))
-run_early None u v image s fault before Q starts same p = inr tt
-run_early {D} {A} {G} (Some input) u v image s fault before Q starts same p =
-    let e = p.stops (born s) in
-    let went : Within before (Ghosts.failures G fault.disk) (λ can. Runs can (world_of (born s) s) p.done p.text e.0 × NextBegins can e.0 p.rest p.part e.1)
-    = subst (λ (n : ℕ). Within n (Ghosts.failures G fault.disk) (λ can. Runs can (world_of (born s) s) p.done p.text e.0 × NextBegins can e.0 p.rest p.part e.1)) same e.2 in
-    let both = went.3 went.0 (covers_itself went.0) in
-    let reached : Reached e.1 = reached_next p.rest went.0 e.0 e.1 p.part both.1 (reached_runs p.done went.0 (world_of (born s) s) e.0 p.text both.0 (reached_on image (world_of (born s) s) starts)) in
-    inr (record {
-      gone = went.0;
-      failed = went.2;
+pub run_early : {D A : Type 0} {G : Ghosts D} (from u v : Option (List ℕ)) (image : List ℕ) (s : Exec D A G) (fault : RunFault D) (before : ℕ) → Ghosts.honest G → PowersOn image (world_of (born s) s)
+    → failures_of s ≡ before → IsWornAtLast s → Early s fault from u v → WritesFirst fault.cause image from before (Ghosts.failures G fault.disk) u v (Ghosts.state G fault.disk)
+run_early {D} {A} {G} from u v image s fault before h starts same worn (due, brought, p) =
+    let e = p.stops.stops h worn (born s) in
+    let went : Within before e.2 (λ can. Runs can (world_of (born s) s) p.done p.text e.0) = subst (λ (n : ℕ). Within n e.2 (λ can. Runs can (world_of (born s) s) p.done p.text e.0)) same e.3 in
+    let ran = within_itself _ _ (λ can. Runs can (world_of (born s) s) p.done p.text e.0) went in
+    let begun = within_itself _ _ (λ can. NextBegins can e.0 p.rest p.part e.1) e.4 in
+    let reached : Reached e.1 = reached_next p.rest e.4.0 e.0 e.1 p.part begun (reached_runs p.done went.0 (world_of (born s) s) e.0 p.text ran (reached_on image (world_of (born s) s) starts)) in
+    record {
       first = world_of (born s) s;
       starts = starts;
       done = p.done;
       rest = p.rest;
-      is = p.is;
+      brought = subst (Brings from) p.is brought;
+      count = e.2;
+      later = went.1;
+      gone = went.0;
+      failed = went.2;
       text = p.text;
       mid = e.0;
-      runs = both.0;
+      runs = ran;
+      later_then = e.4.1;
+      gone_then = e.4.0;
+      failed_then = e.4.2;
       part = p.part;
       last = e.1;
-      begun = both.1;
+      begun = begun;
+      why = e.6;
       front = p.front;
       written = p.appends;
       start_of = p.starts;
       whole = p.whole;
       missing = p.missing;
-      kept = leaves_prefix e.1 (Ghosts.state G fault.disk) reached e.3;
-    })
+      kept = leaves_prefix e.1 (Ghosts.state G fault.disk) reached e.5;
+    }
+
+-- and why
+pub run_cause : {D A : Type 0} {G : Ghosts D} (from u v : Option (List ℕ)) (image : List ℕ) (s : Exec D A G) (fault : RunFault D) (before : ℕ) → Ghosts.honest G → PowersOn image (world_of (born s) s)
+    → failures_of s ≡ before → IsWornAtLast s → Early s fault from u v → EndsFor image before (Ghosts.failures G fault.disk) (Ghosts.state G fault.disk).bytes from fault.cause
+run_cause {D} {A} {G} from u v image s fault before h starts same worn early =
+    let w = run_early from u v image s fault before h starts same worn early in
+    ends_late image before (Ghosts.failures G fault.disk) w.rest w.last (Ghosts.state G fault.disk).bytes from fault.cause (stands_readable _ _ _ starts.found)
+    (stops_since (MayBeLong from) before w.count (Ghosts.failures G fault.disk) w.rest w.last (Ghosts.state G fault.disk).bytes fault.cause w.later w.why)
+
+-- what is written of a known input where nothing goes wrong
+script_of : (from : Option (List ℕ)) (image : List ℕ) (due : List Message) (text : List ℕ) (first last : World) → Brings from due → PowersOn image first → Runs none first due text last
+    → IfSome from (λ input. IsScript first.start first.limit input text)
+script_of None image due text first last brought starts runs = tt
+script_of (Some input) image due text first last brought starts runs = script_is_alone image input text first last starts (subst (λ (m : List Message). Runs none first m text last) brought runs)
 
 -- the run ended well
-pub run_whole : {D A : Type 0} {G : Ghosts D} (from u v : Option (List ℕ)) (image : List ℕ) (s : Exec D A G) (disk : D) (before : ℕ) → PowersOn image (world_of (born s) s) → failures_of s ≡ before
-    → IfSome from (λ input. RanAll s (messages input) disk u v)
-    → IfSome from (λ input. WritesRun image input before (Ghosts.failures G disk) u v (Ghosts.state G disk))
-run_whole None u v image s disk before starts same p = tt
-run_whole {D} {A} {G} (Some input) u v image s disk before starts same p =
+pub run_whole : {D A : Type 0} {G : Ghosts D} (from u v : Option (List ℕ)) (image : List ℕ) (s : Exec D A G) (disk : D) (before : ℕ) → Ghosts.honest G → PowersOn image (world_of (born s) s) → failures_of s ≡ before
+    → Whole s disk from u v → WritesRun image from before (Ghosts.failures G disk) u v (Ghosts.state G disk)
+run_whole {D} {A} {G} from u v image s disk before h starts same (due, brought, p) =
     let first : World = world_of (born s) s in
-    let e = p.ends (born s) in
-    let went : Within before (Ghosts.failures G disk) (λ can. Runs can first (messages input) p.text e.0 × Flushes can e.0 e.1)
-    = subst (λ (n : ℕ). Within n (Ghosts.failures G disk) (λ can. Runs can first (messages input) p.text e.0 × Flushes can e.0 e.1)) same e.2 in
+    let e = p.ends h (born s) in
+    let went : Within before (Ghosts.failures G disk) (λ can. Runs can first due p.text e.0 × Flushes can e.0 e.1)
+    = subst (λ (n : ℕ). Within n (Ghosts.failures G disk) (λ can. Runs can first due p.text e.0 × Flushes can e.0 e.1)) same e.2 in
     let both = went.3 went.0 (covers_itself went.0) in
     let flush = flush_calls went.0 e.0 e.1 both.1 in
-    let reached : Reached e.1 = reached_calls flush.entries e.0 e.1 flush.calls (reached_runs (messages input) went.0 first e.0 p.text both.0 (reached_on image first starts)) in
+    let reached : Reached e.1 = reached_calls flush.entries e.0 e.1 flush.calls (reached_runs due went.0 first e.0 p.text both.0 (reached_on image first starts)) in
     record {
       gone = went.0;
       failed = went.2;
       first = first;
       starts = starts;
+      due = due;
+      brought = brought;
       text = p.text;
       written = p.written;
       last = e.0;
       runs = both.0;
-      calm = λ z. script_is_alone image input p.text first e.0 starts (subst (λ (m : Mishaps). Runs m first (messages input) p.text e.0) z both.0);
+      calm = λ z. script_of from image due p.text first e.0 brought starts (subst (λ (m : Mishaps). Runs m first due p.text e.0) z both.0);
       over = e.1;
       ends = both.1;
       flushed = e.3;
       kept = subst (λ (d : DiskState). EachStands d e.1.limit (items_of e.1.state.flush.contents)) e.4 (flushed_stands e.1 reached (flush_running went.0 e.0 e.1 both.1) e.3);
     }
+
+-- ---- at each moment
+
+pub run_moments : {D A : Type 0} {G : Ghosts D} (from : Option (List ℕ)) (given over : D) (s : Exec D A G) (due : List Message) → Ghosts.tells G → IsNow G → PowersOn (Ghosts.state G given).bytes (world_of (born s) s)
+    → (s.home ≡ None → ⊥) → ForSome s.home (λ h. LeavesOnly (Ghosts.moment G) (Ghosts.left_since G) given (home_disk h) (IsOldOrSame (Ghosts.state G given))) → Brings from due
+    → EachMoment (born s) s (Some over) due
+    → LeavesOnly (Ghosts.moment G) (Ghosts.left_since G) given over (IsOfRun (Ghosts.state G given) from)
+run_moments {D} {A} {G} from given over s due t now starts some opens brought runs =
+    let first = world_of (born s) s in
+    since_then G (Some given) (disk_in s.home) (Some over) (IsOldOrSame (Ghosts.state G given)) (IsWhile first due) (IsOfRun (Ghosts.state G given) from)
+    (since_to s.home given (IsOldOrSame (Ghosts.state G given)) some opens) (runs t now (reached_on (Ghosts.state G given).bytes first starts))
+    (λ x kept. inl (keeps_map (Ghosts.state G given) x kept)) (λ x while. inr (first, due, starts, brought, while))
+
+pub early_moments : {D A : Type 0} {G : Ghosts D} (from u v : Option (List ℕ)) (given : D) (s : Exec D A G) (fault : RunFault D) → Ghosts.honest G → Ghosts.tells G → IsNow G → PowersOn (Ghosts.state G given).bytes (world_of (born s) s)
+    → IsWornAtLast s → (s.home ≡ None → ⊥) → ForSome s.home (λ h. LeavesOnly (Ghosts.moment G) (Ghosts.left_since G) given (home_disk h) (IsOldOrSame (Ghosts.state G given))) → Early s fault from u v
+    → LeavesOnly (Ghosts.moment G) (Ghosts.left_since G) given fault.disk (IsOfRun (Ghosts.state G given) from)
+early_moments from u v given s fault h t now starts worn some opens (due, brought, p) =
+    run_moments from given fault.disk s (p.done ++ p.rest) t now starts some opens (subst (Brings from) p.is brought) (p.stops.stops h worn (born s)).7

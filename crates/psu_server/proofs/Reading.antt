@@ -3,20 +3,29 @@ use Rattle.std.proofs.Common.{◌≡◌, ◌≢◌, ℕ, ◌+◌, ◌-◌, ◌�
 use Rattle.std.proofs.lemmas.List.{append-nil}
 use Rattle.std.proofs.Math.Seq.{take-add}
 use Rattle.std.proofs.lemmas.Grind.{common_steps}
-use Rattle.std.proofs.KnownBytes.{Appends-trans, Appends-nil, Consumes-trans}
+use Rattle.std.proofs.KnownBytes.{Appends-trans, Appends-nil, Consumes-trans, Consumes-nil}
 use Rattle.std.specs.Io.KnownBytes.{Appends, Consumes, IsAtEnd}
 use Rattle.std.specs.Io.{StartsWith}
+use Rattle.std.specs.Option.{ForSome}
 use Rattle.psu_disk.specs.declared.disk.Disk.{Ghosts}
+use Rattle.psu_exec.specs.Jobs.{home_disk}
 use Rattle.psu_exec.specs.declared.exec.Exec.{Exec}
-use Rattle.psu_server.specs.Failures.{failures_of}
-use Rattle.psu_server.specs.Lines.{Message, message_now, coming, has, is_none_begun}
+use Rattle.psu_exec.specs.World.{World}
+use Rattle.psu_server.specs.Failures.{extent_of, failures_of}
+use Rattle.psu_server.specs.Lines.{Message, Brings, message_now, messages, coming, has, is_none_begun}
 use Rattle.psu_server.specs.Lives.{disk_at, world_of}
 use Rattle.psu_server.specs.Output.{Says, Telling, WritesShort}
+use Rattle.psu_server.specs.Reasons.{StopsFor}
+use Rattle.psu_server.specs.declared.run_cause.RunCause.{RunCause}
 use Rattle.psu_server.specs.declared.run_cause.RunCause.TheVariants.{Write}
 use Rattle.psu_server.specs.declared.run_fault.RunFault.{RunFault}
-use Rattle.psu_server.specs.Runs.{Flushes, NextBegins, Runs}
-use Rattle.psu_server.specs.Progress.{Answered, Answers, EndsEarly, Fed, GoesOn, RanAll, Stopped, Stops, StopsHere}
-use Rattle.psu_server.proofs.Feeding.{runs_all, runs_join, runs_none, stops_now, stops_then}
+use Rattle.psu_server.specs.Runs.{Flushes, Runs}
+use Rattle.psu_server.specs.Moments.{IsWhile, Since, disk_in}
+use Rattle.psu_server.specs.Progress.{Answered, Answers, EndsEarly, Fed, GoesOn, RanAll, RunsOn, Stopped, Stops, StopsHere}
+use Rattle.psu_server.proofs.Causes.{is_write, never_long}
+use Rattle.psu_server.proofs.Feeding.{FaultOf, flush_moments, runs_all, runs_join, runs_none, stops_now, stops_then, then_moments}
+use Rattle.psu_server.proofs.Moments.{since_back}
+use Rattle.psu_server.proofs.Lasting.{hands_now, hands_then}
 use Rattle.psu_server.proofs.Fronts.{starts_after, starts_whole}
 use Rattle.psu_server.proofs.Cuts.{coming_end, coming_last, coming_none}
 use Rattle.psu_server.proofs.Telling.{longer}
@@ -24,46 +33,51 @@ use Rattle.psu_server.proofs.Within.{within_at, within_then}
 
 -- ---- ends
 
-stops_more : {D A : Type 0} {G : Ghosts D} (old mid : Exec D A G) (fault : RunFault D) (xs done rest : List Message) (text more part : List ℕ) → Ghosts.honest G
-    → GoesOn old mid (λ can w v. Runs can w xs text v) → Stops mid fault done rest more part → Stops old fault (xs ++ done) rest (text ++ more) part
-stops_more {D} {A} {G} old mid fault xs done rest text more part h goes stop life =
-    let g = goes.runs h life in
-    let s = stop g.0 in (
-      s.0,
-      s.1,
-      within_then (failures_of old) (failures_of mid) (Ghosts.failures G fault.disk) (λ can. Runs can (world_of life old) xs text (world_of g.0 mid))
-          (λ can. Runs can (world_of g.0 mid) done more s.0 × NextBegins can s.0 rest part s.1) (λ can. Runs can (world_of life old) (xs ++ done) (text ++ more) s.0 × NextBegins can s.0 rest part s.1) g.1 s.2
-          (λ can x y. (runs_join can (world_of life old) (world_of g.0 mid) s.0 text more xs done x y.0, y.1)),
-      s.3,
-    )
+stops_more : {D A : Type 0} {G : Ghosts D} (long : Type 0) (old mid : Exec D A G) (fault : RunFault D) (xs done rest : List Message) (text more part : List ℕ)
+    → RunsOn old mid xs text → Stops long mid fault done rest more part → Stops long old fault (xs ++ done) rest (text ++ more) part
+stops_more {D} {A} {G} long old mid fault xs done rest text more part goes stop = record {
+  hands = hands_then old mid fault.disk goes.lasts stop.hands;
+  stops = λ h worn life. let g = goes.runs h life in let s = stop.stops h (goes.lasts.worn worn) g.0 in (
+    s.0,
+    s.1,
+    s.2,
+    within_then (failures_of old) (failures_of mid) s.2 (λ can. Runs can (world_of life old) xs text (world_of g.0 mid)) (λ can. Runs can (world_of g.0 mid) done more s.0)
+        (λ can. Runs can (world_of life old) (xs ++ done) (text ++ more) s.0) g.1 s.3 (λ can x y. runs_join can (world_of life old) (world_of g.0 mid) s.0 text more xs done x y),
+    s.4,
+    s.5,
+    s.6,
+    λ t now r. subst (λ (m : List Message). Since G (disk_in old.home) (Some fault.disk) (IsWhile (world_of life old) m)) (sym (append_assoc xs done rest))
+        (then_moments old mid (Some fault.disk) xs (done ++ rest) text goes h life s.7 t now r),
+  );
+}
 
 -- nothing is executed, and nothing written
-pub early_here : {D A : Type 0} {G : Ghosts D} (old : Exec D A G) (fault : RunFault D) (due : List Message) (w : Option (List ℕ)) → Ghosts.honest G → fault.cause ≢ Write
-    → Ghosts.failures G fault.disk ≡ failures_of old → Ghosts.state G fault.disk ≡ disk_at old.home → EndsEarly old fault due w w
-early_here old fault due w h other same at = record {
+pub early_here : {D A : Type 0} {G : Ghosts D} (long : Type 0) (old : Exec D A G) (fault : RunFault D) (due : List Message) (w : Option (List ℕ)) (cause : RunCause) → FaultOf old fault cause → cause ≢ Write
+    → ((last : World) → StopsFor long (failures_of old) (Ghosts.failures G fault.disk) due last (Ghosts.state G fault.disk).bytes cause) → EndsEarly long old fault due w w
+early_here long old fault due w cause f other why = record {
   done = [];
   rest = due;
   is = refl;
   text = [];
   part = [];
-  stops = stops_then old old fault [] due [] [] h (runs_none old) (stops_now old fault due same at);
+  stops = stops_then long old old fault [] due [] [] (runs_none old) (stops_now long old fault due cause f why);
   front = [];
   appends = Appends-nil w;
   starts = refl;
   whole = λ e. refl;
-  missing = λ e. absurd (other e);
+  missing = λ e. absurd (other (sym f.told ∙ e));
 }
 
 -- after messages that were answered
-pub early_after : {D A : Type 0} {G : Ghosts D} (old mid : Exec D A G) (fault : RunFault D) (due done more : List Message) (text : List ℕ) (u v w : Option (List ℕ)) → Ghosts.honest G → due ≡ done ++ more
-    → GoesOn old mid (λ can a b. Runs can a done text b) → Appends u v text → EndsEarly mid fault more v w → EndsEarly old fault due u w
-early_after old mid fault due done more text u v w h is goes p b = record {
+pub early_after : {D A : Type 0} {G : Ghosts D} (long : Type 0) (old mid : Exec D A G) (fault : RunFault D) (due done more : List Message) (text : List ℕ) (u v w : Option (List ℕ)) → due ≡ done ++ more
+    → RunsOn old mid done text → Appends u v text → EndsEarly long mid fault more v w → EndsEarly long old fault due u w
+early_after long old mid fault due done more text u v w is goes p b = record {
   done = done ++ b.done;
   rest = b.rest;
   is = is ∙ ap (λ (z : List Message). done ++ z) b.is ∙ sym (append_assoc done b.done b.rest);
   text = text ++ b.text;
   part = b.part;
-  stops = stops_more old mid fault done b.done b.rest text b.text b.part h goes b.stops;
+  stops = stops_more long old mid fault done b.done b.rest text b.text b.part goes b.stops;
   front = text ++ b.front;
   appends = Appends-trans u v w text b.front p b.appends;
   starts = subst (λ (z : List ℕ). StartsWith z (text ++ b.front)) (sym (append_assoc text b.text b.part)) (starts_after text b.front (b.text ++ b.part) b.starts);
@@ -71,25 +85,38 @@ early_after old mid fault due done more text u v w h is goes p b = record {
   missing = λ e. subst (λ (z : List ℕ). length (text ++ b.front) < length z) (sym (append_assoc text b.text b.part)) (longer text b.front (b.text ++ b.part) (b.missing e));
 }
 
+-- what is not too long ends for the same reasons
+pub early_never_long : {D A : Type 0} {G : Ghosts D} (long : Type 0) (old : Exec D A G) (fault : RunFault D) (due : List Message) (u v : Option (List ℕ)) → EndsEarly ⊥ old fault due u v → EndsEarly long old fault due u v
+early_never_long {D} {A} {G} long old fault due u v p = record {
+  done = p.done;
+  rest = p.rest;
+  is = p.is;
+  text = p.text;
+  part = p.part;
+  stops = record {
+    hands = p.stops.hands;
+    stops = λ h worn life. let s = p.stops.stops h worn life in
+        (s.0, s.1, s.2, s.3, s.4, s.5, never_long long s.2 (Ghosts.failures G fault.disk) p.rest s.1 (Ghosts.state G fault.disk).bytes fault.cause s.6, s.7);
+  };
+  front = p.front;
+  appends = p.appends;
+  starts = p.starts;
+  whole = p.whole;
+  missing = p.missing;
+}
+
 -- ---- pieces
 
 -- what was read and answered so far
-abbrev pub Ran : {D A : Type 0} {G : Ghosts D} → (List ℕ → List Message) → (List ℕ → List Message) → Exec D A G → Exec D A G → Option (List ℕ) → Option (List ℕ) → Option (List ℕ) → Option (List ℕ) → Type 0
-Ran f mid s s1 from to old new = (seen : List ℕ) × Consumes from to seen × Answered f seen mid s s1 old new
-
-pub consumes_nothing : (w : Option (List ℕ)) → Consumes w w []
-consumes_nothing None = tt
-consumes_nothing (Some x) = refl
-
-ran_none : {D A : Type 0} {G : Ghosts D} (f : List ℕ → List Message) (s : Exec D A G) (from old : Option (List ℕ)) → Ran f f s s from from old old
-ran_none f s from old = ([], consumes_nothing from, ([], [], Appends-nil old, (λ input. refl), runs_none s))
+abbrev pub Ran : {D A : Type 0} {G : Ghosts D} → (List ℕ → List Message) → Exec D A G → Exec D A G → Option (List ℕ) → Option (List ℕ) → Option (List ℕ) → Option (List ℕ) → Type 0
+Ran mid s s1 from to old new = (seen : List ℕ) × Consumes from to seen × Answered messages seen mid s s1 old new
 
 -- before the first read
 pub ran_start : {D A : Type 0} {G : Ghosts D} (over : Bool) (line : List ℕ) (s : Exec D A G) (from old : Option (List ℕ)) → over ≡ false → line ≡ []
-    → Ran (coming false []) (coming over line) s s from from old old
+    → Ran (coming over line) s s from from old old
 ran_start over line s from old shut none =
-    subst (λ (o : Bool). Ran (coming false []) (coming o line) s s from from old old) (sym shut)
-    (subst (λ (l : List ℕ). Ran (coming false []) (coming false l) s s from from old old) (sym none) (ran_none (coming false []) s from old))
+    subst (λ (o : Bool). Ran (coming o line) s s from from old old) (sym shut)
+    (subst (λ (l : List ℕ). Ran (coming false l) s s from from old old) (sym none) ([], Consumes-nil from, ([], [], Appends-nil old, (λ input. refl), runs_none s)))
 
 answered_then : {D A : Type 0} {G : Ghosts D} (f mid after : List ℕ → List Message) (seen piece : List ℕ) (s s1 s2 : Exec D A G) (u v w : Option (List ℕ))
     → Answered f seen mid s s1 u v → Answered mid piece after s1 s2 v w → Answered f (seen ++ piece) after s s2 u w
@@ -102,40 +129,77 @@ answered_then f mid after seen piece s s1 s2 u v w p q = (
 )
 
 -- a piece more
-pub ran_on : {D A : Type 0} {G : Ghosts D} (f mid after : List ℕ → List Message) (piece : List ℕ) (s s1 s2 : Exec D A G) (from to next u v w : Option (List ℕ))
-    → Ran f mid s s1 from to u v → Consumes to next piece → Answered mid piece after s1 s2 v w → Ran f after s s2 from next u w
-ran_on f mid after piece s s1 s2 from to next u v w r p q =
-    (r.0 ++ piece, Consumes-trans from to next r.0 piece r.1 p, answered_then f mid after r.0 piece s s1 s2 u v w r.2 q)
+pub ran_on : {D A : Type 0} {G : Ghosts D} (mid after : List ℕ → List Message) (piece : List ℕ) (s s1 s2 : Exec D A G) (from to next u v w : Option (List ℕ))
+    → Ran mid s s1 from to u v → Consumes to next piece → Answered mid piece after s1 s2 v w → Ran after s s2 from next u w
+ran_on mid after piece s s1 s2 from to next u v w r p q =
+    (r.0 ++ piece, Consumes-trans from to next r.0 piece r.1 p, answered_then messages mid after r.0 piece s s1 s2 u v w r.2 q)
 
-early_seen : {D A : Type 0} {G : Ghosts D} (f mid : List ℕ → List Message) (seen input : List ℕ) (s s1 : Exec D A G) (fault : RunFault D) (u v w : Option (List ℕ)) → Ghosts.honest G
-    → Answered f seen mid s s1 u v → EndsEarly s1 fault (mid input) v w → EndsEarly s fault (f (seen ++ input)) u w
-early_seen f mid seen input s s1 fault u v w h p q = early_after s s1 fault (f (seen ++ input)) p.0 (mid input) p.1 u v w h (p.3 input) p.4 p.2 q
+-- what is left of an input, where it is known
+abbrev left_of : Option (List ℕ) → List ℕ
+left_of None = []
+left_of (Some rest) = rest
 
--- a fault while nothing of the next piece is answered
-pub ran_front : {D A : Type 0} {G : Ghosts D} (f mid : List ℕ → List Message) (s s1 : Exec D A G) (fault : RunFault D) (from to u v : Option (List ℕ)) → Ghosts.honest G → Ran f mid s s1 from to u v
-    → fault.cause ≢ Write → Ghosts.failures G fault.disk ≡ failures_of s1 → Ghosts.state G fault.disk ≡ disk_at s1.home → IfSome from (λ input. EndsEarly s fault (f input) u v)
-ran_front f mid s s1 fault None to u v h r other same at = tt
-ran_front f mid s s1 fault (Some x) None u v h r other same at = absurd r.1
-ran_front f mid s s1 fault (Some x) (Some y) u v h r other same at =
-    subst (λ (z : List ℕ). EndsEarly s fault (f z) u v) (sym r.1) (early_seen f mid r.0 y s s1 fault u v v h r.2 (early_here s1 fault (mid y) v h other same at))
+-- an input brings the messages of what was read and of what is left
+brought : (from to : Option (List ℕ)) (seen : List ℕ) → Consumes from to seen → Brings from (messages (seen ++ left_of to))
+brought None to seen p = tt
+brought (Some x) None seen p = absurd p
+brought (Some x) (Some y) seen p = ap messages (sym p)
+
+-- at its end, those of what was read
+brought_all : (from to next : Option (List ℕ)) (seen : List ℕ) → Consumes from to seen → Consumes to next [] → IsAtEnd next → Brings from (messages (seen ++ []))
+brought_all None to next seen p q e = tt
+brought_all (Some x) None next seen p q e = absurd p
+brought_all (Some x) (Some y) None seen p q e = absurd q
+brought_all (Some x) (Some y) (Some z) seen p q e = ap messages (sym (p ∙ ap (λ (l : List ℕ). seen ++ l) (q ∙ e)))
+
+-- where a known input has so many bytes, it may be too long
+abbrev pub MayBeLong : Option (List ℕ) → Type 0
+MayBeLong from = IfSome from (λ input. 1048576 ≤ length input)
+
+-- a run of the messages that the input brings ended early, or ran them all
+abbrev pub Early : {D A : Type 0} {G : Ghosts D} → Exec D A G → RunFault D → Option (List ℕ) → Option (List ℕ) → Option (List ℕ) → Type 0
+Early s fault from u w = (due : List Message) × Brings from due × EndsEarly (MayBeLong from) s fault due u w
+
+abbrev pub Whole : {D A : Type 0} {G : Ghosts D} → Exec D A G → D → Option (List ℕ) → Option (List ℕ) → Option (List ℕ) → Type 0
+Whole s disk from u w = (due : List Message) × Brings from due × RanAll s due disk u w
+
+-- why a run ends before the messages to come
+abbrev pub Reason : {D A : Type 0} {G : Ghosts D} → Option (List ℕ) → Exec D A G → RunFault D → RunCause → Type 0
+Reason {D} {A} {G} from s fault cause = (rest : List Message) (last : World) → StopsFor (MayBeLong from) (failures_of s) (Ghosts.failures G fault.disk) rest last (Ghosts.state G fault.disk).bytes cause
+
+early_seen : {D A : Type 0} {G : Ghosts D} (long : Type 0) (f mid : List ℕ → List Message) (seen input : List ℕ) (s s1 : Exec D A G) (fault : RunFault D) (u v w : Option (List ℕ))
+    → Answered f seen mid s s1 u v → EndsEarly long s1 fault (mid input) v w → EndsEarly long s fault (f (seen ++ input)) u w
+early_seen long f mid seen input s s1 fault u v w p q = early_after long s s1 fault (f (seen ++ input)) p.0 (mid input) p.1 u v w (p.3 input) p.4 p.2 q
+
+-- nothing is read, and nothing written
+pub early_unread : {D A : Type 0} {G : Ghosts D} (s : Exec D A G) (fault : RunFault D) (from w : Option (List ℕ)) (cause : RunCause) → FaultOf s fault cause → cause ≢ Write → Reason from s fault cause → Early s fault from w w
+early_unread s fault from w cause f other why =
+    (messages (left_of from), brought from from [] (Consumes-nil from), early_here (MayBeLong from) s fault (messages (left_of from)) w cause f other (why (messages (left_of from))))
 
 -- a fault in a piece
-pub ran_stop : {D A : Type 0} {G : Ghosts D} (f mid : List ℕ → List Message) (piece : List ℕ) (s s1 : Exec D A G) (fault : RunFault D) (from to next u v w : Option (List ℕ)) → Ghosts.honest G
-    → Ran f mid s s1 from to u v → Consumes to next piece → ((input : List ℕ) → EndsEarly s1 fault (mid (piece ++ input)) v w) → IfSome from (λ input. EndsEarly s fault (f input) u w)
-ran_stop f mid piece s s1 fault None to next u v w h r p q = tt
-ran_stop f mid piece s s1 fault (Some x) None next u v w h r p q = absurd r.1
-ran_stop f mid piece s s1 fault (Some x) (Some y) None u v w h r p q = absurd p
-ran_stop f mid piece s s1 fault (Some x) (Some y) (Some z) u v w h r p q =
-    subst (λ (l : List ℕ). EndsEarly s fault (f l) u w) (sym (r.1 ∙ ap (λ (l : List ℕ). r.0 ++ l) p))
-    (early_seen f mid r.0 (piece ++ z) s s1 fault u v w h r.2 (q z))
+pub ran_stop : {D A : Type 0} {G : Ghosts D} (mid : List ℕ → List Message) (piece : List ℕ) (s s1 : Exec D A G) (fault : RunFault D) (from to next u v w : Option (List ℕ))
+    → Ran mid s s1 from to u v → Consumes to next piece → ((input : List ℕ) → EndsEarly (MayBeLong from) s1 fault (mid (piece ++ input)) v w) → Early s fault from u w
+ran_stop mid piece s s1 fault from to next u v w r p q =
+    let rest = left_of next in (
+      messages (r.0 ++ (piece ++ rest)),
+      subst (λ (l : List ℕ). Brings from (messages l)) (append_assoc r.0 piece rest) (brought from next (r.0 ++ piece) (Consumes-trans from to next r.0 piece r.1 p)),
+      early_seen (MayBeLong from) messages mid r.0 (piece ++ rest) s s1 fault u v w r.2 (q rest),
+    )
+
+-- a fault while nothing of the next piece is answered
+pub ran_front : {D A : Type 0} {G : Ghosts D} (mid : List ℕ → List Message) (s s1 : Exec D A G) (fault : RunFault D) (from to u v : Option (List ℕ)) (cause : RunCause) → Ran mid s s1 from to u v
+    → FaultOf s1 fault cause → cause ≢ Write → Reason from s1 fault cause → Early s fault from u v
+ran_front mid s s1 fault from to u v cause r f other why =
+    ran_stop mid [] s s1 fault from to to u v v r (Consumes-nil to) (λ input. early_here (MayBeLong from) s1 fault (mid input) v cause f other (why (mid input)))
 
 -- the end of what was read
-ran_all_after : {D A : Type 0} {G : Ghosts D} (s s1 : Exec D A G) (disk : D) (due done more : List Message) (text : List ℕ) (u v w : Option (List ℕ)) → Ghosts.honest G → due ≡ done ++ more
-    → GoesOn s s1 (λ can a b. Runs can a done text b) → Appends u v text → RanAll s1 more disk v w → RanAll s due disk u w
-ran_all_after {D} {A} {G} s s1 disk due done more text u v w h is goes p q = record {
+ran_all_after : {D A : Type 0} {G : Ghosts D} (s s1 : Exec D A G) (disk : D) (due done more : List Message) (text : List ℕ) (u v w : Option (List ℕ)) → due ≡ done ++ more
+    → RunsOn s s1 done text → Appends u v text → RanAll s1 more disk v w → RanAll s due disk u w
+ran_all_after {D} {A} {G} s s1 disk due done more text u v w is goes p q = record {
+  hands = hands_then s s1 disk goes.lasts q.hands;
   text = text ++ q.text;
   written = Appends-trans u v w text q.text p q.written;
-  ends = λ life. let g = goes.runs h life in let e = q.ends g.0 in (
+  ends = λ h life. let g = goes.runs h life in let e = q.ends h g.0 in (
     e.0,
     e.1,
     within_then (failures_of s) (failures_of s1) (Ghosts.failures G disk) (λ can. Runs can (world_of life s) done text (world_of g.0 s1)) (λ can. Runs can (world_of g.0 s1) more q.text e.0 × Flushes can e.0 e.1)
@@ -143,27 +207,26 @@ ran_all_after {D} {A} {G} s s1 disk due done more text u v w h is goes p q = rec
         (λ can x y. (subst (λ (m : List Message). Runs can (world_of life s) m (text ++ q.text) e.0) (sym is) (runs_join can (world_of life s) (world_of g.0 s1) e.0 text q.text done more x y.0), y.1)),
     e.3,
     e.4,
+    λ t now r. subst (λ (m : List Message). Since G (disk_in s.home) (Some disk) (IsWhile (world_of life s) m)) (sym is) (then_moments s s1 (Some disk) done more text goes h life e.5 t now r),
   );
 }
 
-pub ran_end : {D A : Type 0} {G : Ghosts D} (f mid : List ℕ → List Message) (s s1 : Exec D A G) (disk : D) (from to next u v w : Option (List ℕ)) → Ghosts.honest G → Ran f mid s s1 from to u v
-    → Consumes to next [] → IsAtEnd next → RanAll s1 (mid []) disk v w → IfSome from (λ input. RanAll s (f input) disk u w)
-ran_end f mid s s1 disk None to next u v w h r p e q = tt
-ran_end f mid s s1 disk (Some x) None next u v w h r p e q = absurd r.1
-ran_end f mid s s1 disk (Some x) (Some y) None u v w h r p e q = absurd p
-ran_end f mid s s1 disk (Some x) (Some y) (Some z) u v w h r p e q =
-    subst (λ (l : List ℕ). RanAll s (f l) disk u w) (sym (r.1 ∙ ap (λ (l : List ℕ). r.0 ++ l) (p ∙ e)))
-    (ran_all_after s s1 disk (f (r.0 ++ [])) r.2.0 (mid []) r.2.1 u v w h (r.2.3 []) r.2.4 r.2.2 q)
+pub ran_end : {D A : Type 0} {G : Ghosts D} (mid : List ℕ → List Message) (s s1 : Exec D A G) (disk : D) (from to next u v w : Option (List ℕ)) → Ran mid s s1 from to u v
+    → Consumes to next [] → IsAtEnd next → RanAll s1 (mid []) disk v w → Whole s disk from u w
+ran_end mid s s1 disk from to next u v w r p e q = (
+  messages (r.0 ++ []),
+  brought_all from to next r.0 r.1 p e,
+  ran_all_after s s1 disk (messages (r.0 ++ [])) r.2.0 (mid []) r.2.1 u v w (r.2.3 []) r.2.4 r.2.2 q,
+)
 
 -- a fault at the end of what was read
-pub ran_end_front : {D A : Type 0} {G : Ghosts D} (f mid : List ℕ → List Message) (s s1 : Exec D A G) (fault : RunFault D) (from to next u v w : Option (List ℕ)) → Ghosts.honest G
-    → Ran f mid s s1 from to u v → Consumes to next [] → IsAtEnd next → EndsEarly s1 fault (mid []) v w → IfSome from (λ input. EndsEarly s fault (f input) u w)
-ran_end_front f mid s s1 fault None to next u v w h r p e q = tt
-ran_end_front f mid s s1 fault (Some x) None next u v w h r p e q = absurd r.1
-ran_end_front f mid s s1 fault (Some x) (Some y) None u v w h r p e q = absurd p
-ran_end_front f mid s s1 fault (Some x) (Some y) (Some z) u v w h r p e q =
-    subst (λ (l : List ℕ). EndsEarly s fault (f l) u w) (sym (r.1 ∙ ap (λ (l : List ℕ). r.0 ++ l) (p ∙ e)))
-    (early_seen f mid r.0 [] s s1 fault u v w h r.2 q)
+pub ran_end_front : {D A : Type 0} {G : Ghosts D} (mid : List ℕ → List Message) (s s1 : Exec D A G) (fault : RunFault D) (from to next u v w : Option (List ℕ))
+    → Ran mid s s1 from to u v → Consumes to next [] → IsAtEnd next → EndsEarly ⊥ s1 fault (mid []) v w → Early s fault from u w
+ran_end_front mid s s1 fault from to next u v w r p e q = (
+  messages (r.0 ++ []),
+  brought_all from to next r.0 r.1 p e,
+  early_seen (MayBeLong from) messages mid r.0 [] s s1 fault u v w r.2 (early_never_long (MayBeLong from) s1 fault (mid []) v w q),
+)
 
 -- a text that is told from nothing on, and what is gathered of it is written
 said_written : (a b : Telling) (text : List ℕ) (v : Option (List ℕ)) → a.gathered ≡ [] → Says a b text → Appends b.written v b.gathered → Appends a.written v text
@@ -186,7 +249,7 @@ pub fed_written : {D A : Type 0} {G : Ghosts D} (f mid : List ℕ → List Messa
 fed_written f mid piece s s1 a b shown v p none d w = (p.0, p.1, said_written a b p.1 v none p.2 (subst (Appends b.written v) d w), p.3, p.4)
 
 early_as : {D A : Type 0} {G : Ghosts D} (s : Exec D A G) (fault : RunFault D) (due done rest : List Message) (text part : List ℕ) (u v : Option (List ℕ)) → due ≡ done ++ rest
-    → Stops s fault done rest text part → WritesShort u v (text ++ part) → fault.cause ≡ Write → EndsEarly s fault due u v
+    → Stops ⊥ s fault done rest text part → WritesShort u v (text ++ part) → fault.cause ≡ Write → EndsEarly ⊥ s fault due u v
 early_as s fault due done rest text part u v is stops w write = record {
   done = done;
   rest = rest;
@@ -202,16 +265,15 @@ early_as s fault due done rest text part u v is stops w write = record {
 }
 
 -- a front of what was told of a piece is written, and the device is as it is then
-pub fed_front : {D A : Type 0} {G : Ghosts D} (f mid : List ℕ → List Message) (piece : List ℕ) (s s1 : Exec D A G) (fault : RunFault D) (a b : Telling) (shown : List ℕ) (v : Option (List ℕ)) → Ghosts.honest G
-    → Fed f piece mid s s1 a b → a.gathered ≡ [] → shown ≡ b.gathered → WritesShort b.written v shown → fault.cause ≡ Write
-    → Ghosts.failures G fault.disk ≡ failures_of s1 → Ghosts.state G fault.disk ≡ disk_at s1.home → (input : List ℕ) → EndsEarly s fault (f (piece ++ input)) a.written v
-fed_front f mid piece s s1 fault a b shown v h p none d w is same at input =
-    early_as s fault (f (piece ++ input)) p.0 (mid input) p.1 [] a.written v (p.3 input) (stops_then s s1 fault p.0 (mid input) p.1 [] h p.4 (stops_now s1 fault (mid input) same at))
-    (subst (λ (z : List ℕ). WritesShort a.written v z) (sym (append-nil p.1)) (said_short a b p.1 v none p.2 (subst (WritesShort b.written v) d w))) is
+pub fed_front : {D A : Type 0} {G : Ghosts D} (f mid : List ℕ → List Message) (piece : List ℕ) (s s1 : Exec D A G) (fault : RunFault D) (a b : Telling) (shown : List ℕ) (v : Option (List ℕ))
+    → Fed f piece mid s s1 a b → a.gathered ≡ [] → shown ≡ b.gathered → WritesShort b.written v shown → FaultOf s1 fault Write → (input : List ℕ) → EndsEarly ⊥ s fault (f (piece ++ input)) a.written v
+fed_front f mid piece s s1 fault a b shown v p none d w at input =
+    early_as s fault (f (piece ++ input)) p.0 (mid input) p.1 [] a.written v (p.3 input) (stops_then ⊥ s s1 fault p.0 (mid input) p.1 [] p.4 (stops_now ⊥ s1 fault (mid input) Write at (λ last. tt)))
+    (subst (λ (z : List ℕ). WritesShort a.written v z) (sym (append-nil p.1)) (said_short a b p.1 v none p.2 (subst (WritesShort b.written v) d w))) at.told
 
 -- a fault in a piece: what was told is written
 pub stopped_whole : {D A : Type 0} {G : Ghosts D} (f : List ℕ → List Message) (piece : List ℕ) (s : Exec D A G) (fault : RunFault D) (a b : Telling) (shown : List ℕ) (v : Option (List ℕ))
-    → Stopped f piece s fault a b → a.gathered ≡ [] → fault.cause ≢ Write → shown ≡ b.gathered → Appends b.written v shown → (input : List ℕ) → EndsEarly s fault (f (piece ++ input)) a.written v
+    → Stopped f piece s fault a b → a.gathered ≡ [] → fault.cause ≢ Write → shown ≡ b.gathered → Appends b.written v shown → (input : List ℕ) → EndsEarly ⊥ s fault (f (piece ++ input)) a.written v
 stopped_whole f piece s fault a b shown v p none own d w input = record {
   done = p.0;
   rest = (p.4 input).0;
@@ -228,18 +290,27 @@ stopped_whole f piece s fault a b shown v p none own d w input = record {
 
 -- the writer failed in it
 pub stopped_short : {D A : Type 0} {G : Ghosts D} (f : List ℕ → List Message) (piece : List ℕ) (s : Exec D A G) (fault : RunFault D) (a b : Telling)
-    → Stopped f piece s fault a b → a.gathered ≡ [] → fault.cause ≡ Write → (input : List ℕ) → EndsEarly s fault (f (piece ++ input)) a.written b.written
+    → Stopped f piece s fault a b → a.gathered ≡ [] → fault.cause ≡ Write → (input : List ℕ) → EndsEarly ⊥ s fault (f (piece ++ input)) a.written b.written
 stopped_short f piece s fault a b p none is input =
     early_as s fault (f (piece ++ input)) p.0 (p.4 input).0 p.1 p.2 a.written b.written (p.4 input).1 (p.4 input).2
     (subst (λ (z : List ℕ). WritesShort a.written b.written (z ++ (p.1 ++ p.2))) none (p.3.missing is)) is
 
+-- a write fails in place of the fault that was to be told
+write_instead : {D A : Type 0} {G : Ghosts D} (s : Exec D A G) (old fault : RunFault D) (done rest : List Message) (text part : List ℕ) → Stops ⊥ s old done rest text part → fault.cause ≡ Write → fault.disk ≡ old.disk
+    → Stops ⊥ s fault done rest text part
+write_instead {D} {A} {G} s old fault done rest text part p is same =
+    subst (λ (e : D). Stops ⊥ s (record fault { disk = e }) done rest text part) (sym same) (record {
+      hands = p.hands;
+      stops = λ h worn life. let q = p.stops h worn life in
+          (q.0, q.1, q.2, q.3, q.4, q.5, is_write ⊥ q.2 (Ghosts.failures G old.disk) rest q.1 (Ghosts.state G old.disk).bytes fault.cause is, q.7);
+    })
+
 -- and the writer failed then
 pub stopped_front : {D A : Type 0} {G : Ghosts D} (f : List ℕ → List Message) (piece : List ℕ) (s : Exec D A G) (old fault : RunFault D) (a b : Telling) (shown : List ℕ) (v : Option (List ℕ))
     → Stopped f piece s old a b → a.gathered ≡ [] → old.cause ≢ Write → shown ≡ b.gathered → WritesShort b.written v shown → fault.cause ≡ Write → fault.disk ≡ old.disk → (input : List ℕ)
-    → EndsEarly s fault (f (piece ++ input)) a.written v
-stopped_front {D} {A} {G} f piece s old fault a b shown v p none own d w is same input =
-    early_as s fault (f (piece ++ input)) p.0 (p.4 input).0 p.1 p.2 a.written v (p.4 input).1
-    (subst (λ (e : D). Stops s (record fault { disk = e }) p.0 (p.4 input).0 p.1 p.2) (sym same) (p.4 input).2)
+    → EndsEarly ⊥ s fault (f (piece ++ input)) a.written v
+stopped_front f piece s old fault a b shown v p none own d w is same input =
+    early_as s fault (f (piece ++ input)) p.0 (p.4 input).0 p.1 p.2 a.written v (p.4 input).1 (write_instead s old fault p.0 (p.4 input).0 p.1 p.2 (p.4 input).2 is same)
     (said_short a b (p.1 ++ p.2) v none (p.3.whole own) (subst (WritesShort b.written v) d w)) is
 
 -- ---- the line that the input ends in, ended
@@ -263,27 +334,27 @@ pub last_answered : {D A : Type 0} {G : Ghosts D} (over next_over : Bool) (line 
     → piece ≡ 10 ∷ [] → Answered (coming over line) piece (coming next_over next) s s1 u v → Answers (coming over line []) s s1 u v
 last_answered over next_over line next piece s s1 u v begun free none is p =
     let due = last_done over next_over line next p.0 begun free none (λ input. ap (λ (z : List ℕ). coming over line (z ++ input)) (sym is) ∙ p.3 input) in
-    (p.1, p.2, subst (λ (m : List Message). GoesOn s s1 (λ can a b. Runs can a m p.1 b)) (sym due) p.4)
+    (p.1, p.2, subst (λ (m : List Message). RunsOn s s1 m p.1) (sym due) p.4)
 
 pub last_early : {D A : Type 0} {G : Ghosts D} (over : Bool) (line piece : List ℕ) (s : Exec D A G) (fault : RunFault D) (u v : Option (List ℕ)) → is_none_begun over line ≡ false → has 10 line ≡ false
-    → piece ≡ 10 ∷ [] → ((input : List ℕ) → EndsEarly s fault (coming over line (piece ++ input)) u v) → EndsEarly s fault (coming over line []) u v
+    → piece ≡ 10 ∷ [] → ((input : List ℕ) → EndsEarly ⊥ s fault (coming over line (piece ++ input)) u v) → EndsEarly ⊥ s fault (coming over line []) u v
 last_early over line piece s fault u v begun free is q =
-    subst (λ (m : List Message). EndsEarly s fault m u v) (ap (λ (z : List ℕ). coming over line (z ++ [])) is ∙ coming_end over line [] free ∙ sym (coming_last over line begun free)) (q [])
+    subst (λ (m : List Message). EndsEarly ⊥ s fault m u v) (ap (λ (z : List ℕ). coming over line (z ++ [])) is ∙ coming_end over line [] free ∙ sym (coming_last over line begun free)) (q [])
 
 -- no line has begun, and nothing is answered
 pub answers_none : {D A : Type 0} {G : Ghosts D} (over : Bool) (line : List ℕ) (s : Exec D A G) (w : Option (List ℕ)) → is_none_begun over line ≡ true → Answers (coming over line []) s s w w
 answers_none over line s w none = subst (λ (m : List Message). Answers m s s w w) (sym (coming_none over line none)) ([], Appends-nil w, runs_none s)
 
 -- what is answered whole, and then a fault
-pub answers_early : {D A : Type 0} {G : Ghosts D} (due : List Message) (s s1 : Exec D A G) (fault : RunFault D) (u v : Option (List ℕ)) → Ghosts.honest G → Answers due s s1 u v → fault.cause ≢ Write
-    → StopsHere s1 fault [] [] → EndsEarly s fault due u v
-answers_early due s s1 fault u v h p other stop = record {
+pub answers_early : {D A : Type 0} {G : Ghosts D} (due : List Message) (s s1 : Exec D A G) (fault : RunFault D) (u v : Option (List ℕ)) → Answers due s s1 u v → fault.cause ≢ Write
+    → StopsHere ⊥ s1 fault [] [] → EndsEarly ⊥ s fault due u v
+answers_early due s s1 fault u v p other stop = record {
   done = due;
   rest = [];
   is = sym (append-nil due);
   text = p.0;
   part = [];
-  stops = stops_then s s1 fault due [] p.0 [] h p.2 stop;
+  stops = stops_then ⊥ s s1 fault due [] p.0 [] p.2 stop;
   front = p.0;
   appends = p.1;
   starts = subst (λ (z : List ℕ). StartsWith z p.0) (sym (append-nil p.0)) (starts_whole p.0);
@@ -292,12 +363,13 @@ answers_early due s s1 fault u v h p other stop = record {
 }
 
 -- and then a flush that leaves nothing
-pub answers_flushed : {D A : Type 0} {G : Ghosts D} (due : List Message) (s s1 s2 : Exec D A G) (disk : D) (u v : Option (List ℕ)) → Ghosts.honest G → Answers due s s1 u v → GoesOn s1 s2 Flushes
-    → s2.device.flush.unflushed ≡ 0 → Ghosts.failures G disk ≡ failures_of s2 → Ghosts.state G disk ≡ disk_at s2.home → RanAll s due disk u v
-answers_flushed due s s1 s2 disk u v h p f clean same at = record {
+pub answers_flushed : {D A : Type 0} {G : Ghosts D} (due : List Message) (s s1 s2 : Exec D A G) (disk : D) (u v : Option (List ℕ)) → Answers due s s1 u v → GoesOn s1 s2 Flushes
+    → s2.device.flush.unflushed ≡ 0 → Ghosts.failures G disk ≡ failures_of s2 → Ghosts.extent G disk ≡ extent_of s2 → Ghosts.state G disk ≡ disk_at s2.home → ForSome s2.home (λ h. disk ≡ home_disk h) → RanAll s due disk u v
+answers_flushed {D} {A} {G} due s s1 s2 disk u v p f clean same size at there = record {
+  hands = hands_then s s1 disk p.2.lasts (hands_now s1 s2 disk f.lasts size same);
   text = p.0;
   written = p.1;
-  ends = λ life. let g = p.2.runs h life in let k = f.runs h g.0 in (
+  ends = λ h life. let g = p.2.runs h life in let k = f.runs h g.0 in (
     world_of g.0 s1,
     world_of k.0 s2,
     within_at _ _ _ (λ can. Runs can (world_of life s) due p.0 (world_of g.0 s1) × Flushes can (world_of g.0 s1) (world_of k.0 s2)) same
@@ -305,6 +377,9 @@ answers_flushed due s s1 s2 disk u v h p f clean same at = record {
         (λ can. Runs can (world_of life s) due p.0 (world_of g.0 s1) × Flushes can (world_of g.0 s1) (world_of k.0 s2)) g.1 k.1 (λ can x y. (x, y))),
     clean,
     sym at,
+    λ t now r. since_back (disk_in s.home) s2.home disk (IsWhile (world_of life s) due) there
+        (subst (λ (m : List Message). Since G (disk_in s.home) (disk_in s2.home) (IsWhile (world_of life s) m)) (append-nil due)
+        (then_moments s s1 (disk_in s2.home) due [] p.0 p.2 h life (flush_moments s1 s2 [] f h g.0) t now r)),
   );
 }
 
@@ -317,25 +392,26 @@ cut_read n count buf le =
     ap (λ (k : ℕ). take k buf) sum ∙ take-add n (count - n) buf
 
 -- a read of which only a part is taken
-pub ran_cut : {D A : Type 0} {G : Ghosts D} (f mid after : List ℕ → List Message) (n count : ℕ) (buf : List ℕ) (s s1 s2 : Exec D A G) (fault : RunFault D) (from to next u v w : Option (List ℕ)) → Ghosts.honest G → n ≤ count
-    → Ran f mid s s1 from to u v → Consumes to next (take count buf) → Answered mid (take n buf) after s1 s2 v w → fault.cause ≢ Write
-    → Ghosts.failures G fault.disk ≡ failures_of s2 → Ghosts.state G fault.disk ≡ disk_at s2.home → IfSome from (λ input. EndsEarly s fault (f input) u w)
-ran_cut f mid after n count buf s s1 s2 fault from to next u v w h le r p q other same at =
+cut_stop : {D A : Type 0} {G : Ghosts D} (mid : List ℕ → List Message) (n count : ℕ) (buf : List ℕ) (s s1 : Exec D A G) (fault : RunFault D) (from to next u v w : Option (List ℕ)) → n ≤ count
+    → Ran mid s s1 from to u v → Consumes to next (take count buf) → ((input : List ℕ) → EndsEarly (MayBeLong from) s1 fault (mid (take n buf ++ input)) v w) → Early s fault from u w
+cut_stop mid n count buf s s1 fault from to next u v w le r p q =
     let more = take (count - n) (drop n buf) in
-    ran_stop f mid (take count buf) s s1 fault from to next u v w h r p
-    (λ input. subst (λ (l : List ℕ). EndsEarly s1 fault (mid l) v w)
-    (sym (append_assoc (take n buf) more input) ∙ ap (λ (l : List ℕ). l ++ input) (sym (cut_read n count buf le)))
-    (early_seen mid after (take n buf) (more ++ input) s1 s2 fault v w w h q (early_here s2 fault (after (more ++ input)) w h other same at)))
-
--- a read of which only a part is taken, and a fault in that
-pub ran_cut_front : {D A : Type 0} {G : Ghosts D} (f mid : List ℕ → List Message) (n count : ℕ) (buf : List ℕ) (s s1 : Exec D A G) (fault : RunFault D) (from to next u v w : Option (List ℕ)) → Ghosts.honest G → n ≤ count
-    → Ran f mid s s1 from to u v → Consumes to next (take count buf) → ((input : List ℕ) → EndsEarly s1 fault (mid (take n buf ++ input)) v w)
-    → IfSome from (λ input. EndsEarly s fault (f input) u w)
-ran_cut_front f mid n count buf s s1 fault from to next u v w h le r p q =
-    let more = take (count - n) (drop n buf) in
-    ran_stop f mid (take count buf) s s1 fault from to next u v w h r p
-    (λ input. subst (λ (l : List ℕ). EndsEarly s1 fault (mid l) v w)
+    ran_stop mid (take count buf) s s1 fault from to next u v w r p
+    (λ input. subst (λ (l : List ℕ). EndsEarly (MayBeLong from) s1 fault (mid l) v w)
     (sym (append_assoc (take n buf) more input) ∙ ap (λ (l : List ℕ). l ++ input) (sym (cut_read n count buf le))) (q (more ++ input)))
+
+-- and a fault in that
+pub ran_cut_front : {D A : Type 0} {G : Ghosts D} (mid : List ℕ → List Message) (n count : ℕ) (buf : List ℕ) (s s1 : Exec D A G) (fault : RunFault D) (from to next u v w : Option (List ℕ)) → n ≤ count
+    → Ran mid s s1 from to u v → Consumes to next (take count buf) → ((input : List ℕ) → EndsEarly ⊥ s1 fault (mid (take n buf ++ input)) v w) → Early s fault from u w
+ran_cut_front mid n count buf s s1 fault from to next u v w le r p q =
+    cut_stop mid n count buf s s1 fault from to next u v w le r p (λ input. early_never_long (MayBeLong from) s1 fault (mid (take n buf ++ input)) v w (q input))
+
+-- and a fault behind it
+pub ran_cut : {D A : Type 0} {G : Ghosts D} (mid after : List ℕ → List Message) (n count : ℕ) (buf : List ℕ) (s s1 s2 : Exec D A G) (fault : RunFault D) (from to next u v w : Option (List ℕ)) (cause : RunCause) → n ≤ count
+    → Ran mid s s1 from to u v → Consumes to next (take count buf) → Answered mid (take n buf) after s1 s2 v w → FaultOf s2 fault cause → cause ≢ Write → Reason from s2 fault cause → Early s fault from u w
+ran_cut mid after n count buf s s1 s2 fault from to next u v w cause le r p q f other why =
+    cut_stop mid n count buf s s1 fault from to next u v w le r p
+    (λ input. early_seen (MayBeLong from) mid after (take n buf) input s1 s2 fault v w w q (early_here (MayBeLong from) s2 fault (after input) w cause f other (why (after input))))
 
 -- all of the input was taken
 pub read_all : (most : ℕ) (seen : List ℕ) (from to next : Option (List ℕ)) → Consumes from to seen → Consumes to next [] → IsAtEnd next → length seen ≤ most

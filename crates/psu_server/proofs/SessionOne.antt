@@ -76,21 +76,31 @@ unit_free s new request reply t shut free =
 
 -- ---- and of the store
 
-store_if : (f : Flush) (c : Completion) (b : Bool) → (settled f 1 (until c b)).store ≡ f.store
-store_if f completion.Query true = refl
-store_if f completion.Wait true = refl
-store_if f completion.Event true = refl
-store_if f c false = refl
+-- its condition, and how many changes are left
+abbrev KeepsStore : Flush → Flush → Type 0
+KeepsStore old new = (new.store ≡ old.store) × (new.unflushed ≡ old.unflushed)
 
-answer_store : (f : Flush) (wait : Option Wait) → (settled f 1 (settle_answer wait)).store ≡ f.store
-answer_store f None = refl
-answer_store f (Some CutOff) = refl
+store_if : (f : Flush) (c : Completion) (b : Bool) → KeepsStore f (settled f 1 (until c b))
+store_if f completion.Query true = (refl, refl)
+store_if f completion.Wait true = (refl, refl)
+store_if f completion.Event true = (refl, refl)
+store_if f c false = (refl, refl)
+
+answer_store : (f : Flush) (wait : Option Wait) → KeepsStore f (settled f 1 (settle_answer wait))
+answer_store f None = (refl, refl)
+answer_store f (Some CutOff) = (refl, refl)
 answer_store f (Some (Until c n)) = store_if f c (n == 0)
 
-pub settle_store : (s new : State) (reply : Reply) → Allows s (Settled 1 reply) new → new.flush.store ≡ s.flush.store
+pub settle_store : (s new : State) (reply : Reply) → Allows s (Settled 1 reply) new → KeepsStore s.flush new.flush
 settle_store s new reply (opened, inl may, is) =
-    ap (λ (z : State). z.flush.store) is ∙ ap (λ (r : Reply). (settled s.flush 1 r).store) may ∙ answer_store s.flush (wait_of s.flush 1)
-settle_store s new reply (opened, inr may, is) = ap (λ (z : State). z.flush.store) is ∙ ap (λ (r : Reply). (settled s.flush 1 r).store) may.0
+    let kept = answer_store s.flush (wait_of s.flush 1) in (
+      ap (λ (z : State). z.flush.store) is ∙ ap (λ (r : Reply). (settled s.flush 1 r).store) may ∙ kept.0,
+      ap (λ (z : State). z.flush.unflushed) is ∙ ap (λ (r : Reply). (settled s.flush 1 r).unflushed) may ∙ kept.1,
+    )
+settle_store s new reply (opened, inr may, is) = (
+  ap (λ (z : State). z.flush.store) is ∙ ap (λ (r : Reply). (settled s.flush 1 r).store) may.0,
+  ap (λ (z : State). z.flush.unflushed) is ∙ ap (λ (r : Reply). (settled s.flush 1 r).unflushed) may.0,
+)
 
 -- ---- one call more, told by the code
 

@@ -1,7 +1,9 @@
 -- How a device powers on, and why one doesn't.
-use Rattle.std.proofs.Common.{◌≡◌, ◌≢◌, ◌⊎◌, ℕ, ◌≤◌, ◌^◌, ◌+◌, true, false, Option, Some, None, List, [], refl, sym, ap, ◌∙◌, subst, inl, inr, arith, ⊎_elim, length, nat_le}
+use Rattle.std.proofs.Common.{◌≡◌, ◌≢◌, ◌⊎◌, ℕ, zero, suc, ◌≤◌, ◌^◌, ◌+◌, true, false, Option, Some, None, List, [], ◌∷◌, refl, sym, ap, ◌∙◌, subst, inl, inr, arith, ⊎_elim, length, nat_le}
 use Rattle.std.proofs.lemmas.Bool.Decides.{nat_tests}
-use Rattle.psu_disk.specs.Disk.{DiskState, HasFailed}
+use Rattle.psu_disk.specs.Disk.{DiskState, HasFailed, LeavesOnly}
+use Rattle.psu_items.specs.Finding.{IsOldOrSame}
+use Rattle.psu_exec.specs.Jobs.{home_disk}
 use Rattle.psu_disk.specs.Ranges.{reads_left}
 use Rattle.psu_disk.specs.declared.disk.Disk.{Ghosts}
 use Rattle.psu_map.specs.Map.{Item}
@@ -12,12 +14,10 @@ use Rattle.psu_items.specs.Standing.{MapOn}
 use Rattle.psu_items.proofs.Fitting.{stands_by_version, stands_readable, stands_rooted, stands_within}
 use Rattle.psu_items.proofs.Standing.{one_stands}
 use Rattle.psu_exec.specs.Calls.{Opened, Allows, least_free, opened}
-use Rattle.psu_exec.specs.Jobs.{home_disk}
 use Rattle.psu_exec.specs.Consistent.{IsConsistent}
 use Rattle.psu_exec.specs.Device.{State, Flush, is_open, power_on, wait_of}
 use Rattle.psu_nv.specs.Contents.{items_of, IsContents, Contents, cost_of, fits}
 use Rattle.psu_exec.specs.World.{World}
-use Rattle.psu_exec.specs.declared.condition.Condition.{Condition}
 use Rattle.psu_exec.specs.declared.condition.Condition.TheVariants.{Whole, Worn}
 use Rattle.psu_exec.specs.declared.exec.Exec.{Exec}
 use Rattle.psu_exec.specs.declared.home.Home.{Home}
@@ -26,13 +26,14 @@ use Rattle.psu_exec.specs.declared.power_fault.PowerCause.{PowerCause}
 use Rattle.psu_exec.specs.declared.power_fault.PowerCause.TheVariants as power
 use Rattle.psu_server.specs.declared.run_cause.RunCause.{RunCause}
 use Rattle.psu_server.specs.declared.run_cause.RunCause.TheVariants.{Read, Write, Open, Device, TooLong, Memory}
+use Rattle.psu_exec.specs.declared.start_cause.StartCause.{StartCause}
 use Rattle.psu_exec.specs.declared.start_cause.StartCause.TheVariants as start
-use Rattle.psu_server.specs.Causes.{NotStarted, cause_of_open, cause_of_power, IsWornOut}
-use Rattle.psu_server.specs.Failures.{failures_at, failures_of}
-use Rattle.psu_server.specs.Jobs.{HasReasons, IsExplained}
-use Rattle.psu_server.specs.Lives.{born, disk_at, world_of, PowersOn}
-use Rattle.psu_server.specs.Reasons.{IsHaltedBy, StopsFor}
-use Rattle.psu_server.specs.Within.{IsLater}
+use Rattle.psu_server.specs.Causes.{NotStarted, cause_of_open, cause_of_power, cause_of_start, IsWornOut}
+use Rattle.psu_server.specs.Failures.{failures_of}
+use Rattle.psu_server.specs.Jobs.{IsWornAtLast}
+use Rattle.psu_server.specs.Lines.{Message}
+use Rattle.psu_server.specs.Lives.{Life, born, disk_at, world_of, PowersOn}
+use Rattle.psu_server.specs.Reasons.{IsAtPower, IsHaltedBy, StopsFor}
 use Rattle.psu_exec.proofs.Changes.{sound_first}
 use Rattle.psu_server.proofs.Calls.{called}
 use Rattle.psu_server.proofs.Within.{failed_before}
@@ -85,31 +86,25 @@ powers_on {D} {A} {G} image store on new stood stands state found sound fitting 
       opens = called on new (born on) (Opened (Some 1)) opens same (λ d e. e);
     })
 
-pub on_explained : {D A : Type 0} {G : Ghosts D} (since before : ℕ) (store : MapOn D) (new : Exec D A G) → new.device.flush.store ≡ Whole → new.home ≡ Some (home.Whole store)
-    → Ghosts.failures G store.disk ≡ before → IsLater since before → IsExplained since new
-on_explained {D} {A} {G} since before store new whole there same later =
-    subst (λ (c : Condition). HasReasons since c new.home) (sym whole) (subst (λ (z : Option (Home D A G)). HasReasons since Whole z) (sym there) (record {
-      later = λ h e. subst (λ (z : Home D A G). IsLater since (Ghosts.failures G (home_disk z))) (the_home h e) (subst (λ (n : ℕ). IsLater since n) (sym same) later);
-      broken = λ h e b. cc;
-      worn = λ h e w. cc;
-    }))
+-- the store at home is the one that was opened
+pub opened_moments : {D A : Type 0} {G : Ghosts D} (given : D) (store : MapOn D) (there : Home D A G) (new : Exec D A G) → new.home ≡ Some (home.Whole store) → new.home ≡ Some there
+    → LeavesOnly (Ghosts.moment G) (Ghosts.left_since G) given store.disk (IsOldOrSame (Ghosts.state G given)) → LeavesOnly (Ghosts.moment G) (Ghosts.left_since G) given (home_disk there) (IsOldOrSame (Ghosts.state G given))
+opened_moments {D} {A} {G} given store there new is at time =
+    subst (λ (z : Home D A G). LeavesOnly (Ghosts.moment G) (Ghosts.left_since G) given (home_disk z) (IsOldOrSame (Ghosts.state G given))) (one (home.Whole store) there (sym is ∙ at)) time
   where
-    the_home : (h : Home D A G) → Some (home.Whole store) ≡ Some h → home.Whole store ≡ h
-    the_home h e = cc
+    one : (a b : Home D A G) → Some a ≡ Some b → a ≡ b
+    one a b e = cc
 
--- the count of failures of a device at rest
-pub explained_later : {D A : Type 0} {G : Ghosts D} (since : ℕ) (exec : Exec D A G) → IsExplained since exec → (exec.home ≡ None → ⊥) → IsLater since (failures_of exec)
-explained_later {D} {A} {G} since exec why some = by exec.home refl where
-  by : (there : Option (Home D A G)) → exec.home ≡ there → IsLater since (failures_of exec)
-  by None e = absurd (some e)
-  by (Some h) e = subst (λ (z : Option (Home D A G)). IsLater since (failures_at z)) (sym e) (why.later h e)
+-- a whole store isn't worn
+pub worn_whole : {D A : Type 0} {G : Ghosts D} (exec : Exec D A G) → exec.device.flush.store ≡ Whole → IsWornAtLast exec
+worn_whole exec whole h e worn = let bad = sym whole ∙ worn in cc
 
 -- ---- the end of a device
 
 -- the store at home is whole, and its number the last, where it is worn
-pub worn_number : {D A : Type 0} {G : Ghosts D} (since : ℕ) (exec : Exec D A G) (store : MapOn D) → exec.home ≡ Some (home.Whole store) → IsExplained since exec → exec.device.flush.store ≡ Worn
+pub worn_number : {D A : Type 0} {G : Ghosts D} (exec : Exec D A G) (store : MapOn D) → exec.home ≡ Some (home.Whole store) → IsWornAtLast exec → exec.device.flush.store ≡ Worn
     → 2 ^ 64 ≤ store.number + 1
-worn_number since exec store there why worn = why.worn (home.Whole store) there worn
+worn_number exec store there why worn = why (home.Whole store) there worn
 
 -- ---- why a disk doesn't power on
 
@@ -146,56 +141,65 @@ fits_on image limit contents sound stands =
     rw (one, two) refl
 
 -- an image that stands for contents powers on, but for a failed call or a want of memory
-stands_stops : (before now : ℕ) (image left : List ℕ) (limit : ℕ) (contents : Contents) (cause : RunCause) → IsContents contents
-    → Stands image limit (items_of contents) → NotStarted image before now cause → StopsFor before now left cause
-stands_stops before now image left limit contents (Open start.Device) sound stands why = why
-stands_stops before now image left limit contents (Open start.NoRoot) sound stands why = absurd (stands_rooted image limit (items_of contents) stands why)
-stands_stops before now image left limit contents (Open start.BadRoot) sound stands why = absurd (why.none_stands limit (items_of contents) stands)
-stands_stops before now image left limit contents (Open start.BadVersion) sound stands why = absurd (stands_by_version image limit (items_of contents) stands why)
-stands_stops before now image left limit contents (Open start.BadItems) sound stands why =
+stands_stops : (long : Type 0) (before now : ℕ) (rest : List Message) (last : World) (image left : List ℕ) (limit : ℕ) (contents : Contents) (cause : RunCause) → IsContents contents
+    → Stands image limit (items_of contents) → NotStarted image before now cause → StopsFor long before now (Message.Power ∷ rest) last left cause
+stands_stops long before now rest last image left limit contents (Open start.Device) sound stands why = (tt, why)
+stands_stops long before now rest last image left limit contents (Open start.NoRoot) sound stands why = absurd (stands_rooted image limit (items_of contents) stands why)
+stands_stops long before now rest last image left limit contents (Open start.BadRoot) sound stands why = absurd (why.none_stands limit (items_of contents) stands)
+stands_stops long before now rest last image left limit contents (Open start.BadVersion) sound stands why = absurd (stands_by_version image limit (items_of contents) stands why)
+stands_stops long before now rest last image left limit contents (Open start.BadItems) sound stands why =
     let one = one_stands limit why.limit (items_of contents) why.map image stands why.stands in
     absurd (why.none contents sound (subst (λ (n : ℕ). fits n contents ≡ true) one.0 (fits_on image limit contents sound stands)) one.1)
-stands_stops before now image left limit contents Read sound stands why = absurd why
-stands_stops before now image left limit contents Write sound stands why = tt
-stands_stops before now image left limit contents Device sound stands why = absurd why
-stands_stops before now image left limit contents TooLong sound stands why = absurd why
-stands_stops before now image left limit contents Memory sound stands why = tt
+stands_stops long before now rest last image left limit contents Read sound stands why = tt
+stands_stops long before now rest last image left limit contents Write sound stands why = tt
+stands_stops long before now rest last image left limit contents Device sound stands why = absurd why
+stands_stops long before now rest last image left limit contents TooLong sound stands why = absurd why
+stands_stops long before now rest last image left limit contents Memory sound stands why = tt
 
--- the cause of an earlier count is one of a count before it
-stops_since : (since before now : ℕ) (left : List ℕ) (cause : RunCause) → IsLater since before → StopsFor before now left cause → StopsFor since now left cause
-stops_since since before now left (Open cause) later why = failed_before since before now later why
-stops_since since before now left Device later why = ⊎_elim (λ f. inl (failed_before since before now later f)) inr why
-stops_since since before now left Read later why = why
-stops_since since before now left Write later why = why
-stops_since since before now left TooLong later why = why
-stops_since since before now left Memory later why = why
+-- a reason since a later moment is one since an earlier
+pub stops_since : (long : Type 0) (since before now : ℕ) (rest : List Message) (last : World) (left : List ℕ) (cause : RunCause) → since ≤ before → StopsFor long before now rest last left cause
+    → StopsFor long since now rest last left cause
+stops_since long since before now rest last left (Open start.Device) later why = (why.0, failed_before since before now later why.1)
+stops_since long since before now rest last left (Open start.NoRoot) later why = why
+stops_since long since before now rest last left (Open start.BadRoot) later why = why
+stops_since long since before now rest last left (Open start.BadVersion) later why = why
+stops_since long since before now rest last left (Open start.BadItems) later why = why
+stops_since long since before now rest last left Device later why = ⊎_elim (λ f. inl (failed_before since before now later f)) inr why
+stops_since long since before now rest last left Read later why = why
+stops_since long since before now rest last left Write later why = why
+stops_since long since before now rest last left TooLong later why = why
+stops_since long since before now rest last left Memory later why = why
 
-pub restart_stops : (since before now : ℕ) (disk : DiskState) (left : List ℕ) (cause : RunCause) (f : Flush) → IsLater since before → IsConsistent f
-    → EachStands disk f.limit f.before → NotStarted disk.bytes before now cause → StopsFor since now left cause
-restart_stops since before now disk left cause f later c stands why =
-    stops_since since before now left cause later
-    (stands_stops before now disk.bytes left f.limit c.first cause (sound_first f.limit c.first c.rest c.sound).sound (subst (λ (m : List Item). Stands disk.bytes f.limit m) c.first_map (stands disk.bytes (reads_left disk))) why)
+pub restart_stops : (long : Type 0) (since before now : ℕ) (rest : List Message) (last : World) (disk : DiskState) (left : List ℕ) (cause : RunCause) (f : Flush) → since ≤ before → IsConsistent f
+    → EachStands disk f.limit f.before → NotStarted disk.bytes before now cause → StopsFor long since now (Message.Power ∷ rest) last left cause
+restart_stops long since before now rest last disk left cause f later c stands why =
+    stops_since long since before now (Message.Power ∷ rest) last left cause later
+    (stands_stops long before now rest last disk.bytes left f.limit c.first cause (sound_first f.limit c.first c.rest c.sound).sound (subst (λ (m : List Item). Stands disk.bytes f.limit m) c.first_map (stands disk.bytes (reads_left disk))) why)
 
 -- ---- a fault of the device, by what its disk is
 
-pub halted_stops : {D A : Type 0} {G : Ghosts D} (since now : ℕ) (exec : Exec D A G) (left : List ℕ) (cause told : RunCause) → told ≡ cause → now ≡ failures_of exec
-    → IsHaltedBy since exec cause → (exec.device.flush.store ≡ Worn → IsWornOut left) → StopsFor since now left told
-halted_stops since now exec left cause told is same why worn = subst (λ (z : RunCause). StopsFor since now left z) (sym is) (by cause why) where
-  by : (cause : RunCause) → IsHaltedBy since exec cause → StopsFor since now left cause
-  by Device w = ⊎_elim (λ f. inl (subst (λ (n : ℕ). HasFailed since n) (sym same) f)) (λ w. inr (worn w)) w
+pub halted_stops : {D A : Type 0} {G : Ghosts D} (long : Type 0) (old new : Exec D A G) (now : ℕ) (rest : List Message) (life : Life) (left : List ℕ) (cause told : RunCause) → told ≡ cause → now ≡ failures_of new
+    → (IsAtPower rest → ⊥) → IsHaltedBy old new cause → (new.device.flush.store ≡ Worn → IsWornOut left) → StopsFor long (failures_of old) now rest (world_of life new) left told
+halted_stops long old new now rest life left cause told is same plain why worn = subst (StopsFor long (failures_of old) now rest (world_of life new) left) (sym is) (by cause why) where
+  by : (cause : RunCause) → IsHaltedBy old new cause → StopsFor long (failures_of old) now rest (world_of life new) left cause
+  by Device w = ⊎_elim (λ f. inl (subst (λ (n : ℕ). HasFailed (failures_of old) n) (sym same) f)) (λ w. inr (plain, w.1, worn w.0)) w
   by Memory w = tt
   by (Open c) w = absurd w
-  by Read w = absurd w
+  by Read w = tt
   by Write w = tt
   by TooLong w = absurd w
 
-pub not_started_write : (image : List ℕ) (before now : ℕ) (cause : RunCause) → NotStarted image before now cause → cause ≢ Write
-not_started_write image before now cause why is = subst (λ (z : RunCause). NotStarted image before now z) is why
+-- no cause of a start is the writer's
+pub not_write_start : (cause : Option StartCause) → cause_of_start cause ≢ Write
+not_write_start (Some cause) e = cc
+not_write_start None e = cc
 
 -- changes that a flush leaves
-pub left_stops : {D A : Type 0} {G : Ghosts D} (since now : ℕ) (exec : Exec D A G) (left : List ℕ) (told : RunCause) → told ≡ Device → now ≡ failures_of exec
-    → HasFailed since (failures_of exec) ⊎ (exec.device.flush.store ≡ Worn) ⊎ (exec.device.flush.unflushed ≡ 0) → (exec.device.flush.unflushed ≡ 0 → ⊥)
-    → (exec.device.flush.store ≡ Worn → IsWornOut left) → StopsFor since now left told
-left_stops since now exec left told is same clean some worn =
-    halted_stops since now exec left Device told is same
-    (⊎_elim inl (λ rest. ⊎_elim inr (λ none. absurd (some none)) rest) clean) worn
+pub left_halts : {D A : Type 0} {G : Ghosts D} (old new : Exec D A G) → HasFailed (failures_of old) (failures_of new) ⊎ (new.device.flush.store ≡ Worn) ⊎ (new.device.flush.unflushed ≡ 0)
+    → (new.device.flush.unflushed ≡ 0 → ⊥) → IsHaltedBy old new Device
+left_halts old new clean some =
+    ⊎_elim inl (λ rest. ⊎_elim (λ worn. inr (worn, one_of new.device.flush.unflushed some)) (λ none. absurd (some none)) rest) clean
+  where
+    one_of : (n : ℕ) → (n ≡ 0 → ⊥) → 1 ≤ n
+    one_of zero some = absurd (some refl)
+    one_of (suc n) some = omega arith

@@ -1,5 +1,5 @@
 -- Units, their waits, and what they leave.
-use Rattle.std.proofs.Common.{◌≡◌, ◌≢◌, ◌⊎◌, ℕ, ◌<◌, ◌==◌, ◌&&◌, not, nat_le, if◌then◌else◌, Bool, true, false, Option, Some, None, is_none, List, [], ◌∷◌, ◌++◌, refl, sym, ap, ◌∙◌, subst, inl, inr, arith, ⊎_elim, append-nil, Result, Ok, Err}
+use Rattle.std.proofs.Common.{◌≡◌, ◌≢◌, ◌⊎◌, ℕ, ◌<◌, ◌≤◌, ◌==◌, ◌&&◌, not, nat_le, if◌then◌else◌, Bool, true, false, Option, Some, None, is_none, List, [], ◌∷◌, ◌++◌, refl, sym, ap, ◌∙◌, subst, inl, inr, arith, ⊎_elim, append-nil, Result, Ok, Err}
 use Rattle.std.proofs.lemmas.Bool.Decides.{nat_tests}
 use Rattle.psu_disk.specs.Disk.{HasFailed}
 use Rattle.psu_disk.specs.declared.disk.Disk.{Ghosts}
@@ -22,75 +22,77 @@ use Rattle.psu_exec.specs.declared.wait.Wait.TheVariants.{Until, CutOff}
 use Rattle.psu_lex.specs.declared.scpi_error.ScpiError.{ScpiError}
 use Rattle.psu_lex.specs.declared.scpi_error.ScpiError.TheVariants.{StorageFault}
 use Rattle.psu_server.specs.Failures.{failures_of}
-use Rattle.psu_server.specs.Jobs.{IsExplained}
 use Rattle.psu_server.specs.Lives.{Life, lived, world_of, Calls}
-use Rattle.psu_server.specs.Progress.{Acted, GoesOn, Halts, WaitEnds}
+use Rattle.psu_server.specs.Progress.{Acted, GoesOn, Halts, Lasts, Spans, WaitEnds}
 use Rattle.psu_server.specs.Reasons.{IsHaltedBy}
 use Rattle.psu_server.specs.Runs.{Mishaps, Acts, Flushes, IsMeant, UnitRuns, is_final, is_later, is_out_of_memory, is_parked}
-use Rattle.psu_server.specs.Within.{IsLater}
 use Rattle.psu_server.specs.declared.run_cause.RunCause.{RunCause}
 use Rattle.psu_server.specs.declared.run_cause.RunCause.TheVariants.{Read, Write, Open, Device, TooLong, Memory}
-use Rattle.psu_server.proofs.Calls.{Executes, executes_join, executes_one, flush_calls, begins_all, begins_idle, begins_more, begins_then}
-use Rattle.psu_server.proofs.FlushEnds.{same_explained}
-use Rattle.psu_server.proofs.Within.{failed_on, later_on, later_same, within_as, within_at, within_here, within_itself, within_then}
+use Rattle.psu_server.proofs.Calls.{Executes, executes_join, executes_one, flush_calls, begins_all, begins_idle, begins_more, begins_then, leads_one}
+use Rattle.psu_server.proofs.Moments.{spans_same, spans_then}
+use Rattle.psu_server.proofs.Lasting.{lasts_same, lasts_then}
+use Rattle.psu_server.proofs.Within.{failed_before, failed_on, within_as, within_at, within_here, within_itself, within_then}
 use Rattle.psu_server.proofs.SessionOne.{cleared_calls, count_same, executed_calls, settle_store, settled_calls, until}
 
 -- ---- what goes on and then stops
 
 -- what went on was executed
 pub record HasExecuted {D A : Type 0} {G : Ghosts D} (old new : Exec D A G) (requests : List Request) : Type 0 where
-  pub calls : Ghosts.honest G → (life : Life) → (next : Life) × Executes (world_of life old) requests (world_of next new)
-  pub explained : (since : ℕ) → IsExplained since old → IsExplained since new
-  pub later : IsLater (failures_of old) (failures_of new)
+  pub calls : Ghosts.honest G → (life : Life) → (next : Life) × Executes (world_of life old) requests (world_of next new) × Spans old new (world_of life old) (world_of next new)
+  pub lasts : Lasts old new
 
 pub has_executed : {D A : Type 0} {G : Ghosts D} (old new : Exec D A G) (requests : List Request) (P : Mishaps → World → World → Type 0) → GoesOn old new P
     → ((can : Mishaps) (w v : World) → P can w v → Executes w requests v) → HasExecuted old new requests
 has_executed old new requests P goes turn = record {
-  calls = λ h life. let g = goes.runs h life in (g.0, turn g.1.0 (world_of life old) (world_of g.0 new) (within_itself _ _ (λ can. P can (world_of life old) (world_of g.0 new)) g.1));
-  explained = goes.explained;
-  later = goes.later;
+  calls = λ h life. let g = goes.runs h life in (g.0, turn g.1.0 (world_of life old) (world_of g.0 new) (within_itself _ _ (λ can. P can (world_of life old) (world_of g.0 new)) g.1), g.2);
+  lasts = goes.lasts;
 }
 
 pub executed_join : {D A : Type 0} {G : Ghosts D} (old mid new : Exec D A G) (xs ys : List Request) → HasExecuted old mid xs → HasExecuted mid new ys → HasExecuted old new (xs ++ ys)
 executed_join old mid new xs ys p q = record {
-  calls = λ h life. let g = p.calls h life in let k = q.calls h g.0 in (k.0, executes_join (world_of life old) (world_of g.0 mid) (world_of k.0 new) xs ys g.1 k.1);
-  explained = λ since e. q.explained since (p.explained since e);
-  later = later_on _ _ _ p.later q.later;
+  calls = λ h life. let g = p.calls h life in let k = q.calls h g.0 in (k.0, executes_join (world_of life old) (world_of g.0 mid) (world_of k.0 new) xs ys g.1 k.1, spans_then old mid new _ _ _ g.2 k.2);
+  lasts = lasts_then old mid new p.lasts q.lasts;
 }
 
 -- a stop after what was executed
 pub halts_here : {D A : Type 0} {G : Ghosts D} (old new : Exec D A G) (done more : List Request) (cause : RunCause) → HasExecuted old new done
-    → (Ghosts.honest G → (since : ℕ) → IsExplained since old → IsHaltedBy since new cause) → cause ≢ Write → Halts old new (done ++ more) cause
+    → (Ghosts.honest G → IsHaltedBy old new cause) → cause ≢ Write → Halts old new (done ++ more) cause
 halts_here old new done more cause p why own = record {
-  begun = λ h life. let g = p.calls h life in (g.0, begins_more _ _ done more (begins_all _ _ done g.1));
-  explained = p.explained;
-  later = p.later;
+  begun = λ h life. let g = p.calls h life in (g.0, begins_more _ _ done more (begins_all _ _ done g.1), g.2);
+  lasts = p.lasts;
   why = why;
   own = own;
 }
 
+-- what stops a device later stops it since an earlier moment
+pub halted_since : {D A : Type 0} {G : Ghosts D} (old mid new : Exec D A G) (cause : RunCause) → Lasts old mid → IsHaltedBy mid new cause → IsHaltedBy old new cause
+halted_since old mid new Device lasts w = ⊎_elim (λ f. inl (failed_before _ _ _ lasts.later f)) inr w
+halted_since old mid new Memory lasts w = tt
+halted_since old mid new (Open cause) lasts w = absurd w
+halted_since old mid new Read lasts w = absurd w
+halted_since old mid new Write lasts w = tt
+halted_since old mid new TooLong lasts w = absurd w
+
 pub halts_after : {D A : Type 0} {G : Ghosts D} (old mid new : Exec D A G) (done rest : List Request) (cause : RunCause) → HasExecuted old mid done → Halts mid new rest cause
     → Halts old new (done ++ rest) cause
 halts_after old mid new done rest cause p s = record {
-  begun = λ h life. let g = p.calls h life in let k = s.begun h g.0 in (k.0, begins_then (world_of life old) (world_of g.0 mid) (world_of k.0 new) done rest g.1 k.1);
-  explained = λ since e. s.explained since (p.explained since e);
-  later = later_on _ _ _ p.later s.later;
-  why = λ h since e. s.why h since (p.explained since e);
+  begun = λ h life. let g = p.calls h life in let k = s.begun h g.0 in (k.0, begins_then (world_of life old) (world_of g.0 mid) (world_of k.0 new) done rest g.1 k.1, spans_then old mid new _ _ _ g.2 k.2);
+  lasts = lasts_then old mid new p.lasts s.lasts;
+  why = λ h. halted_since old mid new cause p.lasts (s.why h);
   own = s.own;
 }
 
 pub halts_more : {D A : Type 0} {G : Ghosts D} (old new : Exec D A G) (some more : List Request) (cause : RunCause) → Halts old new some cause → Halts old new (some ++ more) cause
 halts_more old new some more cause s = record {
-  begun = λ h life. let k = s.begun h life in (k.0, begins_more _ _ some more k.1);
-  explained = s.explained;
-  later = s.later;
+  begun = λ h life. let k = s.begun h life in (k.0, begins_more _ _ some more k.1, k.2);
+  lasts = s.lasts;
   why = s.why;
   own = s.own;
 }
 
 -- a fault for want of memory
 pub halts_for_memory : {D A : Type 0} {G : Ghosts D} (old new : Exec D A G) (done more : List Request) → HasExecuted old new done → Halts old new (done ++ more) Memory
-halts_for_memory old new done more p = halts_here old new done more Memory p (λ h since e. tt) (λ e. cc)
+halts_for_memory old new done more p = halts_here old new done more Memory p (λ h. tt) (λ e. cc)
 
 -- ---- calls that go on
 
@@ -101,9 +103,9 @@ settled_goes old new reply t there = record {
     lived life old.device (Settled 1 reply),
     within_at _ _ _ (λ can. Calls (world_of life old) (Settled 1 reply) (world_of (lived life old.device (Settled 1 reply)) new)) (count_same old new there)
         (within_here _ (λ can. Calls (world_of life old) (Settled 1 reply) (world_of (lived life old.device (Settled 1 reply)) new)) (λ can. settled_calls old new life reply t there)),
+    spans_same old new life _ there (leads_one _ _ (Settled 1 reply) (settled_calls old new life reply t there)),
   );
-  explained = λ since why. same_explained since old new (settle_store old.device new.device reply t) there why;
-  later = subst (λ (n : ℕ). IsLater (failures_of old) n) (sym (count_same old new there)) (later_same (failures_of old));
+  lasts = lasts_same old new (settle_store old.device new.device reply t).0 there;
 }
 
 pub cleared_goes : {D A : Type 0} {G : Ghosts D} (old new : Exec D A G) → Allows old.device (Cleared 1) new.device → new.home ≡ old.home → GoesOn old new (λ can w v. Calls w (Cleared 1) v)
@@ -112,9 +114,9 @@ cleared_goes old new t there = record {
     lived life old.device (Cleared 1),
     within_at _ _ _ (λ can. Calls (world_of life old) (Cleared 1) (world_of (lived life old.device (Cleared 1)) new)) (count_same old new there)
         (within_here _ (λ can. Calls (world_of life old) (Cleared 1) (world_of (lived life old.device (Cleared 1)) new)) (λ can. cleared_calls old new life t there)),
+    spans_same old new life _ there (leads_one _ _ (Cleared 1) (cleared_calls old new life t there)),
   );
-  explained = λ since why. same_explained since old new (ap (λ (s : State). s.flush.store) t.1) there why;
-  later = subst (λ (n : ℕ). IsLater (failures_of old) n) (sym (count_same old new there)) (later_same (failures_of old));
+  lasts = lasts_same old new (ap (λ (s : State). s.flush.store) t.1) there;
 }
 
 abbrev is_refused_for : Reply → Bool
@@ -137,10 +139,10 @@ executed_goes old new request reply t there = record {
   runs = λ h life. (
     lived life old.device (Executed 1 request reply),
     within_at _ _ _ (λ can. IsMeant can reply × Calls (world_of life old) (Executed 1 request reply) (world_of (lived life old.device (Executed 1 request reply)) new)) (count_same old new there)
-        (record { refused = is_refused_for reply; failed = false; worn = false }, later_same _, (λ e. cc), λ can cov. (meant can reply cov.refused, executed_calls old new life request reply t there)),
+        (record { refused = is_refused_for reply; failed = false; worn = false }, omega arith, (λ e. cc), λ can cov. (meant can reply cov.refused, executed_calls old new life request reply t there)),
+    spans_same old new life _ there (leads_one _ _ (Executed 1 request reply) (executed_calls old new life request reply t there)),
   );
-  explained = λ since why. same_explained since old new (ap (λ (s : State). s.flush.store) t.1.is) there why;
-  later = subst (λ (n : ℕ). IsLater (failures_of old) n) (sym (count_same old new there)) (later_same (failures_of old));
+  lasts = lasts_same old new (ap (λ (s : State). s.flush.store) t.1.is) there;
 }
 
 pub goes_then : {D A : Type 0} {G : Ghosts D} (old mid new : Exec D A G) (P Q R : Mishaps → World → World → Type 0) → GoesOn old mid P → GoesOn mid new Q
@@ -150,9 +152,9 @@ goes_then old mid new P Q R p q join = record {
     k.0,
     within_then _ _ _ (λ can. P can (world_of life old) (world_of g.0 mid)) (λ can. Q can (world_of g.0 mid) (world_of k.0 new)) (λ can. R can (world_of life old) (world_of k.0 new)) g.1 k.1
         (λ can x y. join can (world_of life old) (world_of g.0 mid) (world_of k.0 new) x y),
+    spans_then old mid new _ _ _ g.2 k.2,
   );
-  explained = λ since e. q.explained since (p.explained since e);
-  later = later_on _ _ _ p.later q.later;
+  lasts = lasts_then old mid new p.lasts q.lasts;
 }
 
 pub goes_as : {D A : Type 0} {G : Ghosts D} (old new : Exec D A G) (P R : Mishaps → World → World → Type 0) → GoesOn old new P → ((can : Mishaps) (w v : World) → P can w v → R can w v) → GoesOn old new R
@@ -160,9 +162,9 @@ goes_as old new P R p turn = record {
   runs = λ h life. let g = p.runs h life in (
     g.0,
     within_as _ _ (λ can. P can (world_of life old) (world_of g.0 new)) (λ can. R can (world_of life old) (world_of g.0 new)) g.1 (λ can x. turn can (world_of life old) (world_of g.0 new) x),
+    g.2,
   );
-  explained = p.explained;
-  later = p.later;
+  lasts = p.lasts;
 }
 
 -- ---- waits
@@ -194,13 +196,15 @@ still_parked : (s new : State) (reply : Reply) → Allows s (Settled 1 reply) ne
 still_parked s new reply (opened, inl may, is) final = may ∙ is_waiting (wait_of s.flush 1) (ap is_final (sym may) ∙ final)
 still_parked s new reply (opened, inr may, is) final = let bad = ap is_final (sym may.0) ∙ final in cc
 
-pub waiting_halted : {D A : Type 0} {G : Ghosts D} (since : ℕ) (mid new : Exec D A G) (reply : Reply) → Allows mid.device (Settled 1 reply) new.device → new.home ≡ mid.home
-    → HasFailed since (failures_of mid) ⊎ (mid.device.flush.store ≡ Worn) ⊎ (mid.device.flush.unflushed ≡ 0) → is_final reply ≡ false → (reply ≡ Parked → 0 < mid.device.flush.unflushed)
-    → IsHaltedBy since new Device
-waiting_halted since mid new reply t there clean final parked =
-    ⊎_elim (λ failed. inl (subst (λ (n : ℕ). HasFailed since n) (sym (count_same mid new there)) failed))
-    (λ rest. ⊎_elim (λ worn. inr (settle_store mid.device new.device reply t ∙ worn))
-    (λ none. let some = parked (still_parked mid.device new.device reply t final) in absurd (omega (arith, some, none))) rest) clean
+pub waiting_halted : {D A : Type 0} {G : Ghosts D} (old mid new : Exec D A G) (reply : Reply) → Allows mid.device (Settled 1 reply) new.device → new.home ≡ mid.home
+    → HasFailed (failures_of old) (failures_of mid) ⊎ (mid.device.flush.store ≡ Worn) ⊎ (mid.device.flush.unflushed ≡ 0) → is_final reply ≡ false → (reply ≡ Parked → 0 < mid.device.flush.unflushed)
+    → IsHaltedBy old new Device
+waiting_halted old mid new reply t there clean final parked =
+    let some = parked (still_parked mid.device new.device reply t final) in
+    let kept = settle_store mid.device new.device reply t in
+    let left = kept.1 in
+    ⊎_elim (λ failed. inl (subst (λ (n : ℕ). HasFailed (failures_of old) n) (sym (count_same mid new there)) failed))
+    (λ rest. ⊎_elim (λ worn. inr (kept.0 ∙ worn, omega (arith, some, left))) (λ none. absurd (omega (arith, some, none))) rest) clean
 
 -- the session waits no more
 pub halts_cleared : {D A : Type 0} {G : Ghosts D} (old mid new : Exec D A G) (cause : RunCause) → Halts old mid [] cause → Allows mid.device (Cleared 1) new.device → new.home ≡ mid.home
@@ -208,20 +212,23 @@ pub halts_cleared : {D A : Type 0} {G : Ghosts D} (old mid new : Exec D A G) (ca
 halts_cleared old mid new cause s t there =
     let c = cleared_goes mid new t there in record {
       begun = λ h life. let k = s.begun h life in let n = c.runs h k.0 in
-          (n.0, begins_idle (world_of life old) (world_of k.0 mid) (world_of n.0 new) (Cleared 1) [] k.1 (within_itself _ _ (λ can. Calls (world_of k.0 mid) (Cleared 1) (world_of n.0 new)) n.1) refl);
-      explained = λ since e. c.explained since (s.explained since e);
-      later = later_on _ _ _ s.later c.later;
-      why = λ h since e. still_halted since cause (s.why h since e);
+          (n.0, begins_idle (world_of life old) (world_of k.0 mid) (world_of n.0 new) (Cleared 1) [] k.1 (within_itself _ _ (λ can. Calls (world_of k.0 mid) (Cleared 1) (world_of n.0 new)) n.1) refl, spans_then old mid new _ _ _ k.2 n.2);
+      lasts = lasts_then old mid new s.lasts c.lasts;
+      why = λ h. still_halted cause (s.why h);
       own = s.own;
     }
   where
-    still_halted : (since : ℕ) (cause : RunCause) → IsHaltedBy since mid cause → IsHaltedBy since new cause
-    still_halted since Device w = ⊎_elim (λ f. inl (subst (λ (n : ℕ). HasFailed since n) (sym (count_same mid new there)) f)) (λ worn. inr (ap (λ (s : State). s.flush.store) t.1 ∙ worn)) w
-    still_halted since Memory w = tt
-    still_halted since (Open cause) w = absurd w
-    still_halted since Read w = absurd w
-    still_halted since Write w = tt
-    still_halted since TooLong w = absurd w
+    left : new.device.flush.unflushed ≡ mid.device.flush.unflushed
+    left = ap (λ (s : State). s.flush.unflushed) t.1
+
+    still_halted : (cause : RunCause) → IsHaltedBy old mid cause → IsHaltedBy old new cause
+    still_halted Device w = ⊎_elim (λ f. inl (subst (λ (n : ℕ). HasFailed (failures_of old) n) (sym (count_same mid new there)) f))
+        (λ worn. inr (ap (λ (s : State). s.flush.store) t.1 ∙ worn.0, subst (λ (n : ℕ). 1 ≤ n) (sym left) worn.1)) w
+    still_halted Memory w = tt
+    still_halted (Open cause) w = absurd w
+    still_halted Read w = absurd w
+    still_halted Write w = tt
+    still_halted TooLong w = absurd w
 
 -- ---- units
 
@@ -383,26 +390,28 @@ late_some : (s new : State) (request : Request) → Allows s (Executed 1 request
 late_some s new request t free =
     full_tail (wait_of s.flush 1) s.flush.unflushed (reads_nonvolatile request.reading (is_none s.flush.contents.enables)) free (late_beside s request (is_denied s 1) t.1.may)
 
-late_halted : {D A : Type 0} {G : Ghosts D} (since : ℕ) (mid new : Exec D A G) (request : Request) (reply : Reply) → Ghosts.honest G → GoesOn mid new (Acted request reply) → is_later reply ≡ true
-    → wait_of mid.device.flush 1 ≡ None → HasFailed since (failures_of mid) ⊎ (mid.device.flush.store ≡ Worn) ⊎ (mid.device.flush.unflushed ≡ 0) → IsHaltedBy since new Device
-late_halted since mid new request reply h a late free clean =
+late_halted : {D A : Type 0} {G : Ghosts D} (old mid new : Exec D A G) (request : Request) (reply : Reply) → Ghosts.honest G → GoesOn mid new (Acted request reply) → is_later reply ≡ true
+    → wait_of mid.device.flush 1 ≡ None → HasFailed (failures_of old) (failures_of mid) ⊎ (mid.device.flush.store ≡ Worn) ⊎ (mid.device.flush.unflushed ≡ 0) → IsHaltedBy old new Device
+late_halted old mid new request reply h a late free clean =
     let life : Life = record { limit = 0; start = mid.device.flush.contents; history = [] } in
     let g = a.runs h life in
     let c = late_call g.1.0 reply (world_of life mid) (world_of g.0 new) request late (within_itself _ _ (λ can. Acted request reply can (world_of life mid) (world_of g.0 new)) g.1) in
     let allows = c.1.2 in
     let store : new.device.flush.store ≡ mid.device.flush.store = ap (λ (w : World). w.state.flush.store) c.1.4 ∙ ap (λ (s : State). s.flush.store) allows.1.is in
-    ⊎_elim (λ failed. inl (failed_on since _ _ a.later failed))
-    (λ rest. ⊎_elim (λ worn. inr (store ∙ worn)) (λ none. let some = late_some mid.device c.1.0 request allows free in absurd (omega (arith, some, none))) rest) clean
+    let left : new.device.flush.unflushed ≡ mid.device.flush.unflushed = ap (λ (w : World). w.state.flush.unflushed) c.1.4 ∙ ap (λ (s : State). s.flush.unflushed) allows.1.is in
+    let some = late_some mid.device c.1.0 request allows free in
+    ⊎_elim (λ failed. inl (failed_on _ _ _ a.lasts.later failed))
+    (λ rest. ⊎_elim (λ worn. inr (store ∙ worn, omega (arith, some, left))) (λ none. absurd (omega (arith, some, none))) rest) clean
 
 pub still_late_halts : {D A : Type 0} {G : Ghosts D} (old mid over new : Exec D A G) (request : Request) (first reply : Reply) → GoesOn old mid (Acted request first) → is_later first ≡ true
     → GoesOn mid over Flushes → GoesOn over new (Acted request reply) → is_later reply ≡ true → wait_of over.device.flush 1 ≡ None
-    → ((since : ℕ) → IsExplained since mid → HasFailed since (failures_of over) ⊎ (over.device.flush.store ≡ Worn) ⊎ (over.device.flush.unflushed ≡ 0))
+    → (Ghosts.honest G → HasFailed (failures_of mid) (failures_of over) ⊎ (over.device.flush.store ≡ Worn) ⊎ (over.device.flush.unflushed ≡ 0))
     → Halts old new (request ∷ []) Device
 still_late_halts old mid over new request first reply a late f b still free clean =
     halts_here old new [] (request ∷ []) Device
     (executed_join old over new [] [] (late_executed old mid over request first a late f)
     (has_executed over new [] (Acted request reply) b (λ can w v x. executes_one w (Executed 1 request Later) v (late_call can reply w v request still x))))
-    (λ h since e. late_halted since over new request reply h b still free (clean since (a.explained since e))) (λ e. cc)
+    (λ h. halted_since old mid new Device a.lasts (late_halted mid over new request reply h b still free (clean h))) (λ e. cc)
 
 pub parked_of : {A : Type 0} (o : Outcome A) → outcome_of o ≡ Parked → o ≡ outcome.Parked
 parked_of outcome.Done e = cc

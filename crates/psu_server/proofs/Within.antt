@@ -1,8 +1,8 @@
 -- What may happen with what went wrong, step by step.
-use Rattle.std.proofs.Common.{◌≡◌, ◌⊎◌, ℕ, ◌||◌, Bool, true, false, refl, subst, inl, inr, arith, ⊎_elim}
+use Rattle.std.proofs.Common.{◌≡◌, ◌⊎◌, ℕ, ◌≤◌, ◌||◌, Bool, true, false, refl, subst, inl, inr, arith, ⊎_elim}
 use Rattle.psu_disk.specs.Disk.{HasFailed}
-use Rattle.psu_server.specs.Runs.{Mishaps, none}
-use Rattle.psu_server.specs.Within.{Covers, IsLater, Within}
+use Rattle.psu_server.specs.Runs.{Mishaps, any, none}
+use Rattle.psu_server.specs.Within.{Covers, Within}
 
 or_left : (a b : Bool) → a ≡ true → (a || b) ≡ true
 or_left a b e = rw e refl
@@ -34,31 +34,22 @@ covers_second can p q c = record {
 }
 
 -- a failure stays one
-pub failed_on : (a b c : ℕ) → IsLater b c → HasFailed a b → HasFailed a c
-failed_on a b c later f = ⊎_elim (λ le. ⊎_elim (λ less. inl (omega (arith, le, less))) (λ last. inr (omega (arith, le, last))) f) inr later
+pub failed_on : (a b c : ℕ) → b ≤ c → HasFailed a b → HasFailed a c
+failed_on a b c later f = ⊎_elim (λ less. inl (omega (arith, later, less))) (λ last. inr (omega (arith, later, last))) f
 
-pub failed_before : (a b c : ℕ) → IsLater a b → HasFailed b c → HasFailed a c
-failed_before a b c later f = ⊎_elim (λ le. ⊎_elim (λ less. inl (omega (arith, le, less))) inr f) (λ last. ⊎_elim (λ less. inr (omega (arith, last, less))) inr f) later
-
-pub later_on : (a b c : ℕ) → IsLater a b → IsLater b c → IsLater a c
-later_on a b c p q = ⊎_elim (λ le. ⊎_elim (λ more. inl (omega (arith, le, more))) inr q) (λ last. ⊎_elim (λ more. inr (omega (arith, last, more))) inr q) p
-
-pub later_same : (n : ℕ) → IsLater n n
-later_same n = inl (omega arith)
-
-pub later_failed : (a b : ℕ) → HasFailed a b → IsLater a b
-later_failed a b f = ⊎_elim (λ less. inl (omega (arith, less))) inr f
+pub failed_before : (a b c : ℕ) → a ≤ b → HasFailed b c → HasFailed a c
+failed_before a b c later f = ⊎_elim (λ less. inl (omega (arith, later, less))) inr f
 
 pub covers_itself : (gone : Mishaps) → Covers gone gone
 covers_itself gone = record { refused = λ e. e; failed = λ e. e; worn = λ e. e }
 
 pub within_here : (n : ℕ) (P : Mishaps → Type 0) → ((can : Mishaps) → P can) → Within n n P
-within_here n P p = (none, later_same n, (λ e. cc), λ can c. p can)
+within_here n P p = (none, omega arith, (λ e. cc), λ can c. p can)
 
 pub within_then : (a b c : ℕ) (P Q R : Mishaps → Type 0) → Within a b P → Within b c Q → ((can : Mishaps) → P can → Q can → R can) → Within a c R
 within_then a b c P Q R p q join = (
   both p.0 q.0,
-  later_on a b c p.1 q.1,
+  omega (arith, p.1, q.1),
   λ e. ⊎_elim (λ f. failed_on a b c q.1 (p.2 f)) (λ f. failed_before a b c p.1 (q.2 f)) (or_either p.0.failed q.0.failed e),
   λ can cov. join can (p.3 can (covers_first can p.0 q.0 cov)) (q.3 can (covers_second can p.0 q.0 cov)),
 )
@@ -77,5 +68,9 @@ pub within_itself : (a b : ℕ) (P : Mishaps → Type 0) (w : Within a b P) → 
 within_itself a b P w = w.3 w.0 (covers_itself w.0)
 
 -- some time goes by
-pub within_later : (a b c : ℕ) (P : Mishaps → Type 0) → IsLater b c → Within a b P → Within a c P
-within_later a b c P later w = (w.0, later_on a b c w.1 later, (λ e. failed_on a b c later (w.2 e)), w.3)
+pub within_later : (a b c : ℕ) (P : Mishaps → Type 0) → b ≤ c → Within a b P → Within a c P
+within_later a b c P later w = (w.0, omega (arith, w.1, later), (λ e. failed_on a b c later (w.2 e)), w.3)
+
+-- and where anything may
+pub within_any : (a b : ℕ) (P : Mishaps → Type 0) → Within a b P → P any
+within_any a b P w = w.3 any (record { refused = λ e. refl; failed = λ e. refl; worn = λ e. refl })

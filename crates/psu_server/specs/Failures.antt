@@ -1,4 +1,4 @@
--- How often the disk of a device has failed.
+-- The disk of a device at rest: how often it has failed, and how many bytes it has.
 use Rattle.std.specs.Prelude.{ℕ, Option, Some, None}
 use Rattle.psu_disk.specs.declared.disk.Disk.{Ghosts}
 use Rattle.psu_exec.specs.Jobs.{home_disk}
@@ -12,3 +12,11 @@ failures_at {D} {A} {G} (Some home) = Ghosts.failures G (home_disk home)
 -- the count of the disk at home
 abbrev pub failures_of : {D A : Type 0} {G : Ghosts D} → Exec D A G → ℕ
 failures_of exec = failures_at exec.home
+
+abbrev pub extent_at : {D A : Type 0} {G : Ghosts D} → Option (Home D A G) → ℕ
+extent_at None = 0
+extent_at {D} {A} {G} (Some home) = Ghosts.extent G (home_disk home)
+
+-- the size of the disk at home
+abbrev pub extent_of : {D A : Type 0} {G : Ghosts D} → Exec D A G → ℕ
+extent_of exec = extent_at exec.home

@@ -1,5 +1,5 @@
 -- The lines of an input, and the requests of a line.
-use Rattle.std.specs.Prelude.{◌≡◌, ℕ, ◌==◌, ◌||◌, ◌&&◌, not, nat_lt, Bool, true, false, List, [], ◌∷◌, ◌++◌, length, None, Err, if◌then◌else◌, codes, map}
+use Rattle.std.specs.Prelude.{◌≡◌, ℕ, ◌==◌, ◌||◌, ◌&&◌, not, nat_lt, Bool, true, false, List, [], ◌∷◌, ◌++◌, length, Option, Some, None, Err, if◌then◌else◌, codes, map, ⊤}
 use Rattle.std.specs.Str.{bytes_eq}
 use Rattle.psu_lex.specs.Message.{Part, IsMessage}
 use Rattle.psu_tree.specs.Reading as tree
@@ -47,6 +47,11 @@ message_of line =
 -- the messages of an input; the last may lack its line feed
 abbrev pub messages : List ℕ → List Message
 messages input = map message_of (parts_of 10 input)
+
+-- the messages that an input brings: those of its bytes where they are known, and else any
+abbrev pub Brings : Option (List ℕ) → List Message → Type 0
+Brings None due = ⊤
+Brings (Some input) due = due ≡ messages input
 
 -- the messages to come, where a line has begun (or is already too long)
 abbrev pub coming : Bool → List ℕ → List ℕ → List Message

@@ -10,7 +10,7 @@ use Rattle.psu_exec.specs.Calls.{Entry, Executed, Opened}
 use Rattle.psu_exec.specs.Jobs.{home_disk}
 use Rattle.psu_exec.specs.Consistent.{MayBeKept}
 use Rattle.psu_exec.specs.Headline.{IsPrefix}
-use Rattle.psu_exec.specs.World.{World, Running, Call, PastUnit, Happens, IsStart, after, is_executed, recorded}
+use Rattle.psu_exec.specs.World.{World, Running, Call, PastUnit, Event, Happens, IsStart, Run, after, is_executed, recorded}
 use Rattle.psu_exec.specs.declared.exec.Exec.{Exec}
 use Rattle.psu_exec.specs.declared.home.Home.{Home}
 use Rattle.psu_tree.specs.declared.unit_request.Request.{Request}
@@ -69,7 +69,18 @@ abbrev pub IsLeftBy : World → DiskState → Type 0
 IsLeftBy w disk = ((image : List ℕ) → Left disk image → Left w.disk image)
     ⊎ ((limit : ℕ) × (map : List Item) × EachStands w.disk limit map × EachStands disk limit map)
 
--- Each image that may be left of a disk stands for the contents after a front of the units executed since power-on, which holds
--- every unit before a `*OPC?` that was answered.
+-- The image stands for the contents after a front of the units executed since power-on, which holds every unit before a `*OPC?` that
+-- was answered.
+abbrev pub StandsForPrefix : World → List ℕ → Type 0
+StandsForPrefix w image = (k : ℕ) × IsPrefix w k × MayBeKept w.limit (after w k) × Stands image w.limit (items_of (after w k))
+
+-- so does each image that may be left of a disk
 abbrev pub LeavesPrefix : World → DiskState → Type 0
-LeavesPrefix w disk = (image : List ℕ) → Left disk image → (k : ℕ) × IsPrefix w k × MayBeKept w.limit (after w k) × Stands image w.limit (items_of (after w k))
+LeavesPrefix w disk = (image : List ℕ) → Left disk image → StandsForPrefix w image
+
+-- a world that events lead to, from a device that has just been powered on
+pub record Reached (w : World) : Type 0 where
+  pub first : World
+  pub events : List Event
+  pub start : IsStart first
+  pub run : Run first events w

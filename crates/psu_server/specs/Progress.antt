@@ -1,5 +1,5 @@
 -- How far a run has come: what each of its parts has executed and told.
-use Rattle.std.specs.Prelude.{◌≡◌, ◌≢◌, ◌⊎◌, ℕ, ◌<◌, List, ◌++◌, length, Option}
+use Rattle.std.specs.Prelude.{◌≡◌, ◌≢◌, ◌⊎◌, ℕ, ◌<◌, ◌≤◌, List, ◌++◌, length, Option, Some}
 use Rattle.std.specs.Io.KnownBytes.{Appends}
 use Rattle.std.specs.Io.{StartsWith}
 use Rattle.psu_disk.specs.declared.disk.Disk.{Ghosts}
@@ -9,32 +9,51 @@ use Rattle.psu_exec.specs.Device.{Reply, Later}
 use Rattle.psu_exec.specs.Calls.{Executed, Settled}
 use Rattle.psu_exec.specs.World.{World}
 use Rattle.psu_exec.specs.declared.exec.Exec.{Exec}
-use Rattle.psu_server.specs.Failures.{failures_of}
-use Rattle.psu_server.specs.Jobs.{IsExplained}
+use Rattle.psu_server.specs.Failures.{extent_of, failures_of}
+use Rattle.psu_server.specs.Jobs.{IsWornAtLast}
 use Rattle.psu_server.specs.Lines.{Message}
-use Rattle.psu_server.specs.Lives.{Life, world_of, Calls, IsLeftBy}
+use Rattle.psu_server.specs.Lives.{Life, world_of, Calls, IsLeftBy, Reached}
+use Rattle.psu_server.specs.Moments.{IsBetween, IsNow, IsWhile, Leads, Since, disk_in}
 use Rattle.psu_server.specs.Output.{Telling, Says, SaysOn, SaysOnUntil, SaysUntil}
-use Rattle.psu_server.specs.Reasons.{IsHaltedBy}
+use Rattle.psu_server.specs.Reasons.{IsHaltedBy, StopsFor}
 use Rattle.psu_server.specs.Runs.{Mishaps, Acts, Begins, Flushes, NextBegins, Runs}
-use Rattle.psu_server.specs.Within.{IsLater, Within}
+use Rattle.psu_server.specs.Within.{Within}
 use Rattle.psu_server.specs.declared.run_cause.RunCause.{RunCause}
 use Rattle.psu_server.specs.declared.run_cause.RunCause.TheVariants.{Write}
 use Rattle.psu_server.specs.declared.run_fault.RunFault.{RunFault}
 
+-- ---- the disk
+
+-- From one moment at rest to a later one: the disk has its size, the count of its failures did not fall, and where a store was worn
+-- only at the last number it is so still.
+pub record Lasts {D A : Type 0} {G : Ghosts D} (old new : Exec D A G) : Type 0 where
+  pub extent : extent_of new ≡ extent_of old
+  pub later : failures_of old ≤ failures_of new
+  pub worn : IsWornAtLast old → IsWornAtLast new
+
+-- the disk that was at home is handed back
+pub record HandsBack {D A : Type 0} {G : Ghosts D} (old : Exec D A G) (disk : D) : Type 0 where
+  pub extent : Ghosts.extent G disk ≡ extent_of old
+  pub later : failures_of old ≤ Ghosts.failures G disk
+
 -- ---- units
+
+-- Calls led from one world to another, and at each moment what may be left stands for a prefix of what was executed by then.
+pub record Spans {D A : Type 0} {G : Ghosts D} (old new : Exec D A G) (w v : World) : Type 0 where
+  pub leads : Leads w v
+  pub time : Ghosts.tells G → IsNow G → Reached w → Since G (disk_in old.home) (disk_in new.home) (IsBetween w v)
 
 -- The device went on, in a life that goes on, and this may have happened with what went wrong.
 pub record GoesOn {D A : Type 0} {G : Ghosts D} (old new : Exec D A G) (P : Mishaps → World → World → Type 0) : Type 0 where
   pub runs : Ghosts.honest G → (life : Life) → (next : Life) × Within (failures_of old) (failures_of new) (λ can. P can (world_of life old) (world_of next new))
-  pub explained : (since : ℕ) → IsExplained since old → IsExplained since new
-  pub later : IsLater (failures_of old) (failures_of new)
+      × Spans old new (world_of life old) (world_of next new)
+  pub lasts : Lasts old new
 
 -- The device stops for this cause, after some first of these requests.
 pub record Halts {D A : Type 0} {G : Ghosts D} (old new : Exec D A G) (requests : List Request) (cause : RunCause) : Type 0 where
-  pub begun : Ghosts.honest G → (life : Life) → (next : Life) × Begins (world_of life old) requests (world_of next new)
-  pub explained : (since : ℕ) → IsExplained since old → IsExplained since new
-  pub later : IsLater (failures_of old) (failures_of new)
-  pub why : Ghosts.honest G → (since : ℕ) → IsExplained since old → IsHaltedBy since new cause
+  pub begun : Ghosts.honest G → (life : Life) → (next : Life) × Begins (world_of life old) requests (world_of next new) × Spans old new (world_of life old) (world_of next new)
+  pub lasts : Lasts old new
+  pub why : Ghosts.honest G → IsHaltedBy old new cause
   pub own : cause ≢ Write
 
 -- a parked unit's wait is over
@@ -59,7 +78,7 @@ Continues old new told now P = (answers : List (List ℕ)) → told.begun ≡ ar
 -- The device went on until a fault.
 pub record Breaks {D A : Type 0} {G : Ghosts D} (old new : Exec D A G) (P : Mishaps → World → World → Type 0) (cause : RunCause) : Type 0 where
   pub goes : GoesOn old new P
-  pub why : Ghosts.honest G → (since : ℕ) → IsExplained since old → IsHaltedBy since new cause
+  pub why : Ghosts.honest G → IsHaltedBy old new cause
 
 -- Behind the answers of its line so far the device went on, and more was to be told, until a fault.
 abbrev pub BreaksOff : {D A : Type 0} {G : Ghosts D} → Exec D A G → Exec D A G → Telling → Telling → Way → RunCause → Type 0
@@ -68,51 +87,70 @@ BreaksOff old new told now P cause = (answers : List (List ℕ)) → told.begun 
 
 -- ---- messages
 
--- A run ended early: of these messages the first may have begun, and `part` is what was to be told of it.
-abbrev pub StopsHere : {D A : Type 0} {G : Ghosts D} → Exec D A G → RunFault D → List Message → List ℕ → Type 0
-StopsHere {D} {A} {G} old fault rest part = (life : Life) → (last : World)
-    × Within (failures_of old) (Ghosts.failures G fault.disk) (λ can. NextBegins can (world_of life old) rest part last) × IsLeftBy last (Ghosts.state G fault.disk)
+-- From this device on, each image at any moment until the disk is there is one while these messages are executed.
+abbrev pub EachMoment : {D A : Type 0} {G : Ghosts D} → Life → Exec D A G → Option D → List Message → Type 0
+EachMoment {D} {A} {G} life old disk due =
+    Ghosts.tells G → IsNow G → Reached (world_of life old) → Since G (disk_in old.home) disk (IsWhile (world_of life old) due)
 
--- A run ended early: these messages were executed, and of those after them the first may have begun.
-abbrev pub Stops : {D A : Type 0} {G : Ghosts D} → Exec D A G → RunFault D → List Message → List Message → List ℕ → List ℕ → Type 0
-Stops {D} {A} {G} old fault done rest text part = (life : Life) → (mid : World) × (last : World)
-    × Within (failures_of old) (Ghosts.failures G fault.disk) (λ can. Runs can (world_of life old) done text mid × NextBegins can mid rest part last)
-    × IsLeftBy last (Ghosts.state G fault.disk)
+-- The device went on, in a life that goes on or in others behind it: these messages were executed and told this text.
+pub record RunsOn {D A : Type 0} {G : Ghosts D} (old new : Exec D A G) (done : List Message) (text : List ℕ) : Type 0 where
+  pub runs : Ghosts.honest G → (life : Life) → (next : Life) × Within (failures_of old) (failures_of new) (λ can. Runs can (world_of life old) done text (world_of next new))
+      × EachMoment life old (disk_in new.home) done
+  pub lasts : Lasts old new
+
+-- A run ended early, for a reason: of these messages the first may have begun, and `part` is what was to be told of it.
+pub record StopsHere {D A : Type 0} {G : Ghosts D} (long : Type 0) (old : Exec D A G) (fault : RunFault D) (rest : List Message) (part : List ℕ) : Type 0 where
+  pub hands : HandsBack old fault.disk
+  pub stops : Ghosts.honest G → IsWornAtLast old → (life : Life) → (last : World)
+      × Within (failures_of old) (Ghosts.failures G fault.disk) (λ can. NextBegins can (world_of life old) rest part last)
+      × IsLeftBy last (Ghosts.state G fault.disk)
+      × StopsFor long (failures_of old) (Ghosts.failures G fault.disk) rest last (Ghosts.state G fault.disk).bytes fault.cause
+      × EachMoment life old (Some fault.disk) rest
+
+-- A run ended early, for a reason: these messages were executed, and of those after them the first may have begun.
+pub record Stops {D A : Type 0} {G : Ghosts D} (long : Type 0) (old : Exec D A G) (fault : RunFault D) (done rest : List Message) (text part : List ℕ) : Type 0 where
+  pub hands : HandsBack old fault.disk
+  pub stops : Ghosts.honest G → IsWornAtLast old → (life : Life) → (mid : World) × (last : World) × (count : ℕ)
+      × Within (failures_of old) count (λ can. Runs can (world_of life old) done text mid)
+      × Within count (Ghosts.failures G fault.disk) (λ can. NextBegins can mid rest part last)
+      × IsLeftBy last (Ghosts.state G fault.disk)
+      × StopsFor long count (Ghosts.failures G fault.disk) rest last (Ghosts.state G fault.disk).bytes fault.cause
+      × EachMoment life old (Some fault.disk) (done ++ rest)
 
 -- The messages before the piece are those that end in it, and those after it. They were executed, and their text told.
 abbrev pub Fed : {D A : Type 0} {G : Ghosts D} → (List ℕ → List Message) → List ℕ → (List ℕ → List Message) → Exec D A G → Exec D A G → Telling → Telling → Type 0
 Fed before piece after old new told now =
     (done : List Message) × (text : List ℕ) × Says told now text
     × ((input : List ℕ) → before (piece ++ input) ≡ done ++ after input)
-    × GoesOn old new (λ can w v. Runs can w done text v)
+    × RunsOn old new done text
 
 -- the same up to a fault
 abbrev pub Stopped : {D A : Type 0} {G : Ghosts D} → (List ℕ → List Message) → List ℕ → Exec D A G → RunFault D → Telling → Telling → Type 0
 Stopped before piece old fault told now =
     (done : List Message) × (text : List ℕ) × (part : List ℕ) × SaysUntil fault.cause told now (text ++ part)
-    × ((input : List ℕ) → (rest : List Message) × (before (piece ++ input) ≡ done ++ rest) × Stops old fault done rest text part)
+    × ((input : List ℕ) → (rest : List Message) × (before (piece ++ input) ≡ done ++ rest) × Stops ⊥ old fault done rest text part)
 
 -- the messages that end in the piece were executed, and the writer gained their text
 abbrev pub Answered : {D A : Type 0} {G : Ghosts D} → (List ℕ → List Message) → List ℕ → (List ℕ → List Message) → Exec D A G → Exec D A G → Option (List ℕ) → Option (List ℕ) → Type 0
 Answered before piece after old new old_written new_written =
     (done : List Message) × (text : List ℕ) × Appends old_written new_written text
     × ((input : List ℕ) → before (piece ++ input) ≡ done ++ after input)
-    × GoesOn old new (λ can w v. Runs can w done text v)
+    × RunsOn old new done text
 
 -- the messages were executed, and the writer gained their text
 abbrev pub Answers : {D A : Type 0} {G : Ghosts D} → List Message → Exec D A G → Exec D A G → Option (List ℕ) → Option (List ℕ) → Type 0
 Answers due old new old_written new_written =
-    (text : List ℕ) × Appends old_written new_written text × GoesOn old new (λ can w v. Runs can w due text v)
+    (text : List ℕ) × Appends old_written new_written text × RunsOn old new due text
 
 -- A run ended early. What the executed messages told is written, and what was told of the next one; where the writer failed, a
 -- front of it, and some of it is missing.
-pub record EndsEarly {D A : Type 0} {G : Ghosts D} (old : Exec D A G) (fault : RunFault D) (due : List Message) (old_written new_written : Option (List ℕ)) : Type 0 where
+pub record EndsEarly {D A : Type 0} {G : Ghosts D} (long : Type 0) (old : Exec D A G) (fault : RunFault D) (due : List Message) (old_written new_written : Option (List ℕ)) : Type 0 where
   pub done : List Message
   pub rest : List Message
   pub is : due ≡ done ++ rest
   pub text : List ℕ
   pub part : List ℕ
-  pub stops : Stops old fault done rest text part
+  pub stops : Stops long old fault done rest text part
   pub front : List ℕ
   pub appends : Appends old_written new_written front
   pub starts : StartsWith (text ++ part) front
@@ -121,8 +159,10 @@ pub record EndsEarly {D A : Type 0} {G : Ghosts D} (old : Exec D A G) (fault : R
 
 -- The messages were executed and told, and then all that was accepted is flushed.
 pub record RanAll {D A : Type 0} {G : Ghosts D} (old : Exec D A G) (due : List Message) (disk : D) (old_written new_written : Option (List ℕ)) : Type 0 where
+  pub hands : HandsBack old disk
   pub text : List ℕ
   pub written : Appends old_written new_written text
-  pub ends : (life : Life) → (last : World) × (over : World)
+  pub ends : Ghosts.honest G → (life : Life) → (last : World) × (over : World)
       × Within (failures_of old) (Ghosts.failures G disk) (λ can. Runs can (world_of life old) due text last × Flushes can last over)
       × (over.state.flush.unflushed ≡ 0) × (over.disk ≡ Ghosts.state G disk)
+      × EachMoment life old (Some disk) due

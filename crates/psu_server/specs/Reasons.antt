@@ -1,55 +1,60 @@
 -- Why a run ends early.
-use Rattle.std.specs.Prelude.{◌≡◌, ◌⊎◌, ℕ, ◌≤◌, List, length, Option, ⊤, IfSome}
+use Rattle.std.specs.Prelude.{◌≡◌, ◌⊎◌, ℕ, ◌≤◌, List, [], ◌∷◌, length, Option, ⊤, IfSome}
 use Rattle.psu_disk.specs.declared.disk.Disk.{Ghosts}
 use Rattle.psu_disk.specs.Disk.{HasFailed}
 use Rattle.psu_items.specs.Image.{HasNoRoot, HasBadRoot, HasOtherVersion, HasReadableRoot}
 use Rattle.psu_exec.specs.declared.condition.Condition.TheVariants.{Worn}
+use Rattle.psu_exec.specs.World.{World}
 use Rattle.psu_exec.specs.declared.exec.Exec.{Exec}
 use Rattle.psu_server.specs.declared.run_cause.RunCause.{RunCause}
 use Rattle.psu_server.specs.declared.run_cause.RunCause.TheVariants.{Read, Write, Open, Device, TooLong, Memory}
 use Rattle.psu_exec.specs.declared.start_cause.StartCause.TheVariants as start
 use Rattle.psu_server.specs.Causes.{HasBadItems, IsWornOut}
 use Rattle.psu_server.specs.Failures.{failures_of}
+use Rattle.psu_server.specs.Lines.{Message}
 
 -- ---- the device that is powered on
 
--- A unit or a flush can't be ended only where the disk failed, or where there is no number for a commit. A want of memory can't
--- be seen, nor that a writer fails.
-abbrev pub IsHaltedBy : {D A : Type 0} {G : Ghosts D} → ℕ → Exec D A G → RunCause → Type 0
-IsHaltedBy since exec Device = HasFailed since (failures_of exec) ⊎ (exec.device.flush.store ≡ Worn)
-IsHaltedBy since exec Memory = ⊤
-IsHaltedBy since exec (Open cause) = ⊥
-IsHaltedBy since exec Read = ⊥
-IsHaltedBy since exec Write = ⊤
-IsHaltedBy since exec TooLong = ⊥
+-- A unit or a flush can't be ended only where the disk failed since, or where changes are left and there is no number for a commit. A
+-- want of memory can't be seen, nor that a writer fails.
+abbrev pub IsHaltedBy : {D A : Type 0} {G : Ghosts D} → Exec D A G → Exec D A G → RunCause → Type 0
+IsHaltedBy old new Device = HasFailed (failures_of old) (failures_of new) ⊎ ((new.device.flush.store ≡ Worn) × (1 ≤ new.device.flush.unflushed))
+IsHaltedBy old new Memory = ⊤
+IsHaltedBy old new (Open cause) = ⊥
+IsHaltedBy old new Read = ⊥
+IsHaltedBy old new Write = ⊤
+IsHaltedBy old new TooLong = ⊥
 
--- A fault of the device. A restart fails, and a unit or the last flush can't be ended, only where the disk failed; these two also
--- where there is no number for a commit. A want of memory can't be seen, nor that a writer fails.
-abbrev pub StopsFor : ℕ → ℕ → List ℕ → RunCause → Type 0
-StopsFor before now left (Open cause) = HasFailed before now
-StopsFor before now left Device = HasFailed before now ⊎ IsWornOut left
-StopsFor before now left Memory = ⊤
-StopsFor before now left Read = ⊥
-StopsFor before now left Write = ⊤
-StopsFor before now left TooLong = ⊥
+-- the next message is that of a power loss
+abbrev pub IsAtPower : List Message → Type 0
+IsAtPower [] = ⊥
+IsAtPower (Message.Power ∷ ms) = ⊤
+IsAtPower (m ∷ ms) = ⊥
+
+-- Why a run ends before the first of these messages, or in it. `before` and `now` are the counts of failures before it and at the
+-- end, `last` is the device then, and `left` what its disk reads as. Open: a restart was refused, and only as the disk failed in it,
+-- since what it stood for still stands. Device: the disk failed meanwhile, or, but for a restart, changes are left on a store whose
+-- root has the last number. TooLong: as `long` says. That memory is refused, or that a reader or a writer fails, can't be seen.
+abbrev pub StopsFor : Type 0 → ℕ → ℕ → List Message → World → List ℕ → RunCause → Type 0
+StopsFor long before now rest last left (Open start.Device) = IsAtPower rest × HasFailed before now
+StopsFor long before now rest last left (Open cause) = ⊥
+StopsFor long before now rest last left Device = HasFailed before now ⊎ ((IsAtPower rest → ⊥) × (1 ≤ last.state.flush.unflushed) × IsWornOut left)
+StopsFor long before now rest last left TooLong = long
+StopsFor long before now rest last left Read = ⊤
+StopsFor long before now rest last left Write = ⊤
+StopsFor long before now rest last left Memory = ⊤
 
 -- ---- the run
-
--- once power is on; an input of fewer bytes than a run may make reads is never too long
-abbrev pub EndsLate : ℕ → ℕ → List ℕ → Option (List ℕ) → RunCause → Type 0
-EndsLate before now left input TooLong = IfSome input (λ bytes. 1048576 ≤ length bytes)
-EndsLate before now left input Read = ⊤
-EndsLate before now left input cause = StopsFor before now left cause
 
 -- Why a run ends early: `found` is the image at its start, `left` the one at its end, and the input what the reader had. An input
 -- of fewer bytes than a run may make reads is never too long. Memory is wanted only where a root could be read. That a reader or a
 -- writer fails can't be seen.
 abbrev pub EndsFor : List ℕ → ℕ → ℕ → List ℕ → Option (List ℕ) → RunCause → Type 0
 EndsFor found before now left input (Open start.Device) = HasFailed before now
-EndsFor found before now left input (Open start.NoRoot) = HasNoRoot found ⊎ HasFailed before now
-EndsFor found before now left input (Open start.BadRoot) = HasBadRoot found ⊎ HasFailed before now
-EndsFor found before now left input (Open start.BadVersion) = HasOtherVersion found ⊎ HasFailed before now
-EndsFor found before now left input (Open start.BadItems) = HasBadItems found ⊎ HasFailed before now
+EndsFor found before now left input (Open start.NoRoot) = HasNoRoot found
+EndsFor found before now left input (Open start.BadRoot) = HasBadRoot found
+EndsFor found before now left input (Open start.BadVersion) = HasOtherVersion found
+EndsFor found before now left input (Open start.BadItems) = HasBadItems found
 EndsFor found before now left input Device = HasFailed before now ⊎ IsWornOut left
 EndsFor found before now left input TooLong = IfSome input (λ bytes. 1048576 ≤ length bytes)
 EndsFor found before now left input Read = ⊤

@@ -1,5 +1,5 @@
 -- What a run came to, where it ends well and where it ends early.
-use Rattle.std.specs.Prelude.{◌≡◌, ◌≢◌, ℕ, ◌<◌, ◌≤◌, true, List, [], ◌++◌, length, Option}
+use Rattle.std.specs.Prelude.{◌≡◌, ◌≢◌, ℕ, ◌<◌, ◌≤◌, true, List, [], ◌++◌, length, Option, Result, Ok, Err, IfSome}
 use Rattle.std.specs.Io.KnownBytes.{Appends}
 use Rattle.std.specs.Io.{StartsWith}
 use Rattle.psu_disk.specs.Disk.{DiskState, HasFailed}
@@ -8,61 +8,79 @@ use Rattle.psu_items.specs.Image.{EachStands}
 use Rattle.psu_nv.specs.Contents.{items_of}
 use Rattle.psu_exec.specs.World.{World}
 use Rattle.psu_server.specs.Causes.{NotStarted}
-use Rattle.psu_server.specs.Lines.{Message, messages}
+use Rattle.psu_server.specs.Lines.{Message, Brings}
 use Rattle.psu_server.specs.Lives.{PowersOn, LeavesPrefix}
+use Rattle.psu_server.specs.Reasons.{StopsFor}
 use Rattle.psu_server.specs.Runs.{Mishaps, none, Flushes, NextBegins, Runs}
 use Rattle.psu_server.specs.Script.{IsScript}
 use Rattle.psu_server.specs.declared.run_cause.RunCause.{RunCause}
 use Rattle.psu_server.specs.declared.run_cause.RunCause.TheVariants.{Write}
+use Rattle.psu_server.specs.declared.run_fault.RunFault.{RunFault}
 
--- A whole run on an image: the writer gained a text that may be written for the input with what went wrong. A disk call went wrong
--- only where the count of failures rose or stands at its last value; where nothing went wrong the text is the script. All that was
--- accepted is flushed: whatever a power loss leaves of the disk stands for it.
-pub record WritesRun (image input : List ℕ) (old_count new_count : ℕ) (old_written new_written : Option (List ℕ)) (disk : DiskState) : Type 0 where
+-- A whole run on an image: the messages that the input brings were executed, and the writer gained a text that may be written for
+-- them with what went wrong. A disk call went wrong only where the count of failures rose or stands at its last value; where nothing
+-- went wrong the text is the script of a known input. All that was accepted is flushed: whatever a power loss leaves of the disk
+-- stands for it.
+pub record WritesRun (image : List ℕ) (input : Option (List ℕ)) (old_count new_count : ℕ) (old_written new_written : Option (List ℕ)) (disk : DiskState) : Type 0 where
   pub gone : Mishaps
   pub failed : gone.failed ≡ true → HasFailed old_count new_count
   pub first : World
   pub starts : PowersOn image first
+  pub due : List Message
+  pub brought : Brings input due
   pub text : List ℕ
   pub written : Appends old_written new_written text
   pub last : World
-  pub runs : Runs gone first (messages input) text last
-  pub calm : gone ≡ none → IsScript first.start first.limit input text
+  pub runs : Runs gone first due text last
+  pub calm : gone ≡ none → IfSome input (λ bytes. IsScript first.start first.limit bytes text)
   pub over : World
   pub ends : Flushes gone last over
   pub flushed : over.state.flush.unflushed ≡ 0
   pub kept : EachStands disk over.limit (items_of over.state.flush.contents)
 
--- A run that did not start: the disk does not power on, for this cause. Nothing was read and nothing written; no failure is forgotten; and what
--- each image that may be left of the disk stood for each stands for.
+-- A run that did not start: the disk does not power on, for this cause. Nothing was read and nothing written, and what each image that may be
+-- left of the disk stood for each stands for.
 pub record DoesNotStart (cause : RunCause) (old_count new_count : ℕ) (old_rest new_rest old_written new_written : Option (List ℕ)) (old new : DiskState) : Type 0 where
   pub reason : NotStarted old.bytes old_count new_count cause
   pub unread : new_rest ≡ old_rest
   pub unwritten : Appends old_written new_written []
-  pub later : old_count ≤ new_count
   pub kept : (limit : ℕ) (map : List Item) → EachStands old limit map → EachStands new limit map
 
--- A run that ended early: some first lines of the input were executed, and of the next line some first units. The text of the
--- lines and what was told of the next one are written, but where the writer failed: then some of that is missing. Each image that
+-- A run that ended early: some first messages that the input brings were executed, and of the next one some first units. Their text
+-- and what was told of the next one are written, but where the writer failed: then some of that is missing. Each image that
 -- may be left of the disk stands for the contents after a front of all these units that holds every unit before a `*OPC?` that was
--- answered.
-pub record WritesFirst (cause : RunCause) (image input : List ℕ) (old_count new_count : ℕ) (old_written new_written : Option (List ℕ)) (disk : DiskState) : Type 0 where
-  pub gone : Mishaps
-  pub failed : gone.failed ≡ true → HasFailed old_count new_count
+-- answered. It ended for a reason, which came up at the message that was not executed.
+pub record WritesFirst (cause : RunCause) (image : List ℕ) (input : Option (List ℕ)) (old_count new_count : ℕ) (old_written new_written : Option (List ℕ)) (disk : DiskState) : Type 0 where
   pub first : World
   pub starts : PowersOn image first
   pub done : List Message
   pub rest : List Message
-  pub is : messages input ≡ done ++ rest
+  pub brought : Brings input (done ++ rest)
+  -- the messages that were executed, and the count of failures behind them
+  pub count : ℕ
+  pub later : old_count ≤ count
+  pub gone : Mishaps
+  pub failed : gone.failed ≡ true → HasFailed old_count count
   pub text : List ℕ
   pub mid : World
   pub runs : Runs gone first done text mid
+  -- the message at which it ended, and why
+  pub later_then : count ≤ new_count
+  pub gone_then : Mishaps
+  pub failed_then : gone_then.failed ≡ true → HasFailed count new_count
   pub part : List ℕ
   pub last : World
-  pub begun : NextBegins gone mid rest part last
+  pub begun : NextBegins gone_then mid rest part last
+  pub why : StopsFor (IfSome input (λ bytes. 1048576 ≤ length bytes)) count new_count rest last disk.bytes cause
+  -- what is written
   pub front : List ℕ
   pub written : Appends old_written new_written front
   pub start_of : StartsWith (text ++ part) front
   pub whole : cause ≢ Write → front ≡ text ++ part
   pub missing : cause ≡ Write → length front < length (text ++ part)
   pub kept : LeavesPrefix last disk
+
+-- the disk that a run hands back
+abbrev pub disk_of : {D : Type 0} → Result D (RunFault D) → D
+disk_of (Ok disk) = disk
+disk_of (Err fault) = fault.disk

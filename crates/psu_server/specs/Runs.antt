@@ -22,6 +22,9 @@ pub record Mishaps : Type 0 where
 abbrev pub none : Mishaps
 none = record { refused = false; failed = false; worn = false }
 
+abbrev pub any : Mishaps
+any = record { refused = true; failed = true; worn = true }
+
 -- -225 stands only where memory may be refused
 abbrev pub IsMeant : Mishaps → Reply → Type 0
 IsMeant can reply = reply ≡ Error OutOfMemory → can.refused ≡ true

@@ -1,6 +1,6 @@
 -- What went wrong, and what may happen with it.
-use Rattle.std.specs.Prelude.{◌≡◌, ◌⊎◌, ℕ, ◌≤◌, true}
-use Rattle.psu_disk.specs.Disk.{HasFailed, IsLast}
+use Rattle.std.specs.Prelude.{◌≡◌, ℕ, ◌≤◌, true}
+use Rattle.psu_disk.specs.Disk.{HasFailed}
 use Rattle.psu_server.specs.Runs.{Mishaps}
 
 -- what may go wrong covers what did
@@ -9,10 +9,6 @@ pub record Covers (can gone : Mishaps) : Type 0 where
   pub failed : gone.failed ≡ true → can.failed ≡ true
   pub worn : gone.worn ≡ true → can.worn ≡ true
 
--- the count didn't fall, or stands at its last value
-abbrev pub IsLater : ℕ → ℕ → Type 0
-IsLater before now = (before ≤ now) ⊎ IsLast now
-
 -- It may happen with what went wrong, a disk call among it only where the count of failures rose or stands at its last value.
 abbrev pub Within : ℕ → ℕ → (Mishaps → Type 0) → Type 0
-Within before now P = (gone : Mishaps) × IsLater before now × (gone.failed ≡ true → HasFailed before now) × ((can : Mishaps) → Covers can gone → P can)
+Within before now P = (gone : Mishaps) × (before ≤ now) × (gone.failed ≡ true → HasFailed before now) × ((can : Mishaps) → Covers can gone → P can)

@@ -1,12 +1,12 @@
 // The flush: jobs until there is none.
-ghost use Rattle.std.specs.Prelude.{◌≡◌, ◌≢◌, ◌⊎◌, ℕ, [], OnOk, IfErr, true, false, Some, None};
+ghost use Rattle.std.specs.Prelude.{◌≡◌, ◌⊎◌, [], OnOk, IfErr, true, false, None};
 ghost use Rattle.psu_disk.specs.Disk.{HasFailed};
 ghost use Rattle.psu_exec.specs.Calls.{job_of};
 ghost use Rattle.psu_exec.specs.Device.{is_broken, is_open, wait_of};
-ghost use Rattle.psu_exec.specs.Jobs.{finished_of, job_data, job_home};
+ghost use Rattle.psu_exec.specs.Jobs.{finished_of, job_data};
 ghost use Rattle.psu_exec.specs.declared.condition.Condition.TheVariants.{Worn};
 ghost use Rattle.psu_server.specs.Failures.{failures_of};
-ghost use Rattle.psu_server.specs.Jobs.{HasReasons, HasRun, IsExplained};
+ghost use Rattle.psu_server.specs.Jobs.{HasRun};
 ghost use Rattle.psu_server.specs.Progress.{GoesOn, Halts};
 ghost use Rattle.psu_server.specs.Runs.{Flushes, Reopens, is_short};
 
@@ -40,9 +40,7 @@ fn is_broken(condition: Condition) -> bool
 fn run_job<D: Disk, A: Allocator + Copy>(exec: &mut Exec<D, A>, job: Job<D, A>) -> bool
     requires out { exec.old.device.flush.out ≡ true }
     requires own { job_data job ≡ job_of exec.old.device.flush }
-    requires fit { exec.old.device.flush.store ≢ Worn }
     ensures run { HasRun exec.old job exec.new result }
-    ensures explained { (since : ℕ) → HasReasons since exec.old.device.flush.store (Some (job_home job)) → IsExplained since exec.new }
 {
     let finished = job.run();
     let short = is_short(&finished);
@@ -63,8 +61,7 @@ pub fn flush<D: Disk, A: Allocator + Copy>(exec: &mut Exec<D, A>) -> Result<(), 
     ensures free { wait_of exec.old.device.flush 1 ≡ None → wait_of exec.new.device.flush 1 ≡ None }
 
     // What is left then is left for a reason.
-    ensures clean { OnOk result ((since : ℕ) → IsExplained since exec.old
-        → HasFailed since (failures_of exec.new) ⊎ (exec.new.device.flush.store ≡ Worn) ⊎ (exec.new.device.flush.unflushed ≡ 0)) }
+    ensures clean { D.honest → OnOk result (HasFailed (failures_of exec.old) (failures_of exec.new) ⊎ (exec.new.device.flush.store ≡ Worn) ⊎ (exec.new.device.flush.unflushed ≡ 0)) }
 {
     for _ in 0..JOBS {
         match exec.take() {
@@ -86,6 +83,7 @@ pub fn reopen<D: Disk, A: Allocator + Copy>(exec: &mut Exec<D, A>) -> Result<(),
     requires idle { exec.old.device.flush.out ≡ false }
     ensures reopens { OnOk result (GoesOn exec.old exec.new Reopens) }
     ensures halts { IfErr result (Halts exec.old exec.new []) }
+    ensures failed { D.honest → IfErr result (λ cause. cause ≡ RunCause.Device → HasFailed (failures_of exec.old) (failures_of exec.new)) }
     ensures idle { exec.new.device.flush.out ≡ false }
     ensures open { is_open exec.new.device 1 ≡ is_open exec.old.device 1 }
     ensures locked { exec.new.device.volatile.locks ≡ exec.old.device.volatile.locks }

@@ -1,12 +1,10 @@
 // The lines that end in a piece of the input.
 ghost use Rattle.std.specs.Prelude.{◌≡◌, ◌≢◌, ◌∷◌, [], List, ℕ, OnOk, IfOk, IfErr, true, false};
-ghost use Rattle.psu_server.specs.Jobs.{IsExplained};
 ghost use Rattle.psu_tree.specs.declared.unit_request.Request.{Request as RequestData};
 ghost use Rattle.psu_server.specs.Lines.{Asks, Message, coming, is_power, message_now};
 ghost use Rattle.psu_server.specs.Output.{Says, SaysUntil, telling};
-ghost use Rattle.psu_server.specs.Progress.{Breaks, BreaksOff, Continues, Fed, GoesOn, Stopped, StopsHere};
-ghost use Rattle.psu_server.specs.Reasons.{StopsFor};
-ghost use Rattle.psu_server.specs.Runs.{LineBegins, LineRuns, MessageBegins, MessageRuns};
+ghost use Rattle.psu_server.specs.Progress.{Breaks, BreaksOff, Continues, Fed, RunsOn, Stopped, StopsHere};
+ghost use Rattle.psu_server.specs.Runs.{LineBegins, LineRuns, MessageBegins};
 
 use crate::jobs::reopen;
 use crate::lines::Lines;
@@ -25,10 +23,9 @@ pub fn restart<D: Disk, A: Allocator + Copy>(
     alloc: A,
     powered: Powered<D, A>,
 ) -> Result<Powered<D, A>, RunFault<D>>
-    ensures runs { IfOk result (λ p. GoesOn powered.exec p.exec (λ can w v. MessageRuns can w Message.Power [] v)) }
-    ensures stops { D.honest → IfErr result (λ f. (rest : List Message) → StopsHere powered.exec f (Message.Power ∷ rest) []) }
-    ensures other { D.honest → IfErr result (λ f. f.cause ≢ RunCause.Write) }
-    ensures caused { D.honest → IfErr result (λ f. (since : ℕ) → IsExplained since powered.exec → StopsFor since (D.failures f.disk) (D.state f.disk).bytes f.cause) }
+    ensures runs { IfOk result (λ p. RunsOn powered.exec p.exec (Message.Power ∷ []) []) }
+    ensures stops { IfErr result (λ f. (rest : List Message) → StopsHere ⊥ powered.exec f (Message.Power ∷ rest) []) }
+    ensures other { IfErr result (λ f. f.cause ≢ RunCause.Write) }
 {
     let mut powered = powered;
     match reopen(&mut powered.exec) {
@@ -51,7 +48,7 @@ pub fn answer_line<W: Write, D: Disk, A: Allocator + Copy>(
     requires power { is_power (message_now lines.old.is_over lines.old.line.items) ≡ false }
     requires answered { gathered.old.answered ≡ false }
     ensures runs { OnOk result ((text : List ℕ) × Says (telling (W.contents writer.old) gathered.old) (telling (W.contents writer.new) gathered.new) text
-        × GoesOn powered.old.exec powered.new.exec (λ can w v. MessageRuns can w (message_now lines.old.is_over lines.old.line.items) text v)) }
+        × RunsOn powered.old.exec powered.new.exec (message_now lines.old.is_over lines.old.line.items ∷ []) text) }
     ensures answered { OnOk result (gathered.new.answered ≡ false) }
     ensures over { OnOk result (lines.new.is_over ≡ false) }
     ensures empty { OnOk result (lines.new.line.items ≡ []) }
@@ -107,9 +104,8 @@ pub fn feed<W: Write, D: Disk, A: Allocator + Copy>(
     requires { gathered.old.answered ≡ false }
     ensures fed { IfOk result (λ p. Fed (coming lines.old.is_over lines.old.line.items) piece.now (coming lines.new.is_over lines.new.line.items)
         powered.exec p.exec (telling (W.contents writer.old) gathered.old) (telling (W.contents writer.new) gathered.new)) }
-    ensures stopped { D.honest → IfErr result (λ f. Stopped (coming lines.old.is_over lines.old.line.items) piece.now
+    ensures stopped { IfErr result (λ f. Stopped (coming lines.old.is_over lines.old.line.items) piece.now
         powered.exec f (telling (W.contents writer.old) gathered.old) (telling (W.contents writer.new) gathered.new)) }
-    ensures caused { D.honest → IfErr result (λ f. (since : ℕ) → IsExplained since powered.exec → StopsFor since (D.failures f.disk) (D.state f.disk).bytes f.cause) }
 {
     let mut powered = powered;
     let mut rest = piece;

@@ -1,14 +1,17 @@
 // The device that is powered on.
-ghost use Rattle.std.specs.Prelude.{◌≡◌, ◌≤◌, ℕ, List, IfOk, IfErr, true, false, None};
+ghost use Rattle.std.specs.Prelude.{◌≡◌, ◌≢◌, ◌≤◌, ℕ, List, IfOk, IfErr, true, false, None};
+ghost use Rattle.std.specs.Option.{ForSome};
+ghost use Rattle.psu_disk.specs.Disk.{LeavesOnly};
+ghost use Rattle.psu_items.specs.Finding.{IsOldOrSame};
 ghost use Rattle.psu_items.specs.Image.{EachStands};
 ghost use Rattle.psu_map.specs.Map.{Item};
 ghost use Rattle.psu_exec.specs.Device.{is_broken, is_denied, is_open, wait_of};
+ghost use Rattle.psu_exec.specs.Jobs.{home_disk};
 ghost use Rattle.psu_exec.specs.declared.condition.Condition.TheVariants.{Worn};
-ghost use Rattle.psu_server.specs.Failures.{failures_of};
-ghost use Rattle.psu_server.specs.Jobs.{IsExplained};
+ghost use Rattle.psu_server.specs.Failures.{extent_of, failures_of};
+ghost use Rattle.psu_server.specs.Jobs.{IsWornAtLast};
 ghost use Rattle.psu_server.specs.Lives.{born, disk_at, world_of, PowersOn};
 ghost use Rattle.psu_server.specs.Causes.{IsWornOut, NotStarted};
-ghost use Rattle.psu_server.specs.Within.{IsLater};
 
 use crate::{RunCause, RunFault};
 use psu_disk::Disk;
@@ -33,10 +36,17 @@ impl<D: Disk, A: Allocator + Copy> Powered<D, A> {
     pub fn on(alloc: A, disk: D) -> Result<Powered<D, A>, RunFault<D>>
         ensures starts { D.honest → IfOk result (λ p. PowersOn (D.state disk).bytes (world_of (born p.exec) p.exec)) }
         ensures works { IfOk result (λ p. failures_of p.exec ≡ D.failures disk) }
-        ensures explained { IfOk result (λ p. (since : ℕ) → IsLater since (D.failures disk) → IsExplained since p.exec) }
+        ensures size { IfOk result (λ p. extent_of p.exec ≡ D.extent disk) }
+        ensures last { IfOk result (λ p. IsWornAtLast p.exec) }
 
+        ensures other { IfErr result (λ f. f.cause ≢ RunCause.Write) }
         ensures refused { D.honest → IfErr result (λ f. NotStarted (D.state disk).bytes (D.failures disk) (D.failures f.disk) f.cause) }
         ensures later { IfErr result (λ f. D.failures disk ≤ D.failures f.disk) }
+        ensures extent { IfErr result (λ f. D.extent f.disk ≡ D.extent disk) }
+        // At each moment since it began, each image is one from before, or has the root that counted as it was read.
+        ensures time { D.honest → D.tells → IfOk result (λ p. ForSome p.exec.home (λ h. LeavesOnly D.moment D.left_since disk (home_disk h) (IsOldOrSame (D.state disk)))) }
+        ensures time_refused { D.honest → D.tells → IfErr result (λ f. LeavesOnly D.moment D.left_since disk f.disk (IsOldOrSame (D.state disk))) }
+
         // Also a disk that isn't powered on keeps the map that each of its images stood for.
         ensures left { D.honest → IfErr result (λ f. (limit : ℕ) (map : List Item) → EachStands (D.state disk) limit map → EachStands (D.state f.disk) limit map) }
     {
@@ -66,11 +76,13 @@ impl<D: Disk, A: Allocator + Copy> Powered<D, A> {
 
     /// The end: the disk.
     pub fn into_disk(self) -> D
+        ensures same { ForSome self.exec.home (λ h. result ≡ home_disk h) }
         ensures failures { D.failures result ≡ failures_of self.exec }
+        ensures extent { D.extent result ≡ extent_of self.exec }
         ensures state { D.state result ≡ disk_at self.exec.home }
         ensures stands { D.honest → is_broken self.exec.device.flush.store ≡ false
             → EachStands (D.state result) self.exec.device.flush.limit self.exec.device.flush.before }
-        ensures reason { D.honest → (since : ℕ) → IsExplained since self.exec → self.exec.device.flush.store ≡ Worn → IsWornOut (D.state result).bytes }
+        ensures reason { D.honest → IsWornAtLast self.exec → self.exec.device.flush.store ≡ Worn → IsWornOut (D.state result).bytes }
     {
         match self.exec.end() {
             Ended::Whole(store) => store.into_disk(),
@@ -82,9 +94,11 @@ impl<D: Disk, A: Allocator + Copy> Powered<D, A> {
     /// The early end of a run.
     pub fn fault(self, cause: RunCause) -> RunFault<D>
         ensures cause { result.cause ≡ cause }
+        ensures same { ForSome self.exec.home (λ h. result.disk ≡ home_disk h) }
         ensures failures { D.failures result.disk ≡ failures_of self.exec }
+        ensures extent { D.extent result.disk ≡ extent_of self.exec }
         ensures state { D.state result.disk ≡ disk_at self.exec.home }
-        ensures reason { D.honest → (since : ℕ) → IsExplained since self.exec → self.exec.device.flush.store ≡ Worn → IsWornOut (D.state result.disk).bytes }
+        ensures reason { D.honest → IsWornAtLast self.exec → self.exec.device.flush.store ≡ Worn → IsWornOut (D.state result.disk).bytes }
     {
         RunFault {
             cause,

@@ -1,4 +1,4 @@
-use Rattle.std.proofs.Common.{◌≡◌, [], false, List, ℕ, length, ◌-◌, ◌≤◌}
+use Rattle.std.proofs.Common.{◌≡◌, List, ℕ, length, ◌+◌, ◌-◌, ◌≤◌}
 use Rattle.std.specs.Io.KnownBytes.{Consumes}
 use Rattle.psu_server.specs.Lines.{coming}
 use Rattle.psu_server.proofs.Reading.{Ran}
@@ -7,11 +7,12 @@ use Rattle.psu_server.proofs.engine.execute_all.Given as goal
 abbrev pub invariant-reading : goal.invariant-reading
 invariant-reading g l = record {
   seen : List ℕ;
-  consumed : Consumes (g.R.Read.remaining l.initial.reader) (g.R.Read.remaining l.reader) seen;
+  consumed : Consumes (g.R.Source.remaining l.initial.reader) (g.R.Source.remaining l.reader) seen;
   taken : length seen ≡ l.intake.bytes;
   reads : l.intake.reads ≤ l.intake.bytes;
-  ran : Ran (coming false []) (coming l.lines.is_over l.lines.line.items) l.initial.powered.exec l.powered.exec
-      (g.R.Read.remaining l.initial.reader) (g.R.Read.remaining l.reader) (g.W.Write.contents l.initial.writer) (g.W.Write.contents l.writer);
+  counted : g.R.Source.reads l.reader ≤ g.R.Source.reads l.initial.reader + l.intake.reads;
+  ran : Ran (coming l.lines.is_over l.lines.line.items) l.initial.powered.exec l.powered.exec
+      (g.R.Source.remaining l.initial.reader) (g.R.Source.remaining l.reader) (g.W.Write.contents l.initial.writer) (g.W.Write.contents l.writer);
 }
 
 abbrev pub decreases-reading : goal.decreases-reading

@@ -8,14 +8,10 @@ returns-then-is_empty-clause-whole g c =
     answers_none c.args.lines.now.is_over c.args.lines.now.line.items c.args.powered.exec _ (sym c.is_empty.ensures ∙ c.if-is_empty.true)
 
 pub returns-in_err-powered-clause-early : goal.returns-in_err-powered-clause-early
-returns-in_err-powered-clause-early g c = λ h.
+returns-in_err-powered-clause-early g c =
     passed c.from_residual.result c.in_err-powered.field-0.0 _ c.from_residual.ensures.1
     (last_early c.args.lines.now.is_over c.args.lines.now.line.items _ c.args.powered.exec c.in_err-powered.field-0.0 _ _ (sym c.is_empty.ensures ∙ c.if-is_empty.false) c.args.lines.now.free refl
-    (c.in_err-powered.ensures.early h))
-
-pub returns-in_err-powered-clause-caused : goal.returns-in_err-powered-clause-caused
-returns-in_err-powered-clause-caused g c = λ h.
-    passed c.from_residual.result c.in_err-powered.field-0.0 _ c.from_residual.ensures.1 (c.in_err-powered.ensures.caused h)
+    c.in_err-powered.ensures.early)
 
 pub returns-clause-whole : goal.returns-clause-whole
 returns-clause-whole g c =

@@ -1,15 +1,14 @@
-use Rattle.std.proofs.Common.{◌≡◌, ℕ, arith, refl, sym, ap, ◌∙◌, inl, inr, subst, ⊎_elim, is_none, []}
+use Rattle.std.proofs.Common.{◌≡◌, arith, refl, sym, ap, ◌∙◌, inl, inr, subst, ⊎_elim, []}
 use Rattle.psu_exec.specs.Device.{State, is_open}
 use Rattle.psu_exec.specs.Jobs.{job_data}
-use Rattle.psu_server.specs.Failures.{failures_of, failures_at}
-use Rattle.psu_server.specs.Jobs.{IsExplained}
 use Rattle.psu_server.specs.Lives.{world_of}
 use Rattle.psu_server.specs.Runs.{Jobs}
-use Rattle.psu_server.specs.Within.{IsLater}
 use Rattle.psu_server.proofs.Calls.{Executes, executes_join}
 use Rattle.psu_server.proofs.JobEnds.{gave_free, gave_home, gave_locks, gave_open, job_done}
-use Rattle.psu_server.proofs.FlushEnds.{calm_after, flush_ends, flush_full, halts_short, job_executes, jobs_execute, jobs_more, out_free, out_reasons, run_later, same_explained, same_world}
-use Rattle.psu_server.proofs.Within.{later_on, later_same, within_here}
+use Rattle.psu_server.proofs.FlushEnds.{calm_after, flush_ends, flush_full, halts_short, job_executes, job_spans, jobs_execute, jobs_more, out_free, run_lasts, same_world, still_spans}
+use Rattle.psu_server.proofs.Lasting.{lasts_none, lasts_same, lasts_then}
+use Rattle.psu_server.proofs.Moments.{spans_none, spans_then}
+use Rattle.psu_server.proofs.Within.{within_here}
 use Rattle.psu_server.proofs.jobs.flush.Goals as goal
 
 pub loop-init : goal.loop-init
@@ -20,18 +19,21 @@ loop-init g c = record {
   free = λ e. e;
   count = omega arith;
   jobs = λ h life. within_here _ (λ can. Jobs 0 can (world_of life c.args.exec.now) (world_of life c.args.exec.now)) (λ can. refl);
-  later = later_same _;
-  explained = λ since why. why;
-  calm = λ since why. inr (inr (inl refl));
+  spans = λ h life. spans_none c.args.exec.now life;
+  lasts = lasts_none c.args.exec.now;
+  calm = λ h. inr (inr (inl refl));
 }
 
 pub returns-then-run_job-clause-halts : goal.returns-then-run_job-clause-halts
 returns-then-run_job-clause-halts g c =
     halts_short c.args.exec.now c.run_job.new.exec
-    (λ h life. executes_join _ (world_of life c.loop.exec) _ _ _ (jobs_execute c.args.exec.now c.loop.exec life c.loop.counter (c.loop.invariant.jobs h life))
-    (job_executes c.loop.exec c.take.new.self c.run_job.new.exec c.in-Ok.job life c.run_job.result h c.in-Ok.ensures.step c.run_job.ensures.run))
-    (λ since why. c.run_job.ensures.explained since (out_reasons since c.loop.exec c.take.new.self c.in-Ok.job c.in-Ok.ensures.step c.in-Ok.ensures.job (c.loop.invariant.explained since why)))
-    (later_on _ _ _ c.loop.invariant.later (run_later c.loop.exec c.take.new.self c.run_job.new.exec c.in-Ok.job c.run_job.result c.in-Ok.ensures.job c.run_job.ensures.run))
+    (λ h life. (
+      executes_join _ (world_of life c.loop.exec) _ _ _ (jobs_execute c.args.exec.now c.loop.exec life c.loop.counter (c.loop.invariant.jobs h life))
+          (job_executes c.loop.exec c.take.new.self c.run_job.new.exec c.in-Ok.job life c.run_job.result h c.in-Ok.ensures.step c.run_job.ensures.run),
+      spans_then c.args.exec.now c.loop.exec c.run_job.new.exec _ _ _ (c.loop.invariant.spans h life)
+          (job_spans c.loop.exec c.take.new.self c.run_job.new.exec c.in-Ok.job life c.run_job.result h c.in-Ok.ensures.step c.in-Ok.ensures.job c.run_job.ensures.run),
+    ))
+    (lasts_then c.args.exec.now c.loop.exec c.run_job.new.exec c.loop.invariant.lasts (run_lasts c.loop.exec c.take.new.self c.run_job.new.exec c.in-Ok.job c.run_job.result c.in-Ok.ensures.job c.run_job.ensures.run))
 
 pub returns-in-Err-Nothing-clause-flushes : goal.returns-in-Err-Nothing-clause-flushes
 returns-in-Err-Nothing-clause-flushes g c = record {
@@ -39,24 +41,27 @@ returns-in-Err-Nothing-clause-flushes g c = record {
     life,
     flush_ends c.args.exec.now c.loop.exec c.take.new.self life c.loop.counter c.loop.invariant.count (c.loop.invariant.jobs h life)
         (rw c.in-Err-Nothing.field-0-is at c.in-Err-Nothing.ensures.step) c.in-Err-Nothing.ensures.same c.in-Err-Nothing.ensures.home,
+    spans_then c.args.exec.now c.loop.exec c.take.new.self _ _ _ (c.loop.invariant.spans h life) (still_spans c.loop.exec c.take.new.self life c.in-Err-Nothing.ensures.same c.in-Err-Nothing.ensures.home),
   );
-  explained = λ since why. same_explained since c.loop.exec c.take.new.self (ap (λ (s : State). s.flush.store) c.in-Err-Nothing.ensures.same) c.in-Err-Nothing.ensures.home (c.loop.invariant.explained since why);
-  later = subst (λ n. IsLater (failures_of c.args.exec.now) n) (sym (ap failures_at c.in-Err-Nothing.ensures.home)) c.loop.invariant.later;
+  lasts = lasts_then c.args.exec.now c.loop.exec c.take.new.self c.loop.invariant.lasts
+      (lasts_same c.loop.exec c.take.new.self (ap (λ (s : State). s.flush.store) c.in-Err-Nothing.ensures.same) c.in-Err-Nothing.ensures.home);
 }
 
 pub returns-in-Err-Memory-clause-halts : goal.returns-in-Err-Memory-clause-halts
 returns-in-Err-Memory-clause-halts g c =
     halts_short c.args.exec.now c.take.new.self
-    (λ h life. subst (λ w. Executes (world_of life c.args.exec.now) [] w) (sym (same_world c.loop.exec c.take.new.self life c.in-Err-Memory.ensures.same c.in-Err-Memory.ensures.home))
-    (jobs_execute c.args.exec.now c.loop.exec life c.loop.counter (c.loop.invariant.jobs h life)))
-    (λ since why. same_explained since c.loop.exec c.take.new.self (ap (λ (s : State). s.flush.store) c.in-Err-Memory.ensures.same) c.in-Err-Memory.ensures.home (c.loop.invariant.explained since why))
-    (subst (λ n. IsLater (failures_of c.args.exec.now) n) (sym (ap failures_at c.in-Err-Memory.ensures.home)) c.loop.invariant.later)
+    (λ h life. (
+      subst (λ w. Executes (world_of life c.args.exec.now) [] w) (sym (same_world c.loop.exec c.take.new.self life c.in-Err-Memory.ensures.same c.in-Err-Memory.ensures.home))
+          (jobs_execute c.args.exec.now c.loop.exec life c.loop.counter (c.loop.invariant.jobs h life)),
+      spans_then c.args.exec.now c.loop.exec c.take.new.self _ _ _ (c.loop.invariant.spans h life) (still_spans c.loop.exec c.take.new.self life c.in-Err-Memory.ensures.same c.in-Err-Memory.ensures.home),
+    ))
+    (lasts_then c.args.exec.now c.loop.exec c.take.new.self c.loop.invariant.lasts
+    (lasts_same c.loop.exec c.take.new.self (ap (λ (s : State). s.flush.store) c.in-Err-Memory.ensures.same) c.in-Err-Memory.ensures.home))
 
 pub loop-preserved : goal.loop-preserved
 loop-preserved g c =
     let run = c.run_job.ensures.run in
     let long = c.if-run_job.false in
-    let why : (since : ℕ) → IsExplained since c.args.exec.now → IsExplained since c.run_job.new.exec = λ since e. c.run_job.ensures.explained since (out_reasons since c.loop.exec c.take.new.self c.in-Ok.job c.in-Ok.ensures.step c.in-Ok.ensures.job (c.loop.invariant.explained since e)) in
     let idle = gave_home run.finished _ _ run.over run.give in record {
       idle = idle;
       same_open = gave_open run.finished _ _ run.over run.give ∙ ap (λ (s : State). is_open s 1) c.in-Ok.ensures.step.1 ∙ c.loop.invariant.same_open;
@@ -65,20 +70,24 @@ loop-preserved g c =
       count = omega (arith, c.loop-test.true);
       jobs = λ h life. jobs_more c.args.exec.now c.loop.exec c.run_job.new.exec life c.loop.counter (c.loop.invariant.jobs h life)
           (job_done c.loop.exec c.take.new.self c.run_job.new.exec c.in-Ok.job life c.run_job.result h c.in-Ok.ensures.step c.in-Ok.ensures.job run long);
-      later = later_on _ _ _ c.loop.invariant.later (run_later c.loop.exec c.take.new.self c.run_job.new.exec c.in-Ok.job c.run_job.result c.in-Ok.ensures.job run);
-      explained = why;
-      calm = λ since e. calm_after since c.loop.counter c.loop.exec c.take.new.self c.run_job.new.exec c.in-Ok.job c.run_job.result c.in-Ok.ensures.step c.in-Ok.ensures.job run long
-          (why since e) (λ none. let bad = sym idle ∙ c.run_job.new.exec.away ∙ ap is_none none in cc) (c.loop.invariant.calm since e);
+      spans = λ h life. spans_then c.args.exec.now c.loop.exec c.run_job.new.exec _ _ _ (c.loop.invariant.spans h life)
+          (job_spans c.loop.exec c.take.new.self c.run_job.new.exec c.in-Ok.job life c.run_job.result h c.in-Ok.ensures.step c.in-Ok.ensures.job run);
+      lasts = lasts_then c.args.exec.now c.loop.exec c.run_job.new.exec c.loop.invariant.lasts (run_lasts c.loop.exec c.take.new.self c.run_job.new.exec c.in-Ok.job c.run_job.result c.in-Ok.ensures.job run);
+      calm = λ h. calm_after c.args.exec.now c.loop.counter c.loop.exec c.take.new.self c.run_job.new.exec c.in-Ok.job c.run_job.result h c.in-Ok.ensures.step c.in-Ok.ensures.job run long
+          c.loop.invariant.lasts.later (c.loop.invariant.calm h);
     }
 
 pub returns-clause-flushes : goal.returns-clause-flushes
 returns-clause-flushes g c = record {
-  runs = λ h life. (life, flush_full c.args.exec.now c.loop.exec life c.loop.counter (omega (arith, c.loop.invariant.count, c.loop-test.false)) (c.loop.invariant.jobs h life));
-  explained = c.loop.invariant.explained;
-  later = c.loop.invariant.later;
+  runs = λ h life. (
+    life,
+    flush_full c.args.exec.now c.loop.exec life c.loop.counter (omega (arith, c.loop.invariant.count, c.loop-test.false)) (c.loop.invariant.jobs h life),
+    c.loop.invariant.spans h life,
+  );
+  lasts = c.loop.invariant.lasts;
 }
 
 pub returns-clause-clean : goal.returns-clause-clean
-returns-clause-clean g c = λ since why.
+returns-clause-clean g c = λ h.
     let four : c.loop.counter ≡ 4 = omega (arith, c.loop.invariant.count, c.loop-test.false) in
-    ⊎_elim inl (λ rest. ⊎_elim (λ worn. inr (inl worn)) (λ clean. inr (inr (⊎_elim (λ none. absurd (omega (arith, none, four))) (λ whole. whole.1 (omega (arith, four))) clean))) rest) (c.loop.invariant.calm since why)
+    ⊎_elim inl (λ rest. ⊎_elim (λ worn. inr (inl worn)) (λ clean. inr (inr (⊎_elim (λ none. absurd (omega (arith, none, four))) (λ whole. whole.1 (omega (arith, four))) clean))) rest) (c.loop.invariant.calm h)

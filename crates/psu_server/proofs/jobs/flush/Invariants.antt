@@ -1,10 +1,10 @@
-use Rattle.std.proofs.Common.{◌≡◌, ℕ, false, None, ◌≤◌}
+use Rattle.std.proofs.Common.{◌≡◌, false, None, ◌≤◌}
 use Rattle.psu_exec.specs.Device.{is_open, wait_of}
 use Rattle.psu_server.specs.Failures.{failures_of}
-use Rattle.psu_server.specs.Jobs.{IsExplained}
 use Rattle.psu_server.specs.Lives.{Life, world_of}
 use Rattle.psu_server.specs.Runs.{Jobs}
-use Rattle.psu_server.specs.Within.{IsLater, Within}
+use Rattle.psu_server.specs.Progress.{Lasts, Spans}
+use Rattle.psu_server.specs.Within.{Within}
 use Rattle.psu_server.proofs.FlushEnds.{IsCalm}
 use Rattle.psu_server.proofs.jobs.flush.Given as goal
 
@@ -16,7 +16,7 @@ invariant-loop g l = record {
   free : wait_of l.initial.exec.device.flush 1 ≡ None → wait_of l.exec.device.flush 1 ≡ None;
   count : l.counter ≤ 4;
   jobs : g.D.Disk.honest → (life : Life) → Within (failures_of l.initial.exec) (failures_of l.exec) (λ can. Jobs l.counter can (world_of life l.initial.exec) (world_of life l.exec));
-  later : IsLater (failures_of l.initial.exec) (failures_of l.exec);
-  explained : (since : ℕ) → IsExplained since l.initial.exec → IsExplained since l.exec;
-  calm : (since : ℕ) → IsExplained since l.initial.exec → IsCalm since l.counter l.exec;
+  spans : g.D.Disk.honest → (life : Life) → Spans l.initial.exec l.exec (world_of life l.initial.exec) (world_of life l.exec);
+  lasts : Lasts l.initial.exec l.exec;
+  calm : g.D.Disk.honest → IsCalm l.initial.exec l.counter l.exec;
 }

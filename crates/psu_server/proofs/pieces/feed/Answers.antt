@@ -2,10 +2,10 @@ use Rattle.std.proofs.Common.{◌∙◌, ◌++◌, ◌∷◌, ◌+◌, arith, dr
 use Rattle.psu_server.specs.Lines.{Message, coming, message_now}
 use Rattle.psu_server.specs.Output.{telling}
 use Rattle.psu_server.specs.Progress.{StopsHere}
+use Rattle.psu_server.specs.declared.run_cause.RunCause.TheVariants.{Memory}
 use Rattle.psu_server.proofs.Cuts.{free_all, free_before}
 use Rattle.psu_server.proofs.Feeding.{broken_stop, fed_none, feed_end, feed_step, feed_stops, is_power_line, line_first, stops_now, told_power}
 use Rattle.psu_server.proofs.Fronts.{passed}
-use Rattle.psu_server.proofs.Starting.{halted_stops}
 use Rattle.psu_server.proofs.Telling.{not_write, until_for, until_none}
 use Rattle.psu_server.proofs.pieces.feed.Goals as goal
 
@@ -23,22 +23,25 @@ pub extend-requires-2 : goal.extend-requires-2
 extend-requires-2 g c = free_all 10 c.loop-at.rest.now c.in_default.ensures
 
 pub returns-in_default-extend-clause-stopped : goal.returns-in_default-extend-clause-stopped
-returns-in_default-extend-clause-stopped g c = λ h.
+returns-in_default-extend-clause-stopped g c =
+    let fault = c.fault.result in
+    let f = c.fault.ensures in
     feed_stops (coming c.args.lines.now.is_over c.args.lines.now.line.items) (coming c.loop-at.lines.is_over c.loop-at.lines.line.items) c.args.piece.now c.loop-at.rest.now
-    c.args.powered.exec c.loop-at.powered.exec c.fault.result _ _ _ [] h c.loop-at.invariant.fed
-    (until_none c.fault.result.cause (telling (g.W.Write.contents c.loop-at.writer) c.loop-at.gathered) (not_write c.fault.result.cause c.fault.ensures.cause))
-    (λ input. stops_now c.loop-at.powered.exec c.fault.result _ c.fault.ensures.failures c.fault.ensures.state)
+    c.args.powered.exec c.loop-at.powered.exec fault _ _ _ [] c.loop-at.invariant.fed
+    (until_none fault.cause (telling (g.W.Write.contents c.loop-at.writer) c.loop-at.gathered) (not_write fault.cause f.cause))
+    (λ input. stops_now ⊥ c.loop-at.powered.exec fault _ Memory (record { told = f.cause; failures = f.failures; extent = f.extent; state = f.state; reason = f.reason; disk = f.same }) (λ last. tt))
 
 pub returns-in_default-extend-2-clause-stopped : goal.returns-in_default-extend-2-clause-stopped
-returns-in_default-extend-2-clause-stopped g c = λ h.
+returns-in_default-extend-2-clause-stopped g c =
     let fault = c.fault-in_default-extend-2.result in
+    let f = c.fault-in_default-extend-2.ensures in
     feed_stops (coming c.args.lines.now.is_over c.args.lines.now.line.items) (coming c.loop-at.lines.is_over c.loop-at.lines.line.items) c.args.piece.now c.loop-at.rest.now
-    c.args.powered.exec c.loop-at.powered.exec fault _ _ _ [] h c.loop-at.invariant.fed
-    (until_none fault.cause (telling (g.W.Write.contents c.loop-at.writer) c.loop-at.gathered) (not_write fault.cause c.fault-in_default-extend-2.ensures.cause))
-    (λ input. stops_now c.loop-at.powered.exec fault _ c.fault-in_default-extend-2.ensures.failures c.fault-in_default-extend-2.ensures.state)
+    c.args.powered.exec c.loop-at.powered.exec fault _ _ _ [] c.loop-at.invariant.fed
+    (until_none fault.cause (telling (g.W.Write.contents c.loop-at.writer) c.loop-at.gathered) (not_write fault.cause f.cause))
+    (λ input. stops_now ⊥ c.loop-at.powered.exec fault _ Memory (record { told = f.cause; failures = f.failures; extent = f.extent; state = f.state; reason = f.reason; disk = f.same }) (λ last. tt))
 
 pub returns-in_err-powered-clause-stopped : goal.returns-in_err-powered-clause-stopped
-returns-in_err-powered-clause-stopped g c = λ h.
+returns-in_err-powered-clause-stopped g c =
     let fault = c.in_err-powered.field-0.0 in
     let over = c.extend.new.self.is_over in
     let line = c.extend.new.self.line.items in
@@ -46,38 +49,26 @@ returns-in_err-powered-clause-stopped g c = λ h.
     let power = is_power_line (message_now over line) (sym c.is_power.ensures ∙ c.if-is_power.true) in
     passed c.from_residual.result fault _ c.from_residual.ensures.1
     (feed_stops (coming c.args.lines.now.is_over c.args.lines.now.line.items) mid c.args.piece.now c.loop-at.rest.now
-    c.args.powered.exec c.loop-at.powered.exec fault _ _ _ [] h c.loop-at.invariant.fed
-    (until_none fault.cause (telling (g.W.Write.contents c.loop-at.writer) c.loop-at.gathered) (c.in_err-powered.ensures.other h))
-    (λ input. subst (λ z. StopsHere c.loop-at.powered.exec fault z [])
+    c.args.powered.exec c.loop-at.powered.exec fault _ _ _ [] c.loop-at.invariant.fed
+    (until_none fault.cause (telling (g.W.Write.contents c.loop-at.writer) c.loop-at.gathered) c.in_err-powered.ensures.other)
+    (λ input. subst (λ z. StopsHere ⊥ c.loop-at.powered.exec fault z [])
     (sym (line_first mid c.loop-at.rest.now c.in-Some.at over line input c.in-Some.ensures c.in-Ok.ensures c.extend.new.self.free ∙ ap (λ (m : Message). m ∷ coming false [] (drop (c.in-Some.at + 1) c.loop-at.rest.now ++ input)) power))
-    (c.in_err-powered.ensures.stops h (coming false [] (drop (c.in-Some.at + 1) c.loop-at.rest.now ++ input)))))
-
-pub returns-in_err-powered-clause-caused : goal.returns-in_err-powered-clause-caused
-returns-in_err-powered-clause-caused g c = λ h.
-    passed c.from_residual.result c.in_err-powered.field-0.0 _ c.from_residual.ensures.1
-    (λ since why. c.in_err-powered.ensures.caused h since (c.loop-at.invariant.fed.2.4.explained since why))
+    (c.in_err-powered.ensures.stops (coming false [] (drop (c.in-Some.at + 1) c.loop-at.rest.now ++ input)))))
 
 pub returns-in-Err-clause-stopped : goal.returns-in-Err-clause-stopped
-returns-in-Err-clause-stopped g c = λ h.
+returns-in-Err-clause-stopped g c =
     let fault = c.fault-in-Err.result in
+    let f = c.fault-in-Err.ensures in
     let over = c.extend.new.self.is_over in
     let line = c.extend.new.self.line.items in
     let mid = coming c.loop-at.lines.is_over c.loop-at.lines.line.items in
     let s = c.in-Err.ensures.breaks in
-    feed_stops (coming c.args.lines.now.is_over c.args.lines.now.line.items) mid c.args.piece.now c.loop-at.rest.now c.args.powered.exec c.loop-at.powered.exec fault _ _ _ s.0 h c.loop-at.invariant.fed
-    (until_for fault.cause c.in-Err.cause _ _ s.0 c.fault-in-Err.ensures.cause s.1)
-    (λ input. subst (λ z. StopsHere c.loop-at.powered.exec fault z s.0)
+    feed_stops (coming c.args.lines.now.is_over c.args.lines.now.line.items) mid c.args.piece.now c.loop-at.rest.now c.args.powered.exec c.loop-at.powered.exec fault _ _ _ s.0 c.loop-at.invariant.fed
+    (until_for fault.cause c.in-Err.cause _ _ s.0 f.cause s.1)
+    (λ input. subst (λ z. StopsHere ⊥ c.loop-at.powered.exec fault z s.0)
     (sym (line_first mid c.loop-at.rest.now c.in-Some.at over line input c.in-Some.ensures c.in-Ok.ensures c.extend.new.self.free))
-    (broken_stop c.loop-at.powered.exec c.answer_line.new.powered.exec fault (message_now over line) (coming false [] (drop (c.in-Some.at + 1) c.loop-at.rest.now ++ input)) s.0 c.in-Err.cause h s.2
-    c.fault-in-Err.ensures.failures c.fault-in-Err.ensures.state))
-
-pub returns-in-Err-clause-caused : goal.returns-in-Err-clause-caused
-returns-in-Err-clause-caused g c = λ h since why.
-    let fault = c.fault-in-Err.result in
-    let breaks = c.in-Err.ensures.breaks.2 in
-    let now = c.loop-at.invariant.fed.2.4.explained since why in
-    halted_stops since (g.D.Disk.failures fault.disk) c.answer_line.new.powered.exec (g.D.Disk.state fault.disk).bytes c.in-Err.cause fault.cause c.fault-in-Err.ensures.cause
-    c.fault-in-Err.ensures.failures (breaks.why h since now) (c.fault-in-Err.ensures.reason h since (breaks.goes.explained since now))
+    (broken_stop c.loop-at.powered.exec c.answer_line.new.powered.exec fault (message_now over line) (coming false [] (drop (c.in-Some.at + 1) c.loop-at.rest.now ++ input)) s.0 c.in-Err.cause s.2
+    (record { told = f.cause; failures = f.failures; extent = f.extent; state = f.state; reason = f.reason; disk = f.same }) (sym c.is_power.ensures ∙ c.if-is_power.false)))
 
 pub returns-clause-fed : goal.returns-clause-fed
 returns-clause-fed g c =

@@ -10,8 +10,8 @@ returns-then-not-is_final-clause-halts g c =
     let step = settled_one c.flush.new.exec.device c.settle-outcome.new.self.device (outcome_of c.settle-outcome.result) c.args.session c.requires.first c.settle-outcome.ensures.step in
     halts_here c.args.exec.now c.settle-outcome.new.self [] [] Device
     (flush_settles c.args.exec.now c.flush.new.exec c.settle-outcome.new.self (outcome_of c.settle-outcome.result) c.in_ok-flush.ensures.flushes step c.settle-outcome.ensures.home)
-    (λ h since why. waiting_halted since c.flush.new.exec c.settle-outcome.new.self (outcome_of c.settle-outcome.result) step c.settle-outcome.ensures.home
-    (c.in_ok-flush.ensures.clean since why) (sym c.is_final.ensures ∙ c.if-not-is_final.true) (λ parked. c.settle-outcome.ensures.parked (parked_of _ parked))) (λ e. cc)
+    (λ h. waiting_halted c.args.exec.now c.flush.new.exec c.settle-outcome.new.self (outcome_of c.settle-outcome.result) step c.settle-outcome.ensures.home
+    (c.in_ok-flush.ensures.clean h) (sym c.is_final.ensures ∙ c.if-not-is_final.true) (λ parked. c.settle-outcome.ensures.parked (parked_of _ parked))) (λ e. cc)
 
 pub returns-then-is_out_of_memory-clause-halts : goal.returns-then-is_out_of_memory-clause-halts
 returns-then-is_out_of_memory-clause-halts g c =

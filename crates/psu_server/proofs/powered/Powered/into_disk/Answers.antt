@@ -3,6 +3,9 @@ use Rattle.psu_disk.specs.Ranges.{reads_left}
 use Rattle.psu_map.specs.Map.{Item}
 use Rattle.psu_items.specs.Image.{Stands}
 use Rattle.psu_exec.specs.Device.{is_broken}
+use Rattle.psu_exec.specs.Jobs.{home_disk}
+use Rattle.psu_exec.specs.declared.home.Home.TheVariants as home
+use Rattle.psu_server.proofs.JobEnds.{the_home}
 use Rattle.psu_server.proofs.Starting.{worn_number}
 use Rattle.psu_server.proofs.powered.Powered.into_disk.Goals as goal
 
@@ -12,14 +15,20 @@ returns-in-Whole-clause-stands g c = λ h whole image left.
     (subst (λ (n : ℕ). Stands image n c.in-Whole.store.items) c.in-Whole.ensures.2 (c.into_disk.ensures.stands h image left))
 
 pub returns-in-Whole-clause-reason : goal.returns-in-Whole-clause-reason
-returns-in-Whole-clause-reason g c = λ h since why worn.
+returns-in-Whole-clause-reason g c = λ h why worn.
     let store = c.in-Whole.store in
     let disk = g.D.Disk.state c.into_disk.result in
     let told = c.into_disk.ensures.number h disk.bytes (reads_left disk) in
-    (subst (λ (n : ℕ). 2 ^ 64 ≤ n + 1) (sym told) (worn_number since c.args.self.exec store c.in-Whole.ensures.0 why worn))
+    (subst (λ (n : ℕ). 2 ^ 64 ≤ n + 1) (sym told) (worn_number c.args.self.exec store c.in-Whole.ensures.0 why worn))
 
 pub returns-in-Failed-clause-stands : goal.returns-in-Failed-clause-stands
 returns-in-Failed-clause-stands g c = λ h whole. let kind = c.args.self.exec.kind _ c.in-Failed.ensures.0 in let bad = kind ∙ ap not whole in cc
 
 pub returns-in-Failed-clause-reason : goal.returns-in-Failed-clause-reason
-returns-in-Failed-clause-reason g c = λ h since why worn. let kind = c.args.self.exec.kind _ c.in-Failed.ensures.0 in let bad = kind ∙ ap (λ s. not (is_broken s)) worn in cc
+returns-in-Failed-clause-reason g c = λ h why worn. let kind = c.args.self.exec.kind _ c.in-Failed.ensures.0 in let bad = kind ∙ ap (λ s. not (is_broken s)) worn in cc
+
+pub returns-in-Whole-clause-same : goal.returns-in-Whole-clause-same
+returns-in-Whole-clause-same g c = λ h there. c.into_disk.ensures.value ∙ ap home_disk (the_home (home.Whole c.in-Whole.store) h (sym c.in-Whole.ensures.0 ∙ there))
+
+pub returns-in-Failed-clause-same : goal.returns-in-Failed-clause-same
+returns-in-Failed-clause-same g c = λ h there. c.into_disk-in-Failed.ensures.value ∙ ap home_disk (the_home (home.Failed c.in-Failed.broken) h (sym c.in-Failed.ensures.0 ∙ there))

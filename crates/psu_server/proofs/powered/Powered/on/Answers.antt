@@ -1,7 +1,16 @@
 use Rattle.std.proofs.Common.{ap, ◌∙◌, subst, sym}
+use Rattle.psu_disk.specs.Disk.{LeavesOnly}
+use Rattle.psu_items.specs.Finding.{IsOldOrSame}
 use Rattle.psu_items.specs.Image.{EachStands}
-use Rattle.psu_server.proofs.Starting.{first_opens, not_opened, not_powered, opened_one, powers_on}
+use Rattle.psu_exec.specs.Starts.{start_of_opening, start_of_power_on}
+use Rattle.psu_server.proofs.Starting.{first_opens, not_opened, not_write_start, not_powered, opened_moments, opened_one, powers_on}
 use Rattle.psu_server.proofs.powered.Powered.on.Goals as goal
+
+pub returns-in-Err-clause-other : goal.returns-in-Err-clause-other
+returns-in-Err-clause-other g c = λ e. not_write_start (start_of_opening c.in-Err.refused.cause) (sym c.from.ensures ∙ e)
+
+pub returns-in-Err-power_on-clause-other : goal.returns-in-Err-power_on-clause-other
+returns-in-Err-power_on-clause-other g c = λ e. not_write_start (start_of_power_on c.in-Err-power_on.fault.cause) (sym c.from-in-Err-power_on.ensures ∙ e)
 
 pub returns-in-Err-clause-refused : goal.returns-in-Err-clause-refused
 returns-in-Err-clause-refused g c = λ h.
@@ -26,3 +35,12 @@ returns-clause-starts g c = λ h.
     powers_on (g.D.Disk.state c.args.disk).bytes store on c.open_session.new.self (c.in-Ok.ensures.stood h) (let there = c.in-Ok.ensures.stands h in there.stands)
     c.in-Ok-power_on.ensures.state c.in-Ok-power_on.ensures.found c.in-Ok-power_on.ensures.sound c.in-Ok-power_on.ensures.fitting c.in-Ok-power_on.ensures.home
     (opened_one on.device c.open_session.new.self.device c.in-Ok-open_session.session one c.in-Ok-open_session.ensures.opened) c.open_session.ensures.home
+
+pub returns-in-Err-power_on-clause-time_refused : goal.returns-in-Err-power_on-clause-time_refused
+returns-in-Err-power_on-clause-time_refused g c = λ h t.
+    subst (λ d. LeavesOnly g.D.Disk.moment g.D.Disk.left_since c.args.disk d (IsOldOrSame (g.D.Disk.state c.args.disk))) (sym c.into_disk.ensures.value)
+    (subst (λ s. LeavesOnly g.D.Disk.moment g.D.Disk.left_since c.args.disk s.disk (IsOldOrSame (g.D.Disk.state c.args.disk))) (sym c.in-Err-power_on.ensures.back) (c.in-Ok.ensures.moments h t))
+
+pub returns-clause-time : goal.returns-clause-time
+returns-clause-time g c = λ h t home there.
+    opened_moments c.args.disk c.in-Ok.store home c.open_session.new.self (c.open_session.ensures.home ∙ c.in-Ok-power_on.ensures.home) there (c.in-Ok.ensures.moments h t)

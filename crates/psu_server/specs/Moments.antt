@@ -1,0 +1,67 @@
+-- What a power loss at any moment of a run may leave.
+use Rattle.std.specs.Prelude.{◌≡◌, ◌⊎◌, ℕ, ◌++◌, Option, Some, None, List, ⊤}
+use Rattle.psu_disk.specs.Disk.{DiskState, Left, LeavesOnly}
+use Rattle.psu_disk.specs.declared.disk.Disk.{Ghosts}
+use Rattle.psu_map.specs.Map.{Item}
+use Rattle.psu_items.specs.Image.{Stands}
+use Rattle.psu_exec.specs.Calls.{Entry}
+use Rattle.psu_exec.specs.Jobs.{home_disk}
+use Rattle.psu_exec.specs.World.{World}
+use Rattle.psu_exec.specs.declared.home.Home.{Home}
+use Rattle.psu_server.specs.Lines.{Message, Brings}
+use Rattle.psu_server.specs.Lives.{CallsAll, PowersOn, StandsForPrefix}
+use Rattle.psu_server.specs.Runs.{any, NextBegins, Runs}
+
+-- ---- a device
+
+-- calls lead from one world to another
+abbrev pub Leads : World → World → Type 0
+Leads w new = (entries : List Entry) × CallsAll w entries new
+
+-- at a moment between two worlds: the image stands for a prefix of what was executed by then
+abbrev pub IsBetween : World → World → List ℕ → Type 0
+IsBetween w new image = (mid : World) × Leads w mid × Leads mid new × StandsForPrefix mid image
+
+-- ---- messages
+
+-- At a moment while these messages are executed: some first of them were executed, the next one may have begun, and the image
+-- stands for a prefix of what was executed by then.
+pub record IsWhile (w : World) (due : List Message) (image : List ℕ) : Type 0 where
+  pub done : List Message
+  pub rest : List Message
+  pub is : due ≡ done ++ rest
+  pub text : List ℕ
+  pub mid : World
+  pub runs : Runs any w done text mid
+  pub part : List ℕ
+  pub last : World
+  pub begun : NextBegins any mid rest part last
+  pub between : IsBetween mid last image
+
+-- ---- a run
+
+-- the image stands for what one stands for that may be left of the disk
+abbrev pub KeepsOne : DiskState → List ℕ → Type 0
+KeepsOne disk image = (before : List ℕ) × Left disk before × ((limit : ℕ) (map : List Item) → Stands before limit map → Stands image limit map)
+
+-- At a moment of a run on a disk: before power-on the image stands for what one of the disk's does, and then for a prefix of what
+-- was executed by then of the messages that the input brings.
+abbrev pub IsOfRun : DiskState → Option (List ℕ) → List ℕ → Type 0
+IsOfRun disk input image =
+    KeepsOne disk image ⊎ ((first : World) × (due : List Message) × PowersOn disk.bytes first × Brings input due × IsWhile first due image)
+
+-- ---- disks
+
+abbrev pub disk_in : {D A : Type 0} {G : Ghosts D} → Option (Home D A G) → Option D
+disk_in None = None
+disk_in (Some home) = Some (home_disk home)
+
+-- Each image at any moment from one disk to another has P. (Of a disk that is away nothing is asked.)
+abbrev pub Since : {D : Type 0} → Ghosts D → Option D → Option D → (List ℕ → Type 0) → Type 0
+Since G None new P = ⊤
+Since G (Some old) None P = ⊥
+Since G (Some old) (Some new) P = LeavesOnly (Ghosts.moment G) (Ghosts.left_since G) old new P
+
+-- since this moment there is no other
+abbrev pub IsNow : {D : Type 0} → Ghosts D → Type 0
+IsNow {D} G = (d : D) (image : List ℕ) → Ghosts.left_since G d (Ghosts.moment G d) image → Left (Ghosts.state G d) image

@@ -1,0 +1,32 @@
+// What a run reads from.
+ghost use Rattle.std.specs.Prelude.{◌+◌, ◌≤◌, ℕ, List, Option};
+ghost use Rattle.std.specs.Io.{ReadsAtMost};
+ghost use Rattle.std.specs.Io.KnownBytes.{ReadConsumes};
+
+use std::io::{self, Read};
+
+/// What a run reads from: a reader, whose reads may be counted.
+pub trait Source {
+    /// The bytes that reads will give from here on, where they are known.
+    ghost remaining: { Self → Option (List ℕ) };
+
+    /// How often it was read, where that is counted.
+    ghost reads: { Self → ℕ };
+
+    /// Reads as a reader does.
+    fn read_into(&mut self, piece: &mut [u8]) -> io::Result<usize>
+        ensures bound { ReadsAtMost result piece.new }
+        ensures bytes { ReadConsumes (remaining self.old) (remaining self.new) result piece.new }
+        ensures counted { reads self.new ≤ reads self.old + 1 };
+}
+
+/// A reader whose reads nobody counts.
+impl<R: Read> Source for R {
+    ghost remaining = { R.remaining };
+
+    ghost reads = { λ reader. 0 };
+
+    fn read_into(&mut self, piece: &mut [u8]) -> io::Result<usize> {
+        self.read(piece)
+    }
+}
