@@ -1,10 +1,10 @@
 // What the calls of a store cost: how often the disk is called, and how many bytes are written.
 use crate::images::formatted;
-use crate::sessions_bench::{gives_back, opened as open_session, powered_on_with, says, taken};
+use crate::sessions_bench::{opened as open_session, powered_on_with, runs_job, says, whole};
 use crate::stores::{assigned, opened, stored};
 use psu_disk::{Disk, DiskFault, MemDisk};
-use psu_exec::{Ended, Exec};
-use psu_items::Batch;
+use psu_exec::Exec;
+use psu_items::{Batch, Items};
 use std::alloc::Global;
 use std::process::Abort;
 
@@ -109,11 +109,23 @@ fn empty_is_read(alloc: Global) -> Option<bool> {
     Some(is_read(&disk, 2, 1_024))
 }
 
+// The same on a disk that counts its calls from now on.
+fn counted_with_file(alloc: Global) -> Option<CountedDisk> {
+    Some(Counted::new(with_file(alloc)?))
+}
+
+// Whether a map has the file.
+fn has_file(items: &Items<Global>) -> bool {
+    match items.get(&[5, 65]) {
+        Some(value) => value.len() == 32_769,
+        None => false,
+    }
+}
+
 // Whether it reads so much of the file, which is there then.
 fn file_is_read(alloc: Global) -> Option<bool> {
-    let store = opened(alloc, Counted::new(with_file(alloc)?))?;
-    let length = store.items().get(&[5, 65])?.len();
-    Some(length == 32_769 && is_read(&store.into_disk(), 68, 34_816))
+    let store = opened(alloc, counted_with_file(alloc)?)?;
+    Some(has_file(store.items()) && is_read(&store.into_disk(), 68, 34_816))
 }
 
 // What an opening reads: each of so many pages once, since it has to know each of them.
@@ -125,11 +137,14 @@ fn an_opening_reads_each_page_once(rt: HostRuntime) {
 
 // Whether a commit beside the file writes so often and so many bytes, and syncs three times. It reads nothing.
 fn writes(alloc: Global, batch: Batch<Global>, writes: u64, bytes: u64) -> Option<bool> {
-    let store = opened(alloc, Counted::new(with_file(alloc)?))?;
+    let store = opened(alloc, counted_with_file(alloc)?)?;
     let disk = stored(alloc, store, batch)?.into_disk();
-    Some(
-        disk.reads == 68 && disk.writes == writes && disk.bytes_written == bytes && disk.syncs == 4,
-    )
+    Some(is_written(&disk, writes, bytes))
+}
+
+// Whether a disk was read and synced as an opening and a commit do, and written so often.
+fn is_written(disk: &CountedDisk, writes: u64, bytes: u64) -> bool {
+    disk.reads == 68 && disk.writes == writes && disk.bytes_written == bytes && disk.syncs == 4
 }
 
 // Whether a small save writes so much.
@@ -170,24 +185,24 @@ fn what_stays_is_not_written(rt: HostRuntime) {
 fn runs(rt: &impl Abort, exec: &mut Exec<CountedDisk, Global>) {
     let session = open_session(rt, exec, 1);
     says(rt, exec, session, "*PSC 0", "done");
-    let job = taken(rt, exec);
-    gives_back(rt, exec, job.run(), 0);
+    runs_job(rt, exec, 0);
 }
 
 // The disk once that job beside the file has run.
-fn after_a_flag(rt: &impl Abort, alloc: Global) -> Option<CountedDisk> {
-    let mut exec = powered_on_with(rt, alloc, Counted::new(with_file(alloc)?));
+fn after_a_flag(rt: &impl Abort, alloc: Global, disk: CountedDisk) -> CountedDisk {
+    let mut exec = powered_on_with(rt, alloc, disk);
     runs(rt, &mut exec);
-    match exec.end() {
-        Ended::Whole(store) => Some(store.into_disk()),
-        _ => None,
-    }
+    whole(rt, exec)
+}
+
+// Whether a disk was called as often as for that.
+fn is_after_a_flag(disk: &CountedDisk) -> bool {
+    disk.reads == 68 && disk.syncs == 4 && disk.writes <= 5 && disk.bytes_written <= 2_048
 }
 
 // The same of the execution.
 #[test]
 fn a_flag_beside_a_file(rt: HostRuntime) {
-    let disk = after_a_flag(&rt, rt.alloc()).expect(&rt, "a whole store");
-    assert!(rt; disk.reads == 68 && disk.syncs == 4);
-    assert!(rt; disk.writes <= 5 && disk.bytes_written <= 2_048);
+    let disk = counted_with_file(rt.alloc()).expect(&rt, "a disk");
+    assert!(rt; is_after_a_flag(&after_a_flag(&rt, rt.alloc(), disk)));
 }

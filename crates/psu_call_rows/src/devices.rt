@@ -2,9 +2,9 @@
 use crate::holds::holds;
 use crate::images::least;
 use crate::sessions_bench::{
-    flush, gives_back, opened, powered_on_with, say_all, says, settles, taken,
+    flush, gives_back, opened, powered_on_with, runs_job, say_all, says, settles, taken, whole,
 };
-use crate::sessions_script::play_on;
+use crate::sessions_script::play;
 use crate::stores::{self, assigned};
 use psu_disk::{Choice, Disk, FailOnce, Fuse, MemDisk};
 use psu_exec::{Ended, Exec, Finished, NoJob, PowerCause, Session, Stranger};
@@ -23,19 +23,29 @@ fn powered_on(rt: &impl Abort, alloc: Global, passes: u64) -> Power {
     powered_on_with(rt, alloc, FailOnce::new(disk(rt, alloc), passes))
 }
 
+const LEAST_NUMBERS: &str = "
+open 1
+open 2
+open 3
+open 4
+open 5
+open 6
+open 7
+open 8
+open 9
+open 10
+open 11
+open 12
+open 13
+open 14
+open 15
+open 16
+full
+";
+
 #[test]
 fn sessions_have_the_least_numbers(rt: HostRuntime) {
-    let mut exec = powered_on(&rt, rt.alloc(), 1000);
-    for number in 1..17u8 {
-        opened(&rt, &mut exec, number);
-    }
-    assert!(rt; exec.open_session().is_err());
-}
-
-// Plays a script on a device whose disk does not fail in it.
-fn plays(rt: &impl Abort, alloc: Global, script: &str) {
-    let mut exec = powered_on(rt, alloc, 1000);
-    play_on(rt, &mut exec, script);
+    play(&rt, rt.alloc(), LEAST_NUMBERS);
 }
 
 const CLOSED: &str = "
@@ -50,7 +60,7 @@ open 1
 
 #[test]
 fn a_closed_session_leaves_its_number_and_no_wait(rt: HostRuntime) {
-    plays(&rt, rt.alloc(), CLOSED);
+    play(&rt, rt.alloc(), CLOSED);
 }
 
 // A wait that is cleared is over, and its change stays.
@@ -66,7 +76,7 @@ open 1
 
 #[test]
 fn a_clear_drops_the_wait(rt: HostRuntime) {
-    plays(&rt, rt.alloc(), CLEARED);
+    play(&rt, rt.alloc(), CLEARED);
 }
 
 // Whether no job is taken, for this cause.
@@ -77,30 +87,20 @@ fn takes_none(exec: &mut Power, cause: NoJob) -> bool {
     }
 }
 
-// Runs a job, while which the session executes units that are not flushed with it.
-fn runs_beside(rt: &impl Abort, exec: &mut Power, session: Session) {
-    let job = taken(rt, exec);
-    say_all(rt, exec, session, "*SRE 4 -> done\n*OPC? -> parked");
-    assert!(rt; takes_none(exec, NoJob::Out));
-    gives_back(rt, exec, job.run(), 0);
-}
-
-// Runs the job that there is, for which so many sessions wait.
-fn runs(rt: &impl Abort, exec: &mut Power, over: usize) {
-    let job = taken(rt, exec);
-    gives_back(rt, exec, job.run(), over);
-}
-
 // What is executed while a job is out is not flushed with it.
+const BESIDE_A_JOB: &str = "
+open 1
+1: *PSC 0 -> done
+beside 1: *SRE 4 -> done; 1: *OPC? -> parked
+flush 1
+1 settles -> 1
+flushed
+keeps 4 0
+";
+
 #[test]
 fn commands_while_a_job_is_out_wait_for_the_next(rt: HostRuntime) {
-    let mut exec = powered_on(&rt, rt.alloc(), 1000);
-    let session = opened(&rt, &mut exec, 1);
-    says(&rt, &mut exec, session, "*PSC 0", "done");
-    runs_beside(&rt, &mut exec, session);
-    runs(&rt, &mut exec, 1);
-    settles(&rt, &mut exec, session, "1");
-    assert!(rt; exec.is_flushed() && exec.contents().enables() == Some((4, 0)));
+    play(&rt, rt.alloc(), BESIDE_A_JOB);
 }
 
 // Runs a job for which one session waits. Whether the disk failed it.
@@ -150,17 +150,14 @@ fn flushed(rt: &impl Abort, alloc: Global, passes: u64) -> Power {
     exec
 }
 
-// The disk of a device with a whole store.
-fn whole<D: Disk + Drop>(rt: &impl Abort, exec: Exec<D, Global>) -> D {
-    match exec.end() {
-        Ended::Whole(store) => store.into_disk(),
-        _ => panic!(rt; "no whole store"),
-    }
+// The enables that a device keeps.
+fn enables<D: Disk>(exec: &Exec<D, Global>) -> Option<(u8, u8)> {
+    exec.contents().enables()
 }
 
-// The enables that a restart finds.
+// Those that a restart finds.
 fn found(rt: &impl Abort, alloc: Global, disk: MemDisk<Global>) -> Option<(u8, u8)> {
-    powered_on_with(rt, alloc, disk).contents().enables()
+    enables(&powered_on_with(rt, alloc, disk))
 }
 
 // Each call of a commit that fails breaks the store: -320 for the wait and for what would change it, until it is opened again.
@@ -173,14 +170,19 @@ fn a_broken_store_is_opened_again(rt: HostRuntime) {
     }
 }
 
-// A device with nothing to flush, on which these units are done then, each a line.
+// On a device with nothing to flush these units are done, each a line.
+fn does_all(rt: &impl Abort, exec: &mut Power, units: &str) {
+    assert!(rt; takes_none(exec, NoJob::Nothing));
+    let session = opened(rt, exec, 1);
+    for text in units.lines() {
+        says(rt, exec, session, text, "done");
+    }
+}
+
+// Such a device.
 fn with_done(rt: &impl Abort, alloc: Global, units: &str) -> Power {
     let mut exec = powered_on(rt, alloc, 1000);
-    assert!(rt; takes_none(&mut exec, NoJob::Nothing));
-    let session = opened(rt, &mut exec, 1);
-    for text in units.lines() {
-        says(rt, &mut exec, session, text, "done");
-    }
+    does_all(rt, &mut exec, units);
     exec
 }
 
@@ -209,33 +211,33 @@ pub fn are_strangers<D: Disk + Drop>(
     gives_back(rt, exec, job.run(), 0);
 }
 
+// A device, and another on which one unit more was done.
+fn is_stranger(rt: &impl Abort, alloc: Global, exec: &mut Power) {
+    are_strangers(rt, exec, &mut with_done(rt, alloc, "*PSC 0\n*ESE 1"));
+}
+
 // The end of another device's job, or of one with another map, is handed back.
 #[test]
 fn jobs_of_others_are_strangers(rt: HostRuntime) {
     let mut exec = with_done(&rt, rt.alloc(), "*PSC 0");
-    let mut other = with_done(&rt, rt.alloc(), "*PSC 0\n*ESE 1");
-    are_strangers(&rt, &mut exec, &mut other);
-    assert!(rt; matches!(exec.end(), Ended::Whole(_)));
-}
-
-// Fills the tail of a device with 1,024 changes.
-fn fills(rt: &impl Abort, exec: &mut Power, session: Session) {
-    for _ in 0..1024 {
-        says(rt, exec, session, "*PSC 0", "done");
-    }
+    is_stranger(&rt, rt.alloc(), &mut exec);
+    whole(&rt, exec);
 }
 
 // With 1,024 changes that are not flushed one more is later, and a query is answered.
+const FULL_TAIL: &str = "
+open 1
+1 fills *PSC 0
+1: *SRE 0 -> later
+1: *SRE 256 -> error
+1: *PSC? -> 0
+flush
+1: *SRE 0 -> done
+";
+
 #[test]
 fn the_tail_is_full(rt: HostRuntime) {
-    let mut exec = powered_on(&rt, rt.alloc(), 1000);
-    let session = opened(&rt, &mut exec, 1);
-    fills(&rt, &mut exec, session);
-    play_on(
-        &rt,
-        &mut exec,
-        "1: *SRE 0 -> later\n1: *SRE 256 -> error\n1: *PSC? -> 0\nflush\n1: *SRE 0 -> done",
-    );
+    play(&rt, rt.alloc(), FULL_TAIL);
 }
 
 // A store whose enables' item has one byte in place of two.
@@ -244,9 +246,9 @@ fn bad_items(alloc: Global) -> Option<Store<MemDisk<Global>, Global>> {
     stores::stored(alloc, store, assigned(alloc, &[1], &[36])?)
 }
 
-// Why a device is not powered on with it.
-fn refusal_of_bad_items(alloc: Global) -> Option<PowerCause> {
-    match Exec::power_on(alloc, bad_items(alloc)?) {
+// Why a device is not powered on with a store.
+fn refusal(alloc: Global, store: Store<MemDisk<Global>, Global>) -> Option<PowerCause> {
+    match Exec::power_on(alloc, store) {
         Ok(_) => None,
         Err(fault) => Some(fault.cause),
     }
@@ -255,7 +257,8 @@ fn refusal_of_bad_items(alloc: Global) -> Option<PowerCause> {
 // No contents have such an item.
 #[test]
 fn bad_items_do_not_power_on(rt: HostRuntime) {
-    assert!(rt; refusal_of_bad_items(rt.alloc()) == Some(PowerCause::BadItems));
+    let store = bad_items(rt.alloc()).expect(&rt, "a store");
+    assert!(rt; refusal(rt.alloc(), store) == Some(PowerCause::BadItems));
 }
 
 type Fused = Exec<Fuse<MemDisk<Global>>, Global>;
@@ -266,12 +269,20 @@ fn changes(rt: &impl Abort, exec: &mut Fused) {
     says(rt, exec, session, "*PSC 0", "done");
 }
 
-// Such a device on a disk that stops after so many calls; none where that is before it is powered on.
-fn changed(rt: &impl Abort, alloc: Global, passes: u64) -> Option<Fused> {
-    let store = stores::opened(alloc, Fuse::new(disk(rt, alloc), passes))?;
+// The store of a disk that stops after so many calls; none where that is before it is opened.
+fn fused(
+    rt: &impl Abort,
+    alloc: Global,
+    passes: u64,
+) -> Option<Store<Fuse<MemDisk<Global>>, Global>> {
+    stores::opened(alloc, Fuse::new(disk(rt, alloc), passes))
+}
+
+// Such a device with this store.
+fn changed(rt: &impl Abort, alloc: Global, store: Store<Fuse<MemDisk<Global>>, Global>) -> Fused {
     let mut exec = Exec::power_on(alloc, store).ok().expect(rt, "a power-on");
     changes(rt, &mut exec);
-    Some(exec)
+    exec
 }
 
 // The disk of a device that ends with no job out.
@@ -285,17 +296,16 @@ fn disk_of<D: Disk + Drop>(ended: Ended<D, Global>) -> Option<D> {
 
 // The disk once a device has run its job.
 fn left_by(rt: &impl Abort, mut exec: Fused) -> MemDisk<Global> {
-    let job = taken(rt, &mut exec);
-    gives_back(rt, &mut exec, job.run(), 0);
+    runs_job(rt, &mut exec, 0);
     disk_of(exec.end()).expect(rt, "no job out").into_inner()
 }
 
 // Whether a restart finds the contents before the job or its target, where power is lost after so many calls with these bytes.
 fn leaves_either(rt: &impl Abort, alloc: Global, passes: u64, choice: Choice) -> bool {
-    let Some(exec) = changed(rt, alloc, passes) else {
+    let Some(store) = fused(rt, alloc, passes) else {
         return true;
     };
-    let mut disk = left_by(rt, exec);
+    let mut disk = left_by(rt, changed(rt, alloc, store));
     disk.lose(choice);
     matches!(found(rt, alloc, disk), None | Some((0, 0)))
 }

@@ -2,7 +2,8 @@
 use crate::devices::are_strangers;
 use crate::holds::holds;
 use crate::images::{formatted, least};
-use crate::sessions_bench::{Power, does, opened, powered_on_with, say_all, says, unit};
+use crate::sessions_bench::{Power, opened, powered_on_with, says, unit};
+use crate::sessions_script::play;
 use psu_disk::MemDisk;
 use psu_exec::{Outcome, ScpiError, Session};
 use std::alloc::Global;
@@ -31,13 +32,17 @@ fn is_as_told(rt: &impl Abort, exec: &mut Power, session: Session, line: &str) -
 }
 
 // Units one after another, each with its row.
-fn are_as_told(rt: &impl Abort, alloc: Global, table: &str) {
-    let mut exec = powered_on(rt, alloc, least(alloc));
-    let session = opened(rt, &mut exec, 1);
+fn go_as_told(rt: &impl Abort, exec: &mut Power, table: &str) {
+    let session = opened(rt, exec, 1);
     for line in table.trim().lines() {
-        let is_so = is_as_told(rt, &mut exec, session, line) == Some(true);
+        let is_so = is_as_told(rt, exec, session, line) == Some(true);
         holds(rt, is_so, &line);
     }
+}
+
+// The same on a device of the least limit.
+fn are_as_told(rt: &impl Abort, alloc: Global, table: &str) {
+    go_as_told(rt, &mut powered_on(rt, alloc, least(alloc)), table);
 }
 
 // Two registers fill an image of four pages; one that holds the settings of `*RST` again takes none.
@@ -75,49 +80,53 @@ fn the_settings_at_power_on_take_two_pages(rt: HostRuntime) {
 }
 
 // A choice that changes nothing is a change that waits, too.
+const CHOICE: &str = "
+open 1
+1: OUTP:PON:STAT RST -> done
+unflushed
+1: *OPC? -> parked
+";
+
 #[test]
 fn the_choice_of_the_settings_at_power_on_is_flushed(rt: HostRuntime) {
-    let mut exec = powered_on(&rt, rt.alloc(), least(rt.alloc()));
-    let session = opened(&rt, &mut exec, 1);
-    does(&rt, &mut exec, session, "OUTP:PON:STAT RST");
-    assert!(rt; !exec.is_flushed());
-    says(&rt, &mut exec, session, "*OPC?", "parked");
-}
-
-// Fills the tail of a device with 1,024 changes; one more comes later, and a query is answered.
-fn fills(rt: &impl Abort, exec: &mut Power) {
-    let session = opened(rt, exec, 1);
-    for _ in 0..1_024 {
-        does(rt, exec, session, "*SAV 1");
-    }
-    say_all(
-        rt,
-        exec,
-        session,
-        "*SAV 0 -> later\n*IDN? -> EXAMPLE,PSU4,0,1.0",
-    );
+    play(&rt, rt.alloc(), CHOICE);
 }
 
 // With 1,024 changes that are not flushed one more comes later, and a query is answered.
+const FULL_TAIL: &str = "
+open 1
+1 fills *SAV 1
+1: *SAV 0 -> later
+1: *IDN? -> EXAMPLE,PSU4,0,1.0
+";
+
 #[test]
 fn a_save_is_later_at_a_full_tail(rt: HostRuntime) {
-    let mut exec = powered_on(&rt, rt.alloc(), formatted(rt.alloc()));
-    fills(&rt, &mut exec);
+    play(&rt, rt.alloc(), FULL_TAIL);
 }
 
-// A device with the change of `*PSC 0`, which is not flushed.
-fn changed(rt: &impl Abort, alloc: Global, disk: Option<MemDisk<Global>>) -> Power {
-    let mut exec = powered_on(rt, alloc, disk);
-    let session = opened(rt, &mut exec, 1);
-    does(rt, &mut exec, session, "*PSC 0");
-    exec
+// The change of `*PSC 0`, which is not flushed.
+fn changes(rt: &impl Abort, exec: &mut Power) {
+    let session = opened(rt, exec, 1);
+    says(rt, exec, session, "*PSC 0", "done");
+}
+
+// Two devices with that change are strangers, and flush it each.
+fn both_flush(rt: &impl Abort, exec: &mut Power, other: &mut Power) {
+    changes(rt, exec);
+    changes(rt, other);
+    are_strangers(rt, exec, other);
+    assert!(rt; exec.is_flushed() && other.is_flushed());
+}
+
+// A device, and another of the least limit.
+fn flushes_beside_least(rt: &impl Abort, alloc: Global, exec: &mut Power) {
+    both_flush(rt, exec, &mut powered_on(rt, alloc, least(alloc)));
 }
 
 // An end that differs in the limit alone is of another device.
 #[test]
 fn a_job_of_another_limit_is_a_stranger(rt: HostRuntime) {
-    let mut exec = changed(&rt, rt.alloc(), formatted(rt.alloc()));
-    let mut other = changed(&rt, rt.alloc(), least(rt.alloc()));
-    are_strangers(&rt, &mut exec, &mut other);
-    assert!(rt; exec.is_flushed() && other.is_flushed());
+    let mut exec = powered_on(&rt, rt.alloc(), formatted(rt.alloc()));
+    flushes_beside_least(&rt, rt.alloc(), &mut exec);
 }

@@ -1,8 +1,7 @@
 // Each allocation of a take and of a settle refused: nothing has changed, and with memory both go on.
 use crate::holds::holds;
 use crate::images::least;
-use crate::sessions_bench;
-use crate::sessions_bench::{gives_back, opened, powered_on_with, say_all, settles};
+use crate::sessions_bench::{gives_back, opened, powered_on_with, runs_job, say_all, settles};
 use bumpalo::Bump;
 use psu_disk::MemDisk;
 use psu_exec::{Condition, Exec, Job, NoJob, Outcome, ScpiError, Session};
@@ -96,10 +95,12 @@ fn is_refused_with<'a>(
 }
 
 // The same on a device of its own.
+fn is_refused_in<'a>(rt: &impl Abort, alloc: Global, arena: &'a Bump<Global>, left: usize) -> bool {
+    is_refused_with(rt, arena, &mut powered_on(rt, alloc, arena), left)
+}
+
 fn take_is_refused(rt: &impl Abort, alloc: Global, left: usize) -> bool {
-    let arena = arena(rt, alloc);
-    let mut exec = powered_on(rt, alloc, &arena);
-    is_refused_with(rt, &arena, &mut exec, left)
+    is_refused_in(rt, alloc, &arena(rt, alloc), left)
 }
 
 #[test]
@@ -132,12 +133,19 @@ fn stays_over<'a>(rt: &impl Abort, arena: &Bump<Global>, exec: &mut Power<'a>, s
     settles(rt, exec, session, "done");
 }
 
+// A wait that is over stays so while there is no memory for its answer.
+fn waits<'a>(rt: &impl Abort, arena: &'a Bump<Global>, exec: &mut Power<'a>) {
+    let session = waiting(rt, exec);
+    runs_job(rt, exec, 1);
+    stays_over(rt, arena, exec, session);
+}
+
+// The same on a device of its own.
+fn waits_on<'a>(rt: &impl Abort, alloc: Global, arena: &'a Bump<Global>) {
+    waits(rt, arena, &mut powered_on(rt, alloc, arena));
+}
+
 #[test]
 fn the_allocation_of_a_settle_refused(rt: HostRuntime) {
-    let arena = arena(&rt, rt.alloc());
-    let mut exec = powered_on(&rt, rt.alloc(), &arena);
-    let session = waiting(&rt, &mut exec);
-    let job = sessions_bench::taken(&rt, &mut exec);
-    gives_back(&rt, &mut exec, job.run(), 1);
-    stays_over(&rt, &arena, &mut exec, session);
+    waits_on(&rt, rt.alloc(), &arena(&rt, rt.alloc()));
 }

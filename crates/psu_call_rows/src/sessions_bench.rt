@@ -6,8 +6,8 @@ use crate::holds::holds;
 use crate::images::formatted;
 use psu_disk::{Disk, MemDisk};
 use psu_exec::{
-    Exec, Finished, Freed, Grant, Job, Kind, LockRefusal, LockString, NoJob, Outcome, Session,
-    Sessions,
+    Ended, Exec, Finished, Freed, Grant, Job, Kind, LockRefusal, LockString, NoJob, Outcome,
+    Request, Session, Sessions,
 };
 use psu_items::Store;
 use psu_lex::Unit;
@@ -52,6 +52,16 @@ fn look<D: Disk, A: Allocator + Copy>(rt: &impl Abort, exec: &Exec<D, A>, sessio
     }
 }
 
+// The request of a unit without strings and blocks.
+fn read(text: &[u8]) -> Request<'_> {
+    let unit = Unit {
+        text,
+        first: true,
+        fault: None,
+    };
+    request(&mut Path::root(), &unit, false)
+}
+
 /// Executes a unit without strings and blocks.
 pub fn unit<D: Disk, A: Allocator + Copy>(
     rt: &impl Abort,
@@ -60,12 +70,7 @@ pub fn unit<D: Disk, A: Allocator + Copy>(
     text: &[u8],
 ) -> Outcome<A> {
     look(rt, exec, session);
-    let unit = Unit {
-        text,
-        first: true,
-        fault: None,
-    };
-    exec.execute(session, &request(&mut Path::root(), &unit, false))
+    exec.execute(session, &read(text))
 }
 
 // What an outcome says: its answer, or its name.
@@ -158,15 +163,36 @@ pub fn gives_back<D: Disk + Drop, A: Allocator + Copy>(
     assert!(rt; sessions.as_slice().len() == over);
 }
 
-/// Executes a unit that is done without an answer.
-pub fn does(rt: &impl Abort, exec: &mut Power, session: Session, text: &str) {
-    says(rt, exec, session, text, "done");
+/// Runs the job that there is, by which so many sessions' waits are over.
+pub fn runs_job<D: Disk + Drop, A: Allocator + Copy>(
+    rt: &impl Abort,
+    exec: &mut Exec<D, A>,
+    over: usize,
+) {
+    let job = taken(rt, exec);
+    gives_back(rt, exec, job.run(), over);
 }
 
-/// Whether one job goes well from its take to its end, or there is nothing to do.
-pub fn is_flushed<D: Disk + Drop>(exec: &mut Exec<D, Global>) -> bool {
+/// The disk of a device with a whole store.
+pub fn whole<D: Disk + Drop>(rt: &impl Abort, exec: Exec<D, Global>) -> D {
+    match exec.end() {
+        Ended::Whole(store) => store.into_disk(),
+        _ => panic!(rt; "no whole store"),
+    }
+}
+
+// Whether the end of a job is taken.
+fn is_given_back<D: Disk + Drop>(
+    exec: &mut Exec<D, Global>,
+    finished: Finished<D, Global>,
+) -> bool {
+    exec.give_back(finished).is_ok()
+}
+
+// Whether one job goes well from its take to its end, or there is nothing to do.
+fn is_flushed<D: Disk + Drop>(exec: &mut Exec<D, Global>) -> bool {
     match exec.take() {
-        Ok(job) => exec.give_back(job.run()).is_ok(),
+        Ok(job) => is_given_back(exec, job.run()),
         Err(cause) => cause == NoJob::Nothing,
     }
 }

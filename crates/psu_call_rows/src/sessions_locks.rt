@@ -1,7 +1,5 @@
 // Locks between the sessions of a device.
-use crate::sessions_bench::powered_on;
-use crate::sessions_script::{play, play_on};
-use psu_exec::Info;
+use crate::sessions_script::play;
 
 const TWO_THAT_SHARE: &str = "
 open 1
@@ -11,9 +9,7 @@ open 2
 1 locks at 0 for 0 -> granted
 2: *IDN? -> held
 2: FOO -> held
-";
-
-const GIVEN_UP: &str = "
+locks exclusive 2
 1: SYST:ERR:COUN? -> 0
 1 releases exclusive
 2: *IDN? -> EXAMPLE,PSU4,0,1.0
@@ -24,17 +20,9 @@ const GIVEN_UP: &str = "
 1: *CLS -> done
 ";
 
-// Whether two sessions hold the lock, one of them alone.
-fn are_two(info: Info) -> bool {
-    info.exclusive && info.holders == 2
-}
-
 #[test]
 fn a_session_shares_under_another_that_holds_alone(rt: HostRuntime) {
-    let mut exec = powered_on(&rt, rt.alloc());
-    play_on(&rt, &mut exec, TWO_THAT_SHARE);
-    assert!(rt; are_two(exec.info()));
-    play_on(&rt, &mut exec, GIVEN_UP);
+    play(&rt, rt.alloc(), TWO_THAT_SHARE);
 }
 
 // Sixteen sessions: the first holds alone, and each other waits until ten times its number.

@@ -16,15 +16,20 @@
 // | `1 releases exclusive; granted 3`, `1 releases nothing` | it gives up a lock, which these sessions are then granted |
 // | `tick 20 fails 2; next 30` | a moment at which these requests fail, and the deadline that is next, or `none` |
 // | `full` | no other session can open |
-// | `flush` | one job, from its take to its end |
+// | `flush 1`, `flush` | one job, from its take to its end, by which the waits of these sessions are over; none where there is nothing to do |
+// | `beside 1: *SRE 4 -> done; 1: *OPC? -> parked` | one job, while which these units are executed and no other is taken; no wait is over by it |
+// | `locks exclusive 2`, `locks shared 2` | whether a session holds the lock alone, and how many sessions hold one |
+// | `flushed`, `unflushed` | whether all is flushed |
+// | `keeps 4 0` | the enables that the contents keep |
+// | `1 fills *PSC 0` | session 1 executes a unit 1,024 times, each done |
 // | `news 1 2; work`, `news none; rest` | the sessions that asked for service since, and whether there is something to flush |
 use crate::holds::holds;
 use crate::sessions_bench::{
-    clear, close, delivered, is_flushed, is_said, is_settled, lock, polled, powered_on, release,
-    requested, sent, shared,
+    clear, close, delivered, is_said, is_settled, lock, polled, powered_on, release, requested,
+    sent, shared,
 };
 use psu_disk::Disk;
-use psu_exec::{Exec, Freed, Grant, Kind, LockRefusal, Session, Sessions};
+use psu_exec::{Exec, Finished, Freed, Grant, Info, Kind, LockRefusal, NoJob, Session, Sessions};
 use std::alloc::Global;
 use std::process::Abort;
 
@@ -174,6 +179,21 @@ fn is_told<D: Disk>(
     Some(true)
 }
 
+// A unit 1,024 times, each done.
+fn fills<D: Disk>(
+    rt: &impl Abort,
+    exec: &mut Exec<D, Global>,
+    session: Session,
+    unit: &[u8],
+) -> bool {
+    for _ in 0..1_024 {
+        if !is_said(rt, exec, session, unit, b"done") {
+            return false;
+        }
+    }
+    true
+}
+
 // What a session does but for its units.
 fn does<D: Disk>(
     rt: &impl Abort,
@@ -189,6 +209,7 @@ fn does<D: Disk>(
             let wanted = rest.trim_start_matches("-> ");
             Some(is_settled(rt, exec, session, wanted.as_bytes()))
         }
+        "fills" => Some(fills(rt, exec, session, rest.as_bytes())),
         "sent" | "delivered" | "clears" => is_told(rt, exec, session, word),
         _ => locks_or_closes(rt, exec, session, word, rest),
     }
@@ -224,6 +245,75 @@ fn opens<D: Disk>(exec: &mut Exec<D, Global>, wanted: &str) -> Option<bool> {
     Some(session.number() == byte(wanted)?)
 }
 
+// The end of a job, by which the waits of these sessions are over.
+fn is_over<D: Disk + Drop>(
+    exec: &mut Exec<D, Global>,
+    finished: Finished<D, Global>,
+    wanted: &str,
+) -> Option<bool> {
+    are(&exec.give_back(finished).ok()?, wanted)
+}
+
+// One job, or none where there is nothing to do.
+fn flushes<D: Disk + Drop>(exec: &mut Exec<D, Global>, wanted: &str) -> Option<bool> {
+    match exec.take() {
+        Ok(job) => is_over(exec, job.run(), wanted),
+        Err(cause) => Some(cause == NoJob::Nothing && wanted.is_empty()),
+    }
+}
+
+// Whether no job is taken while one is out.
+fn is_out<D: Disk + Drop>(exec: &mut Exec<D, Global>) -> bool {
+    match exec.take() {
+        Ok(_) => false,
+        Err(cause) => cause == NoJob::Out,
+    }
+}
+
+// Units, each with what is said of it, while a job is out.
+fn are_beside<D: Disk + Drop>(rt: &impl Abort, exec: &mut Exec<D, Global>, units: &str) -> bool {
+    for unit in units.split("; ") {
+        if step_of_session(rt, exec, unit) != Some(true) {
+            return false;
+        }
+    }
+    is_out(exec)
+}
+
+// One job, while which these units are executed.
+fn is_beside<D: Disk + Drop>(
+    rt: &impl Abort,
+    exec: &mut Exec<D, Global>,
+    units: &str,
+) -> Option<bool> {
+    let job = exec.take().ok()?;
+    let is_so = are_beside(rt, exec, units);
+    Some(is_over(exec, job.run(), "")? && is_so)
+}
+
+// Whether the contents keep these enables: `4 0`.
+fn keeps<D: Disk>(exec: &Exec<D, Global>, wanted: &str) -> Option<bool> {
+    let (service, event) = wanted.split_once(" ")?;
+    Some(exec.contents().enables() == Some((byte(service)?, byte(event)?)))
+}
+
+// Who holds locks: `exclusive 2`.
+fn are_locked(info: Info, wanted: &str) -> Option<bool> {
+    let (how, holders) = wanted.split_once(" ")?;
+    Some(info.exclusive == (how == "exclusive") && info.holders == byte(holders)?)
+}
+
+// What the device keeps, whether all of it is flushed, and who holds locks. None where it is another step.
+fn is_kept<D: Disk>(exec: &Exec<D, Global>, word: &str, rest: &str) -> Option<bool> {
+    match word {
+        "flushed" => Some(exec.is_flushed()),
+        "unflushed" => Some(!exec.is_flushed()),
+        "keeps" => keeps(exec, rest),
+        "locks" => are_locked(exec.info(), rest),
+        _ => None,
+    }
+}
+
 // What the device does.
 fn steps<D: Disk + Drop>(
     rt: &impl Abort,
@@ -233,7 +323,9 @@ fn steps<D: Disk + Drop>(
 ) -> Option<bool> {
     match word {
         "open" => opens(exec, rest),
-        "flush" => Some(is_flushed(exec)),
+        "flush" => flushes(exec, rest),
+        "beside" => is_beside(rt, exec, rest),
+        "flushed" | "unflushed" | "keeps" | "locks" => is_kept(exec, word, rest),
         "news" => has_news(exec, rest),
         "tick" => ticks(exec, rest),
         "full" => Some(exec.open_session().is_err()),
@@ -252,6 +344,16 @@ fn executes<D: Disk>(
     Some(is_said(rt, exec, session, unit.as_bytes(), wanted.as_bytes()))
 }
 
+// The unit of a step: `1: *SRE 4 -> done`. None where it is no unit.
+fn step_of_session<D: Disk>(
+    rt: &impl Abort,
+    exec: &mut Exec<D, Global>,
+    line: &str,
+) -> Option<bool> {
+    let (number, rest) = line.split_once(": ")?;
+    executes(rt, exec, session(number)?, rest)
+}
+
 // Whether what comes of a step is what it says: of a unit, or of another. None where it is no step.
 fn step<D: Disk + Drop>(rt: &impl Abort, exec: &mut Exec<D, Global>, line: &str) -> Option<bool> {
     let (word, rest) = line.split_once(" ").unwrap_or((line, ""));
@@ -261,8 +363,8 @@ fn step<D: Disk + Drop>(rt: &impl Abort, exec: &mut Exec<D, Global>, line: &str)
     }
 }
 
-/// Plays a script on a device. An empty line and one that begins with `#` say nothing.
-pub fn play_on<D: Disk + Drop>(rt: &impl Abort, exec: &mut Exec<D, Global>, script: &str) {
+// Plays a script on a device. An empty line and one that begins with `#` say nothing.
+fn play_on<D: Disk + Drop>(rt: &impl Abort, exec: &mut Exec<D, Global>, script: &str) {
     let mut steps = 0u32;
     for line in script.lines() {
         if !line.is_empty() && !line.starts_with("#") {

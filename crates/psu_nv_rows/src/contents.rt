@@ -6,6 +6,7 @@ use psu_nv::{Contents, FileBytes, NvCommand, Part, Register};
 use psu_outputs::{Millivolts, Output, Setting, Settings};
 use psu_tables::{bytes, row};
 use std::alloc::Global;
+use std::process::Abort;
 
 // The reset settings with a voltage at output 1, in millivolts, where it is in range.
 fn volts(millivolts: u32) -> Settings {
@@ -14,13 +15,10 @@ fn volts(millivolts: u32) -> Settings {
     settings
 }
 
+type Answer = Result<(), ScpiError>;
+
 // `*SAV` of a register with a voltage at output 1.
-fn save(
-    contents: &mut Contents<Global>,
-    limit: u16,
-    number: u8,
-    millivolts: u32,
-) -> Result<(), ScpiError> {
+fn save(contents: &mut Contents<Global>, limit: u16, number: u8, millivolts: u32) -> Answer {
     match Register::of(number) {
         Some(register) => contents.change(limit, &NvCommand::Save(register, volts(millivolts))),
         None => Err(ScpiError::DataOutOfRange),
@@ -28,7 +26,7 @@ fn save(
 }
 
 // `MMEMory:DATA` of a name.
-fn write(contents: &mut Contents<Global>, name: &[u8], bytes: &[u8]) -> Result<(), ScpiError> {
+fn write(contents: &mut Contents<Global>, name: &[u8], bytes: &[u8]) -> Answer {
     match FileBytes::of(bytes) {
         Some(file) => contents.change(256, &NvCommand::StoreBytes(name, file)),
         None => Err(ScpiError::TooMuchData),
@@ -63,16 +61,17 @@ fn is_encoded(alloc: Global, contents: &Contents<Global>) -> Option<bool> {
     Some(whole && is_saved(alloc, &value) && user.is_none())
 }
 
-fn is_kept(alloc: Global) -> Option<bool> {
-    let mut contents = Contents::fresh(alloc);
+// Whether fresh contents have no item, and then those of the register.
+fn is_kept(alloc: Global, contents: &mut Contents<Global>) -> Option<bool> {
     let empty = contents.encode_items(alloc).ok()?.pairs().is_empty();
-    let saved = save(&mut contents, 256, 3, 5_250) == Ok(());
-    Some(empty && saved && is_encoded(alloc, &contents)?)
+    let saved = save(contents, 256, 3, 5_250) == Ok(());
+    Some(empty && saved && is_encoded(alloc, contents)?)
 }
 
 #[test]
 fn a_register_is_28_bytes_under_its_number(rt: HostRuntime) {
-    assert!(rt; is_kept(rt.alloc()) == Some(true));
+    let kept = is_kept(rt.alloc(), &mut Contents::fresh(rt.alloc()));
+    assert!(rt; kept == Some(true));
 }
 
 // Whether a batch gives register 0 its 28 bytes, and drops the file A.
@@ -95,15 +94,15 @@ fn edits(alloc: Global, contents: &Contents<Global>) -> Option<Batch<Global>> {
     Some(batch)
 }
 
-fn are_edited(alloc: Global) -> Option<bool> {
-    let mut contents = Contents::fresh(alloc);
-    let saved = save(&mut contents, 256, 0, 5_250) == Ok(());
-    Some(saved && are_two_edits(&edits(alloc, &contents)?))
+fn are_edited(alloc: Global, contents: &mut Contents<Global>) -> Option<bool> {
+    let saved = save(contents, 256, 0, 5_250) == Ok(());
+    Some(saved && are_two_edits(&edits(alloc, contents)?))
 }
 
 #[test]
 fn a_batch_has_the_parts_that_changed(rt: HostRuntime) {
-    assert!(rt; are_edited(rt.alloc()) == Some(true));
+    let edited = are_edited(rt.alloc(), &mut Contents::fresh(rt.alloc()));
+    assert!(rt; edited == Some(true));
 }
 
 const FULL: Result<(), ScpiError> = Err(ScpiError::MediaFull);
@@ -126,62 +125,71 @@ fn is_wanted(answer: Result<(), ScpiError>, cost: u128, cell: &str) -> Option<bo
 // Files with their lengths, and the pages that the contents then have. A file of 32,768 bytes has 32,769 in its item, so 65 pages and one
 // for the item; one of 29,183 bytes has 57 and one.
 const FILES: &str = "
-A 32768 -> ok 66
-B 32768 -> ok 132
-C 32768 -> ok 198
-D 29183 -> ok 256
-E 0 -> full 256
-D 28671 -> ok 255
-E 0 -> full 255
-D 28159 -> ok 254
-E 0 -> ok 256
+file A 32768 -> ok 66
+file B 32768 -> ok 132
+file C 32768 -> ok 198
+file D 29183 -> ok 256
+file E 0 -> full 256
+file D 28671 -> ok 255
+file E 0 -> full 255
+file D 28159 -> ok 254
+file E 0 -> ok 256
 ";
 
-fn is_written(contents: &mut Contents<Global>, line: &str) -> Option<bool> {
-    let (file, wanted) = row(line)?;
-    let (name, cell) = file.split_once(" ")?;
-    let length: usize = cell.parse().ok()?;
+// `MMEMory:DATA` of so many zeros.
+fn write_zeros(contents: &mut Contents<Global>, name: &str, length: usize) -> Answer {
     let zeros = [0; 32_768];
     if length > 32_768 {
-        return None;
+        return Err(ScpiError::TooMuchData);
     }
-    let answer = write(contents, name.as_bytes(), &zeros[..length]);
+    write(contents, name.as_bytes(), &zeros[..length])
+}
+
+// What comes of a file of so many bytes, or of a register with so many millivolts, of four pages.
+fn change(contents: &mut Contents<Global>, what: &str, count: u32) -> Option<Answer> {
+    let (kind, name) = what.split_once(" ")?;
+    match kind {
+        "file" => Some(write_zeros(contents, name, count as usize)),
+        "save" => Some(save(contents, 4, name.parse().ok()?, count)),
+        _ => None,
+    }
+}
+
+// Whether a change comes to what its row says.
+fn comes_to(contents: &mut Contents<Global>, line: &str) -> Option<bool> {
+    let (changed, wanted) = row(line)?;
+    let (what, count) = changed.rsplit_once(" ")?;
+    let answer = change(contents, what, count.parse().ok()?)?;
     is_wanted(answer, contents.cost(), wanted)
+}
+
+// Makes the changes of a table one after another.
+fn play(rt: &impl Abort, contents: &mut Contents<Global>, table: &str) {
+    for line in table.lines() {
+        let is_told = line.is_empty() || comes_to(contents, line) == Some(true);
+        holds(rt, is_told, line);
+    }
+}
+
+fn are_full(contents: &Contents<Global>) -> bool {
+    contents.names().len() == 5 && contents.fits(256) && !contents.fits(255)
 }
 
 #[test]
 fn files_fill_256_pages(rt: HostRuntime) {
     let mut contents = Contents::fresh(rt.alloc());
-    for line in FILES.lines() {
-        holds(
-            &rt,
-            line.is_empty() || is_written(&mut contents, line) == Some(true),
-            line,
-        );
-    }
-    assert!(rt; contents.names().len() == 5 && contents.fits(256) && !contents.fits(255));
+    play(&rt, &mut contents, FILES);
+    assert!(rt; are_full(&contents));
 }
 
 // Registers with their voltages in millivolts, and the pages of four that the contents then have.
 const SAVES: &str = "
-0 1000 -> ok 2
-1 1000 -> ok 4
-2 1000 -> full 4
-0 0 -> ok 2
-2 1000 -> ok 4
+save 0 1000 -> ok 2
+save 1 1000 -> ok 4
+save 2 1000 -> full 4
+save 0 0 -> ok 2
+save 2 1000 -> ok 4
 ";
-
-fn is_saved_of_four(contents: &mut Contents<Global>, line: &str) -> Option<bool> {
-    let (saved, wanted) = row(line)?;
-    let (register, millivolts) = saved.split_once(" ")?;
-    let answer = save(
-        contents,
-        4,
-        register.parse().ok()?,
-        millivolts.parse().ok()?,
-    );
-    is_wanted(answer, contents.cost(), wanted)
-}
 
 // Whether a register has a voltage at output 1.
 fn has(contents: &Contents<Global>, number: u8, millivolts: u32) -> bool {
@@ -194,13 +202,7 @@ fn has(contents: &Contents<Global>, number: u8, millivolts: u32) -> bool {
 #[test]
 fn four_pages_hold_two_registers(rt: HostRuntime) {
     let mut contents = Contents::fresh(rt.alloc());
-    for line in SAVES.lines() {
-        holds(
-            &rt,
-            line.is_empty() || is_saved_of_four(&mut contents, line) == Some(true),
-            line,
-        );
-    }
+    play(&rt, &mut contents, SAVES);
     assert!(rt; has(&contents, 2, 1_000));
 }
 
@@ -238,12 +240,25 @@ fn are_most(contents: &mut Contents<Global>) -> bool {
         && does(contents, NvCommand::DefineMacro(b"E", b"*CLS"))
 }
 
+// Whether the last label is E.
+fn ends_with_e(contents: &Contents<Global>) -> bool {
+    match contents.labels().last() {
+        Some(last) => last.bytes() == b"E".as_slice(),
+        None => false,
+    }
+}
+
+fn are_32_and_no_more(contents: &mut Contents<Global>) -> bool {
+    define_32(contents)
+        && are_most(contents)
+        && contents.body(b"a1") == Some(b"*CLS".as_slice())
+        && ends_with_e(contents)
+}
+
 #[test]
 fn the_33rd_macro_does_not_fit(rt: HostRuntime) {
-    let mut contents = Contents::fresh(rt.alloc());
-    assert!(rt; define_32(&mut contents) && are_most(&mut contents));
-    assert!(rt; contents.body(b"a1") == Some(b"*CLS".as_slice()));
-    assert!(rt; matches!(contents.labels().last(), Some(last) if last.bytes() == b"E".as_slice()));
+    let fit = are_32_and_no_more(&mut Contents::fresh(rt.alloc()));
+    assert!(rt; fit);
 }
 
 // Whether the items are the files R and T, and T has the type byte of a state and 28 bytes behind it.
@@ -274,14 +289,18 @@ fn is_moved(contents: &mut Contents<Global>, register: Register) -> bool {
         )
 }
 
-fn is_copied(alloc: Global) -> Option<bool> {
-    let mut contents = Contents::fresh(alloc);
-    let moved = is_moved(&mut contents, Register::of(0)?);
+// Whether contents are encoded to those two.
+fn is_encoded_twice(alloc: Global, contents: &Contents<Global>) -> Option<bool> {
     let items = contents.encode_items(alloc).ok()?;
-    Some(moved && are_two_states(&items) && items.cost() == contents.cost())
+    Some(are_two_states(&items) && items.cost() == contents.cost())
+}
+
+fn is_copied(alloc: Global, contents: &mut Contents<Global>) -> Option<bool> {
+    Some(is_moved(contents, Register::of(0)?) && is_encoded_twice(alloc, contents)?)
 }
 
 #[test]
 fn a_file_is_copied_with_its_type(rt: HostRuntime) {
-    assert!(rt; is_copied(rt.alloc()) == Some(true));
+    let copied = is_copied(rt.alloc(), &mut Contents::fresh(rt.alloc()));
+    assert!(rt; copied == Some(true));
 }

@@ -1,24 +1,11 @@
 // Contents from a map: each of its rows good, and each way in which one is bad.
+use crate::maps::{bytes_of, map_of};
 use crate::told::holds;
 use psu_map::Items;
 use psu_nv::{Contents, DecodeFault};
-use psu_tables::{bytes, row};
+use psu_tables::row;
 use std::alloc::Global;
 use std::process::Abort;
-
-// The map of a key and a value.
-fn one(alloc: Global, key: &[u8], value: &[u8]) -> Option<Items<Global>> {
-    let mut items = Items::new(alloc);
-    put(&mut items, alloc, key, value)?;
-    Some(items)
-}
-
-fn put(items: &mut Items<Global>, alloc: Global, key: &[u8], value: &[u8]) -> Option<()> {
-    items
-        .insert(key.to_vec(alloc).ok()?, value.to_vec(alloc).ok()?)
-        .ok()?;
-    Some(())
-}
 
 // How a fault is called.
 fn called(fault: DecodeFault) -> &'static str {
@@ -44,38 +31,31 @@ fn are_encoded(
 }
 
 // Why a map of a key and a value is refused, or `good` for one that is encoded to itself again.
-fn told(alloc: Global, key: &[u8], value: &[u8]) -> Option<&'static str> {
-    let items = one(alloc, key, value)?;
-    match Contents::decode_items(alloc, &items) {
+fn told(alloc: Global, items: &Items<Global>, key: &[u8], value: &[u8]) -> Option<&'static str> {
+    match Contents::decode_items(alloc, items) {
         Ok(contents) => are_encoded(alloc, &contents, key, value)?.then_some("good"),
         Err(fault) => Some(called(fault)),
     }
 }
 
-// The settings of `*RST`.
-const RESET: [u8; 28] = [
-    0, 0, 0, 0, 0xea, 0x60, 0, 0, 0, 0, 0, 0xea, 0x60, 0, 0, 0, 0, 0, 0xea, 0x60, 0, 0, 0, 0, 0,
-    0xea, 0x60, 0,
-];
-
-// The bytes of a cell, which may end with those of outputs 2 to 4 at `*RST`.
-fn bytes_of(alloc: Global, cell: &str) -> Option<Vec<u8>> {
-    match cell.strip_suffix(" reset") {
-        Some(first) => {
-            let mut bytes = bytes(alloc, first)?;
-            bytes.extend_from_slice(&RESET[7..]).ok()?;
-            Some(bytes)
-        }
-        None => bytes(alloc, cell),
-    }
+// The map of a key and a value.
+fn one(alloc: Global, key: &[u8], value: &[u8]) -> Option<Items<Global>> {
+    let mut items = Items::new(alloc);
+    let key = key.to_vec(alloc).ok()?;
+    items.insert(key, value.to_vec(alloc).ok()?).ok()?;
+    Some(items)
 }
 
-// Whether what is told of a map of an item is what is wanted.
+// Whether what is told of a map of a key and a value is what is wanted.
+fn is(alloc: Global, key: &[u8], value: &[u8], wanted: &str) -> Option<bool> {
+    Some(told(alloc, &one(alloc, key, value)?, key, value)? == wanted)
+}
+
+// The same of an item.
 fn is_told(alloc: Global, item: &str, wanted: &str) -> Option<bool> {
     let (key, value) = item.split_once("|")?;
     let key = bytes_of(alloc, key)?;
-    let value = bytes_of(alloc, value)?;
-    Some(told(alloc, &key, &value)? == wanted)
+    is(alloc, &key, &bytes_of(alloc, value)?, wanted)
 }
 
 // Looks at maps of a key and a value, and at why each is refused: a row a line, as `key | value -> fault`.
@@ -200,23 +180,29 @@ fn macros_32(alloc: Global) -> Option<Vec<u8>> {
 }
 
 // Whether they are good, and are refused with one more.
-fn are_most(alloc: Global) -> Option<bool> {
-    let mut value = macros_32(alloc)?;
-    let fit = told(alloc, &[4], &value)? == "good";
+fn are_most(alloc: Global, value: &mut Vec<u8>) -> Option<bool> {
+    let fit = is(alloc, &[4], value, "good")?;
     value.extend_from_slice(&[1, b'E', 0, 0]).ok()?;
-    Some(fit && told(alloc, &[4], &value)? == "bad value")
+    Some(fit && is(alloc, &[4], value, "bad value")?)
+}
+
+fn most_are_32(alloc: Global) -> Option<bool> {
+    are_most(alloc, &mut macros_32(alloc)?)
 }
 
 #[test]
 fn as_many_macros_as_there_may_be(rt: HostRuntime) {
-    assert!(rt; are_most(rt.alloc()) == Some(true));
+    assert!(rt; most_are_32(rt.alloc()) == Some(true));
 }
 
-// The fault of a map with a bad value and, behind it, a bad key.
+// A map with a bad value and, behind it, a bad key.
+const TWICE_BAD: &str = "
+01 | 60 00
+07 | 00
+";
+
 fn first_fault(alloc: Global) -> Option<DecodeFault> {
-    let mut items = one(alloc, &[1], &[96, 0])?;
-    put(&mut items, alloc, &[7], &[0])?;
-    Contents::decode_items(alloc, &items).err()
+    Contents::decode_items(alloc, &map_of(alloc, TWICE_BAD)?).err()
 }
 
 #[test]
@@ -235,18 +221,6 @@ const WHOLE: &str = "
 02 04 | 00 00 00 00 ea 60 02 reset
 ";
 
-fn whole(alloc: Global) -> Option<Items<Global>> {
-    let mut items = Items::new(alloc);
-    for line in WHOLE.lines() {
-        if let Some((key, value)) = line.split_once(" | ") {
-            items
-                .insert(bytes_of(alloc, key)?, bytes_of(alloc, value)?)
-                .ok()?;
-        }
-    }
-    Some(items)
-}
-
 // Whether contents have each part of the whole map.
 fn are_whole(contents: &Contents<Global>) -> bool {
     contents.enables() == Some((0, 8))
@@ -257,10 +231,13 @@ fn are_whole(contents: &Contents<Global>) -> bool {
         && contents.recall()
 }
 
-fn all_are_decoded(alloc: Global) -> Option<bool> {
-    let items = whole(alloc)?;
-    let contents = Contents::decode_items(alloc, &items).ok()?;
+fn are_decoded(alloc: Global, items: &Items<Global>) -> Option<bool> {
+    let contents = Contents::decode_items(alloc, items).ok()?;
     Some(are_whole(&contents) && contents.cost() == items.cost())
+}
+
+fn all_are_decoded(alloc: Global) -> Option<bool> {
+    are_decoded(alloc, &map_of(alloc, WHOLE)?)
 }
 
 #[test]
@@ -278,13 +255,22 @@ fn are_same(one: &Items<Global>, other: &Items<Global>) -> bool {
     one.pairs().len() == 7 && other.pairs().len() == 7
 }
 
+// Whether contents are encoded to a map.
+fn give(alloc: Global, contents: &Contents<Global>, items: &Items<Global>) -> Option<bool> {
+    Some(are_same(&contents.encode_items(alloc).ok()?, items))
+}
+
+// The same of a copy of theirs.
+fn copy_gives(alloc: Global, contents: &Contents<Global>, items: &Items<Global>) -> Option<bool> {
+    give(alloc, &contents.copy(alloc).ok()?, items)
+}
+
+fn is_copied(alloc: Global, items: &Items<Global>) -> Option<bool> {
+    copy_gives(alloc, &Contents::decode_items(alloc, items).ok()?, items)
+}
+
 fn a_copy_is_same(alloc: Global) -> Option<bool> {
-    let items = whole(alloc)?;
-    let copy = Contents::decode_items(alloc, &items)
-        .ok()?
-        .copy(alloc)
-        .ok()?;
-    Some(are_same(&copy.encode_items(alloc).ok()?, &items))
+    is_copied(alloc, &map_of(alloc, WHOLE)?)
 }
 
 #[test]

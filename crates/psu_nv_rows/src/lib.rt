@@ -7,6 +7,8 @@ mod contents;
 #[cfg(test)]
 mod decoding;
 #[cfg(test)]
+mod maps;
+#[cfg(test)]
 mod told;
 #[cfg(test)]
 mod wants;

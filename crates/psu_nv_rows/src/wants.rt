@@ -1,10 +1,10 @@
 // Each allocation of contents refused in turn: a change is -225 and changes nothing, and the others want memory.
+use crate::maps::map_of;
 use crate::told::holds;
 use bumpalo::Bump;
 use psu_lex::ScpiError;
 use psu_map::Items;
 use psu_nv::{Contents, DecodeFault, FileBytes, NvCommand};
-use psu_tables::bytes;
 use std::alloc::Global;
 
 // Leaves so many bytes of an arena.
@@ -57,8 +57,7 @@ fn end_of(answer: Result<(), ScpiError>, done: bool, untouched: bool) -> End {
 }
 
 // A macro.
-fn defined(arena: &Bump) -> End {
-    let mut contents = Contents::fresh(arena);
+fn defined<'a>(contents: &mut Contents<&'a Bump>) -> End {
     let answer = contents.change(256, &NvCommand::DefineMacro(b"AB", b"*CLS;*RST"));
     let count = contents.labels().len();
     end_of(answer, count == 1, count == 0 && contents.cost() == 0)
@@ -72,22 +71,24 @@ fn write<'a>(contents: &mut Contents<&'a Bump>, name: &[u8], text: &[u8]) -> Res
     }
 }
 
-// A macro of a file's bytes, with little memory for both.
-fn loaded(arena: &Bump) -> End {
-    let mut contents = Contents::fresh(arena);
-    let stored = write(&mut contents, b"F", b"*CLS;*RST");
-    if stored.is_err() {
-        return end_of(stored, false, contents.cost() == 0);
-    }
+// A macro of a file's bytes, which are there.
+fn loaded<'a>(contents: &mut Contents<&'a Bump>) -> End {
     let answer = contents.change(256, &NvCommand::LoadMacro(b"AB", b"F"));
     let count = contents.labels().len();
     end_of(answer, count == 1, count == 0 && contents.cost() == 2)
 }
 
+// The same, with little memory for the file too.
+fn written_and_loaded<'a>(contents: &mut Contents<&'a Bump>) -> End {
+    match write(contents, b"F", b"*CLS;*RST") {
+        Ok(()) => loaded(contents),
+        refused => end_of(refused, false, contents.cost() == 0),
+    }
+}
+
 // A file.
-fn stored(arena: &Bump) -> End {
-    let mut contents = Contents::fresh(arena);
-    let answer = write(&mut contents, b"NAME", b"some bytes of a file");
+fn stored<'a>(contents: &mut Contents<&'a Bump>) -> End {
+    let answer = write(contents, b"NAME", b"some bytes of a file");
     let count = contents.names().len();
     end_of(answer, count == 1, count == 0 && contents.cost() == 0)
 }
@@ -101,31 +102,24 @@ const WHOLE: &str = "
 05 'G | 02 'xyz
 ";
 
-// It, where memory suffices.
-fn whole<'a>(arena: &'a Bump) -> Option<Items<&'a Bump>> {
-    let mut items = Items::new(arena);
-    for line in WHOLE.lines() {
-        if let Some((key, value)) = line.split_once(" | ") {
-            items.insert(bytes(arena, key)?, bytes(arena, value)?).ok()?;
-        }
-    }
-    Some(items)
+// What is made of something that has come of it, where it is to be this.
+fn is_done(is: bool) -> End {
+    if is { End::Done } else { End::Wrong }
 }
 
 // A decoding.
 fn decoded<'a>(little: &'a Bump, items: &Items<&'a Bump>) -> End {
     match Contents::decode_items(little, items) {
-        Ok(contents) if contents.cost() == items.cost() => End::Done,
+        Ok(contents) => is_done(contents.cost() == items.cost()),
         Err(DecodeFault::Memory) => End::Refused,
-        _ => End::Wrong,
+        Err(_) => End::Wrong,
     }
 }
 
 // An encoding.
 fn encoded<'a>(little: &'a Bump, contents: &Contents<&'a Bump>) -> End {
     match contents.encode_items(little) {
-        Ok(again) if again.cost() == contents.cost() => End::Done,
-        Ok(_) => End::Wrong,
+        Ok(again) => is_done(again.cost() == contents.cost()),
         Err(_) => End::Refused,
     }
 }
@@ -133,37 +127,51 @@ fn encoded<'a>(little: &'a Bump, contents: &Contents<&'a Bump>) -> End {
 // A copy.
 fn copied<'a>(little: &'a Bump, contents: &Contents<&'a Bump>) -> End {
     match contents.copy(little) {
-        Ok(copy) if copy.cost() == contents.cost() => End::Done,
-        Ok(_) => End::Wrong,
+        Ok(copy) => is_done(copy.cost() == contents.cost()),
         Err(_) => End::Refused,
     }
 }
 
-// What is done of the whole map, with ample memory for what stands before it.
-fn read<'a>(step: &str, ample: &'a Bump, little: &'a Bump) -> Option<End> {
-    let items = whole(ample)?;
-    if step == "decoding" {
-        return Some(decoded(little, &items));
-    }
-    let contents = Contents::decode_items(ample, &items).ok()?;
-    if contents.cost() != items.cost() {
+// What is done of contents that are to cost so much.
+fn told<'a>(
+    step: &str,
+    little: &'a Bump,
+    contents: &Contents<&'a Bump>,
+    cost: u128,
+) -> Option<End> {
+    if contents.cost() != cost {
         return None;
     }
-    if step == "encoding" {
-        return Some(encoded(little, &contents));
+    match step {
+        "encoding" => Some(encoded(little, contents)),
+        "copy" => Some(copied(little, contents)),
+        _ => None,
     }
-    Some(copied(little, &contents))
+}
+
+// What is done of a map, with ample memory for what stands before it.
+fn read<'a>(step: &str, ample: &'a Bump, little: &'a Bump, items: &Items<&'a Bump>) -> Option<End> {
+    if step == "decoding" {
+        return Some(decoded(little, items));
+    }
+    let contents = Contents::decode_items(ample, items).ok()?;
+    told(step, little, &contents, items.cost())
+}
+
+// A step on contents with so little memory, or on the whole map.
+fn ends_with<'a>(step: &str, ample: &'a Bump, little: &'a Bump) -> Option<End> {
+    match step {
+        "macro" => Some(defined(&mut Contents::fresh(little))),
+        "file's macro" => Some(written_and_loaded(&mut Contents::fresh(little))),
+        "file" => Some(stored(&mut Contents::fresh(little))),
+        _ => read(step, ample, little, &map_of(ample, WHOLE)?),
+    }
 }
 
 // A step with so many bytes of memory left.
 fn ends(alloc: Global, step: &str, left: usize) -> Option<End> {
     let little = arena_with(alloc, left)?;
-    match step {
-        "macro" => Some(defined(&little)),
-        "file's macro" => Some(loaded(&little)),
-        "file" => Some(stored(&little)),
-        _ => read(step, &arena_with(alloc, 3_000)?, &little),
-    }
+    ends_with(step, &arena_with(alloc, 3_000)?, &little)
 }
 
 // How often a step was done and how often refused, with 0, 8 and more bytes of memory; none where it was wrong.

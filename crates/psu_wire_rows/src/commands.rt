@@ -1,53 +1,12 @@
-// What units of the command tree ask for: values, texts, and the calls of macros.
+// What units of the command tree ask for: files, what is kept, and the calls of macros.
 use crate::told::holds;
-use psu_lex::Unit;
+use crate::tree::{read, unit_of};
 use psu_tables::row;
-use psu_tree::{Command, Level, Output, Path, Switch, nonvolatile, read_unit, request};
-
-fn unit_of(text: &[u8]) -> Unit<'_> {
-    Unit {
-        text,
-        first: true,
-        fault: None,
-    }
-}
-
-// Voltages of output 3, and the millivolts that each is rounded to.
-const VOLTAGES: &str = "
-SOUR3:VOLT 5250.5 mv -> 5251
-SOUR3:VOLT 5.2505 -> 5251
-SOUR3:VOLT MAX -> 60000
-SOUR3:VOLT -0.0004 -> 0
-SOUR3:VOLT 1.5 V -> 1500
-";
-
-// The voltage that a unit sets on output 3.
-fn voltage(text: &str) -> Option<u16> {
-    match read_unit(&Path::root(), &unit_of(text.as_bytes())) {
-        Ok(Command::Level(Level::Voltage, Output::Three, millivolts)) => Some(millivolts),
-        _ => None,
-    }
-}
-
-fn is_set(line: &str) -> bool {
-    match row(line) {
-        Some((text, wanted)) => wanted.parse().ok() == voltage(text),
-        None => line.is_empty(),
-    }
-}
-
-#[test]
-fn values_of_commands(rt: HostRuntime) {
-    for line in VOLTAGES.lines() {
-        holds(&rt, is_set(line), line);
-    }
-    let half = read_unit(&Path::root(), &unit_of(b"OUTP2 -0.5"));
-    assert!(rt; matches!(half, Ok(Command::Switch(Switch::Output, Output::Two, true))));
-}
+use psu_tree::{Command, Path, nonvolatile, request};
 
 // Whether a unit, which changes what is nonvolatile, puts this file; one of no name where none is wanted.
 fn puts(text: &[u8], wanted: Option<&[u8]>, contents: &[u8]) -> bool {
-    match read_unit(&Path::root(), &unit_of(text)) {
+    match read(text) {
         Ok(command) => nonvolatile(&command, true) && is_file(&command, wanted, contents),
         Err(_) => false,
     }
@@ -70,7 +29,7 @@ fn files(rt: HostRuntime) {
 
 // Whether a unit changes what is nonvolatile, where the power-on status clear flag is this.
 fn changes(text: &[u8], flag: bool) -> bool {
-    match read_unit(&Path::root(), &unit_of(text)) {
+    match read(text) {
         Ok(command) => nonvolatile(&command, flag),
         Err(_) => false,
     }
@@ -94,12 +53,15 @@ A:B -> no
 SETA 1, -> no
 "#;
 
+// Whether a unit is one inside of a macro's call, and a call where it is wanted.
+fn calls(text: &[u8], wanted: bool) -> bool {
+    let asked = request(&mut Path::root(), &unit_of(text), true);
+    asked.inside && asked.call.is_some() == wanted
+}
+
 fn is_call(line: &str) -> bool {
     match row(line) {
-        Some((text, wanted)) => {
-            let asked = request(&mut Path::root(), &unit_of(text.as_bytes()), true);
-            asked.inside && asked.call.is_some() == (wanted == "yes")
-        }
+        Some((text, wanted)) => calls(text.as_bytes(), wanted == "yes"),
         None => line.is_empty(),
     }
 }

@@ -66,23 +66,39 @@ fn is_lock(alloc: Global, milliseconds: u32, string: &[u8], cell: &str) -> bool 
     wait.parse() == Ok(milliseconds) && are_bytes(alloc, string, string_cell)
 }
 
+// How a thing asked for is called.
+fn called(action: &Action<Global>) -> &'static str {
+    match action {
+        Action::Send(Side::Sync, _) => "sync",
+        Action::Send(Side::Async, _) => "async",
+        Action::Execute(..) => "execute",
+        Action::TooMuch(_) => "too-much",
+        Action::Trigger(_) => "trigger",
+        Action::Delivered => "delivered",
+        Action::Status(_) => "status",
+        Action::Lock(..) => "lock",
+        Action::Release => "release",
+        Action::Info => "info",
+        Action::Clear => "clear",
+        Action::Closed => "closed",
+    }
+}
+
+// Whether what it is asked with is that of a cell.
+fn has(alloc: Global, action: &Action<Global>, cell: &str) -> bool {
+    match action {
+        Action::Send(_, bytes) => is_message(alloc, bytes, cell),
+        Action::Execute(at, text) => is_command(alloc, *at, text, cell),
+        Action::Status(read) => cell == yes_or_no(*read),
+        Action::Lock(wait, string) => is_lock(alloc, *wait, string, cell),
+        _ => cell.is_empty(),
+    }
+}
+
 // Whether a thing asked for is the one of a cell.
 fn is_asked(alloc: Global, action: &Action<Global>, cell: &str) -> bool {
     let (word, rest) = halves(cell);
-    match action {
-        Action::Send(Side::Sync, bytes) => word == "sync" && is_message(alloc, bytes, rest),
-        Action::Send(Side::Async, bytes) => word == "async" && is_message(alloc, bytes, rest),
-        Action::Execute(at, text) => word == "execute" && is_command(alloc, *at, text, rest),
-        Action::TooMuch(_) => cell == "too much",
-        Action::Trigger(_) => cell == "trigger",
-        Action::Delivered => cell == "delivered",
-        Action::Status(read) => word == "status" && rest == yes_or_no(*read),
-        Action::Lock(wait, string) => word == "lock" && is_lock(alloc, *wait, string, rest),
-        Action::Release => cell == "release",
-        Action::Info => cell == "info",
-        Action::Clear => cell == "clear",
-        Action::Closed => cell == "closed",
-    }
+    word == called(action) && has(alloc, action, rest)
 }
 
 // Whether all that is asked for stands in a cell, in order, and nothing else.

@@ -1,136 +1,61 @@
 // The worked examples of the grammar; expected values by its rules.
 use crate::told::holds;
 use psu_lex::{
-    Bytes, ScpiError, Unit, UnitFault, block, definite, expand, fixed3, number, split, string,
+    Bytes, ScpiError, Unit, UnitFault, block, definite, expand, fixed3, is_label, is_name, number,
+    split, string,
 };
-use psu_tables::{bracketed, bytes, row, written};
+use psu_tables::{bytes, row, written};
 use std::alloc::Global;
+use std::process::Abort;
 
-fn is_unit(unit: Unit<'_>, text: &[u8], first: bool, fault: Option<UnitFault>) -> bool {
-    unit.text == text && unit.first == first && unit.fault == fault
+// How a unit lies in its message: whether it is the first, and its fault.
+fn placed(unit: &Unit<'_>) -> &'static str {
+    match (unit.first, unit.fault) {
+        (true, None) => "first",
+        (true, Some(UnitFault::String)) => "first/string",
+        (true, Some(UnitFault::Block)) => "first/block",
+        (false, None) => "next",
+        (false, Some(_)) => "next/faulty",
+    }
 }
 
-// A message of two units.
-fn two_are_cut(alloc: Global) -> Option<bool> {
-    let units = split(alloc, b"*PUD #13a;b;*IDN?").ok()?;
-    let [first, second] = units.as_slice() else {
-        return None;
-    };
-    Some(is_unit(*first, b"*PUD #13a;b", true, None) && is_unit(*second, b"*IDN?", false, None))
+fn is_unit(unit: &Unit<'_>, cell: &str) -> bool {
+    match cell.split_once(" ") {
+        Some((place, text)) => placed(unit) == place && unit.text == text.as_bytes(),
+        None => false,
+    }
 }
 
-// Two messages, the second with a unit that has a fault.
-fn three_are_cut(alloc: Global) -> Option<bool> {
-    let units = split(alloc, b"VOLT 1; \n;CURR 'a;b'\nVO\"a;b\"LT;X").ok()?;
-    let [first, second, third] = units.as_slice() else {
-        return None;
-    };
-    Some(
-        is_unit(*first, b"VOLT 1", true, None)
-            && is_unit(*second, b"CURR 'a;b'", true, None)
-            && is_unit(*third, b"VO\"a;b\"LT;X", true, Some(UnitFault::String)),
-    )
+// Whether units are those of a cell, and no others.
+fn are_units(units: &[Unit<'_>], cell: &str) -> bool {
+    if cell == "none" {
+        return units.is_empty();
+    }
+    let mut cells = cell.split(" | ");
+    for unit in units {
+        match cells.next() {
+            Some(cell) if is_unit(unit, cell) => {}
+            _ => return false,
+        }
+    }
+    cells.next().is_none()
 }
 
-// Whether a message has no unit.
-fn none_are_cut(alloc: Global, text: &[u8]) -> bool {
+fn are_cut(alloc: Global, text: &[u8], wanted: &str) -> bool {
     match split(alloc, text) {
-        Ok(units) => units.as_slice().is_empty(),
+        Ok(units) => are_units(units.as_slice(), wanted),
         Err(_) => false,
     }
 }
 
-#[test]
-fn messages_are_cut_into_units(rt: HostRuntime) {
-    assert!(rt; none_are_cut(rt.alloc(), b""));
-    assert!(rt; none_are_cut(rt.alloc(), b" ; \n\t"));
-    assert!(rt; two_are_cut(rt.alloc()) == Some(true));
-    assert!(rt; three_are_cut(rt.alloc()) == Some(true));
+// The same where `\n` stands for NL.
+fn is_cut(alloc: Global, text: &str, wanted: &str) -> Option<bool> {
+    let text = written(alloc, text)?;
+    let wanted = written(alloc, wanted)?;
+    Some(are_cut(alloc, text.as_bytes(), &wanted))
 }
 
-// Units whose string or block has a fault, each alone in its message; `\n` stands for NL.
-const FAULTY_UNITS: &str = r#"
-A 'b;C\nD -> string
-A 'b' c;D -> string
-A "b'c;D -> string
-A #14abc;D -> block
-A #;B -> block
-A #2 1a;B -> block
-A #11ab;C -> block
-A #0b;c\nD -> none
-"#;
-
-// The fault of this name.
-fn fault_named(name: &str) -> Option<UnitFault> {
-    match name {
-        "string" => Some(UnitFault::String),
-        "block" => Some(UnitFault::Block),
-        _ => None,
-    }
-}
-
-// Whether a message is one unit with this fault.
-fn is_one(alloc: Global, text: &[u8], fault: Option<UnitFault>) -> bool {
-    match split(alloc, text) {
-        Ok(units) => match units.as_slice() {
-            [unit] => is_unit(*unit, text, true, fault),
-            _ => false,
-        },
-        Err(_) => false,
-    }
-}
-
-fn takes_all(alloc: Global, line: &str) -> Option<bool> {
-    let (text, fault) = row(line)?;
-    Some(is_one(alloc, written(alloc, text)?.as_bytes(), fault_named(fault)))
-}
-
-#[test]
-fn faulty_strings_and_blocks_take_all_up_to_the_end(rt: HostRuntime) {
-    for line in FAULTY_UNITS.lines() {
-        holds(
-            &rt,
-            line.is_empty() || takes_all(rt.alloc(), line) == Some(true),
-            line,
-        );
-    }
-}
-
-// Numbers in brackets, how many places of theirs count, and what they are, or the number of the error.
-const NUMBERS: &str = "
-[5.0005] 3 -> 5001
-[-1.5] 0 -> -2
-[2.5] 0 -> 3
-[-0.4] 0 -> 0
-[.5E1] 0 -> 5
-[+5.] 0 -> 5
-[1 E +2 ] 0 -> 100
-[9e32000] 0 -> 1000000000000000
-[-9e99] 0 -> -1000000000000000
-[1E-32000] 3 -> 0
-
-[] 0 -> error 102
-[.] 0 -> error 102
-[+] 0 -> error 102
-[- 1] 0 -> error 102
-[ 1] 0 -> error 102
-[1 E + 2] 0 -> error 102
-[1 E V 1] 0 -> error 102
-[1E5E5] 0 -> error 102
-[5_] 0 -> error 102
-
-[1E-32001] 0 -> error 123
-[0E32001] 0 -> error 123
-[1E32001V] 0 -> error 123
-[1E99999999999999999999] 0 -> error 123
-
-[1E] 0 -> error 131
-[1 EV] 0 -> error 131
-[1MV] 0 -> error 131
-[1E5 V] 0 -> error 131
-";
-
-// Whether a number reads as its row says.
+// Whether a number reads as its row says, where so many places of it count.
 fn is_number(text: &[u8], places: u8, wanted: &str) -> bool {
     match (number(text, places), wanted.strip_prefix("error ")) {
         (Ok(value), None) => wanted.parse() == Ok(value),
@@ -139,131 +64,39 @@ fn is_number(text: &[u8], places: u8, wanted: &str) -> bool {
     }
 }
 
-// The same of a line; none where it is no row.
-fn is_rounded(line: &str) -> Option<bool> {
-    let (text, rest) = bracketed(line)?;
-    let (cell, wanted) = row(rest)?;
-    let places = cell.parse().ok()?;
-    Some(places <= 3 && is_number(text.as_bytes(), places, wanted))
-}
-
-#[test]
-fn numbers_are_read_and_rounded(rt: HostRuntime) {
-    for line in NUMBERS.lines() {
-        holds(&rt, line.is_empty() || is_rounded(line) == Some(true), line);
-    }
-}
-
-// The greatest count of digits, in their bytes.
-const MANY_DIGITS: &str = "
-31*256 -> error 124
-31*255 -> 1000000000000000
-30 2e 30*297 31 -> 0
-";
-
-fn are_digits(alloc: Global, line: &str) -> Option<bool> {
-    let (cell, wanted) = row(line)?;
-    Some(is_number(&bytes(alloc, cell)?, 0, wanted))
-}
-
-#[test]
-fn numbers_of_many_digits(rt: HostRuntime) {
-    for line in MANY_DIGITS.lines() {
-        holds(
-            &rt,
-            line.is_empty() || are_digits(rt.alloc(), line) == Some(true),
-            line,
-        );
-    }
-}
-
-// Strings and blocks as data, and the bytes that they are in brackets; `\n` stands for NL.
-const STRINGS: &str = r#"
-'it''s' -> [it's]
-"it''s" -> [it''s]
-'' -> []
-'a -> none
-'a'b' -> none
-'a'  -> none
-a -> none
-"#;
-
-const BLOCKS: &str = r#"
-#13a;b -> [a;b]
-#203a;b -> [a;b]
-#10 -> []
-#0a;b\n -> [a;b]
-#0 -> []
-#13a; -> none
-#13a;bc -> none
-#H1 -> none
-"#;
-
 // Whether what was read is what a row says: these bytes in brackets, or nothing.
 fn is_read(read: Result<Bytes<Global>, ScpiError>, error: ScpiError, wanted: &str) -> bool {
     match read {
-        Ok(bytes) => is_bracketed(bytes.as_slice(), wanted) == Some(true),
+        Ok(bytes) => inner(wanted) == Some(bytes.as_slice()),
         Err(told) => told == error && wanted == "none",
     }
 }
 
-fn is_bracketed(bytes: &[u8], cell: &str) -> Option<bool> {
-    let inner = cell.strip_prefix("[")?.strip_suffix("]")?;
-    Some(inner.as_bytes() == bytes)
+// The bytes of a text that stands in brackets.
+fn inner(cell: &str) -> Option<&[u8]> {
+    Some(cell.strip_prefix("[")?.strip_suffix("]")?.as_bytes())
 }
 
-fn string_is_read(alloc: Global, line: &str) -> Option<bool> {
-    let (text, wanted) = row(line)?;
-    let read = string(alloc, text.as_bytes());
-    Some(is_read(read, ScpiError::InvalidStringData, wanted))
-}
-
-fn block_is_read(alloc: Global, line: &str) -> Option<bool> {
-    let (text, wanted) = row(line)?;
-    let read = block(alloc, written(alloc, text)?.as_bytes());
-    Some(is_read(read, ScpiError::InvalidBlockData, wanted))
-}
-
-#[test]
-fn strings_are_read(rt: HostRuntime) {
-    for line in STRINGS.lines() {
-        holds(
-            &rt,
-            line.is_empty() || string_is_read(rt.alloc(), line) == Some(true),
-            line,
-        );
+fn block_is_read(alloc: Global, text: &str, wanted: &str) -> bool {
+    match written(alloc, text) {
+        Some(text) => is_read(
+            block(alloc, text.as_bytes()),
+            ScpiError::InvalidBlockData,
+            wanted,
+        ),
+        None => false,
     }
 }
-
-#[test]
-fn blocks_are_read(rt: HostRuntime) {
-    for line in BLOCKS.lines() {
-        holds(
-            &rt,
-            line.is_empty() || block_is_read(rt.alloc(), line) == Some(true),
-            line,
-        );
-    }
-}
-
-// Bodies of macros, their parameters in brackets, and what they are expanded to.
-const MACROS: &str = r#"
-VOLT $1;*SAV $2 [3][1] -> VOLT 3;*SAV 1
-VOLT $1;*SAV $2 [3] -> none
-"$1" $0  -> "$1" $0
-$$1$12 [x] -> $xx2
-#12$1$1'$1 [x] -> #12$1x'$1
-$2 [x] -> none
-"#;
 
 // Adds the parameters of a cell, each in brackets.
-fn add_parameters<'a>(args: &mut Vec<&'a [u8]>, cell: &'a str) -> Option<()> {
+fn add_parameters<'a>(args: &mut Vec<&'a [u8]>, cell: &'a str) -> bool {
     for parameter in cell.split("]") {
-        if let Some(text) = parameter.strip_prefix("[") {
-            args.push(text.as_bytes()).ok()?;
+        match parameter.strip_prefix("[") {
+            Some(text) if args.push(text.as_bytes()).is_err() => return false,
+            _ => {}
         }
     }
-    Some(())
+    true
 }
 
 // Whether a body is expanded as a row says.
@@ -274,38 +107,155 @@ fn expands(alloc: Global, body: &str, args: &[&[u8]], wanted: &str) -> bool {
     }
 }
 
-fn is_expanded(alloc: Global, line: &str) -> Option<bool> {
-    let (call, wanted) = row(line)?;
+fn is_expanded(alloc: Global, call: &str, wanted: &str) -> bool {
     let (body, parameters) = call.rsplit_once(" ").unwrap_or((call, ""));
     let mut args = Vec::new(alloc);
-    add_parameters(&mut args, parameters)?;
-    Some(expands(alloc, body, &args, wanted))
+    add_parameters(&mut args, parameters) && expands(alloc, body, &args, wanted)
 }
 
-#[test]
-fn macros_are_expanded(rt: HostRuntime) {
-    for line in MACROS.lines() {
-        holds(
-            &rt,
-            line.is_empty() || is_expanded(rt.alloc(), line) == Some(true),
-            line,
-        );
+fn is_answered(alloc: Global, value: i64, wanted: &str) -> bool {
+    match fixed3(alloc, value) {
+        Ok(text) => text.as_slice() == wanted.as_bytes(),
+        Err(_) => false,
     }
 }
 
-// Thousandths, and how each is answered.
-const ANSWERS: &str = "
-5001 -> 5.001
--5 -> -0.005
-0 -> 0.000
--9223372036854775808 -> -9223372036854775.808
+// Whether text as a row of this kind comes to what it says. The kinds are told where the rows are.
+fn comes_to(alloc: Global, kind: &str, cell: &str, wanted: &str) -> Option<bool> {
+    Some(match kind {
+        "cut" => is_cut(alloc, cell, wanted)?,
+        "number" => is_number(inner(cell)?, 0, wanted),
+        "thousandths" => is_number(inner(cell)?, 3, wanted),
+        "digits" => is_number(&bytes(alloc, cell)?, 0, wanted),
+        "string" => is_read(
+            string(alloc, cell.as_bytes()),
+            ScpiError::InvalidStringData,
+            wanted,
+        ),
+        "block" => block_is_read(alloc, cell, wanted),
+        "expand" => is_expanded(alloc, cell, wanted),
+        "answer" => is_answered(alloc, cell.parse().ok()?, wanted),
+        "label" => is_label(inner(cell)?) == (wanted == "yes"),
+        "name" => is_name(inner(cell)?) == (wanted == "yes"),
+        "bytes" => is_name(&bytes(alloc, cell)?) == (wanted == "yes"),
+        _ => return None,
+    })
+}
+
+// A row is a kind and a text, ` -> `, and what the text comes to; a line that begins with `# ` tells what the rows below it are for.
+fn holds_row(alloc: Global, line: &str) -> bool {
+    match row(line) {
+        Some((text, wanted)) => match text.split_once(" ") {
+            Some((kind, cell)) => comes_to(alloc, kind, cell, wanted) == Some(true),
+            None => false,
+        },
+        None => line.is_empty() || line.starts_with("# "),
+    }
+}
+
+fn all_hold(rt: &impl Abort, alloc: Global, rows: &str) {
+    for line in rows.lines() {
+        holds(rt, holds_row(alloc, line), line);
+    }
+}
+
+const UNITS: &str = r#"
+# Messages, in which `\n` stands for NL, and the units that they are cut into.
+cut  -> none
+cut *PUD #13a;b;*IDN? -> first *PUD #13a;b | next *IDN?
+cut VOLT 1; \n;CURR 'a;b'\nVO"a;b"LT;X -> first VOLT 1 | first CURR 'a;b' | first/string VO"a;b"LT;X
+
+# A unit whose string or block has a fault takes all up to the end, as a block without a count does.
+cut A 'b;C\nD -> first/string A 'b;C\nD
+cut A 'b' c;D -> first/string A 'b' c;D
+cut A "b'c;D -> first/string A "b'c;D
+cut A #14abc;D -> first/block A #14abc;D
+cut A #;B -> first/block A #;B
+cut A #2 1a;B -> first/block A #2 1a;B
+cut A #11ab;C -> first/block A #11ab;C
+cut A #0b;c\nD -> first A #0b;c\nD
+"#;
+
+#[test]
+fn messages_are_cut_into_units(rt: HostRuntime) {
+    all_hold(&rt, rt.alloc(), UNITS);
+    assert!(rt; are_cut(rt.alloc(), b" ; \n\t", "none"));
+}
+
+const NUMBERS: &str = "
+# Numbers, rounded half away from zero to whole ones or to thousandths, and the numbers of the errors.
+thousandths [5.0005] -> 5001
+number [-1.5] -> -2
+number [2.5] -> 3
+number [-0.4] -> 0
+number [.5E1] -> 5
+number [+5.] -> 5
+number [1 E +2 ] -> 100
+number [9e32000] -> 1000000000000000
+number [-9e99] -> -1000000000000000
+thousandths [1E-32000] -> 0
+number [] -> error 102
+number [.] -> error 102
+number [+] -> error 102
+number [- 1] -> error 102
+number [ 1] -> error 102
+number [1 E + 2] -> error 102
+number [1 E V 1] -> error 102
+number [1E5E5] -> error 102
+number [5_] -> error 102
+number [1E-32001] -> error 123
+number [0E32001] -> error 123
+number [1E32001V] -> error 123
+number [1E99999999999999999999] -> error 123
+number [1E] -> error 131
+number [1 EV] -> error 131
+number [1MV] -> error 131
+number [1E5 V] -> error 131
+
+# The greatest count of digits, in their bytes.
+digits 31*256 -> error 124
+digits 31*255 -> 1000000000000000
+digits 30 2e 30*297 31 -> 0
+
+# Thousandths, and how each is answered.
+answer 5001 -> 5.001
+answer -5 -> -0.005
+answer 0 -> 0.000
+answer -9223372036854775808 -> -9223372036854775.808
 ";
 
-fn is_answered(alloc: Global, line: &str) -> Option<bool> {
-    let (value, wanted) = row(line)?;
-    let text = fixed3(alloc, value.parse().ok()?).ok()?;
-    Some(text.as_slice() == wanted.as_bytes())
+#[test]
+fn numbers_are_read_and_written(rt: HostRuntime) {
+    all_hold(&rt, rt.alloc(), NUMBERS);
 }
+
+const DATA: &str = r#"
+# Strings and blocks as data, and the bytes that they are in brackets; in a block `\n` stands for NL.
+string 'it''s' -> [it's]
+string "it''s" -> [it''s]
+string '' -> []
+string 'a -> none
+string 'a'b' -> none
+string 'a'  -> none
+string a -> none
+
+block #13a;b -> [a;b]
+block #203a;b -> [a;b]
+block #10 -> []
+block #0a;b\n -> [a;b]
+block #0 -> []
+block #13a; -> none
+block #13a;bc -> none
+block #H1 -> none
+
+# Bodies of macros, their parameters in brackets, and what they are expanded to.
+expand VOLT $1;*SAV $2 [3][1] -> VOLT 3;*SAV 1
+expand VOLT $1;*SAV $2 [3] -> none
+expand "$1" $0  -> "$1" $0
+expand $$1$12 [x] -> $xx2
+expand #12$1$1'$1 [x] -> #12$1x'$1
+expand $2 [x] -> none
+"#;
 
 // Whether eleven bytes are answered as a block.
 fn is_definite(alloc: Global) -> bool {
@@ -316,15 +266,59 @@ fn is_definite(alloc: Global) -> bool {
 }
 
 #[test]
-fn answers_are_written(rt: HostRuntime) {
-    for line in ANSWERS.lines() {
-        holds(
-            &rt,
-            line.is_empty() || is_answered(rt.alloc(), line) == Some(true),
-            line,
-        );
-    }
+fn data_are_read_and_macros_expanded(rt: HostRuntime) {
+    all_hold(&rt, rt.alloc(), DATA);
     assert!(rt; is_definite(rt.alloc()));
+}
+
+const NAMES: &str = r#"
+# The label of a macro: a letter followed by letters, digits or `_`, 1 to 12 bytes.
+label [A] -> yes
+label [z] -> yes
+label [a_1] -> yes
+label [ABCDEFGHIJ_9] -> yes
+label [ABCDEFGHIJ_90] -> no
+label [] -> no
+label [1A] -> no
+label [_A] -> no
+label [A-B] -> no
+label [A.B] -> no
+label [A B] -> no
+label [*A] -> no
+label [A?] -> no
+label [é] -> no
+
+# The name of a file: 1 to 64 of letters, digits, `_`, `-` and `.`.
+name [a] -> yes
+name [9] -> yes
+name [_] -> yes
+name [-] -> yes
+name [.] -> yes
+name [st.a_1-B] -> yes
+name [] -> no
+name [a/b] -> no
+name [a b] -> no
+name [a"b] -> no
+name [a,b] -> no
+name [é] -> no
+bytes 6e*64 -> yes
+bytes 6e*65 -> no
+"#;
+
+#[test]
+fn labels_of_macros_and_names_of_files(rt: HostRuntime) {
+    all_hold(&rt, rt.alloc(), NAMES);
+}
+
+// Whether a message is one unit without a fault.
+fn is_one(alloc: Global, text: &[u8]) -> bool {
+    match split(alloc, text) {
+        Ok(units) => match units.as_slice() {
+            [unit] => unit.text == text && placed(unit) == "first",
+            _ => false,
+        },
+        Err(_) => false,
+    }
 }
 
 #[test]
@@ -335,5 +329,5 @@ fn many_strings_are_cut_in_one_pass(rt: HostRuntime) {
             strings[at] = b',';
         }
     }
-    assert!(rt; is_one(rt.alloc(), &strings, None));
+    assert!(rt; is_one(rt.alloc(), &strings));
 }

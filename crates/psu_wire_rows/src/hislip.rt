@@ -96,14 +96,26 @@ fn second_is_refused(ample: &Bump, arena: &Bump, left: usize) -> Option<bool> {
     ends_whole(&mut core, ample).then_some(true)
 }
 
+// Whether frames are those of the answer.
+fn is_answer(frames: &Option<Vec<u8, &Bump>>) -> bool {
+    match frames {
+        Some(frames) => frames.as_slice() == ANSWER,
+        None => false,
+    }
+}
+
+// Whether a core is refused memory for its answer; none where that is another.
+fn refuses_answer<'a>(core: &SessionCore<&'a Bump>) -> Option<bool> {
+    match core.answer(origin(2), b"a\n") {
+        Ok(frames) => is_answer(&frames).then_some(false),
+        Err(_) => Some(true),
+    }
+}
+
 // The same of an answer.
 fn answer_is_refused(arena: &Bump, left: usize) -> Option<bool> {
     leave(arena, left)?;
-    let core = SessionCore::new(arena, 1);
-    match core.answer(origin(2), b"a\n") {
-        Ok(frames) => (frames?.as_slice() == ANSWER).then_some(false),
-        Err(_) => Some(true),
-    }
+    refuses_answer(&SessionCore::new(arena, 1))
 }
 
 // The same of the step of this name.

@@ -21,8 +21,6 @@ mod hislip;
 #[cfg(test)]
 mod locks;
 #[cfg(test)]
-mod names;
-#[cfg(test)]
 mod outputs;
 #[cfg(test)]
 mod paths;

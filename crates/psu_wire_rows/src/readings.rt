@@ -1,22 +1,14 @@
 // Units as commands are read from them, and the faults of a reading in their order. A number is rounded half away from
 // zero before it is looked at.
 use crate::told::holds;
-use crate::tree::fail_as_told;
+use crate::tree::{fail_as_told, read};
 use psu_lex::{ScpiError, Unit, split};
 use psu_tables::bracketed;
-use psu_tree::{Command, Enable, Flag, Path, Query, read_unit, request};
+use psu_tree::{Command, Enable, Flag, Level, Output, Path, Query, Switch, request};
 use std::alloc::Global;
 
-fn unit_of(text: &[u8]) -> Unit<'_> {
-    Unit {
-        text,
-        first: true,
-        fault: None,
-    }
-}
-
-// Numbers of the enable registers and of `*PSC`, rounded half away from zero.
-const NUMBERS: &str = "
+// Units, and what each puts where: enable registers, the flag of `*PSC`, the voltage of output 3, the state of output 2; or what a query asks for.
+const UNITS: &str = "
 [*sRe 00005] service 5
 [*SRE \t5 ] service 5
 [*SRE +5] service 5
@@ -30,47 +22,71 @@ const NUMBERS: &str = "
 [*PSC 0.5] power-on yes
 [*PSC -32767] power-on yes
 [*PSC 32767.4] power-on yes
+[SOUR3:VOLT 5250.5 mv] voltage 5251
+[SOUR3:VOLT 5.2505] voltage 5251
+[SOUR3:VOLT MAX] voltage 60000
+[SOUR3:VOLT -0.0004] voltage 0
+[SOUR3:VOLT 1.5 V] voltage 1500
+[OUTP2 -0.5] output yes
+[ *idn?\r] query identification
+[*STB? ] query status-byte
+[*OPC?] query operation-complete
+[ *sre? ] query service
 ";
 
-// Whether a command puts in a register what its row says.
-fn puts(command: &Command<'_>, register: &str, wanted: &str) -> bool {
+// How a query is called.
+fn called(query: Query) -> &'static str {
+    match query {
+        Query::Identification => "identification",
+        Query::StatusByte => "status-byte",
+        Query::OperationComplete => "operation-complete",
+        Query::Enable(Enable::ServiceRequest) => "service",
+        _ => "another",
+    }
+}
+
+fn is_yes_or_no(is: bool, cell: &str) -> bool {
+    cell == (if is { "yes" } else { "no" })
+}
+
+// Whether a command puts there what its row says, or asks for it.
+fn puts(command: &Command<'_>, what: &str, value: &str) -> bool {
     match command {
-        Command::Enable(Enable::ServiceRequest, bits) => register == "service"
-            && wanted.parse() == Ok(*bits),
-        Command::Enable(Enable::EventStatus, bits) => register == "event"
-            && wanted.parse() == Ok(*bits),
-        Command::Flag(Flag::PowerOnClear, on) => register == "power-on" && *on == (wanted == "yes"),
+        Command::Enable(Enable::ServiceRequest, bits) => what == "service"
+            && value.parse() == Ok(*bits),
+        Command::Enable(Enable::EventStatus, bits) => what == "event" && value.parse() == Ok(*bits),
+        Command::Flag(Flag::PowerOnClear, on) => what == "power-on" && is_yes_or_no(*on, value),
+        Command::Level(Level::Voltage, Output::Three, millivolts) => what == "voltage"
+            && value.parse() == Ok(*millivolts),
+        Command::Switch(Switch::Output, Output::Two, on) => what == "output"
+            && is_yes_or_no(*on, value),
+        Command::Query(query) => what == "query" && called(*query) == value,
         _ => false,
     }
 }
 
-fn is_number(line: &str) -> Option<bool> {
-    let (text, rest) = bracketed(line)?;
-    let (register, wanted) = rest.split_once(" ")?;
-    let command = read_unit(&Path::root(), &unit_of(text.as_bytes())).ok()?;
-    Some(puts(&command, register, wanted))
-}
-
-#[test]
-fn numbers_of_commands(rt: HostRuntime) {
-    for line in NUMBERS.lines() {
-        holds(&rt, line.is_empty() || is_number(line) == Some(true), line);
+// Whether what a unit reads as is that of a cell, `fault 151` for a fault.
+fn is_told(reading: Result<Command<'_>, ScpiError>, cell: &str) -> bool {
+    match (reading, cell.split_once(" ")) {
+        (Ok(command), Some((what, value))) => puts(&command, what, value),
+        (Err(error), Some((what, value))) => what == "fault"
+            && value.parse() == Ok(error.magnitude()),
+        _ => false,
     }
 }
 
-// What a unit that is a query asks for.
-fn query(text: &[u8]) -> Option<Query> {
-    match read_unit(&Path::root(), &unit_of(text)) {
-        Ok(Command::Query(query)) => Some(query),
-        _ => None,
+fn is_as_told(line: &str) -> bool {
+    match bracketed(line) {
+        Some((text, cell)) => is_told(read(text.as_bytes()), cell),
+        None => line.is_empty(),
     }
 }
 
 #[test]
-fn queries(rt: HostRuntime) {
-    assert!(rt; matches!(query(b" *idn?\r"), Some(Query::Identification)));
-    assert!(rt; matches!(query(b"*STB? "), Some(Query::StatusByte)));
-    assert!(rt; matches!(query(b"*OPC?"), Some(Query::OperationComplete)));
+fn commands_and_queries_of_units(rt: HostRuntime) {
+    for line in UNITS.lines() {
+        holds(&rt, is_as_told(line), line);
+    }
 }
 
 // Faults of a byte, of the syntax, of the header, of the number of data, and then of each datum.
@@ -112,23 +128,31 @@ fn faults_of_a_reading_come_in_order(rt: HostRuntime) {
 }
 
 // The units of a message: a command, a query, and a fault.
-fn are_read(alloc: Global) -> Option<bool> {
-    let units = split(alloc, b"*SRE 255; *sre? ;*ESE 'a").ok()?;
-    let [first, second, third] = units.as_slice() else {
-        return None;
-    };
+const MESSAGE: &[u8] = b"*SRE 255; *sre? ;*ESE 'a";
+
+const READ: &str = "service 255, query service, fault 151";
+
+// Whether units read as the cells of a text say.
+fn are_told(units: &[Unit<'_>], cells: &str) -> bool {
     let mut path = Path::root();
-    let command = request(&mut path, first, false).reading.ok()?;
-    let query = request(&mut path, second, false).reading.ok()?;
-    let fault = request(&mut path, third, false).reading.err()?;
-    Some(
-        puts(&command, "service", "255")
-            && matches!(query, Command::Query(Query::Enable(Enable::ServiceRequest)))
-            && fault == ScpiError::InvalidStringData,
-    )
+    let mut cells = cells.split(", ");
+    for unit in units {
+        match cells.next() {
+            Some(cell) if is_told(request(&mut path, unit, false).reading, cell) => {}
+            _ => return false,
+        }
+    }
+    cells.next().is_none()
+}
+
+fn are_read(alloc: Global) -> bool {
+    match split(alloc, MESSAGE) {
+        Ok(units) => are_told(units.as_slice(), READ),
+        Err(_) => false,
+    }
 }
 
 #[test]
 fn units_of_a_message_are_read(rt: HostRuntime) {
-    assert!(rt; are_read(rt.alloc()) == Some(true));
+    assert!(rt; are_read(rt.alloc()));
 }

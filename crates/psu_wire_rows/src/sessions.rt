@@ -90,7 +90,7 @@ sync 'HS 07 03 00*3 09 -> delivered, execute 9/0 20*65536
 sync 'HS 06 01 00*10 80 00 20*32768 -> delivered
 sync 'HS 06 01 00*10 80 00 20*32768 -> delivered
 sync 'HS 06 01 00*10 80 00 20*32768 -> delivered
-sync 'HS 07 03 00*3 09 -> delivered, too much
+sync 'HS 07 03 00*3 09 -> delivered, too-much
 sync 'HS 06 01 00*10 80 00 20*32768 -> delivered
 sync 'HS 07 03 00*3 09 -> delivered, execute 9/0 20*32768
 ";

@@ -1,17 +1,9 @@
 // A unit's header and data by their rules; expected values by the rules of the grammar.
 use crate::told::holds;
-use psu_lex::{Datum, DatumClass, ScpiError, Unit, UnitFault, split, syntax};
+use crate::tree::unit_of;
+use psu_lex::{Data, Datum, DatumClass, ScpiError, Unit, UnitFault, split, syntax};
 use psu_tables::bracketed;
 use std::alloc::Global;
-
-// A unit that is `text`, cut out of a transmission that is no more than it.
-fn unit_of(text: &[u8]) -> Unit<'_> {
-    Unit {
-        text,
-        first: true,
-        fault: None,
-    }
-}
 
 // The class of this name.
 fn class_named(name: &str) -> Option<DatumClass> {
@@ -25,27 +17,36 @@ fn class_named(name: &str) -> Option<DatumClass> {
 }
 
 // Whether a datum is the one of a cell.
-fn is_datum(datum: Datum<'_>, cell: &str) -> Option<bool> {
-    let (class, text) = cell.split_once(" ")?;
-    Some(class_named(class) == Some(datum.class) && datum.text == text.as_bytes())
+fn is_datum(datum: Datum<'_>, cell: &str) -> bool {
+    match cell.split_once(" ") {
+        Some((class, text)) => class_named(class) == Some(datum.class)
+            && datum.text == text.as_bytes(),
+        None => false,
+    }
 }
 
-// Whether a unit has this header, and these data: each with its class, and no others.
-fn reads(text: &[u8], wanted: &str) -> Option<bool> {
-    let parts = syntax(&unit_of(text)).ok()?;
-    let mut cells = wanted.split(" | ");
-    if cells.next()?.as_bytes() != parts.header.text {
-        return None;
-    }
-    let mut rest = parts.parameters;
-    for cell in cells {
-        let (datum, others) = rest.first()?;
-        if is_datum(datum, cell) != Some(true) {
-            return None;
+// Whether data are those of a text, each with its class, and no others.
+fn are_data(data: Data<'_>, cells: &str) -> bool {
+    let mut rest = data;
+    for cell in cells.split(" | ") {
+        match rest.first() {
+            Some((datum, others)) if is_datum(datum, cell) => rest = others,
+            _ => return false,
         }
-        rest = others;
     }
-    Some(rest.first().is_none())
+    rest.first().is_none()
+}
+
+// Whether a unit has this header, and these data behind it.
+fn reads(text: &[u8], wanted: &str) -> bool {
+    let Ok(parts) = syntax(&unit_of(text)) else {
+        return false;
+    };
+    match wanted.split_once(" | ") {
+        Some((header, cells)) => header.as_bytes() == parts.header.text
+            && are_data(parts.parameters, cells),
+        None => wanted.as_bytes() == parts.header.text && parts.parameters.first().is_none(),
+    }
 }
 
 // Units in brackets, and the header and the data that each has.
@@ -70,23 +71,49 @@ const UNITS: &str = r#"
 [D 'é'] D | string 'é'
 "#;
 
-fn has_parts(line: &str) -> Option<bool> {
-    let (text, wanted) = bracketed(line)?;
-    reads(text.as_bytes(), wanted)
+fn has_parts(line: &str) -> bool {
+    match bracketed(line) {
+        Some((text, wanted)) => reads(text.as_bytes(), wanted),
+        None => line.is_empty(),
+    }
 }
 
 #[test]
 fn units_are_read_by_their_parts(rt: HostRuntime) {
     for line in UNITS.lines() {
-        holds(&rt, line.is_empty() || has_parts(line) == Some(true), line);
+        holds(&rt, has_parts(line), line);
     }
-    assert!(rt; reads(b" \t*CLS\r", "*CLS") == Some(true));
+    assert!(rt; reads(b" \t*CLS\r", "*CLS"));
 }
 
 // What is no unit, in brackets.
 const NO_UNITS: &str = r#"
-[] [ ] [?] [*] [:] [1] [*?] [A:] [A::B] [:*IDN?] [*A:B] [VOLT ,1] [VOLT 1,] [VOLT ,] [VOLT 1,,2]
-[*GMC?"A"] [VOLT?MAX] [VOLT ?] [SYST :ERR?] [A? ?] [A 5_] [A 1 2] [A +] [A B C] [A $1] [VO"a"LT]
+[]
+[ ]
+[?]
+[*]
+[:]
+[1]
+[*?]
+[A:]
+[A::B]
+[:*IDN?]
+[*A:B]
+[VOLT ,1]
+[VOLT 1,]
+[VOLT ,]
+[VOLT 1,,2]
+[*GMC?"A"]
+[VOLT?MAX]
+[VOLT ?]
+[SYST :ERR?]
+[A? ?]
+[A 5_]
+[A 1 2]
+[A +]
+[A B C]
+[A $1]
+[VO"a"LT]
 "#;
 
 // Whether a unit has this fault.
@@ -94,16 +121,21 @@ fn fails(text: &[u8], error: ScpiError) -> bool {
     syntax(&unit_of(text)).err() == Some(error)
 }
 
+fn is_no_unit(line: &str) -> bool {
+    match line.strip_prefix("[") {
+        Some(rest) => match rest.strip_suffix("]") {
+            Some(text) => fails(text.as_bytes(), ScpiError::SyntaxError),
+            None => false,
+        },
+        None => line.is_empty(),
+    }
+}
+
 #[test]
 fn what_is_no_unit_is_a_syntax_error(rt: HostRuntime) {
-    let mut units = 0u32;
-    for cell in NO_UNITS.split("]") {
-        if let Some((_, text)) = cell.split_once("[") {
-            holds(&rt, fails(text.as_bytes(), ScpiError::SyntaxError), text);
-            units = units.saturating_add(1);
-        }
+    for line in NO_UNITS.lines() {
+        holds(&rt, is_no_unit(line), line);
     }
-    assert!(rt; units == 26);
 }
 
 #[test]
@@ -123,24 +155,36 @@ fn faults_of_a_unit_come_in_order(rt: HostRuntime) {
     assert!(rt; syntax(&faulty).err() == Some(ScpiError::InvalidStringData));
 }
 
-#[test]
-fn many_data_are_read_in_one_pass(rt: HostRuntime) {
-    let mut commas = [b','; 65_536];
-    commas[0] = b'A';
-    commas[1] = b' ';
-    assert!(rt; syntax(&unit_of(&commas)).err() == Some(ScpiError::SyntaxError));
+// A unit of the greatest length, whose data are this byte again and again.
+fn unit_with(byte: u8) -> [u8; 65_536] {
+    let mut text = [byte; 65_536];
+    text[0] = b'A';
+    text[1] = b' ';
+    text
+}
+
+// Puts a number before each comma of its data; the last of them is no comma.
+fn number(text: &mut [u8; 65_536]) {
     for at in 2..65_536 {
         if at % 2 == 0 {
-            commas[at] = b'1';
+            text[at] = b'1';
         }
     }
-    assert!(rt; syntax(&unit_of(&commas)).err() == Some(ScpiError::SyntaxError));
+}
+
+fn is_read(text: &[u8]) -> bool {
+    syntax(&unit_of(text)).is_ok()
+}
+
+#[test]
+fn many_data_are_read_in_one_pass(rt: HostRuntime) {
+    let mut commas = unit_with(b',');
+    assert!(rt; fails(&commas, ScpiError::SyntaxError));
+    number(&mut commas);
+    assert!(rt; fails(&commas, ScpiError::SyntaxError));
     commas[65_535] = b'2';
-    assert!(rt; syntax(&unit_of(&commas)).is_ok());
-    let mut quotes = [b'\''; 65_536];
-    quotes[0] = b'A';
-    quotes[1] = b' ';
-    assert!(rt; syntax(&unit_of(&quotes)).is_ok());
+    assert!(rt; is_read(&commas));
+    assert!(rt; is_read(&unit_with(b'\'')));
 }
 
 // Whether the units of a beginning of a message have the faults that they were cut with.

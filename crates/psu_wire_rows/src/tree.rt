@@ -7,14 +7,23 @@ use psu_tree::{Command, Path, read_unit, request};
 use std::alloc::Global;
 use std::process::Abort;
 
-// The fault of a unit's reading at the root, 0 where it is a command.
-fn fault(text: &[u8]) -> u16 {
-    let unit = Unit {
+/// A unit that is `text`, cut out of a transmission that is no more than it.
+pub fn unit_of(text: &[u8]) -> Unit<'_> {
+    Unit {
         text,
         first: true,
         fault: None,
-    };
-    number(read_unit(&Path::root(), &unit))
+    }
+}
+
+/// What a unit reads as at the root.
+pub fn read(text: &[u8]) -> Result<Command<'_>, ScpiError> {
+    read_unit(&Path::root(), &unit_of(text))
+}
+
+// The fault of a unit's reading at the root, 0 where it is a command.
+fn fault(text: &[u8]) -> u16 {
+    number(read(text))
 }
 
 // What a reading comes to: 0 where it is a command, else the number of its fault.
@@ -25,22 +34,39 @@ fn number(reading: Result<Command<'_>, ScpiError>) -> u16 {
     }
 }
 
-// Whether the readings of a message's units, in order, are those of a row.
+// The same of a unit of a message, which leaves the path where it does.
+fn fault_at<'a>(path: &mut Path<'a>, unit: &Unit<'a>) -> u16 {
+    if unit.first {
+        *path = Path::root();
+    }
+    number(request(path, unit, false).reading)
+}
+
+// Whether a word is this number.
+fn is_word(word: Option<&str>, number: u16) -> bool {
+    match word {
+        Some(word) => word.parse() == Ok(number),
+        None => false,
+    }
+}
+
+// Whether the readings of units, in order, are those of a row.
+fn are_read(units: &[Unit<'_>], wanted: &str) -> bool {
+    let mut path = Path::root();
+    let mut faults = wanted.split_whitespace();
+    for unit in units {
+        if !is_word(faults.next(), fault_at(&mut path, unit)) {
+            return false;
+        }
+    }
+    faults.next().is_none()
+}
+
+// The same of a message.
 fn reads(alloc: Global, message: &str, wanted: &str) -> Option<bool> {
     let message = written(alloc, message)?;
     let units = split(alloc, message.as_bytes()).ok()?;
-    let mut path = Path::root();
-    let mut faults = wanted.split_whitespace();
-    for unit in units.as_slice() {
-        if unit.first {
-            path = Path::root();
-        }
-        let fault = number(request(&mut path, unit, false).reading);
-        if faults.next()?.parse() != Ok(fault) {
-            return None;
-        }
-    }
-    Some(faults.next().is_none())
+    Some(are_read(units.as_slice(), wanted))
 }
 
 /// The messages of a table read as its rows say. A row is a line: a message, in which `\n` stands for NL, ` -> `, and the faults of its
