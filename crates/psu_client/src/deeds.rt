@@ -1,8 +1,8 @@
 // What those who play a script do, each step by its word and what is written behind it.
 use crate::client::Client;
-use crate::long_answer::{ask_much, is_drained};
+use crate::long_answer::{ask_much, is_drained, repeated};
 use crate::missed::{Missed, holds};
-use crate::wire::{is_ended, is_silent, send, text_comes};
+use crate::wire::{is_ended, is_held_back, is_silent, send, text_comes};
 use psu_tables::{bytes, written};
 use std::alloc::Global;
 use std::net::TcpStream;
@@ -42,6 +42,18 @@ fn gets(stream: &mut TcpStream, alloc: Global, cell: &str) -> Result<(), Missed>
     }
 }
 
+// Bytes as they are spelled, so many times over, are sent again and again, until they are not taken.
+fn floods(stream: &mut TcpStream, alloc: Global, rest: &str) -> Result<(), Missed> {
+    let (count, cell) = parted(rest);
+    let (Some(count), Some(bytes)) = (number(count), bytes(alloc, cell)) else {
+        return Err(UNREAD);
+    };
+    match repeated(alloc, bytes.as_slice(), count) {
+        Ok(frames) => is_held_back(stream, frames.as_slice()),
+        Err(_) => Err(Missed::Ground("memory")),
+    }
+}
+
 /// What a connection does by itself.
 pub fn stream_does(
     stream: &mut TcpStream,
@@ -52,6 +64,7 @@ pub fn stream_does(
     match word {
         "sends" => sends(stream, alloc, rest),
         "gets" => gets(stream, alloc, rest),
+        "floods" => floods(stream, alloc, rest),
         "silent" => is_silent(stream),
         "ends" => is_ended(stream),
         _ => Err(UNREAD),
@@ -189,6 +202,7 @@ fn exchanges(client: &mut Client, alloc: Global, word: &str, rest: &str) -> Resu
         "releases" => releases(client, rest),
         "puts" => sends(&mut client.other, alloc, rest),
         "takes" => gets(&mut client.other, alloc, rest),
+        "swamps" => floods(&mut client.other, alloc, rest),
         "ends" => ends(client),
         _ => stream_does(&mut client.sync, alloc, word, rest),
     }

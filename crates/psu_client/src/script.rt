@@ -25,17 +25,19 @@
 // | `1 much`, `1 drained` | it asks for 134 million bytes; a clear ends behind some of them |
 // | `1 sends 48 53 'HS`, `1 gets 07*2` | bytes on its synchronous connection, as tables spell them |
 // | `1 puts 48 53`, `1 takes 48 53` | the same on its asynchronous one |
+// | `1 floods 2 48 53`, `1 swamps 2 48 53` | such bytes twice over, again and again on the one connection or the other, until they are not taken |
 // | `1 ends` | both of its connections are ended |
 // | `a connects`, `a begins` | a connection, to begin with or of a session that is not joined |
 // | `a sends 48 53`, `a gets 48 53`, `a silent`, `a ends` | the same of it |
-// | `pause` | what is under way comes to a stand |
+// | `pause`, `rest 700` | what is under way comes to a stand; so many milliseconds go by |
 use crate::client::Client;
 use crate::deeds::{UNREAD, client_does, fails, number, parted, stream_does};
 use crate::joining::{begun, connected, joined_again, joined_as, settle};
 use crate::missed::Missed;
 use std::alloc::Global;
 use std::net::{Net, TcpStream};
-use std::time::Clock;
+use std::thread;
+use std::time::{Clock, Duration};
 
 /// A connection by its letter.
 #[derive(Drop)]
@@ -52,6 +54,17 @@ pub struct Cast<R: Drop> {
     port: u16,
     clients: Vec<Client>,
     streams: Vec<Named>,
+}
+
+// So many milliseconds go by.
+fn rests<R: Clock>(rt: &R, milliseconds: &str) -> Result<(), Missed> {
+    match number(milliseconds) {
+        Some(count) => {
+            thread::sleep(rt, Duration::from_millis(u64::from(count)));
+            Ok(())
+        }
+        None => Err(UNREAD),
+    }
 }
 
 impl<R: Net<Stream = TcpStream> + Clock + Copy> Cast<R> {
@@ -190,6 +203,9 @@ impl<R: Net<Stream = TcpStream> + Clock + Copy> Cast<R> {
             return Ok(());
         }
         let (who, deed) = parted(step);
+        if who == "rest" {
+            return rests(&self.rt, deed);
+        }
         let (word, rest) = parted(deed);
         match who.parse::<u8>() {
             Ok(session) => self.session_does(session, word, rest),

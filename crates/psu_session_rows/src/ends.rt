@@ -1,44 +1,71 @@
 // Sessions that end, and connections that begin too slowly.
-use psu_client::{
-    Client, Missed, begun, connected, is_ended, is_silent, joined_again, joined_as, repeated, send,
-    settle,
-};
-use psu_hosts::{Hold, new_served};
-use psu_serve::{Open, Point};
+use psu_client::{Client, Missed, is_ended, joined_again, joined_as, repeated, settle};
+use psu_hosts::{Untrue, new_served, plays};
+use psu_serve::Open;
 use std::alloc::Global;
-use std::net::{Net, TcpStream};
 use std::test::Fail;
-use std::thread;
-use std::time::{Clock, Duration};
 
-// A session begins to wait for the flusher, and ends.
-fn ends_while_it_waits(mut client: Client) -> Result<(), Missed> {
-    client.say(b"*SAV 1;*OPC?")?;
-    is_silent(&mut client.sync)
-}
+const ENDS: &str = "
+# A session begins to wait for the flusher, and ends: it ends at once, and the next of its number is told nothing of the wait.
+== wait_of_an_end.image 48883 run
+1 joins
+1 says *SAV 1;*OPC?
+1 silent
+1 leaves
+1 rejoins
+flusher goes
+1 named
+1 silent
 
-fn inherits_nothing(client: &mut Client) -> Result<(), Missed> {
-    client.is_served()?;
-    is_silent(&mut client.sync)
-}
+# What has not begun ten seconds after it was there ends, also where a byte of a header comes now and then.
+== slow_beginnings.image 48905
+1 joins
+a connects
+b connects
+c begins
+b sends 48
+c sends 48
+rest 700
+b sends 53
+c sends 53
+rest 700
+b sends 00
+c sends 00
+rest 700
+b sends 00
+c sends 00
+rest 700
+b sends 01
+c sends 01
+rest 700
+b sends 00
+c sends 00
+rest 700
+b sends 00
+c sends 00
+rest 700
+b sends 00
+c sends 00
+rest 700
+b sends 00
+c sends 00
+rest 700
+b sends 00
+c sends 00
+rest 700
+b silent
+c silent
+a ends
+b ends
+c ends
+1 named
+2 rejoins
+2 named
+";
 
-// It ends at once, and the next of its number is told nothing of the wait.
 #[test]
-fn a_wait_ends_with_its_session(rt: HostRuntime) -> Result<(), Fail> {
-    let hold = Hold::new(rt, rt.alloc(), Some(Point::BeforeRun))?;
-    let port = new_served(
-        rt,
-        rt.alloc(),
-        "wait_of_an_end.image",
-        48_883,
-        hold.another()?,
-    )?;
-    let one = joined_as(&rt, port, 1)?;
-    ends_while_it_waits(one)?;
-    let mut one = joined_again(&rt, port, 1)?;
-    hold.let_go()?;
-    inherits_nothing(&mut one)?;
-    Ok(())
+fn what_waits_or_does_not_begin_ends(rt: HostRuntime) -> Result<(), Untrue> {
+    plays(rt, rt.alloc(), ENDS)
 }
 
 fn sync_ends(client: Client) -> Result<(), Missed> {
@@ -71,43 +98,6 @@ fn connections_end_together(rt: HostRuntime) -> Result<(), Fail> {
     other_ends(two)?;
     let mut one = joined_again(&rt, port, 1)?;
     one.is_served()?;
-    Ok(())
-}
-
-// Ten bytes of a header, over seven seconds.
-fn says_slowly<R: Clock>(
-    rt: &R,
-    first: &mut TcpStream,
-    half: &mut TcpStream,
-) -> Result<(), Missed> {
-    for byte in b"HS\x00\x00\x01\x00\x00\x00\x00\x00" {
-        send(first, &[*byte])?;
-        send(half, &[*byte])?;
-        thread::sleep(rt, Duration::from_millis(700));
-    }
-    is_silent(first)?;
-    is_silent(half)
-}
-
-// What has not begun ten seconds after it was there ends, also where a byte comes now and then.
-fn end_in_time<R: Net<Stream = TcpStream> + Clock>(rt: &R, port: u16) -> Result<(), Missed> {
-    let mut mute = connected(rt, port)?;
-    let mut slow = connected(rt, port)?;
-    let (_, mut half) = begun(rt, port)?;
-    says_slowly(rt, &mut slow, &mut half)?;
-    is_ended(&mut mute)?;
-    is_ended(&mut slow)?;
-    is_ended(&mut half)
-}
-
-#[test]
-fn what_does_not_begin_ends(rt: HostRuntime) -> Result<(), Fail> {
-    let port = new_served(rt, rt.alloc(), "slow_beginnings.image", 48_905, Open)?;
-    let mut one = joined_as(&rt, port, 1)?;
-    end_in_time(&rt, port)?;
-    one.is_served()?;
-    let mut two = joined_again(&rt, port, 2)?;
-    two.is_served()?;
     Ok(())
 }
 
