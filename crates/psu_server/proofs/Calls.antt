@@ -48,10 +48,7 @@ pub executes_none : (w : World) → Executes w [] w
 executes_none w = record { entries = []; calls = refl; are = refl }
 
 pub executes_one : (w : World) (entry : Entry) (new : World) → Calls w entry new → Executes w (unit_in entry) new
-executes_one w entry new c = record { entries = entry ∷ []; calls = (new, c, refl); are = cat (unit_in entry) } where
-  cat : (l : List Request) → l ++ [] ≡ l
-  cat [] = refl
-  cat (x ∷ l) = ap (λ (z : List Request). x ∷ z) (cat l)
+executes_one w entry new c = record { entries = entry ∷ []; calls = (new, c, refl); are = append-nil (unit_in entry) }
 
 pub executes_join : (w mid new : World) (xs ys : List Request) → Executes w xs mid → Executes mid ys new → Executes w (xs ++ ys) new
 executes_join w mid new xs ys p q = record {
@@ -86,13 +83,9 @@ final_unit request Parked e = cc
 final_unit request Held e = cc
 final_unit request Later e = cc
 
-cat_none : (l : List Request) → l ++ [] ≡ l
-cat_none [] = refl
-cat_none (x ∷ l) = ap (λ (z : List Request). x ∷ z) (cat_none l)
-
 -- what was executed, and then calls that execute no unit of a line
 pub executes_idle : (w mid new : World) (xs : List Request) → Executes w xs mid → Executes mid [] new → Executes w xs new
-executes_idle w mid new xs p q = executes_as w new (xs ++ []) xs (cat_none xs) (executes_join w mid new xs [] p q)
+executes_idle w mid new xs p q = executes_as w new (xs ++ []) xs (append-nil xs) (executes_join w mid new xs [] p q)
 
 pub acts_calls : (can : Mishaps) (w new : World) (request : Request) (reply : Reply) → Acts can w request reply new → Executes w (request ∷ []) new
 acts_calls can w new request reply (final, inl (meant, c)) = executes_as w new _ _ (final_unit request reply final) (executes_one w (Executed 1 request reply) new c)
@@ -177,10 +170,7 @@ next_begun (m ∷ ms) can w new text (inr n) = line_begun n.0 can w new [] n.2 n
 -- ---- some first requests
 
 pub begins_all : (w new : World) (requests : List Request) → Executes w requests new → Begins w requests new
-begins_all w new requests e = (e.entries, e.calls, [], sym e.are ∙ sym (cat (units_in e.entries))) where
-  cat : (l : List Request) → l ++ [] ≡ l
-  cat [] = refl
-  cat (x ∷ l) = ap (λ (z : List Request). x ∷ z) (cat l)
+begins_all w new requests e = (e.entries, e.calls, [], sym e.are ∙ sym (append-nil (units_in e.entries)))
 
 pub begins_none : (w new : World) (requests : List Request) → Executes w [] new → Begins w requests new
 begins_none w new requests e = (e.entries, e.calls, requests, ap (λ (z : List Request). z ++ requests) (sym e.are))
@@ -200,12 +190,8 @@ begins_idle w mid new entry requests b c idle = (
   b.0 ++ entry ∷ [],
   calls_join b.0 (entry ∷ []) w mid new b.1 (new, c, refl),
   b.2,
-  b.3 ∙ ap (λ (z : List Request). z ++ b.2) (sym (units_in-append b.0 (entry ∷ []) ∙ ap (λ (z : List Request). units_in b.0 ++ (z ++ [])) idle ∙ cat (units_in b.0))),
+  b.3 ∙ ap (λ (z : List Request). z ++ b.2) (sym (units_in-append b.0 (entry ∷ []) ∙ ap (λ (z : List Request). units_in b.0 ++ (z ++ [])) idle ∙ append-nil (units_in b.0))),
 )
-  where
-    cat : (l : List Request) → l ++ [] ≡ l
-    cat [] = refl
-    cat (x ∷ l) = ap (λ (z : List Request). x ∷ z) (cat l)
 
 pub begins_more : (w new : World) (some more : List Request) → Begins w some new → Begins w (some ++ more) new
 begins_more w new some more b = (b.0, b.1, b.2 ++ more, ap (λ (z : List Request). z ++ more) b.3 ∙ append_assoc (units_in b.0) b.2 more)

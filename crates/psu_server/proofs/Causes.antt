@@ -9,19 +9,10 @@ use Rattle.psu_server.specs.declared.run_cause.RunCause.TheVariants.{Read, Write
 use Rattle.psu_server.specs.Lines.{Message}
 use Rattle.psu_server.specs.Reasons.{StopsFor, EndsFor}
 
--- ---- faults that have their reason outside of the device
+-- ---- faults whose reason is not the device's
 
 pub is_write : (long : Type 0) (before now : ℕ) (rest : List Message) (last : World) (left : List ℕ) (cause : RunCause) → cause ≡ Write → StopsFor long before now rest last left cause
 is_write long before now rest last left cause is = subst (StopsFor long before now rest last left) (sym is) tt
-
-pub is_memory : (long : Type 0) (before now : ℕ) (rest : List Message) (last : World) (left : List ℕ) (cause : RunCause) → cause ≡ OutOfMemory → StopsFor long before now rest last left cause
-is_memory long before now rest last left cause is = subst (StopsFor long before now rest last left) (sym is) tt
-
-pub is_read : (long : Type 0) (before now : ℕ) (rest : List Message) (last : World) (left : List ℕ) (cause : RunCause) → cause ≡ Read → StopsFor long before now rest last left cause
-is_read long before now rest last left cause is = subst (StopsFor long before now rest last left) (sym is) tt
-
-pub is_too_long : (long : Type 0) (before now : ℕ) (rest : List Message) (last : World) (left : List ℕ) (cause : RunCause) → cause ≡ TooLong → long → StopsFor long before now rest last left cause
-is_too_long long before now rest last left cause is why = subst (StopsFor long before now rest last left) (sym is) why
 
 -- what is not too long has the same reasons
 pub never_long : (long : Type 0) (before now : ℕ) (rest : List Message) (last : World) (left : List ℕ) (cause : RunCause) → StopsFor ⊥ before now rest last left cause → StopsFor long before now rest last left cause

@@ -22,107 +22,25 @@ use Rattle.psu_server.specs.Causes.{IsWornOut, NotStarted}
 use Rattle.psu_server.specs.Failures.{extent_of, failures_of}
 use Rattle.psu_server.specs.Jobs.{IsWornAtLast}
 use Rattle.psu_server.specs.Lines.{Message, Asks, message_now, message_of, coming, too_much, has, is_power, power_line}
-use Rattle.psu_server.specs.Lives.{Life, StandsForPrefix, born, disk_at, world_of, IsLeftBy, PowersOn}
+use Rattle.psu_server.specs.Lives.{Life, born, disk_at, world_of, IsLeftBy, PowersOn}
 use Rattle.psu_server.specs.Output.{Says, SaysUntil, Telling, telling}
 use Rattle.psu_server.specs.Moments.{IsBetween, IsWhile, Since, disk_in}
 use Rattle.psu_server.specs.Progress.{Breaks, BreaksOff, Continues, EachMoment, Fed, GoesOn, Halts, RunsOn, Spans, Stopped, Stops, StopsHere}
 use Rattle.psu_server.specs.Reasons.{IsAtPower, IsHaltedBy, StopsFor}
-use Rattle.psu_server.specs.Runs.{Mishaps, any, none, Begins, Flushes, LineBegins, LineRuns, MessageBegins, MessageRuns, NextBegins, Reopens, Runs}
+use Rattle.psu_server.specs.Runs.{Mishaps, any, none, Flushes, LineBegins, LineRuns, MessageBegins, MessageRuns, NextBegins, Reopens, Runs}
 use Rattle.psu_server.specs.declared.run_cause.RunCause.{RunCause}
 use Rattle.psu_server.specs.declared.run_cause.RunCause.TheVariants.{Read, Write, Open, Device, TooLong, Memory as RunMemory}
 use Rattle.psu_server.specs.declared.run_fault.RunFault.{RunFault}
-use Rattle.psu_server.proofs.Calls.{Executes, begins_all, executes_none, flush_calls, job_calls, prefix_of_map, prefix_of_reached, reached_made, reached_runs}
+use Rattle.psu_server.proofs.Calls.{Executes, begins_all, executes_none, flush_calls, job_calls, prefix_of_map, prefix_of_reached, reached_made}
 use Rattle.psu_server.proofs.Cuts.{plain_message, power_message, coming_end, found_parts, whole_tail}
 use Rattle.psu_server.proofs.MessageEnds.{line_over}
 use Rattle.psu_server.proofs.Telling.{says_gathered, says_join, says_none, says_still, until_after, until_said}
 use Rattle.psu_server.proofs.UnitEnds.{goes_as}
-use Rattle.psu_server.proofs.Lasting.{hands_now, hands_then, lasts_none, lasts_then}
-use Rattle.psu_server.proofs.Moments.{here, leads_none, since_as, since_back, since_from, since_home, since_then, since_to}
+use Rattle.psu_server.proofs.Lasting.{hands_now, hands_then, lasts_none}
+use Rattle.psu_server.proofs.Moments.{leads_none, since_as, since_back, since_from, since_home, since_then, since_to}
+use Rattle.psu_server.proofs.Passing.{runs_one, idle_begins, while_begun, while_idle, while_here, run_one, then_moments, runs_none, runs_all}
 use Rattle.psu_server.proofs.Starting.{halted_stops, restart_stops}
-use Rattle.psu_server.proofs.Within.{within_as, within_at, within_any, within_here, within_later, within_then}
-
--- ---- messages, one after another
-
-pub runs_one : (can : Mishaps) (w new : World) (m : Message) (text : List ℕ) → MessageRuns can w m text new → Runs can w (m ∷ []) text new
-runs_one can w new m text r = (text, [], new, r, (refl, refl), sym (append-nil text))
-
-pub runs_join : (can : Mishaps) (w mid new : World) (text more : List ℕ) (xs ys : List Message) → Runs can w xs text mid → Runs can mid ys more new
-    → Runs can w (xs ++ ys) (text ++ more) new
-runs_join can w mid new text more [] ys p q =
-    subst (λ (z : World). Runs can z ys (text ++ more) new) p.0 (subst (λ (z : List ℕ). Runs can mid ys (z ++ more) new) (sym p.1) q)
-runs_join can w mid new text more (x ∷ xs) ys p q =
-    (p.0, p.1 ++ more, p.2, p.3, runs_join can p.2 mid new p.1 more xs ys p.4 q, ap (λ (z : List ℕ). z ++ more) p.5 ∙ append_assoc p.0 p.1 more)
-
--- ---- a moment of messages
-
--- calls that execute no unit
-idle_begins : (can : Mishaps) (w v : World) (rest : List Message) → Begins w [] v → NextBegins can w rest [] v
-idle_begins can w v [] b = (b, refl)
-idle_begins can w v (m ∷ ms) b = inl (b, refl)
-
-next_more : (can : Mishaps) (w v : World) (rest ys : List Message) (part : List ℕ) → NextBegins can w rest part v → NextBegins can w (rest ++ ys) part v
-next_more can w v [] ys part n = subst (λ (z : List ℕ). NextBegins can w ys z v) (sym n.1) (idle_begins can w v ys n.0)
-next_more can w v (m ∷ ms) ys part n = n
-
--- where more messages are to come
-pub while_more : (w : World) (xs ys : List Message) (image : List ℕ) → IsWhile w xs image → IsWhile w (xs ++ ys) image
-while_more w xs ys image r = record {
-  done = r.done;
-  rest = r.rest ++ ys;
-  is = ap (λ (z : List Message). z ++ ys) r.is ∙ append_assoc r.done r.rest ys;
-  text = r.text;
-  mid = r.mid;
-  runs = r.runs;
-  part = r.part;
-  last = r.last;
-  begun = next_more any r.mid r.last r.rest ys r.part r.begun;
-  between = r.between;
-}
-
--- behind messages that were executed
-pub while_behind : (w mid : World) (xs ys : List Message) (text image : List ℕ) → Runs any w xs text mid → IsWhile mid ys image → IsWhile w (xs ++ ys) image
-while_behind w mid xs ys text image before r = record {
-  done = xs ++ r.done;
-  rest = r.rest;
-  is = ap (λ (z : List Message). xs ++ z) r.is ∙ sym (append_assoc xs r.done r.rest);
-  text = text ++ r.text;
-  mid = r.mid;
-  runs = runs_join any w mid r.mid text r.text xs r.done before r.runs;
-  part = r.part;
-  last = r.last;
-  begun = r.begun;
-  between = r.between;
-}
-
--- while the next one has begun, or calls are made that execute no unit
-pub while_begun : (w v : World) (due : List Message) (part image : List ℕ) → NextBegins any w due part v → IsBetween w v image → IsWhile w due image
-while_begun w v due part image begun between = record { done = []; rest = due; is = refl; text = []; mid = w; runs = (refl, refl); part = part; last = v; begun = begun; between = between }
-
-pub while_idle : (w v : World) (due : List Message) (image : List ℕ) → Begins w [] v → IsBetween w v image → IsWhile w due image
-while_idle w v due image b between = while_begun w v due [] image (idle_begins any w v due b) between
-
-pub while_here : (w : World) (due : List Message) (image : List ℕ) → StandsForPrefix w image → IsWhile w due image
-while_here w due image p = while_idle w w due image (begins_all w w [] (executes_none w)) (here w w image (leads_none w) p)
-
--- a message with all its units
-message_begun : (can : Mishaps) (w v : World) (m : Message) (text : List ℕ) → is_power m ≡ false → MessageRuns can w m text v → (part : List ℕ) × MessageBegins can w m part v
-message_begun can w v Message.Power text plain r = cc
-message_begun can w v Message.Overlong text plain r = (joined r.2, (r.0, r.1, r.2, line_over can w v [] r.2 r.0 r.3, refl))
-message_begun can w v (Message.Units bytes) text plain r = (joined r.2, (r.0, r.1, r.2, line_over can w v [] r.2 r.0 r.3, refl))
-
--- one message, at each moment
-pub run_one : {D A : Type 0} {G : Ghosts D} (old new : Exec D A G) (m : Message) (text : List ℕ) → is_power m ≡ false → GoesOn old new (λ can w v. MessageRuns can w m text v) → RunsOn old new (m ∷ []) text
-run_one {D} {A} {G} old new m text plain goes = record {
-  runs = λ h life. let g = goes.runs h life in
-      let w = world_of life old in
-      let v = world_of g.0 new in
-      let b = message_begun any w v m text plain (within_any _ _ (λ can. MessageRuns can w m text v) g.1) in (
-        g.0,
-        within_as _ _ (λ can. MessageRuns can w m text v) (λ can. Runs can w (m ∷ []) text v) g.1 (λ can x. runs_one can w v m text x),
-        λ t now r. since_as G (disk_in old.home) (disk_in new.home) (IsBetween w v) (IsWhile w (m ∷ [])) (g.2.time t now r) (λ x between. while_begun w v (m ∷ []) b.0 x (inr b.1) between),
-      );
-  lasts = goes.lasts;
-}
+use Rattle.psu_server.proofs.Within.{within_as, within_at, within_any, within_here, within_later}
 
 -- ---- what a message came to
 
@@ -360,46 +278,12 @@ stops_now {D} {A} {G} long exec fault rest cause f why = record {
   );
 }
 
--- at each moment of messages, and of what follows them
-pub then_moments : {D A : Type 0} {G : Ghosts D} (old mid : Exec D A G) (to : Option D) (xs ys : List Message) (text : List ℕ) (goes : RunsOn old mid xs text) (h : Ghosts.honest G) (life : Life)
-    → EachMoment (goes.runs h life).0 mid to ys → EachMoment life old to (xs ++ ys)
-then_moments {D} {A} {G} old mid to xs ys text goes h life more t now r =
-    let g = goes.runs h life in
-    let w = world_of life old in
-    let u = world_of g.0 mid in
-    let ran = within_any _ _ (λ can. Runs can w xs text u) g.1 in
-    since_then G (disk_in old.home) (disk_in mid.home) to (IsWhile w xs) (IsWhile u ys) (IsWhile w (xs ++ ys)) (g.2 t now r) (more t now (reached_runs xs any w u text ran r))
-    (λ x m. while_more w xs ys x m) (λ x m. while_behind w u xs ys text x ran m)
-
 pub stops_then : {D A : Type 0} {G : Ghosts D} (long : Type 0) (old mid : Exec D A G) (fault : RunFault D) (done rest : List Message) (text part : List ℕ)
     → RunsOn old mid done text → StopsHere long mid fault rest part → Stops long old fault done rest text part
 stops_then long old mid fault done rest text part goes stop = record {
   hands = hands_then old mid fault.disk goes.lasts stop.hands;
   stops = λ h worn life. let g = goes.runs h life in let s = stop.stops h (goes.lasts.worn worn) g.0 in
       (world_of g.0 mid, s.0, failures_of mid, g.1, s.1, s.2, s.3, then_moments old mid (Some fault.disk) done rest text goes h life s.4);
-}
-
--- ---- runs of messages
-
-pub runs_none : {D A : Type 0} {G : Ghosts D} (exec : Exec D A G) → RunsOn exec exec [] []
-runs_none exec = record {
-  runs = λ h life. (
-    life,
-    within_here _ (λ can. Runs can (world_of life exec) [] [] (world_of life exec)) (λ can. (refl, refl)),
-    λ t now r. since_home exec.home (IsWhile (world_of life exec) []) now (λ x left. while_here (world_of life exec) [] x (prefix_of_reached (world_of life exec) x r left)),
-  );
-  lasts = lasts_none exec;
-}
-
-pub runs_all : {D A : Type 0} {G : Ghosts D} (old mid new : Exec D A G) (text more : List ℕ) (xs ys : List Message) → RunsOn old mid xs text → RunsOn mid new ys more → RunsOn old new (xs ++ ys) (text ++ more)
-runs_all old mid new text more xs ys p q = record {
-  runs = λ h life. let g = p.runs h life in let k = q.runs h g.0 in (
-    k.0,
-    within_then _ _ _ (λ can. Runs can (world_of life old) xs text (world_of g.0 mid)) (λ can. Runs can (world_of g.0 mid) ys more (world_of k.0 new)) (λ can. Runs can (world_of life old) (xs ++ ys) (text ++ more) (world_of k.0 new)) g.1 k.1
-        (λ can x y. runs_join can (world_of life old) (world_of g.0 mid) (world_of k.0 new) text more xs ys x y),
-    then_moments old mid (disk_in new.home) xs ys text p h life k.2,
-  );
-  lasts = lasts_then old mid new p.lasts q.lasts;
 }
 
 -- ---- the loop over the lines of a piece

@@ -7,7 +7,6 @@ use Rattle.std.proofs.Common.{length-append}
 use Rattle.std.proofs.KnownBytes.{Appends-trans}
 use Rattle.std.specs.Io.KnownBytes.{Appends, Consumes}
 use Rattle.std.specs.Io.{StartsWith}
-use Rattle.psu_server.specs.Output.{WritesFront, WritesShort}
 use Rattle.psu_server.proofs.Cuts.{whole_tail}
 
 pub starts_after : (t s rest : List ℕ) → StartsWith rest s → StartsWith (t ++ rest) (t ++ s)
@@ -17,12 +16,6 @@ starts_after t s rest h =
 -- the text of all of it is a front
 pub starts_whole : (text : List ℕ) → StartsWith text text
 starts_whole text = subst (λ (z : List ℕ). StartsWith z text) (append-nil text) (take-append_seam text [])
-
-pub whole_front : (u v : Option (List ℕ)) (text : List ℕ) → Appends u v text → WritesFront u v text
-whole_front u v text w = (text, w, starts_whole text)
-
-pub short_front : (u v : Option (List ℕ)) (text : List ℕ) → WritesShort u v text → WritesFront u v text
-short_front u v text w = (w.0, w.1, w.2)
 
 -- a write of what is left
 pub put_step : (all : List ℕ) (at n : ℕ) (u v w : Option (List ℕ)) → at ≤ length all → n ≤ length (take (length all - at) (drop at all))

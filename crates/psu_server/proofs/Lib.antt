@@ -10,6 +10,7 @@ pub mod SessionOne
 pub mod UnitEnds
 pub mod MessageEnds
 pub mod Starting
+pub mod Passing
 pub mod Feeding
 pub mod Reading
 pub mod Outcomes

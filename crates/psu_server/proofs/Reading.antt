@@ -23,7 +23,8 @@ use Rattle.psu_server.specs.Runs.{Flushes, Runs}
 use Rattle.psu_server.specs.Moments.{IsWhile, Since, disk_in}
 use Rattle.psu_server.specs.Progress.{Answered, Answers, EndsEarly, Fed, GoesOn, RanAll, RunsOn, Stopped, Stops, StopsHere}
 use Rattle.psu_server.proofs.Causes.{is_write, never_long}
-use Rattle.psu_server.proofs.Feeding.{FaultOf, flush_moments, runs_all, runs_join, runs_none, stops_now, stops_then, then_moments}
+use Rattle.psu_server.proofs.Feeding.{FaultOf, flush_moments, stops_now, stops_then}
+use Rattle.psu_server.proofs.Passing.{runs_all, runs_join, runs_none, then_moments}
 use Rattle.psu_server.proofs.Moments.{since_back}
 use Rattle.psu_server.proofs.Lasting.{hands_now, hands_then}
 use Rattle.psu_server.proofs.Fronts.{starts_after, starts_whole}

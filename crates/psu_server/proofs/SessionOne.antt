@@ -5,7 +5,7 @@ use Rattle.psu_locks.specs.Locks.{Locks, may_command}
 use Rattle.psu_exec.specs.Calls.{Executed, Settled, Cleared, Allows, settle_answer, settled}
 use Rattle.psu_instrument.specs.declared.completion.Completion.{Completion}
 use Rattle.psu_instrument.specs.declared.completion.Completion.TheVariants as completion
-use Rattle.psu_exec.specs.Device.{Reply, Done, Answer, Error, Expand, Parked, Held, Later, State, Flush, answer_complete, completion_in, here, is_denied, meant, with_wait, wait_of}
+use Rattle.psu_exec.specs.Device.{Reply, Parked, State, Flush, answer_complete, is_denied, wait_of}
 use Rattle.psu_exec.specs.declared.exec.Exec.{Exec}
 use Rattle.psu_exec.specs.declared.home.Home.{Home}
 use Rattle.psu_tree.specs.declared.unit_request.Request.{Request}
@@ -13,7 +13,7 @@ use Rattle.psu_exec.specs.declared.wait.Wait.{Wait}
 use Rattle.psu_exec.specs.declared.wait.Wait.TheVariants.{Until, CutOff}
 use Rattle.psu_server.specs.Failures.{failures_at, failures_of}
 use Rattle.psu_server.specs.Lives.{Life, lived, world_of, Calls}
-use Rattle.psu_server.specs.Runs.{is_final, is_out_of_memory, is_parked}
+use Rattle.psu_server.specs.Runs.{is_final, is_out_of_memory}
 use Rattle.psu_server.proofs.Calls.{called}
 
 -- ---- the session is the first
@@ -60,19 +60,6 @@ settle_free s new reply (opened, inr may, is) final long = let bad = ap is_out_o
 
 pub clear_free : (s new : State) → Allows s (Cleared 1) new → wait_of new.flush 1 ≡ None
 clear_free s new (opened, is) = ap (λ (z : State). wait_of z.flush 1) is ∙ no_wait s.flush.waits
-
-kept_waits : (waits : List (Option Wait)) (c : Completion) (n : ℕ) (reply : Reply) → is_parked reply ≡ false → with_wait waits 1 c n reply ≡ waits
-kept_waits waits c n Done e = refl
-kept_waits waits c n (Answer text) e = refl
-kept_waits waits c n (Error error) e = refl
-kept_waits waits c n (Expand text) e = refl
-kept_waits waits c n Held e = refl
-kept_waits waits c n Later e = refl
-kept_waits waits c n Parked e = cc
-
-pub unit_free : (s new : State) (request : Request) (reply : Reply) → Allows s (Executed 1 request reply) new → is_parked reply ≡ false → wait_of s.flush 1 ≡ None → wait_of new.flush 1 ≡ None
-unit_free s new request reply t shut free =
-    ap (λ (z : State). wait_of z.flush 1) t.1.is ∙ ap (λ (waits : List (Option Wait)). slice_index_or waits 0 None) (kept_waits s.flush.waits (completion_in (meant (here s 1) request.reading)) s.flush.unflushed reply shut) ∙ free
 
 -- ---- and of the store
 

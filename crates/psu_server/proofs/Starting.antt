@@ -95,10 +95,6 @@ opened_moments {D} {A} {G} given store there new is at time =
     one : (a b : Home D A G) → Some a ≡ Some b → a ≡ b
     one a b e = cc
 
--- a whole store isn't worn
-pub worn_whole : {D A : Type 0} {G : Ghosts D} (exec : Exec D A G) → exec.device.flush.store ≡ Whole → IsWornAtLast exec
-worn_whole exec whole h e worn = let bad = sym whole ∙ worn in cc
-
 -- ---- the end of a device
 
 -- the store at home is whole, and its number the last, where it is worn

@@ -61,9 +61,6 @@ until_said cause a b m own p = record { whole = λ e. p; missing = λ e. absurd 
 pub until_none : (cause : RunCause) (t : Telling) → cause ≢ Write → SaysUntil cause t t []
 until_none cause t own = until_said cause t t [] own (says_none t)
 
-pub until_as : (cause : RunCause) (a b : Telling) (m n : List ℕ) → m ≡ n → SaysUntil cause a b m → SaysUntil cause a b n
-until_as cause a b m n is p = subst (λ (z : List ℕ). SaysUntil cause a b z) is p
-
 pub until_for : (told cause : RunCause) (a b : Telling) (m : List ℕ) → told ≡ cause → SaysUntil cause a b m → SaysUntil told a b m
 until_for told cause a b m is p = subst (λ (z : RunCause). SaysUntil z a b m) (sym is) p
 
