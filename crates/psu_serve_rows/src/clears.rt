@@ -2,7 +2,6 @@
 use psu_client::{Client, Missed, joined_as};
 use psu_hosts::{Untrue, new_served, plays};
 use psu_serve::Open;
-use std::test::Fail;
 
 const CLEARS: &str = "
 # What is sent between the two messages of a clear is not executed, and what follows is.
@@ -108,7 +107,7 @@ fn many_clears(client: &mut Client) -> Result<(), Missed> {
 
 // An answer of before a clear may be on its way.
 #[test]
-fn clears_follow_questions(rt: HostRuntime) -> Result<(), Fail> {
+fn clears_follow_questions(rt: HostRuntime) -> Result<(), Missed> {
     let port = new_served(rt, rt.alloc(), "many_clears.image", 48_949, Open)?;
     let mut one = joined_as(&rt, port, 1)?;
     many_clears(&mut one)?;

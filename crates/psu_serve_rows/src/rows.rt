@@ -3,7 +3,6 @@ use crate::images::{executed, is_kept};
 use psu_client::{Client, Missed, joined_as, send, text_comes};
 use psu_hosts::{Untrue, formatted, plays, removed, served};
 use psu_serve::Open;
-use std::test::Fail;
 
 const ANSWERS: &str = "
 # A message is available until it is told that it was delivered.
@@ -69,7 +68,7 @@ fn request_stands(client: &mut Client) -> Result<(), Missed> {
 
 // The enables that were kept prescribe it: power came on, and that is enabled.
 #[test]
-fn a_first_request_is_prescribed(rt: HostRuntime) -> Result<(), Fail> {
+fn a_first_request_is_prescribed(rt: HostRuntime) -> Result<(), Missed> {
     let image = "first_request.image";
     formatted(&rt, rt.alloc(), image)?;
     executed(&rt, rt.alloc(), image, LINES)?;
@@ -92,7 +91,7 @@ fn save_is_confirmed(client: &mut Client) -> Result<(), Missed> {
 
 // What was confirmed lies in the image.
 #[test]
-fn a_confirmed_save_is_kept(rt: HostRuntime) -> Result<(), Fail> {
+fn a_confirmed_save_is_kept(rt: HostRuntime) -> Result<(), Missed> {
     let image = "confirmed_save.image";
     formatted(&rt, rt.alloc(), image)?;
     let port = served(rt, rt.alloc(), image, 48_837, Open)?;

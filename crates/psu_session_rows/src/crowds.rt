@@ -7,7 +7,6 @@ use psu_hosts::new_served;
 use psu_serve::Open;
 use std::alloc::Global;
 use std::net::{Net, TcpStream};
-use std::test::Fail;
 use std::time::Clock;
 
 // Connections that say nothing.
@@ -28,7 +27,7 @@ fn silent<R: Net<Stream = TcpStream> + Clock>(
 }
 
 #[test]
-fn silent_connections_shut_nobody_out(rt: HostRuntime) -> Result<(), Fail> {
+fn silent_connections_shut_nobody_out(rt: HostRuntime) -> Result<(), Missed> {
     let port = new_served(rt, rt.alloc(), "silent.image", 48_875, Open)?;
     let streams = silent(&rt, rt.alloc(), port, 30)?;
     let mut one = joined_as(&rt, port, 1)?;
@@ -55,7 +54,7 @@ fn first_ends(streams: &mut [TcpStream]) -> Result<(), Missed> {
 }
 
 #[test]
-fn the_oldest_silent_connection_ends(rt: HostRuntime) -> Result<(), Fail> {
+fn the_oldest_silent_connection_ends(rt: HostRuntime) -> Result<(), Missed> {
     let port = new_served(rt, rt.alloc(), "oldest_silent.image", 48_923, Open)?;
     let mut streams = silent(&rt, rt.alloc(), port, 65)?;
     first_ends(streams.as_mut_slice())?;
@@ -106,7 +105,7 @@ fn all_work(clients: &mut Vec<Client>) -> Result<(), Missed> {
 
 // There are sixteen sessions; a number is used again once its session has ended, and inherits nothing.
 #[test]
-fn there_are_sixteen_sessions(rt: HostRuntime) -> Result<(), Fail> {
+fn there_are_sixteen_sessions(rt: HostRuntime) -> Result<(), Missed> {
     let port = new_served(rt, rt.alloc(), "sixteen_sessions.image", 48_877, Open)?;
     let mut clients = crowd(&rt, rt.alloc(), port, 16)?;
     is_crowded(&rt, port)?;
@@ -133,7 +132,7 @@ fn comes_and_goes<R: Net<Stream = TcpStream> + Clock>(rt: &R, port: u16) -> Resu
 }
 
 #[test]
-fn clients_come_and_go(rt: HostRuntime) -> Result<(), Fail> {
+fn clients_come_and_go(rt: HostRuntime) -> Result<(), Missed> {
     let port = new_served(rt, rt.alloc(), "come_and_go.image", 48_879, Open)?;
     comes_and_goes(&rt, port)?;
     let mut one = joined_again(&rt, port, 1)?;

@@ -90,7 +90,7 @@ fn other_ends(client: Client) -> Result<(), Missed> {
 
 // One connection's end is that of its session.
 #[test]
-fn connections_end_together(rt: HostRuntime) -> Result<(), Fail> {
+fn connections_end_together(rt: HostRuntime) -> Result<(), Missed> {
     let port = new_served(rt, rt.alloc(), "ends.image", 48_885, Open)?;
     let one = joined_as(&rt, port, 1)?;
     let two = joined_as(&rt, port, 2)?;
@@ -145,7 +145,7 @@ fn says_much(client: &mut Client, alloc: Global) -> Result<(), Missed> {
 
 // Millions of units end with their session: its number is free soon.
 #[test]
-fn a_long_transmission_ends_with_its_session(rt: HostRuntime) -> Result<(), Fail> {
+fn a_long_transmission_ends_with_its_session(rt: HostRuntime) -> Result<(), Missed> {
     let port = new_served(rt, rt.alloc(), "millions_of_units.image", 48_937, Open)?;
     let mut one = joined_as(&rt, port, 1)?;
     says_much(&mut one, rt.alloc())?;

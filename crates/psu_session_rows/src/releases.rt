@@ -4,7 +4,6 @@ use psu_hosts::new_served;
 use psu_serve::Open;
 use std::alloc::Global;
 use std::mem;
-use std::test::Fail;
 use std::time::{Clock, Duration, Instant};
 
 /// The number of a message after one that `ask` sends.
@@ -42,7 +41,7 @@ fn hands_round(one: &mut Client, two: &mut Client, alloc: Global) -> Result<(), 
 
 // The next holder of a lock sees all that was written under it.
 #[test]
-fn a_release_comes_after_what_was_written(rt: HostRuntime) -> Result<(), Fail> {
+fn a_release_comes_after_what_was_written(rt: HostRuntime) -> Result<(), Missed> {
     let port = new_served(rt, rt.alloc(), "written_before.image", 48_939, Open)?;
     let mut one = joined_as(&rt, port, 1)?;
     let mut two = joined_as(&rt, port, 2)?;
@@ -83,7 +82,7 @@ fn waits_not<R: Clock>(rt: &R, client: &mut Client, number: u32) -> Result<(), M
 
 // The last message that was received is that of ffffff00; the next 65,536 may be to come.
 #[test]
-fn a_release_waits_for_the_next_messages(rt: HostRuntime) -> Result<(), Fail> {
+fn a_release_waits_for_the_next_messages(rt: HostRuntime) -> Result<(), Missed> {
     let port = new_served(rt, rt.alloc(), "message_to_come.image", 48_941, Open)?;
     let mut one = joined_as(&rt, port, 1)?;
     one.is_served()?;
@@ -107,7 +106,7 @@ fn counts_anew(client: &mut Client, other: &mut Client) -> Result<(), Missed> {
 }
 
 #[test]
-fn messages_are_counted_anew_behind_a_clear(rt: HostRuntime) -> Result<(), Fail> {
+fn messages_are_counted_anew_behind_a_clear(rt: HostRuntime) -> Result<(), Missed> {
     let port = new_served(rt, rt.alloc(), "counted_anew.image", 48_945, Open)?;
     let mut one = joined_as(&rt, port, 1)?;
     let mut two = joined_as(&rt, port, 2)?;
@@ -150,7 +149,7 @@ fn ends_with_a_clear<R: Clock>(rt: &R, client: &mut Client) -> Result<(), Missed
 }
 
 #[test]
-fn a_clear_ends_the_wait_of_a_release(rt: HostRuntime) -> Result<(), Fail> {
+fn a_clear_ends_the_wait_of_a_release(rt: HostRuntime) -> Result<(), Missed> {
     let port = new_served(rt, rt.alloc(), "clear_of_a_release.image", 48_943, Open)?;
     let mut one = joined_as(&rt, port, 1)?;
     one.is_served()?;
