@@ -158,14 +158,21 @@ fn read<'a>(step: &str, ample: &'a Bump, little: &'a Bump, items: &Items<&'a Bum
     told(step, little, &contents, items.cost())
 }
 
+// A step on fresh contents.
+fn changed<'a>(step: &str, contents: &mut Contents<&'a Bump>) -> End {
+    match step {
+        "macro" => defined(contents),
+        "file's macro" => written_and_loaded(contents),
+        _ => stored(contents),
+    }
+}
+
 // A step on contents with so little memory, or on the whole map.
 fn ends_with<'a>(step: &str, ample: &'a Bump, little: &'a Bump) -> Option<End> {
-    match step {
-        "macro" => Some(defined(&mut Contents::fresh(little))),
-        "file's macro" => Some(written_and_loaded(&mut Contents::fresh(little))),
-        "file" => Some(stored(&mut Contents::fresh(little))),
-        _ => read(step, ample, little, &map_of(ample, WHOLE)?),
+    if step == "macro" || step == "file's macro" || step == "file" {
+        return Some(changed(step, &mut Contents::fresh(little)));
     }
+    read(step, ample, little, &map_of(ample, WHOLE)?)
 }
 
 // A step with so many bytes of memory left.

@@ -120,13 +120,26 @@ fn is_answered(alloc: Global, value: i64, wanted: &str) -> bool {
     }
 }
 
-// Whether text as a row of this kind comes to what it says. The kinds are told where the rows are.
-fn comes_to(alloc: Global, kind: &str, cell: &str, wanted: &str) -> Option<bool> {
-    Some(match kind {
-        "cut" => is_cut(alloc, cell, wanted)?,
-        "number" => is_number(inner(cell)?, 0, wanted),
-        "thousandths" => is_number(inner(cell)?, 3, wanted),
-        "digits" => is_number(&bytes(alloc, cell)?, 0, wanted),
+// Whether a text in brackets is what a row of this kind says.
+fn is_so(kind: &str, text: &[u8], wanted: &str) -> bool {
+    match kind {
+        "number" => is_number(text, 0, wanted),
+        "thousandths" => is_number(text, 3, wanted),
+        "label" => is_label(text) == (wanted == "yes"),
+        _ => is_name(text) == (wanted == "yes"),
+    }
+}
+
+// The same of bytes.
+fn are_so(kind: &str, bytes: &[u8], wanted: &str) -> bool {
+    if kind == "digits" {
+        return is_number(bytes, 0, wanted);
+    }
+    is_name(bytes) == (wanted == "yes")
+}
+
+fn are_data(alloc: Global, kind: &str, cell: &str, wanted: &str) -> bool {
+    match kind {
         "string" => is_read(
             string(alloc, cell.as_bytes()),
             ScpiError::InvalidStringData,
@@ -134,12 +147,19 @@ fn comes_to(alloc: Global, kind: &str, cell: &str, wanted: &str) -> Option<bool>
         ),
         "block" => block_is_read(alloc, cell, wanted),
         "expand" => is_expanded(alloc, cell, wanted),
-        "answer" => is_answered(alloc, cell.parse().ok()?, wanted),
-        "label" => is_label(inner(cell)?) == (wanted == "yes"),
-        "name" => is_name(inner(cell)?) == (wanted == "yes"),
-        "bytes" => is_name(&bytes(alloc, cell)?) == (wanted == "yes"),
-        _ => return None,
-    })
+        _ => false,
+    }
+}
+
+// Whether a text comes to what a row of this kind says. The kinds are told where the rows are.
+fn comes_to(alloc: Global, kind: &str, cell: &str, wanted: &str) -> Option<bool> {
+    match kind {
+        "number" | "thousandths" | "label" | "name" => Some(is_so(kind, inner(cell)?, wanted)),
+        "digits" | "bytes" => Some(are_so(kind, &bytes(alloc, cell)?, wanted)),
+        "cut" => is_cut(alloc, cell, wanted),
+        "answer" => Some(is_answered(alloc, cell.parse().ok()?, wanted)),
+        _ => Some(are_data(alloc, kind, cell, wanted)),
+    }
 }
 
 // A row is a kind and a text, ` -> `, and what the text comes to; a line that begins with `# ` tells what the rows below it are for.
