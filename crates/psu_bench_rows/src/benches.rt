@@ -53,6 +53,29 @@ pub fn bench_on<D: Disk + Drop>(
     }
 }
 
+/// Closes a bench. Whether all is flushed then.
+pub fn is_flushed_at_close<D: Disk + Drop, R: Wait>(
+    rt: &R,
+    bench: Bench<D, Global>,
+    seat: Seat<Global>,
+) -> bool
+    requires { IsOf bench seat }
+{
+    bench.close(rt, seat).is_flushed()
+}
+
+/// The same of a session: whether it is open.
+pub fn is_open_at_close<D: Disk + Drop, R: Wait>(
+    rt: &R,
+    bench: Bench<D, Global>,
+    seat: Seat<Global>,
+    session: Session,
+) -> bool
+    requires { IsOf bench seat }
+{
+    bench.close(rt, seat).is_open(session)
+}
+
 /// Opens a session.
 pub fn opened<D: Disk, R: Wait + Abort>(
     rt: &R,

@@ -1,7 +1,9 @@
 // Sessions that others close, and the counted turn by hand.
 ghost use Rattle.psu_turn.specs.Seats.{IsOf};
 
-use crate::benches::{bench_on, formatted, is_answer, is_done, opened, unit};
+use crate::benches::{
+    bench_on, formatted, is_answer, is_done, is_flushed_at_close, is_open_at_close, opened, unit,
+};
 use psu_bench::{Bench, Seat};
 use psu_disk::MemDisk;
 use psu_exec::{Grant, Kind, LockRefusal, Outcome, Session};
@@ -44,16 +46,31 @@ fn leaves_nothing<R: Wait>(rt: &R, bench: &Device, seat: &mut Seat<Global>, one:
     !info.exclusive && info.holders == 0 && bench.next_deadline(rt, seat).is_none()
 }
 
+// Whether each of its twelve calls comes to nothing.
+fn acts_on_nothing<R: Wait>(rt: &R, bench: &Device, seat: &mut Seat<Global>, one: Session) -> bool
+    requires { IsOf bench.now seat.old }
+    ensures { IsOf bench.now seat.new }
+{
+    comes_later(rt, bench, seat, one)
+        && holds_nothing(rt, bench, seat, one)
+        && leaves_nothing(rt, bench, seat, one)
+        && bench.progress(seat) == 12
+}
+
 // A session that isn't open: a unit comes later, no lock is granted or held, and the rest is nothing.
 #[test]
 fn a_session_that_is_not_open_acts_on_nothing(rt: HostRuntime) {
     let (bench, mut seat) = bench_on(&rt, rt.alloc(), formatted(&rt, rt.alloc()));
-    let one = Session::at(0);
-    assert!(rt; comes_later(&rt, &bench, &mut seat, one));
-    assert!(rt; holds_nothing(&rt, &bench, &mut seat, one));
-    assert!(rt; leaves_nothing(&rt, &bench, &mut seat, one));
-    assert!(rt; bench.progress(&mut seat) == 12);
-    assert!(rt; bench.close(&rt, seat).is_flushed());
+    assert!(rt; acts_on_nothing(&rt, &bench, &mut seat, Session::at(0)));
+    assert!(rt; is_flushed_at_close(&rt, bench, seat));
+}
+
+// Whether the service request enable register is told as 4.
+fn is_told<R: Wait>(rt: &R, bench: &Device, seat: &mut Seat<Global>, session: Session) -> bool
+    requires { IsOf bench.now seat.old }
+    ensures { IsOf bench.now seat.new }
+{
+    is_answer(&unit(rt, bench, seat, session, b"*SRE?"), b"4")
 }
 
 fn asked<R: Wait>(
@@ -61,35 +78,66 @@ fn asked<R: Wait>(
     bench: &Device,
     mut seat: Seat<Global>,
     session: Session,
-    text: &[u8],
-) -> (Outcome<Global>, Seat<Global>)
+) -> (bool, Seat<Global>)
     requires { IsOf bench.now seat }
     ensures { IsOf bench.now result.1 }
 {
-    let outcome = unit(rt, bench, &mut seat, session, text);
-    (outcome, seat)
+    let is_told = is_told(rt, bench, &mut seat, session);
+    (is_told, seat)
 }
 
-// Executes a unit in another thread.
+// Whether it is told so in another thread.
 fn asked_elsewhere<R: Threads + Wait + Sync>(
     rt: &R,
     bench: &Device,
     seat: Seat<Global>,
     session: Session,
-    text: &[u8],
-) -> (Outcome<Global>, Seat<Global>)
+) -> (bool, Seat<Global>)
     requires { IsOf bench.now seat }
     ensures { IsOf bench.now result.1 }
 {
     let (asked, ()) = join(
         rt,
-        || -> (Outcome<Global>, Seat<Global>)
+        || -> (bool, Seat<Global>)
             requires { IsOf bench.now seat }
             ensures { IsOf bench.entry.now result.1 }
-        { asked(rt, bench, seat, session, text) },
+        { asked(rt, bench, seat, session) },
         || (),
     );
     asked
+}
+
+// Whether it is, with a seat that is split off for it, and the number of calls that is seen grows by that one.
+fn is_told_elsewhere<R: Threads + Wait + Sync>(
+    rt: &R,
+    bench: &Device,
+    seat: &mut Seat<Global>,
+    session: Session,
+) -> bool
+    requires { IsOf bench.now seat.old }
+    ensures { IsOf bench.now seat.new }
+{
+    let other = bench.split(seat);
+    let before = bench.progress(seat);
+    let (is_told, other) = asked_elsewhere(rt, bench, other, session);
+    let is_one_more = bench.progress(seat) == before.wrapping_add(1);
+    bench.join(seat, other);
+    is_told && is_one_more
+}
+
+// Whether what one thread sets another reads, and then the one again.
+fn is_read_elsewhere<R: Threads + Wait + Sync>(
+    rt: &R,
+    bench: &Device,
+    seat: &mut Seat<Global>,
+    session: Session,
+) -> bool
+    requires { IsOf bench.now seat.old }
+    ensures { IsOf bench.now seat.new }
+{
+    is_done(rt, bench, seat, session, b"*SRE 4")
+        && is_told_elsewhere(rt, bench, seat, session)
+        && is_told(rt, bench, seat, session)
 }
 
 // What one thread set another reads; the number of calls that a seat sees grows by that one call, and what is closed holds it.
@@ -97,13 +145,6 @@ fn asked_elsewhere<R: Threads + Wait + Sync>(
 fn another_thread_reads_what_was_set(rt: HostRuntime) {
     let (bench, mut seat) = bench_on(&rt, rt.alloc(), formatted(&rt, rt.alloc()));
     let session = opened(&rt, &bench, &mut seat);
-    assert!(rt; is_done(&rt, &bench, &mut seat, session, b"*SRE 4"));
-    let other = bench.split(&mut seat);
-    let before = bench.progress(&mut seat);
-    let (outcome, other) = asked_elsewhere(&rt, &bench, other, session, b"*SRE?");
-    assert!(rt; is_answer(&outcome, b"4"));
-    assert!(rt; bench.progress(&mut seat) == before.wrapping_add(1));
-    bench.join(&mut seat, other);
-    assert!(rt; is_answer(&unit(&rt, &bench, &mut seat, session, b"*SRE?"), b"4"));
-    assert!(rt; bench.close(&rt, seat).is_open(session));
+    assert!(rt; is_read_elsewhere(&rt, &bench, &mut seat, session));
+    assert!(rt; is_open_at_close(&rt, bench, seat, session));
 }

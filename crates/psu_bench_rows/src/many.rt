@@ -2,7 +2,7 @@
 ghost use Rattle.std.specs.Prelude.{◌≡◌, ◌<◌, ◌≤◌};
 ghost use Rattle.psu_turn.specs.Seats.{IsOf};
 
-use crate::benches::{bench_on, formatted, is_answer, opened, unit};
+use crate::benches::{bench_on, formatted, is_answer, is_open_at_close, opened, unit};
 use psu_bench::{Bench, Seat};
 use psu_disk::MemDisk;
 use psu_exec::{Outcome, Session};
@@ -70,7 +70,7 @@ fn sixteen_threads_make_100_000_calls(rt: HostRuntime) {
     let (answers, mut seat) = threads(&rt, &bench, seat, 4);
     assert!(rt; answers == 99_968);
     assert!(rt; bench.progress(&mut seat) == 100_000);
-    assert!(rt; !bench.close(&rt, seat).is_open(Session::at(0)));
+    assert!(rt; !is_open_at_close(&rt, bench, seat, Session::at(0)));
 }
 
 // Units of a session until one comes later, or so many were answered.
@@ -136,5 +136,5 @@ fn a_session_is_closed_under_anothers_feet(rt: HostRuntime) {
     let (bench, mut seat) = bench_on(&rt, rt.alloc(), formatted(&rt, rt.alloc()));
     let session = opened(&rt, &bench, &mut seat);
     assert!(rt; closed_beside(&rt, &bench, &mut seat, session));
-    assert!(rt; !bench.close(&rt, seat).is_open(session));
+    assert!(rt; !is_open_at_close(&rt, bench, seat, session));
 }

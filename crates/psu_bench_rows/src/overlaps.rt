@@ -2,56 +2,82 @@
 ghost use Rattle.std.specs.Prelude.{◌≡◌};
 ghost use Rattle.psu_turn.specs.Seats.{IsOf};
 
-use crate::benches::{bench_on, formatted, is_answer, is_done, opened, read, unit};
+use crate::benches::{
+    bench_on, formatted, is_answer, is_done, is_flushed_at_close, opened, read, unit,
+};
 use crate::holds::Hold;
 use psu_bench::{Bench, Gated, Open, Point, Seat, flusher, session_worker};
 use psu_disk::{Disk, FailOnce};
 use psu_exec::{Outcome, ScpiError, Session};
 use std::alloc::Global;
+use std::process::Abort;
 use std::sync::Wait;
 use std::thread::{Threads, join};
 
-// What two units come to while the flusher is held up; the outcome of the second lets it go on.
+// What a unit is to come to: this answer, or a storage fault.
+fn is_told(outcome: &Outcome<Global>, wanted: &[u8]) -> bool {
+    match outcome {
+        Outcome::Error(ScpiError::StorageFault) => wanted == b"storage fault".as_slice(),
+        _ => is_answer(outcome, wanted),
+    }
+}
+
+// Whether two units come to what they are to while the flusher is held up, the second to the name; its outcome lets the flusher go on.
+fn are_told<D: Disk, R: Wait>(
+    rt: &R,
+    bench: &Bench<D, Global>,
+    seat: &mut Seat<Global>,
+    session: Session,
+    first: [&[u8]; 2],
+    hold: &Hold,
+) -> bool
+    requires { IsOf bench.now seat.old }
+    ensures { IsOf bench.now seat.new }
+{
+    let [text, wanted] = first;
+    let is_first_told = is_told(&unit(rt, bench, seat, session, text), wanted);
+    let name = session_worker(rt, bench, seat, session, &read(b"*IDN?"), 1, hold);
+    is_first_told && is_answer(&name, b"EXAMPLE,PSU4,0,1.0")
+}
+
 fn answered<D: Disk, R: Wait>(
     rt: &R,
     bench: &Bench<D, Global>,
     mut seat: Seat<Global>,
     session: Session,
-    units: [&[u8]; 2],
+    first: [&[u8]; 2],
     hold: &Hold,
-) -> (Outcome<Global>, Outcome<Global>, Seat<Global>)
+) -> (bool, Seat<Global>)
     requires { IsOf bench.now seat }
-    ensures { IsOf bench.now result.2 }
+    ensures { IsOf bench.now result.1 }
 {
     if !hold.is_held() {
-        return (Outcome::Held, Outcome::Held, seat);
+        return (false, seat);
     }
-    let [first, last] = units;
-    let one = unit(rt, bench, &mut seat, session, first);
-    let two = session_worker(rt, bench, &mut seat, session, &read(last), 1, hold);
-    (one, two, seat)
+    let are_told = are_told(rt, bench, &mut seat, session, first, hold);
+    (are_told, seat)
 }
 
-// One thread flushes in one round, while another executes two units.
-fn beside<D: Disk + Drop + Send, R: Threads + Wait + Sync>(
+// One thread flushes in one round, while another executes two units. Whether these come to what they are to, while the flusher is held.
+fn are_told_beside<D: Disk + Drop + Send, R: Threads + Wait + Sync>(
     rt: &R,
     bench: &Bench<D, Global>,
     seat: &mut Seat<Global>,
     session: Session,
-    units: [&[u8]; 2],
+    first: [&[u8]; 2],
     hold: &Hold,
-) -> (Outcome<Global>, Outcome<Global>)
+) -> bool
     requires { IsOf bench.now seat.old }
     ensures { IsOf bench.now seat.new }
 {
     let flushing = bench.split(seat);
     let asking = bench.split(seat);
-    let ((one, two, asking), flushing) = join(
+    let ((are_told, asking), flushing) = join(
         rt,
-        || -> (Outcome<Global>, Outcome<Global>, Seat<Global>)
+        || -> (bool, Seat<Global>)
             requires { IsOf bench.now asking }
-            ensures { IsOf bench.entry.now result.2 }
-        { answered(rt, bench, asking, session, units, hold) },
+            ensures { IsOf bench.entry.now result.1 }
+        { answered(rt, bench, asking, session, first, hold) },
         || -> Seat<Global>
             requires { IsOf bench.now flushing }
             ensures { IsOf bench.entry.now result }
@@ -59,7 +85,7 @@ fn beside<D: Disk + Drop + Send, R: Threads + Wait + Sync>(
     );
     bench.join(seat, asking);
     bench.join(seat, flushing);
-    (one, two)
+    are_told && hold.overlapped()
 }
 
 // A round of the flusher that nobody holds up.
@@ -72,25 +98,67 @@ fn flush<D: Disk + Drop, R: Wait>(rt: &R, bench: &Bench<D, Global>, seat: &mut S
     bench.join(seat, flushing);
 }
 
+// Whether a save begins, for whose end a session waits.
+fn waits<D: Disk, R: Wait>(
+    rt: &R,
+    bench: &Bench<D, Global>,
+    seat: &mut Seat<Global>,
+    one: Session,
+) -> bool
+    requires { IsOf bench.now seat.old }
+    ensures { IsOf bench.now seat.new }
+{
+    is_done(rt, bench, seat, one, b"VOLT 7")
+        && is_done(rt, bench, seat, one, b"*SAV 1")
+        && matches!(unit(rt, bench, seat, one, b"*OPC?"), Outcome::Parked)
+}
+
+// Whether another is answered while the flusher is held up, and then the one that waits.
+fn is_answered_beside<D: Disk + Drop + Send, R: Threads + Wait + Sync + Abort>(
+    rt: &R,
+    bench: &Bench<D, Global>,
+    seat: &mut Seat<Global>,
+    hold: &Hold,
+) -> bool
+    requires { IsOf bench.now seat.old }
+    ensures { IsOf bench.now seat.new }
+{
+    let one = opened(rt, bench, seat);
+    let two = opened(rt, bench, seat);
+    let waits = waits(rt, bench, seat, one);
+    let are_told = are_told_beside(rt, bench, seat, two, [b"VOLT?", b"7.000"], hold);
+    let are_seen = bench.progress(seat) >= 2;
+    let is_told = is_answer(&bench.settle(rt, seat, one), b"1");
+    waits && are_told && are_seen && is_told
+}
+
 // The flusher stands before its first page while a session is answered; the save it commits is then confirmed. It writes five times.
 #[test]
 fn a_session_is_answered_before_a_page_is_written(rt: HostRuntime) {
     let hold = Hold::new(Point::BeforeWrite);
     let disk = Gated::new(formatted(&rt, rt.alloc()), &hold);
     let (bench, mut seat) = bench_on(&rt, rt.alloc(), disk);
-    let one = opened(&rt, &bench, &mut seat);
-    let two = opened(&rt, &bench, &mut seat);
-    assert!(rt; is_done(&rt, &bench, &mut seat, one, b"VOLT 7"));
-    assert!(rt; is_done(&rt, &bench, &mut seat, one, b"*SAV 1"));
-    assert!(rt; matches!(unit(&rt, &bench, &mut seat, one, b"*OPC?"), Outcome::Parked));
-    let (volts, name) = beside(&rt, &bench, &mut seat, two, [b"VOLT?", b"*IDN?"], &hold);
-    assert!(rt; hold.overlapped());
-    assert!(rt; is_answer(&volts, b"7.000"));
-    assert!(rt; is_answer(&name, b"EXAMPLE,PSU4,0,1.0"));
-    assert!(rt; bench.progress(&mut seat) >= 2);
-    assert!(rt; is_answer(&bench.settle(&rt, &mut seat, one), b"1"));
+    assert!(rt; is_answered_beside(&rt, &bench, &mut seat, &hold));
     assert!(rt; hold.writes() == 5);
-    assert!(rt; bench.close(&rt, seat).is_flushed());
+    assert!(rt; is_flushed_at_close(&rt, bench, seat));
+}
+
+// Whether a save is refused while the flusher is held up behind a commit that failed, and is done after it.
+fn is_refused_beside<D: Disk + Drop + Send, R: Threads + Wait + Sync + Abort>(
+    rt: &R,
+    bench: &Bench<D, Global>,
+    seat: &mut Seat<Global>,
+    hold: &Hold,
+) -> bool
+    requires { IsOf bench.now seat.old }
+    ensures { IsOf bench.now seat.new }
+{
+    let one = opened(rt, bench, seat);
+    let is_saved = is_done(rt, bench, seat, one, b"*SAV 1");
+    flush(rt, bench, seat);
+    is_saved
+        && are_told_beside(rt, bench, seat, one, [b"*SAV 2", b"storage fault"], hold)
+        && is_done(rt, bench, seat, one, b"*SAV 2")
 }
 
 // A commit fails at its first call, so the store is broken; while it is opened again a save is refused, and a query answered.
@@ -99,13 +167,6 @@ fn a_session_is_answered_while_a_store_is_reopened(rt: HostRuntime) {
     let hold = Hold::new(Point::BeforeRun);
     let disk = FailOnce::new(formatted(&rt, rt.alloc()), 8);
     let (bench, mut seat) = bench_on(&rt, rt.alloc(), disk);
-    let one = opened(&rt, &bench, &mut seat);
-    assert!(rt; is_done(&rt, &bench, &mut seat, one, b"*SAV 1"));
-    flush(&rt, &bench, &mut seat);
-    let (save, name) = beside(&rt, &bench, &mut seat, one, [b"*SAV 2", b"*IDN?"], &hold);
-    assert!(rt; hold.overlapped());
-    assert!(rt; matches!(save, Outcome::Error(ScpiError::StorageFault)));
-    assert!(rt; is_answer(&name, b"EXAMPLE,PSU4,0,1.0"));
-    assert!(rt; is_done(&rt, &bench, &mut seat, one, b"*SAV 2"));
-    assert!(rt; !bench.close(&rt, seat).is_flushed());
+    assert!(rt; is_refused_beside(&rt, &bench, &mut seat, &hold));
+    assert!(rt; !is_flushed_at_close(&rt, bench, seat));
 }

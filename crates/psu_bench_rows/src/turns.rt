@@ -2,7 +2,7 @@
 ghost use Rattle.std.specs.Prelude.{◌≡◌};
 ghost use Rattle.psu_turn.specs.Seats.{IsOf};
 
-use crate::benches::{bench_on, formatted};
+use crate::benches::{bench_on, formatted, is_open_at_close};
 use psu_bench::{Bench, Seat};
 use psu_disk::MemDisk;
 use psu_exec::Session;
@@ -33,5 +33,5 @@ fn one_thread_makes_more_than_a_million_calls(rt: HostRuntime) {
     let (bench, seat) = bench_on(&rt, rt.alloc(), formatted(&rt, rt.alloc()));
     let mut seat = calls(&rt, &bench, seat);
     assert!(rt; bench.progress(&mut seat) == CALLS);
-    assert!(rt; !bench.close(&rt, seat).is_open(Session::at(0)));
+    assert!(rt; !is_open_at_close(&rt, bench, seat, Session::at(0)));
 }
