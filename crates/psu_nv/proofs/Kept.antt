@@ -1,5 +1,5 @@
 -- Which maps are those of contents: by what is under each key.
-use Rattle.std.proofs.Common.{◌≡◌, ℕ, ◌+◌, ◌<◌, ◌≤◌, Bool, true, false, cond, List, [], ◌∷◌, length, map, Option, Some, None, Result, Ok, Err, refl, sym, ◌∙◌, ap, subst, bytes_eq, arith}
+use Rattle.std.proofs.Common.{◌≡◌, ℕ, zero, suc, ◌+◌, ◌<◌, ◌≤◌, Bool, true, false, cond, List, [], ◌∷◌, length, map, replicate, Option, Some, None, Result, Ok, Err, refl, sym, ◌∙◌, ap, subst, bytes_eq, arith}
 use Rattle.std.specs.Prelude.{◌&&◌, ◌||◌, ◌==◌, nat_le, bit_and, IfErr}
 use Rattle.std.specs.Option.{ForSome}
 use Rattle.std.specs.List.{AllByRecursion}
@@ -255,6 +255,10 @@ at_error (Err e) p = p
 -- what the contents of a map have of a part is under its key
 pub kept_part : (items : List Item) (kept : IsKept items) (part : Part) → value_in (part_items kept.contents part) ≡ get items (key_of part)
 kept_part items kept part = sym (part_found kept.contents part) ∙ ap (λ (l : List Item). get l (key_of part)) kept.items_are
+
+pub each_reset : (n : ℕ) → AllByRecursion AreSettings (replicate n reset)
+each_reset zero = tt
+each_reset (suc n) = ((refl, refl), each_reset n)
 
 -- a register of the contents
 pub kept_register : (items : List Item) (kept : IsKept items) (r : ℕ) → r < 100 → AreSettings (settings_at kept.contents.registers r)

@@ -1,6 +1,7 @@
 // What is kept without power, as one value.
 ghost use Rattle.std.specs.Prelude.{◌≡◌, ◌≤◌, length, map, IfOk, IfSome, option_map, Option, Some, None};
 ghost use Rattle.psu_map.specs.Map.{get};
+ghost use Rattle.psu_outputs.specs.Settings.{is_reset};
 ghost use Rattle.psu_nv.specs.Contents.{fresh};
 ghost use Rattle.psu_nv.specs.Commands.{settings_at};
 
@@ -57,6 +58,13 @@ impl<A: Allocator + Copy> Contents<A> {
         ensures { result ≡ settings_at self.now.registers register.number }
     {
         self.registers.get(register)
+    }
+
+    /// Whether a register holds the settings of `*RST`, and so has no item.
+    pub fn is_reset(&self, register: Register) -> bool
+        ensures { result ≡ is_reset (settings_at self.now.registers register.number) }
+    {
+        self.registers.is_reset(register)
     }
 
     /// The user data.

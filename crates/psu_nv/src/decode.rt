@@ -1,5 +1,5 @@
 // Contents from the map that they are kept as.
-ghost use Rattle.std.specs.Prelude.{◌≡◌, ◌∷◌, [], ◌<◌, ◌≤◌, ◌++◌, List, ℕ, Option, true, length, slice_index_or, IfOk, IfErr, IfSome, IfNone, option_map, bit_and};
+ghost use Rattle.std.specs.Prelude.{◌≡◌, ◌∷◌, [], ◌<◌, ◌≤◌, ◌++◌, List, ℕ, Option, true, length, slice_index_or, slice_set, IfOk, IfErr, IfSome, IfNone, option_map, bit_and};
 ghost use Rattle.std.specs.Option.{ForSome};
 ghost use Rattle.std.specs.List.{AllByRecursion};
 ghost use Rattle.psu_outputs.specs.declared.output_settings.OutputSettings.{OutputSettings as Each};
@@ -16,7 +16,7 @@ use crate::macros::Macros;
 use crate::recall::recall_in;
 use crate::registers::Registers;
 use crate::written::{WrittenMacros, macros_of};
-use crate::{Contents, DecodeFault, UserData};
+use crate::{Contents, DecodeFault, Register, UserData};
 use arrayvec::ArrayVec;
 use psu_map::Items;
 use psu_outputs::Settings;
@@ -26,7 +26,7 @@ use std::alloc::{AllocError, Allocator};
 #[derive(Drop)]
 struct Read<'a> {
     enables: Option<(u8, u8)>,
-    registers: [Settings; 100],
+    registers: Registers,
     user: UserData,
     macros: WrittenMacros<'a>,
     recall: bool,
@@ -88,7 +88,7 @@ fn build<A: Allocator + Copy>(
     }
     Ok(Contents {
         alloc,
-        registers: Registers::of(read.registers),
+        registers: read.registers.copy(),
         user: read.user.copy(),
         macros,
         enables: read.enables,
@@ -117,18 +117,32 @@ fn enables_in(value: Option<&[u8]>) -> Result<Option<(u8, u8)>, DecodeFault>
 }
 
 // The registers by the values of their keys.
-fn registers_in<A: Allocator + Copy>(items: &Items<A>) -> Result<[Settings; 100], DecodeFault>
+fn registers_in<A: Allocator + Copy>(items: &Items<A>) -> Result<Registers, DecodeFault>
     ensures count { IfOk result (λ registers. length registers ≡ 100) }
     ensures are { IfOk result (λ registers. AllByRecursion AreSettings registers) }
     ensures found { IfOk result (λ registers. (r : ℕ) → r < 100 → value_in (register_items r (slice_index_or registers r reset)) ≡ get items.now (2 ∷ r ∷ [])) }
     ensures bad { IfErr result (λ e. e ≡ BadValue) }
     ensures none { IfErr result (λ e. IsKept items.now → ⊥) }
 {
-    let mut registers = [Settings::reset(); 100];
+    let mut registers = Registers::reset();
     for number in 0..100 {
-        registers[number as usize] = register_in(items.get(&[2, number]))?;
+        put_register(
+            &mut registers,
+            number,
+            register_in(items.get(&[2, number]))?,
+        );
     }
     Ok(registers)
+}
+
+// Puts settings into the register of a number.
+fn put_register(registers: &mut Registers, number: u8, settings: Settings)
+    requires { number < 100 }
+    ensures { registers.new ≡ slice_set registers.old number settings }
+{
+    if let Some(register) = Register::of(number) {
+        registers.set(register, settings);
+    }
 }
 
 // The settings of a register by the value of its key.

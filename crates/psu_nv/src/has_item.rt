@@ -36,7 +36,7 @@ impl<A: Allocator + Copy> Contents<A> {
             return false;
         }
         match Register::of(*number) {
-            Some(register) => !self.register(register).is_reset(),
+            Some(register) => !self.is_reset(register),
             None => false,
         }
     }

@@ -1,5 +1,5 @@
 // The registers of contents.
-ghost use Rattle.std.specs.Prelude.{◌≡◌, ◌≤◌, length, replicate, slice_set, if◌then◌else◌};
+ghost use Rattle.std.specs.Prelude.{◌≡◌, ◌≤◌, replicate, slice_set, if◌then◌else◌};
 ghost use Rattle.psu_outputs.specs.Settings.{reset, is_reset};
 ghost use Rattle.psu_nv.specs.Commands.{settings_at};
 ghost use Rattle.psu_nv.specs.Costs.{registers_cost};
@@ -8,15 +8,18 @@ use crate::Register;
 use psu_outputs::Settings;
 use std::marker::Model;
 
-// The settings of a hundred registers, with the pages that they cost, so that no command looks at all of them. Contracts see the list of settings.
+// The settings of a hundred registers, with which of them are those of `*RST` and the pages that they cost, so that no command looks at all of
+// them. Contracts see the list of settings.
 #[derive(Drop)]
 pub(crate) struct Registers {
     all: [Settings; 100],
+    reset: [bool; 100],
     pages: u8,
 }
 
 impl Model for Registers {
-    ghost use Rattle.std.specs.Prelude.{List, ◌≡◌};
+    ghost use Rattle.std.specs.Prelude.{List, ◌≡◌, length, map};
+    ghost use Rattle.psu_outputs.specs.Settings.{is_reset};
     ghost use Rattle.psu_outputs.specs.declared.output_settings.OutputSettings.{OutputSettings};
     ghost use Rattle.psu_nv.specs.Costs.{registers_cost};
 
@@ -24,7 +27,7 @@ impl Model for Registers {
 
     ghost view = { λ r. r.all };
 
-    ghost invariant = { λ r. r.pages ≡ registers_cost r.all };
+    ghost invariant = { λ r. (r.reset ≡ map is_reset r.all) × (length r.all ≡ 100) × (r.pages ≡ registers_cost r.all) };
 }
 
 impl Registers {
@@ -34,16 +37,9 @@ impl Registers {
     {
         Registers {
             all: [Settings::reset(); 100],
+            reset: [true; 100],
             pages: 0,
         }
-    }
-
-    // These settings. It counts their pages, once.
-    pub(crate) fn of(all: [Settings; 100]) -> Registers
-        ensures { result ≡ all }
-    {
-        let pages = registers_pages(&all);
-        Registers { all, pages }
     }
 
     // The same once more.
@@ -52,6 +48,7 @@ impl Registers {
     {
         Registers {
             all: self.all,
+            reset: self.reset,
             pages: self.pages,
         }
     }
@@ -63,12 +60,20 @@ impl Registers {
         self.all[register.number() as usize]
     }
 
+    // Whether one holds the settings of `*RST`.
+    pub(crate) fn is_reset(&self, register: Register) -> bool
+        ensures { result ≡ is_reset (settings_at self.now register.number) }
+    {
+        self.reset[register.number() as usize]
+    }
+
     // Puts settings into one, in place of those that it holds.
     pub(crate) fn set(&mut self, register: Register, settings: Settings)
         ensures { self.new ≡ slice_set self.old register.number settings }
     {
         let pages = self.pages_with(register, settings);
         self.all[register.number() as usize] = settings;
+        self.reset[register.number() as usize] = settings.is_reset();
         self.pages = pages;
     }
 
@@ -83,26 +88,15 @@ impl Registers {
     pub(crate) fn pages_with(&self, register: Register, settings: Settings) -> u8
         ensures { result ≡ registers_cost (slice_set self.now register.number settings) }
     {
-        let others = self.pages - register_pages(&self.all[register.number() as usize]);
-        others + register_pages(&settings)
+        let others = self.pages - register_pages(self.is_reset(register));
+        others + register_pages(settings.is_reset())
     }
 }
 
-// The pages of the settings of a register, whatever its number.
-fn register_pages(settings: &Settings) -> u8
-    ensures value { result ≡ (if is_reset settings.now then 0 else 2) }
+// The pages of a register, whatever its number.
+fn register_pages(reset: bool) -> u8
+    ensures value { result ≡ (if reset then 0 else 2) }
     ensures most { result ≤ 2 }
 {
-    if settings.is_reset() { 0 } else { 2 }
-}
-
-fn registers_pages(registers: &[Settings]) -> u8
-    requires { length registers.now ≤ 100 }
-    ensures { result ≡ registers_cost registers.now }
-{
-    let mut pages = 0;
-    for settings in registers {
-        pages += register_pages(settings);
-    }
-    pages
+    if reset { 0 } else { 2 }
 }

@@ -18,14 +18,14 @@ use Rattle.psu_server.specs.Runs.{any, NextBegins, Runs}
 abbrev pub Leads : World → World → Type 0
 Leads w new = (entries : List Entry) × CallsAll w entries new
 
--- at a moment between two worlds: the image stands for a prefix of what was executed by then
+-- the image stands for a prefix of what was executed up to some world between two
 abbrev pub IsBetween : World → World → List ℕ → Type 0
 IsBetween w new image = (mid : World) × Leads w mid × Leads mid new × StandsForPrefix mid image
 
 -- ---- messages
 
--- At a moment while these messages are executed: some first of them were executed, the next one may have begun, and the image
--- stands for a prefix of what was executed by then.
+-- At some point while these messages are executed: some first of them were executed, the next one may have begun, and the image
+-- stands for a prefix of what was executed up to that point.
 pub record IsWhile (w : World) (due : List Message) (image : List ℕ) : Type 0 where
   pub done : List Message
   pub rest : List Message
@@ -44,8 +44,8 @@ pub record IsWhile (w : World) (due : List Message) (image : List ℕ) : Type 0 
 abbrev pub KeepsOne : DiskState → List ℕ → Type 0
 KeepsOne disk image = (before : List ℕ) × Left disk before × ((limit : ℕ) (map : List Item) → Stands before limit map → Stands image limit map)
 
--- At a moment of a run on a disk: before power-on the image stands for what one of the disk's does, and then for a prefix of what
--- was executed by then of the messages that the input brings.
+-- The image stands for what one of the disk's does, as before power-on, or for a prefix of what was executed of the messages that the
+-- input brings, up to some point of the run.
 abbrev pub IsOfRun : DiskState → Option (List ℕ) → List ℕ → Type 0
 IsOfRun disk input image =
     KeepsOne disk image ⊎ ((first : World) × (due : List Message) × PowersOn disk.bytes first × Brings input due × IsWhile first due image)
@@ -56,7 +56,7 @@ abbrev pub disk_in : {D A : Type 0} {G : Ghosts D} → Option (Home D A G) → O
 disk_in None = None
 disk_in (Some home) = Some (home_disk home)
 
--- Each image at any moment from one disk to another has P. (Of a disk that is away nothing is asked.)
+-- Each image at any moment from one disk to another has P. Where no disk was at home nothing is asked; one that was is at home again.
 abbrev pub Since : {D : Type 0} → Ghosts D → Option D → Option D → (List ℕ → Type 0) → Type 0
 Since G None new P = ⊤
 Since G (Some old) None P = ⊥

@@ -38,7 +38,7 @@ pub record HandsBack {D A : Type 0} {G : Ghosts D} (old : Exec D A G) (disk : D)
 
 -- ---- units
 
--- Calls led from one world to another, and at each moment what may be left stands for a prefix of what was executed by then.
+-- Calls led from one world to another, and what may be left at each moment stands for a prefix of what was executed up to some world between.
 pub record Spans {D A : Type 0} {G : Ghosts D} (old new : Exec D A G) (w v : World) : Type 0 where
   pub leads : Leads w v
   pub time : Ghosts.tells G → IsNow G → Reached w → Since G (disk_in old.home) (disk_in new.home) (IsBetween w v)

@@ -15,5 +15,5 @@ define-requires-clause-free g c =
     ap (λ (l : List Macro). has_label l c.written-item.result.label) c.loop-written.invariant ∙ ap (λ (m : Macro). has_label (take at all.result.now) m.label) c.written-item.is
     ∙ free_at all.result.now at _ (subst HasDistinct (sym all.ensures.value) c.requires.distinct) c.loop-written-test.true
 
-pub of-requires-2 : goal.of-requires-2
-of-requires-2 g c = subst (AllByRecursion IsShort) (sym c.in_ok-files_of.ensures) (all-map IsFile IsShort (files_in c.args.items.now) (λ (i : Item) (file : IsFile i). file.most) c.requires.files)
+pub of-requires : goal.of-requires
+of-requires g c = subst (AllByRecursion IsShort) (sym c.in_ok-files_of.ensures) (all-map IsFile IsShort (files_in c.args.items.now) (λ (i : Item) (file : IsFile i). file.most) c.requires.files)

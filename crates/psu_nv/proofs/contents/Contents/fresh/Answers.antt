@@ -1,14 +1,11 @@
-use Rattle.std.proofs.Common.{ℕ, zero, suc, List, length, replicate, refl, sym, ap, subst, arith}
+use Rattle.std.proofs.Common.{ℕ, List, length, sym, ap, subst, arith}
 use Rattle.std.specs.List.{AllByRecursion}
 use Rattle.psu_map.specs.Map.{IsSorted}
 use Rattle.psu_outputs.specs.declared.output_settings.OutputSettings.{OutputSettings}
-use Rattle.psu_outputs.specs.Settings.{AreSettings, reset}
+use Rattle.psu_outputs.specs.Settings.{AreSettings}
 use Rattle.psu_nv.specs.Contents.{Macro, IsMacro, HasDistinct, IsFile}
+use Rattle.psu_nv.proofs.Kept.{each_reset}
 use Rattle.psu_nv.proofs.contents.Contents.fresh.Goals as goal
-
-each_reset : (n : ℕ) → AllByRecursion AreSettings (replicate n reset)
-each_reset zero = tt
-each_reset (suc n) = ((refl, refl), each_reset n)
 
 pub invariant_of-result : goal.invariant_of-result
 invariant_of-result g c = record {

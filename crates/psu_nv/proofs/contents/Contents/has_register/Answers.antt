@@ -13,8 +13,8 @@ returns-then-not-is_empty g c =
 pub returns-in-Some-of : goal.returns-in-Some-of
 returns-in-Some-of g c =
     ap not c.is_reset.ensures
-    ∙ register_at c.args.self.now c.args.number.now c.in-Some.rest.now c.in-Some.number.now c.register.result c.in-Some.ensures.cases.0 (sym c.is_empty.ensures ∙ c.if-not-is_empty.false)
-    (c.register.ensures ∙ ap (settings_at c.args.self.now.registers) c.in-Some-of.ensures.found)
+    ∙ register_at c.args.self.now c.args.number.now c.in-Some.rest.now c.in-Some.number.now _ c.in-Some.ensures.cases.0 (sym c.is_empty.ensures ∙ c.if-not-is_empty.false)
+    (ap (settings_at c.args.self.now.registers) c.in-Some-of.ensures.found)
 
 pub returns-in-None : goal.returns-in-None
 returns-in-None g c = high_register c.args.self.now c.args.number.now c.in-Some.rest.now c.in-Some.number.now c.requires c.in-Some.ensures.cases.0 c.in-None.ensures.none
