@@ -1,4 +1,5 @@
 pub mod Alone
+pub mod MessagesAlone
 pub mod Within
 pub mod Lasting
 pub mod Telling
@@ -8,11 +9,13 @@ pub mod JobEnds
 pub mod FlushEnds
 pub mod SessionOne
 pub mod UnitEnds
+pub mod LateUnits
 pub mod MessageEnds
 pub mod Starting
 pub mod Passing
 pub mod Feeding
 pub mod Reading
+pub mod Reads
 pub mod Outcomes
 pub mod Causes
 pub mod Asking

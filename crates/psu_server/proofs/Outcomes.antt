@@ -24,7 +24,7 @@ use Rattle.psu_server.specs.Runs.{Mishaps, none, Flushes, NextBegins, Runs}
 use Rattle.psu_server.specs.Script.{IsScript}
 use Rattle.psu_server.specs.Within.{Within}
 use Rattle.psu_server.specs.declared.run_fault.RunFault.{RunFault}
-use Rattle.psu_server.proofs.Alone.{script_is_alone}
+use Rattle.psu_server.proofs.MessagesAlone.{script_is_alone}
 use Rattle.psu_server.proofs.Calls.{flush_calls, flush_running, flushed_stands, leaves_prefix, reached_calls, reached_next, reached_on, reached_runs}
 use Rattle.psu_server.proofs.Causes.{ends_late}
 use Rattle.psu_server.proofs.Reading.{Early, MayBeLong, Whole}

@@ -1,26 +1,19 @@
 -- Units, their waits, and what they leave.
-use Rattle.std.proofs.Common.{◌≡◌, ◌≢◌, ◌⊎◌, ℕ, ◌<◌, ◌≤◌, ◌==◌, ◌&&◌, not, nat_le, if◌then◌else◌, Bool, true, false, Option, Some, None, is_none, List, [], ◌∷◌, ◌++◌, refl, sym, ap, ◌∙◌, subst, inl, inr, arith, ⊎_elim, append-nil, Result, Ok, Err}
-use Rattle.std.proofs.lemmas.Bool.Decides.{nat_tests}
+use Rattle.std.proofs.Common.{◌≡◌, ◌≢◌, ◌⊎◌, ℕ, ◌<◌, ◌≤◌, ◌==◌, not, Bool, true, false, Option, Some, None, List, [], ◌∷◌, ◌++◌, refl, sym, ap, ◌∙◌, subst, inl, inr, arith, ⊎_elim, append-nil}
 use Rattle.psu_disk.specs.Disk.{HasFailed}
 use Rattle.psu_disk.specs.declared.disk.Disk.{Ghosts}
 use Rattle.psu_exec.specs.Calls.{Executed, Settled, Cleared, Allows, settle_answer}
-use Rattle.psu_exec.specs.Device.{Reply, Done, Answer, Error, Expand, Parked, Held, Later, State, Flush, AnswersBeside, AnswersCalled, AnswersNow, MayMean, answer_call, called, is_denied, is_late, is_later as comes_later, is_whole, wait_of, answer_complete, answer_done, answer_meant, here, kept_unless, meant as meaning_of, parks, reads_nonvolatile}
-use Rattle.psu_instrument.specs.Meaning.{Meaning, Refuses, Does, Keeps, Completes}
+use Rattle.psu_exec.specs.Device.{Reply, Done, Answer, Error, Expand, Parked, Held, Later, State, wait_of}
 use Rattle.psu_instrument.specs.declared.completion.Completion.{Completion}
 use Rattle.psu_instrument.specs.declared.completion.Completion.TheVariants as completion
-use Rattle.psu_exec.specs.Shown.{outcome_of}
 use Rattle.psu_exec.specs.World.{World}
 use Rattle.psu_nv.specs.Commands as nv
-use Rattle.psu_nv.specs.Contents.{fits}
 use Rattle.psu_exec.specs.declared.condition.Condition.TheVariants.{Worn}
 use Rattle.psu_exec.specs.declared.exec.Exec.{Exec}
-use Rattle.psu_exec.specs.declared.outcome.Outcome.{Outcome}
 use Rattle.psu_exec.specs.declared.outcome.Outcome.TheVariants as outcome
 use Rattle.psu_tree.specs.declared.unit_request.Request.{Request}
 use Rattle.psu_exec.specs.declared.wait.Wait.{Wait}
 use Rattle.psu_exec.specs.declared.wait.Wait.TheVariants.{Until, CutOff}
-use Rattle.psu_lex.specs.declared.scpi_error.ScpiError.{ScpiError}
-use Rattle.psu_lex.specs.declared.scpi_error.ScpiError.TheVariants.{StorageFault}
 use Rattle.psu_server.specs.Failures.{failures_of}
 use Rattle.psu_server.specs.Lives.{Life, lived, world_of, Calls}
 use Rattle.psu_server.specs.Progress.{Acted, GoesOn, Halts, Lasts, Spans, WaitEnds}
@@ -31,7 +24,7 @@ use Rattle.psu_server.specs.declared.run_cause.RunCause.TheVariants.{Read, Write
 use Rattle.psu_server.proofs.Calls.{Executes, executes_join, executes_one, flush_calls, begins_all, begins_idle, begins_more, begins_then, leads_one}
 use Rattle.psu_server.proofs.Moments.{spans_same, spans_then}
 use Rattle.psu_server.proofs.Lasting.{lasts_same, lasts_then}
-use Rattle.psu_server.proofs.Within.{failed_before, failed_on, within_as, within_at, within_here, within_itself, within_then}
+use Rattle.psu_server.proofs.Within.{failed_before, within_as, within_at, within_here, within_itself, within_then}
 use Rattle.psu_server.proofs.SessionOne.{cleared_calls, count_same, executed_calls, settle_store, settled_calls, until}
 
 -- ---- what goes on and then stops
@@ -278,7 +271,7 @@ pub unit_now : {D A : Type 0} {G : Ghosts D} (old new : Exec D A G) (request : R
 unit_now old new request reply a over = goes_as old new (Acted request reply) (λ can w v. UnitRuns can w request reply v) a (λ can w v x. unit_at can reply w v request over x)
 
 -- a unit that comes later is that one call
-late_call : (can : Mishaps) (reply : Reply) (w v : World) (request : Request) → is_later reply ≡ true → Acted request reply can w v → Calls w (Executed 1 request Later) v
+pub late_call : (can : Mishaps) (reply : Reply) (w v : World) (request : Request) → is_later reply ≡ true → Acted request reply can w v → Calls w (Executed 1 request Later) v
 late_call can reply w v request late (inl l) = l.1
 late_call can Later w v request late (inr r) = let final = r.0 in cc
 late_call can Done w v request late (inr r) = cc
@@ -306,7 +299,7 @@ unit_later old mid over new request first reply a late f b done =
     goes_then old over new (AfterLate request) (Acted request reply) (λ can w v. UnitRuns can w request reply v) (late_flush old mid over request first a late f) b
     (λ can w u v x y. inr (x.0, u, x.1, x.2, acts_late can reply u v request done y))
 
-late_executed : {D A : Type 0} {G : Ghosts D} (old mid over : Exec D A G) (request : Request) (first : Reply) → GoesOn old mid (Acted request first) → is_later first ≡ true
+pub late_executed : {D A : Type 0} {G : Ghosts D} (old mid over : Exec D A G) (request : Request) (first : Reply) → GoesOn old mid (Acted request first) → is_later first ≡ true
     → GoesOn mid over Flushes → HasExecuted old over []
 late_executed old mid over request first a late f =
     has_executed old over [] (AfterLate request) (late_flush old mid over request first a late f)
@@ -321,103 +314,3 @@ late_halts old mid over request first cause a late s =
 pub later_halts : {D A : Type 0} {G : Ghosts D} (old mid over new : Exec D A G) (request : Request) (first : Reply) (cause : RunCause) → GoesOn old mid (Acted request first) → is_later first ≡ true
     → GoesOn mid over Flushes → Halts over new (request ∷ []) cause → Halts old new (request ∷ []) cause
 later_halts old mid over new request first cause a late f s = halts_after old over new [] (request ∷ []) cause (late_executed old mid over request first a late f) s
-
--- ---- a unit that comes later still, after a flush
-
-and_first : (a b : Bool) → (a && b) ≡ true → a ≡ true
-and_first true b e = refl
-and_first false b e = cc
-
-some_of : (n : ℕ) (b : Bool) → (nat_le 1024 n && b) ≡ true → 0 < n
-some_of n b e = let most : nat_le 1024 n ≡ true = and_first (nat_le 1024 n) b e in grind (arith, nat_tests, most)
-
--- none of the replies that a command may have
-abbrev Never : Reply → Type 0
-Never reply = reply ≡ Later → ⊥
-
-never_if : (b : Bool) (one other : Reply) → Never one → Never other → Never (if b then one else other)
-never_if true one other p q = p
-never_if false one other p q = q
-
-never_done : (answer : Option (List ℕ)) → Never (answer_done answer)
-never_done None e = cc
-never_done (Some text) e = cc
-
-never_kept : (error : Option ScpiError) (whole fitting : Bool) → Never (kept_unless error whole fitting)
-never_kept (Some error) whole fitting e = cc
-never_kept None false fitting e = cc
-never_kept None true false e = cc
-never_kept None true true e = cc
-
-never_complete : (c : Completion) → Never (answer_complete c)
-never_complete completion.Query e = cc
-never_complete completion.Wait e = cc
-never_complete completion.Event e = cc
-
-never_meant : (f : Flush) (m : Meaning) → Never (answer_meant f m)
-never_meant f (Refuses error) = λ e. cc
-never_meant f (Does answer new) = never_done answer
-never_meant f (Keeps change) = never_kept (nv.refused f.contents change) (is_whole f.store) (fits f.limit (nv.apply f.contents change))
-never_meant f (Completes c) =
-    never_if (not (is_whole f.store)) (Error StorageFault) _ (λ e. cc) (never_if (parks c && not (f.unflushed == 0)) Parked (answer_complete c) (λ e. cc) (never_complete c))
-
--- the session waits for nothing, so changes are left
-full_tail : (wait : Option Wait) (n : ℕ) (nonvolatile : Bool) → wait ≡ None → is_late wait n nonvolatile ≡ true → 0 < n
-full_tail None n nonvolatile free e = some_of n nonvolatile e
-full_tail (Some w) n nonvolatile free e = cc
-
-never_call : (given : Result (List ℕ) ScpiError) → Never (answer_call given)
-never_call (Ok text) e = cc
-never_call (Err error) e = cc
-
-never_means : (f : Flush) (m : Meaning) → MayMean f m Later → ⊥
-never_means f m (inl is) = never_meant f m (sym is)
-never_means f m (inr short) = let bad = short.0 in cc
-
-never_called : (s : State) (request : Request) (body : Option (List ℕ)) → AnswersCalled s 1 request body Later → ⊥
-never_called s request None h = never_means s.flush (meaning_of (here s 1) request.reading) h
-never_called s request (Some body) h = never_call h.given (sym h.is)
-
-late_now : (s : State) (request : Request) (late : Bool) → AnswersNow late s 1 request Later → late ≡ true
-late_now s request true h = refl
-late_now s request false h = absurd (never_called s request (called s request) h)
-
-late_beside : (s : State) (request : Request) (denied : Bool) → AnswersBeside denied s 1 request Later → comes_later s 1 request ≡ true
-late_beside s request true h = cc
-late_beside s request false h = late_now s request (comes_later s 1 request) h
-
-late_some : (s new : State) (request : Request) → Allows s (Executed 1 request Later) new → wait_of s.flush 1 ≡ None → 0 < s.flush.unflushed
-late_some s new request t free =
-    full_tail (wait_of s.flush 1) s.flush.unflushed (reads_nonvolatile request.reading (is_none s.flush.contents.enables)) free (late_beside s request (is_denied s 1) t.1.may)
-
-late_halted : {D A : Type 0} {G : Ghosts D} (old mid new : Exec D A G) (request : Request) (reply : Reply) → Ghosts.honest G → GoesOn mid new (Acted request reply) → is_later reply ≡ true
-    → wait_of mid.device.flush 1 ≡ None → HasFailed (failures_of old) (failures_of mid) ⊎ (mid.device.flush.store ≡ Worn) ⊎ (mid.device.flush.unflushed ≡ 0) → IsHaltedBy old new Device
-late_halted old mid new request reply h a late free clean =
-    let life : Life = record { limit = 0; start = mid.device.flush.contents; history = [] } in
-    let g = a.runs h life in
-    let c = late_call g.1.0 reply (world_of life mid) (world_of g.0 new) request late (within_itself _ _ (λ can. Acted request reply can (world_of life mid) (world_of g.0 new)) g.1) in
-    let allows = c.1.2 in
-    let store : new.device.flush.store ≡ mid.device.flush.store = ap (λ (w : World). w.state.flush.store) c.1.4 ∙ ap (λ (s : State). s.flush.store) allows.1.is in
-    let left : new.device.flush.unflushed ≡ mid.device.flush.unflushed = ap (λ (w : World). w.state.flush.unflushed) c.1.4 ∙ ap (λ (s : State). s.flush.unflushed) allows.1.is in
-    let some = late_some mid.device c.1.0 request allows free in
-    ⊎_elim (λ failed. inl (failed_on _ _ _ a.lasts.later failed))
-    (λ rest. ⊎_elim (λ worn. inr (store ∙ worn, omega (arith, some, left))) (λ none. absurd (omega (arith, some, none))) rest) clean
-
-pub still_late_halts : {D A : Type 0} {G : Ghosts D} (old mid over new : Exec D A G) (request : Request) (first reply : Reply) → GoesOn old mid (Acted request first) → is_later first ≡ true
-    → GoesOn mid over Flushes → GoesOn over new (Acted request reply) → is_later reply ≡ true → wait_of over.device.flush 1 ≡ None
-    → (Ghosts.honest G → HasFailed (failures_of mid) (failures_of over) ⊎ (over.device.flush.store ≡ Worn) ⊎ (over.device.flush.unflushed ≡ 0))
-    → Halts old new (request ∷ []) Device
-still_late_halts old mid over new request first reply a late f b still free clean =
-    halts_here old new [] (request ∷ []) Device
-    (executed_join old over new [] [] (late_executed old mid over request first a late f)
-    (has_executed over new [] (Acted request reply) b (λ can w v x. executes_one w (Executed 1 request Later) v (late_call can reply w v request still x))))
-    (λ h. halted_since old mid new Device a.lasts (late_halted mid over new request reply h b still free (clean h))) (λ e. cc)
-
-pub parked_of : {A : Type 0} (o : Outcome A) → outcome_of o ≡ Parked → o ≡ outcome.Parked
-parked_of outcome.Done e = cc
-parked_of (outcome.Answer text) e = cc
-parked_of (outcome.Error error) e = cc
-parked_of outcome.Parked e = refl
-parked_of outcome.Held e = cc
-parked_of outcome.Later e = cc
-parked_of (outcome.Expand text) e = cc

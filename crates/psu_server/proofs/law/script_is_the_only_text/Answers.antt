@@ -1,4 +1,4 @@
-use Rattle.psu_server.proofs.Alone.{script_is_alone}
+use Rattle.psu_server.proofs.MessagesAlone.{script_is_alone}
 use Rattle.psu_server.proofs.law.script_is_the_only_text.Goals as goal
 
 pub returns : goal.returns

@@ -1,7 +1,8 @@
 use Rattle.std.proofs.Common.{◌∙◌, [], sym}
 use Rattle.psu_exec.specs.Shown.{outcome_of}
 use Rattle.psu_server.specs.declared.run_cause.RunCause.TheVariants.{Device}
-use Rattle.psu_server.proofs.UnitEnds.{flush_settles, halts_for_memory, halts_here, parked_of, wait_ends, waiting_halted}
+use Rattle.psu_server.proofs.UnitEnds.{flush_settles, halts_for_memory, halts_here, wait_ends, waiting_halted}
+use Rattle.psu_server.proofs.LateUnits.{parked_of}
 use Rattle.psu_server.proofs.SessionOne.{settle_free, settled_one}
 use Rattle.psu_server.proofs.units.wait_end.Goals as goal
 
