@@ -1,7 +1,7 @@
 -- The map of contents made in the order of its keys, part after part.
 use Rattle.std.proofs.Common.{◌≡◌, ℕ, zero, suc, ◌+◌, ◌<◌, ◌≤◌, List, [], ◌∷◌, ◌++◌, length, get_or, take, map, refl, sym, ◌∙◌, ap, subst, arith, append_assoc}
 use Rattle.std.specs.List.{AllByRecursion}
-use Rattle.std.proofs.Math.Seq.{take-suc, take-length}
+use Rattle.std.proofs.Math.Seq.{take-suc}
 use Rattle.std.proofs.lemmas.List.{length-take-le}
 use Rattle.psu_map.specs.Map.{Item, item_of, Before, IsSorted}
 use Rattle.psu_outputs.specs.declared.output_settings.OutputSettings.{OutputSettings}
@@ -41,26 +41,24 @@ module _ (c : Contents) where
       ∙ ap (λ (l : List Item). enables_items c.enables ++ l) (sym (registers-push 0 r c.registers lt))
       ∙ ap (λ (n : ℕ). enables_items c.enables ++ registers_items 0 (take n c.registers)) (let after : suc r ≡ next = omega (arith, next_is) in after)
 
-  led_registers : (n : ℕ) → AllBelow 3 (enables_items c.enables ++ registers_items 0 (take n c.registers))
-  led_registers n = all-append (λ (i : Item). LedBelow 3 i.key) (enables_items c.enables) (registers_items 0 (take n c.registers)) (raise 2 3 (enables_items c.enables) (omega arith) (enables_led c.enables)) (registers_below (take n c.registers))
+  led_registers : AllBelow 3 (enables_items c.enables ++ registers_items 0 c.registers)
+  led_registers = all-append (λ (i : Item). LedBelow 3 i.key) (enables_items c.enables) (registers_items 0 c.registers) (raise 2 3 (enables_items c.enables) (omega arith) (enables_led c.enables)) (registers_below c.registers)
 
-  pub before_user : (n : ℕ) (items : List Item) → items ≡ enables_items c.enables ++ registers_items 0 (take n c.registers) → Below (3 ∷ []) items
-  before_user n items is = subst (Below (3 ∷ [])) (sym is) (below_key 3 [] _ (led_registers n))
+  pub before_user : (items : List Item) → items ≡ enables_items c.enables ++ registers_items 0 c.registers → Below (3 ∷ []) items
+  before_user items is = subst (Below (3 ∷ [])) (sym is) (below_key 3 [] _ led_registers)
 
-  led_user : (n : ℕ) → AllBelow 4 ((enables_items c.enables ++ registers_items 0 (take n c.registers)) ++ user_items c.user)
-  led_user n = all-append (λ (i : Item). LedBelow 4 i.key) (enables_items c.enables ++ registers_items 0 (take n c.registers)) (user_items c.user) (raise 3 4 _ (omega arith) (led_registers n)) (user_below c.user)
+  led_user : AllBelow 4 ((enables_items c.enables ++ registers_items 0 c.registers) ++ user_items c.user)
+  led_user = all-append (λ (i : Item). LedBelow 4 i.key) (enables_items c.enables ++ registers_items 0 c.registers) (user_items c.user) (raise 3 4 _ (omega arith) led_registers) (user_below c.user)
 
-  pub before_macros : (n : ℕ) (items more : List Item) → items ≡ enables_items c.enables ++ registers_items 0 (take n c.registers) → more ≡ items ++ user_items c.user → Below (4 ∷ []) more
-  before_macros n items more is added = subst (Below (4 ∷ [])) (sym (added ∙ ap (λ (l : List Item). l ++ user_items c.user) is)) (below_key 4 [] _ (led_user n))
+  pub before_macros : (items more : List Item) → items ≡ enables_items c.enables ++ registers_items 0 c.registers → more ≡ items ++ user_items c.user → Below (4 ∷ []) more
+  before_macros items more is added = subst (Below (4 ∷ [])) (sym (added ∙ ap (λ (l : List Item). l ++ user_items c.user) is)) (below_key 4 [] _ led_user)
 
   -- all parts before the files
   abbrev pub front : List Item
   front = ((enables_items c.enables ++ registers_items 0 c.registers) ++ user_items c.user) ++ macros_items c.macros
 
   led_front : AllBelow 5 front
-  led_front =
-      subst (AllBelow 5) (ap (λ (l : List (List OutputSettings)). ((enables_items c.enables ++ registers_items 0 l) ++ user_items c.user) ++ macros_items c.macros) (take-length c.registers))
-      (all-append (λ (i : Item). LedBelow 5 i.key) ((enables_items c.enables ++ registers_items 0 (take (length c.registers) c.registers)) ++ user_items c.user) (macros_items c.macros) (raise 4 5 _ (omega arith) (led_user (length c.registers))) (macros_below c.macros))
+  led_front = all-append (λ (i : Item). LedBelow 5 i.key) ((enables_items c.enables ++ registers_items 0 c.registers) ++ user_items c.user) (macros_items c.macros) (raise 4 5 _ (omega arith) led_user) (macros_below c.macros)
 
 pub taken_before : (files : List Item) (i : ℕ) (d : Item) → IsSorted files → i < length files → Below (let f = get_or files i d in f.key) (take i files)
 taken_before [] i d sorted lt = absurd (omega (arith, lt))
@@ -93,7 +91,7 @@ module _ (c : Contents) (files items : List Item) (n : ℕ) (d f : Item) (of : f
       map-push (i ∷ l) g = ap (λ (m : List Item). file_item i ∷ m) (map-push l g)
 
 -- all parts before the last
-pub before_recall : (c : Contents) (files items : List Item) (n : ℕ) → files ≡ c.files → items ≡ front c ++ map file_item (take n files) → Below (6 ∷ []) items
-before_recall c files items n of is =
-    subst (Below (6 ∷ [])) (sym is)
-    (below_key 6 [] _ (all-append (λ (i : Item). LedBelow 6 i.key) (front c) (map file_item (take n files)) (raise 5 6 (front c) (omega arith) (led_front c)) (files_below (take n files))))
+pub before_recall : (c : Contents) (before items : List Item) → before ≡ front c → items ≡ before ++ map file_item c.files → Below (6 ∷ []) items
+before_recall c before items is added =
+    subst (Below (6 ∷ [])) (sym (added ∙ ap (λ (l : List Item). l ++ map file_item c.files) is))
+    (below_key 6 [] _ (all-append (λ (i : Item). LedBelow 6 i.key) (front c) (map file_item c.files) (raise 5 6 (front c) (omega arith) (led_front c)) (files_below c.files)))

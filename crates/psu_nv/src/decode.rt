@@ -15,7 +15,7 @@ use crate::keys::{files_of, fit_files, has_keys};
 use crate::macros::Macros;
 use crate::recall::recall_in;
 use crate::registers::Registers;
-use crate::written::{WrittenMacros, macros_of};
+use crate::written::{Written, WrittenMacros, macros_of};
 use crate::{Contents, DecodeFault, Register, UserData};
 use arrayvec::ArrayVec;
 use psu_map::Items;
@@ -82,19 +82,28 @@ fn build<A: Allocator + Copy>(
     requires { IsContents (contents_of read.now.registers read.now.user read.now.macros.items read.now.enables (files_in items.now) read.now.recall) }
     ensures { IfOk result (λ c. c ≡ contents_of read.now.registers read.now.user read.now.macros.items read.now.enables (files_in items.now) read.now.recall) }
 {
-    let mut macros = Macros::new(alloc);
-    for written in read.macros.as_slice() {
-        written.define(alloc, &mut macros)?;
-    }
     Ok(Contents {
         alloc,
         registers: read.registers.copy(),
         user: read.user.copy(),
-        macros,
+        macros: defined(alloc, read.macros.as_slice())?,
         enables: read.enables,
         files: Files::of(files_of(alloc, items)?),
         recall: read.recall,
     })
+}
+
+// The macros as they are written, in memory of their own.
+fn defined<A: Allocator + Copy>(alloc: A, all: &[Written<'_>]) -> Result<Macros<A>, AllocError>
+    requires good { AllByRecursion IsMacro all.now }
+    requires distinct { HasDistinct all.now }
+    ensures { IfOk result (λ macros. macros ≡ all.now) }
+{
+    let mut macros = Macros::new(alloc);
+    for written in all {
+        written.define(alloc, &mut macros)?;
+    }
+    Ok(macros)
 }
 
 // SRE and ESE by the value of their key; none where it has none.

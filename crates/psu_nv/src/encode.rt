@@ -1,8 +1,8 @@
 // The map that contents are kept as.
-ghost use Rattle.std.specs.Prelude.{◌≡◌, ℕ, ◌++◌, ◌∷◌, [], IfOk, OnOk, OnErr, option_map};
+ghost use Rattle.std.specs.Prelude.{◌≡◌, ℕ, ◌++◌, ◌∷◌, [], map, IfOk, OnOk, OnErr, option_map};
 ghost use Rattle.std.specs.List.{AllByRecursion};
 ghost use Rattle.psu_map.specs.Map.{Item, Before};
-ghost use Rattle.psu_nv.specs.Contents.{items_of, register_items, user_items, macros_items};
+ghost use Rattle.psu_nv.specs.Contents.{items_of, enables_items, register_items, registers_items, user_items, macros_items, file_item};
 ghost use Rattle.psu_nv.specs.Parts.{key_of, part_items, value_in, edit_of};
 ghost use Rattle.psu_nv.specs.Views.{part_of};
 
@@ -14,26 +14,43 @@ use std::alloc::{AllocError, Allocator};
 
 impl<A: Allocator + Copy> Contents<A> {
     /// The map that they are kept as.
-    #[tactic(auto, unfolding(crate::specs::Contents::items_of))]
     pub fn encode_items(&self, alloc: A) -> Result<Items<A>, AllocError>
         ensures { IfOk result (λ items. items ≡ items_of self.now) }
     {
-        let _ = &self.alloc;
         let mut items = Items::new(alloc);
         self.append(alloc, &mut items, Part::Enables)?;
-        for number in 0..100 {
-            if let Some(register) = Register::of(number) {
-                self.append(alloc, &mut items, Part::Register(register))?;
-            }
-        }
+        self.append_registers(alloc, &mut items)?;
         self.append(alloc, &mut items, Part::User)?;
         self.append(alloc, &mut items, Part::Macros)?;
+        self.append_files(alloc, &mut items)?;
+        self.append(alloc, &mut items, Part::Recall)?;
+        Ok(items)
+    }
+
+    // Adds the items of the registers behind those of the enables.
+    fn append_registers(&self, alloc: A, items: &mut Items<A>) -> Result<(), AllocError>
+        requires { items.old ≡ enables_items self.now.enables }
+        ensures { OnOk result (items.new ≡ enables_items self.now.enables ++ registers_items 0 self.now.registers) }
+    {
+        let _ = &self.alloc;
+        for number in 0..100 {
+            if let Some(register) = Register::of(number) {
+                self.append(alloc, items, Part::Register(register))?;
+            }
+        }
+        Ok(())
+    }
+
+    // Adds the items of the files behind those of all parts before them.
+    fn append_files(&self, alloc: A, items: &mut Items<A>) -> Result<(), AllocError>
+        requires { items.old ≡ ((enables_items self.now.enables ++ registers_items 0 self.now.registers) ++ user_items self.now.user) ++ macros_items self.now.macros }
+        ensures { OnOk result (items.new ≡ items.old ++ map file_item self.now.files) }
+    {
         for pair in self.files.pairs() {
             let key = with_first(alloc, 5, pair.key())?;
             items.append(key, pair.value().to_vec(alloc)?)?;
         }
-        self.append(alloc, &mut items, Part::Recall)?;
-        Ok(items)
+        Ok(())
     }
 
     /// The value of one part alone; none where it is absent.

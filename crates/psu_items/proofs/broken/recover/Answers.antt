@@ -18,3 +18,12 @@ returns-in-Err-one_of-clause-images g c = λ h. rw c.in-Err-one_of.ensures.disk 
 
 pub returns-in-Err-clause-strange : goal.returns-in-Err-clause-strange
 returns-in-Err-clause-strange g c = λ h all is. not_strange (g.D.Disk.state c.args.disk) c.args.limit c.args.before.now c.args.target.now c.in-Err.refused.cause all (c.in-Err.ensures.refused h) (sym c.from.ensures ∙ is)
+
+pub returns-in-Ok-one_of-clause-stands : goal.returns-in-Ok-one_of-clause-stands
+returns-in-Ok-one_of-clause-stands g c = λ h. rw c.in-Ok-one_of.ensures.same (c.in-Ok.ensures.stands h)
+
+pub returns-in-Ok-one_of-clause-moments : goal.returns-in-Ok-one_of-clause-moments
+returns-in-Ok-one_of-clause-moments g c = λ h t. rw c.in-Ok-one_of.ensures.same (c.in-Ok.ensures.moments h t)
+
+pub returns-in-Err-one_of-clause-moments : goal.returns-in-Err-one_of-clause-moments
+returns-in-Err-one_of-clause-moments g c = λ h t. rw c.in-Err-one_of.ensures.disk (c.in-Ok.ensures.moments h t)

@@ -1,4 +1,4 @@
-use Rattle.std.proofs.Common.{refl}
+use Rattle.std.proofs.Common.{refl, List, ◌≡◌, [], ◌∷◌, length, arith}
 use Rattle.psu_items.proofs.Sparing.{given_step, kept_step, kept_still, left_kept, last_kept, roots_none}
 use Rattle.psu_items.proofs.Laying.{last_planned, left_planned, left_apart, still_planned, roots_on}
 use Rattle.psu_items.proofs.layout.give_up.Goals as goal
@@ -29,3 +29,13 @@ loop-slot-preserved g c =
       kept = left_kept (let p = l.pages in p.heads.items) l.slots.items rest c.in-Some.slot c.in-Some.ensures.items l.invariant.kept;
       spare = λ first. kept_step l.pages l.pages (roots_none l.pages) l.slots.items rest c.in-Some.slot c.in-Some.ensures.items (l.invariant.spare first) (last_kept (let p = l.pages in p.heads.items) l.slots.items rest c.in-Some.slot c.in-Some.ensures.items l.invariant.kept c.if-slot.false) refl;
     }
+
+none_left : {X : Type 0} (xs : List X) → length xs ≡ 0 → xs ≡ []
+none_left [] none = refl
+none_left (x ∷ xs) none = absurd (omega (arith, none))
+
+pub returns-clause-spare : goal.returns-clause-spare
+returns-clause-spare g c = λ first page pool named.
+    let l = c.loop-slot in
+    let none = none_left l.slots.items (omega (arith, c.in_default.ensures.cases.0, l.slots.ok.0)) in
+    l.invariant.spare first page pool named (rw none tt)

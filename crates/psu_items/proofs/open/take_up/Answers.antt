@@ -20,3 +20,9 @@ returns-in-Err-clause-quiet g c = λ not. rw c.into_disk.ensures.value (c.in-Err
 
 pub returns-in-Err-clause-left : goal.returns-in-Err-clause-left
 returns-in-Err-clause-left g c = rw c.into_disk.ensures.value c.read_back.ensures.left
+
+pub unread-requires : goal.unread-requires
+unread-requires g c = c.in-Err.ensures.pages
+
+pub read_back-requires-clause-sure : goal.read_back-requires-clause-sure
+read_back-requires-clause-sure g c = c.requires.sure

@@ -14,6 +14,7 @@ use Rattle.psu_items.specs.Standing.{ShowsMap}
 use Rattle.psu_items.specs.Writing.{SameBehind}
 use Rattle.psu_items.proofs.Sparing.{spare_closed, spare_published}
 use Rattle.psu_items.proofs.Behind.{but_behind, behind_step, behind_step_run, behind_on, behind_run}
+use Rattle.psu_pages.specs.declared.standing.Standing.TheVariants.{One, Both, Unsure}
 use Rattle.psu_items.proofs.put.put.Given.{Over}
 use Rattle.psu_items.proofs.put.put.Goals.{After-publish_root, After-close_old}
 use Rattle.psu_items.proofs.put.put.Goals as goal
@@ -168,3 +169,9 @@ returns-clause-spare g c =
     let mid = c.write_slots.new.pages in
     let two = c.publish_root.new.self in
     spare_closed two c.close_old.new.self c.in_ok-close_old.ensures.closed c.close_old.ensures.limit (spare_published old mid two c.name_heads.result.items (heads_of c.args.layout.slots.items) c.write_slots.ensures.same c.in_ok-publish_root.ensures.published c.publish_root.ensures.limit c.name_heads.ensures c.requires.spare)
+
+pub write_slots-requires-clause-sure : goal.write_slots-requires-clause-sure
+write_slots-requires-clause-sure g c = λ same. let no : One ≡ Unsure = sym c.requires.shut ∙ same in absurd (cc)
+
+pub close_old-requires : goal.close_old-requires
+close_old-requires g c = record { sure = λ same. let no : Both ≡ Unsure = sym c.in_ok-publish_root.ensures.published.standing ∙ same in absurd (cc) }

@@ -2,7 +2,7 @@ use Rattle.std.proofs.Common.{◌≡◌, ◌∙◌, ℕ, true, List, refl, sym, 
 use Rattle.std.specs.List.{AllByRecursion}
 use Rattle.std.proofs.lemmas.List.{take_all}
 use Rattle.psu_disk.specs.Moments.{started}
-use Rattle.psu_items.specs.Layout.{value_at}
+use Rattle.psu_items.specs.Layout.{value_at, IsSized}
 use Rattle.psu_pages.specs.Image.{Head, AreClear, IsInPool, pages_of}
 use Rattle.psu_pages.specs.Outcome.{IsPlanned}
 use Rattle.psu_pages.specs.Writing.{IsWritten, Reaches}
@@ -101,3 +101,8 @@ returns-clause-written g c = λ h kept.
     let l = c.loop-slot in
     let all = take_all l.slot-index c.args.slots.now (omega (arith, c.loop-slot-test.false)) in
     subst (AllByRecursion (λ slot. IsWritten (d.state (let p = l.pages in p.disk)).bytes slot.head (value_at (aimed c.args.target.now) slot.head.key))) all (l.invariant.written h kept)
+
+pub write_slot-requires-clause-sized : goal.write_slot-requires-clause-sized
+write_slot-requires-clause-sized g c =
+    let sized = IsSized (aimed c.args.target.now) in
+    subst sized (sym c.slot-item.is) (all_at sized c.args.slots.now c.loop-slot.slot-index c.slot-item.result c.loop-slot-test.true c.requires.sized)

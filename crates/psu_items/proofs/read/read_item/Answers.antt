@@ -1,8 +1,10 @@
 use Rattle.std.proofs.Common.{◌≡◌, ◌∙◌, ap, get_or, List, sym, subst}
 use Rattle.std.specs.List.{AllByRecursion}
-use Rattle.psu_pages.specs.Image.{Head, IsInPool, pages_of}
+use Rattle.psu_pages.specs.Image.{Head, IsInPool, pages_of, IsHead}
 use Rattle.psu_pages.proofs.Taken.{taken_all}
 use Rattle.psu_items.proofs.Reading.{read_more}
+use Rattle.psu_pages.proofs.Lists.{all_at}
+use Rattle.psu_pages.proofs.Quiet.{quiet_none}
 use Rattle.psu_items.proofs.read.read_item.Goals as goal
 
 pub load-requires-clause-pool : goal.load-requires-clause-pool
@@ -17,3 +19,12 @@ returns-clause-found g c = λ h of.
     let p = c.args.pages.now in
     let is : c.in_ok-head.head ≡ get_or p.heads.items c.args.at c.index-heads-at.result = c.in_ok-head.ensures ∙ c.index-heads-at.is ∙ ap (λ (hs : List Head). get_or hs c.args.at c.index-heads-at.result) c.heads.ensures.value in
     read_more (g.D.Disk.state p.disk).bytes p.heads.items c.args.at c.index-heads-at.result c.in_ok-head.head c.args.items.now c.insert.new.self c.in_ok-to_vec.field-0.items c.in_ok-value.value.items c.requires is (c.in_ok-to_vec.ensures.items_if_clones_equal (λ x y e. e) ∙ c.key.ensures) (c.in_ok-value.ensures.found h) c.in_ok-insert.ensures.sets of
+
+pub load-requires-clause-is_head : goal.load-requires-clause-is_head
+load-requires-clause-is_head g c =
+    let p = c.args.pages.now in
+    let is : c.in_ok-head.head ≡ get_or p.heads.items c.args.at c.index-heads-at.result = c.in_ok-head.ensures ∙ c.index-heads-at.is ∙ ap (λ (hs : List Head). get_or hs c.args.at c.index-heads-at.result) c.heads.ensures.value in
+    subst IsHead (sym is) (all_at IsHead p.heads.items c.args.at c.index-heads-at.result c.requires p.roster.each)
+
+pub returns-in_err-head-clause-time : goal.returns-in_err-head-clause-time
+returns-in_err-head-clause-time g c = λ h t. quiet_none (let p = c.args.pages.now in g.met.D.Disk.only_now t p.disk)

@@ -1,4 +1,4 @@
-use Rattle.std.proofs.Common.{inl, List, sym, subst}
+use Rattle.std.proofs.Common.{inl, List, sym, subst, ◌∙◌, ap, ◌≤◌}
 use Rattle.psu_disk.specs.Disk.{HasFailed}
 use Rattle.psu_map.specs.Map.{IsSorted}
 use Rattle.psu_map.specs.Capacity.{CanHold}
@@ -13,6 +13,7 @@ use Rattle.psu_items.proofs.Laying.{slots_planned}
 use Rattle.psu_items.proofs.Roster.{slots_sized, slots_claimed, slots_roster, slots_stand}
 use Rattle.psu_items.proofs.Committing.{none_run, still_shows, either_back, time_back, behind_back, behind_time_back}
 use Rattle.psu_items.proofs.Sparing.{laid_spare}
+use Rattle.psu_items.proofs.Behind.{behind_still}
 use Rattle.psu_items.proofs.renew.renew.Goals as goal
 
 pub returns-in_default-clause-left : goal.returns-in_default-clause-left
@@ -112,3 +113,24 @@ returns-clause-behind_time g c = λ h t. behind_time_back c.args.pages.now c.lay
 pub returns-in-Ok-put-clause-heads : goal.returns-in-Ok-put-clause-heads
 returns-in-Ok-put-clause-heads g c = λ head value one had keeps size.
     subst (λ (hs : List Head). IsOneOf hs head) (sym c.in-Ok-put.ensures.heads) (c.in-Ok-lay_out.ensures.standing head value one (c.in-Ok.ensures.standing head.key value had keeps) size)
+
+pub returns-in-Ok-put-clause-works : goal.returns-in-Ok-put-clause-works
+returns-in-Ok-put-clause-works g c = c.in-Ok-put.ensures.works ∙ ap g.D.Disk.failures c.lay_out.ensures.roots.disk
+
+pub returns-in-Ok-put-clause-later : goal.returns-in-Ok-put-clause-later
+returns-in-Ok-put-clause-later g c = let d = g.D.Disk in subst (λ disk. d.failures disk ≤ d.failures (let last = c.put.new.pages in last.disk)) c.lay_out.ensures.roots.disk c.put.ensures.later
+
+pub returns-in-Ok-put-clause-extent : goal.returns-in-Ok-put-clause-extent
+returns-in-Ok-put-clause-extent g c = c.put.ensures.extent ∙ ap g.D.Disk.extent c.lay_out.ensures.roots.disk
+
+pub returns-clause-later : goal.returns-clause-later
+returns-clause-later g c = let d = g.D.Disk in subst (λ disk. d.failures disk ≤ d.failures (let last = c.put.new.pages in last.disk)) c.lay_out.ensures.roots.disk c.put.ensures.later
+
+pub returns-clause-extent : goal.returns-clause-extent
+returns-clause-extent g c = c.put.ensures.extent ∙ ap g.D.Disk.extent c.lay_out.ensures.roots.disk
+
+pub returns-in_default-clause-behind_time : goal.returns-in_default-clause-behind_time
+returns-in_default-clause-behind_time g c = λ h t. let p = c.args.pages.now in behind_still g.D.Disk p.limit p.disk (g.met.D.Disk.only_now t p.disk)
+
+pub returns-in_default-lay_out-clause-behind_time : goal.returns-in_default-lay_out-clause-behind_time
+returns-in_default-lay_out-clause-behind_time g c = λ h t. let p = c.args.pages.now in rw c.lay_out.ensures.roots.disk (behind_still g.D.Disk p.limit p.disk (g.met.D.Disk.only_now t p.disk))

@@ -21,3 +21,15 @@ loop-page-preserved g c =
       left = λ h x i. l.invariant.left h x (c.read_page.ensures.left h x i);
       time = λ h t. quiet_runs (l.invariant.time h t) (l.invariant.left h) (c.read_page.ensures.time h t);
     }
+
+pub returns-in_err-read_page-clause-time : goal.returns-in_err-read_page-clause-time
+returns-in_err-read_page-clause-time g c = λ h t. quiet_runs (c.loop-page.invariant.time h t) (c.loop-page.invariant.left h) (c.read_page.ensures.time h t)
+
+pub returns-in_err-extend_from_slice-clause-time : goal.returns-in_err-extend_from_slice-clause-time
+returns-in_err-extend_from_slice-clause-time g c = λ h t. quiet_runs (c.loop-page.invariant.time h t) (c.loop-page.invariant.left h) (c.read_page.ensures.time h t)
+
+pub returns-in_err-extend_from_slice-clause-left : goal.returns-in_err-extend_from_slice-clause-left
+returns-in_err-extend_from_slice-clause-left g c = λ h x l. c.loop-page.invariant.left h x (c.read_page.ensures.left h x l)
+
+pub returns-in_err-extend_from_slice-clause-seen : goal.returns-in_err-extend_from_slice-clause-seen
+returns-in_err-extend_from_slice-clause-seen g c = λ h. c.read_page.ensures.seen h ∙ c.loop-page.invariant.seen h

@@ -1,4 +1,4 @@
-use Rattle.std.proofs.Common.{◌≡◌, ◌≤◌, ℕ, List, length, map, sym, ◌∙◌, ap, arith, subst}
+use Rattle.std.proofs.Common.{◌≡◌, ◌≤◌, ℕ, List, length, map, sym, ◌∙◌, ap, arith, subst, rules}
 use Rattle.std.specs.Prelude.{is_some}
 use Rattle.psu_disk.specs.Disk.{Range}
 use Rattle.psu_pages.specs.Image.{head_at, heads_in, words, Head, AreApart, AreShort, keys, taken}
@@ -83,3 +83,36 @@ returns-clause-gates g c = λ h. gates (has g (goal.at.returns-clause-gates g c)
 
 pub returns-clause-time : goal.returns-clause-time
 returns-clause-time g c = λ h t. quiet_runs (c.read_roots.ensures.time h t) (c.read_roots.ensures.left h) (c.scan.ensures.time h t)
+
+pub returns-in-Ok-None-clause-time : goal.returns-in-Ok-None-clause-time
+returns-in-Ok-None-clause-time g c = λ h t. quiet_runs (c.read_roots.ensures.time h t) (c.read_roots.ensures.left h) (c.scan.ensures.time h t)
+
+pub returns-in-Err-scan-clause-time : goal.returns-in-Err-scan-clause-time
+returns-in-Err-scan-clause-time g c = λ h t. quiet_runs (c.read_roots.ensures.time h t) (c.read_roots.ensures.left h) (c.scan.ensures.time h t)
+
+pub returns-then-not-stand_together-clause-quiet : goal.returns-then-not-stand_together-clause-quiet
+returns-then-not-stand_together-clause-quiet g c = λ cause. c.in-Ok-Some.ensures.works ∙ c.in_ok-roots.ensures.cause.works (search rules)
+
+pub returns-then-not-stand_together-clause-left : goal.returns-then-not-stand_together-clause-left
+returns-then-not-stand_together-clause-left g c = λ h x l. c.read_roots.ensures.left h x (c.scan.ensures.left h x l)
+
+pub returns-then-not-stand_together-clause-seen : goal.returns-then-not-stand_together-clause-seen
+returns-then-not-stand_together-clause-seen g c = λ h. c.scan.ensures.seen h ∙ c.read_roots.ensures.seen h
+
+pub returns-clause-works : goal.returns-clause-works
+returns-clause-works g c = c.in-Ok-Some.ensures.works ∙ c.in_ok-roots.ensures.cause.works (search rules)
+
+pub returns-clause-left : goal.returns-clause-left
+returns-clause-left g c = λ h x l. c.read_roots.ensures.left h x (c.scan.ensures.left h x l)
+
+pub returns-clause-seen : goal.returns-clause-seen
+returns-clause-seen g c = λ h. c.scan.ensures.seen h ∙ c.read_roots.ensures.seen h
+
+pub returns-clause-synced : goal.returns-clause-synced
+returns-clause-synced g c = λ h x l. c.in_ok-roots.ensures.synced h x (c.scan.ensures.left h x l) ∙ sym (c.scan.ensures.seen h)
+
+pub returns-clause-limit : goal.returns-clause-limit
+returns-clause-limit g c = (c.in-Ok.ensures.limit.0, c.in-Ok.ensures.limit.1, omega (arith, c.in-Ok.ensures.limit.2, c.size.ensures, c.read_roots.ensures.extent))
+
+pub returns-clause-fit : goal.returns-clause-fit
+returns-clause-fit g c = rw c.in-Ok-Some.field-0-is at c.in-Ok-Some.ensures.fit

@@ -83,3 +83,21 @@ pub returns-clause-found : goal.returns-clause-found
 returns-clause-found g c = λ h.
     let l = c.loop-name in
     l.invariant.found h ∙ ap (map (head_at (g.D.Disk.state c.args.disk.now).bytes)) (take_all l.name-index c.args.names.now (omega (arith, c.loop-name-test.false)))
+
+pub returns-in-Ok-None-clause-left : goal.returns-in-Ok-None-clause-left
+returns-in-Ok-None-clause-left g c = λ h x l. c.loop-name.invariant.left h x (c.read_head.ensures.left h x l)
+
+pub returns-in-Ok-None-clause-seen : goal.returns-in-Ok-None-clause-seen
+returns-in-Ok-None-clause-seen g c = λ h. c.read_head.ensures.seen h ∙ c.loop-name.invariant.seen h
+
+pub returns-in-Err-clause-left : goal.returns-in-Err-clause-left
+returns-in-Err-clause-left g c = λ h x l. c.loop-name.invariant.left h x (c.read_head.ensures.left h x l)
+
+pub returns-in-Err-clause-seen : goal.returns-in-Err-clause-seen
+returns-in-Err-clause-seen g c = λ h. c.read_head.ensures.seen h ∙ c.loop-name.invariant.seen h
+
+pub returns-in_err-add-clause-left : goal.returns-in_err-add-clause-left
+returns-in_err-add-clause-left g c = λ h x l. c.loop-name.invariant.left h x (c.read_head.ensures.left h x l)
+
+pub returns-in_err-add-clause-seen : goal.returns-in_err-add-clause-seen
+returns-in_err-add-clause-seen g c = λ h. c.read_head.ensures.seen h ∙ c.loop-name.invariant.seen h

@@ -5,7 +5,7 @@ use Rattle.psu_pages.specs.Writing.{Misses, AreWritten}
 use Rattle.psu_pages.proofs.Making.{item_written}
 use Rattle.psu_pages.proofs.Steps.{misses_first, misses_rest, page_stays, follows_weaker, follows_on, run_weaker, run_on}
 use Rattle.psu_pages.proofs.writing.write_item.Given.{Over}
-use Rattle.psu_pages.proofs.writing.write_item.Goals.{After-write_value}
+use Rattle.psu_pages.proofs.writing.write_item.Goals.{After-write_page, After-write_value}
 use Rattle.psu_pages.proofs.writing.write_item.Goals as goal
 
 pub returns-clause-spelled : goal.returns-clause-spelled
@@ -26,7 +26,7 @@ returns-clause-written g c = λ h.
     let d = g.D.Disk in
     item_written (d.state c.write_value.new.disk).bytes c.args.head.now c.args.value.now c.requires.is_head c.requires.low (sym c.requires.size) (returns-clause-spelled g c h)
 
-first : (g : Over) (c : After-write_value g) (x y : List ℕ) → Misses (c.at.result ∷ []) x y → Misses (pages_of c.args.head.now) x y
+first : (g : Over) (c : After-write_page g) (x y : List ℕ) → Misses (c.at.result ∷ []) x y → Misses (pages_of c.args.head.now) x y
 first g c x y misses = let head = c.args.head.now in misses_first head.at head.pages x y (subst (λ (p : ℕ). Misses (p ∷ []) x y) c.at.ensures misses)
 
 rest : (g : Over) (c : After-write_value g) (x y : List ℕ) → Misses c.pages.result.now x y → Misses (pages_of c.args.head.now) x y
@@ -35,17 +35,32 @@ rest g c x y misses = let head = c.args.head.now in misses_rest head.at head.pag
 pub returns-in_err-write_value-clause-time : goal.returns-in_err-write_value-clause-time
 returns-in_err-write_value-clause-time g c = λ h t.
     let pages = pages_of c.args.head.now in
-    let at = (goal.at.returns-in_err-write_value-clause-time g c).After-write_value in
-    run_on pages (rest g at) (c.write_value.ensures.time h t) (run_weaker pages (first g at) (c.write_page.ensures.time h t)) (follows_weaker pages (first g at) (c.write_page.ensures.left h))
+    let at = goal.at.returns-in_err-write_value-clause-time g c in
+    run_on pages (rest g at.After-write_value) (c.write_value.ensures.time h t) (run_weaker pages (first g at.After-write_page) (c.write_page.ensures.time h t)) (follows_weaker pages (first g at.After-write_page) (c.write_page.ensures.left h))
 
 pub returns-clause-time : goal.returns-clause-time
 returns-clause-time g c = λ h t.
     let pages = pages_of c.args.head.now in
-    let at = (goal.at.returns-clause-time g c).After-write_value in
-    run_on pages (rest g at) (c.write_value.ensures.time h t) (run_weaker pages (first g at) (c.write_page.ensures.time h t)) (follows_weaker pages (first g at) (c.write_page.ensures.left h))
+    let at = goal.at.returns-clause-time g c in
+    run_on pages (rest g at.After-write_value) (c.write_value.ensures.time h t) (run_weaker pages (first g at.After-write_page) (c.write_page.ensures.time h t)) (follows_weaker pages (first g at.After-write_page) (c.write_page.ensures.left h))
 
 pub returns-clause-left : goal.returns-clause-left
 returns-clause-left g c = λ h.
     let pages = pages_of c.args.head.now in
-    let at = (goal.at.returns-clause-left g c).After-write_value in
-    follows_on pages (rest g at) (follows_weaker pages (first g at) (c.write_page.ensures.left h)) (c.write_value.ensures.left h)
+    let at = goal.at.returns-clause-left g c in
+    follows_on pages (rest g at.After-write_value) (follows_weaker pages (first g at.After-write_page) (c.write_page.ensures.left h)) (c.write_value.ensures.left h)
+
+pub returns-in_err-write_value-clause-left : goal.returns-in_err-write_value-clause-left
+returns-in_err-write_value-clause-left g c = λ h.
+    let pages = pages_of c.args.head.now in
+    let at = goal.at.returns-in_err-write_value-clause-left g c in
+    follows_on pages (rest g at.After-write_value) (follows_weaker pages (first g at.After-write_page) (c.write_page.ensures.left h)) (c.write_value.ensures.left h)
+
+pub returns-in_err-write_page-clause-time : goal.returns-in_err-write_page-clause-time
+returns-in_err-write_page-clause-time g c = λ h t. run_weaker (pages_of c.args.head.now) (first g (goal.at.returns-in_err-write_page-clause-time g c).After-write_page) (c.write_page.ensures.time h t)
+
+pub returns-in_err-write_page-clause-left : goal.returns-in_err-write_page-clause-left
+returns-in_err-write_page-clause-left g c = λ h. follows_weaker (pages_of c.args.head.now) (first g (goal.at.returns-in_err-write_page-clause-left g c).After-write_page) (c.write_page.ensures.left h)
+
+pub write_value-requires-clause-room : goal.write_value-requires-clause-room
+write_value-requires-clause-room g c = rw (c.pages.ensures, c.write_page.ensures.extent) c.requires.room.1

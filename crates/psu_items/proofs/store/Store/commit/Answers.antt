@@ -219,3 +219,24 @@ returns-in-Err-Device-clause-behind g c = λ h. rw (← c.self.view_is, c.into_d
 
 pub returns-in-Err-Device-clause-behind_time : goal.returns-in-Err-Device-clause-behind_time
 returns-in-Err-Device-clause-behind_time g c = λ h t. rw (← c.self.view_is, c.into_disk.ensures.value) (c.renew.ensures.behind_time h t)
+
+pub returns-in-Err-clause-extent : goal.returns-in-Err-clause-extent
+returns-in-Err-clause-extent g c = rw (← c.self.view_is) refl
+
+pub returns-in-Err-clause-later : goal.returns-in-Err-clause-later
+returns-in-Err-clause-later g c = rw (← c.self.view_is) (omega arith)
+
+pub returns-in-Ok-renew-clause-extent : goal.returns-in-Ok-renew-clause-extent
+returns-in-Ok-renew-clause-extent g c = rw (← c.self.view_is) c.renew.ensures.extent
+
+pub returns-in-Ok-renew-clause-later : goal.returns-in-Ok-renew-clause-later
+returns-in-Ok-renew-clause-later g c = rw (← c.self.view_is) c.renew.ensures.later
+
+pub returns-in-Err-Memory-clause-extent : goal.returns-in-Err-Memory-clause-extent
+returns-in-Err-Memory-clause-extent g c = rw (← c.self.view_is) c.renew.ensures.extent
+
+pub returns-in-Err-Memory-clause-later : goal.returns-in-Err-Memory-clause-later
+returns-in-Err-Memory-clause-later g c = rw (← c.self.view_is) c.renew.ensures.later
+
+pub returns-in-Ok-renew-clause-works : goal.returns-in-Ok-renew-clause-works
+returns-in-Ok-renew-clause-works g c = rw (← c.self.view_is) c.in-Ok-renew.ensures.works

@@ -42,3 +42,15 @@ returns-in-Ok-clause-time g c = λ h t limit m all.
 
 pub returns-in-Err-clause-refused : goal.returns-in-Err-clause-refused
 returns-in-Err-clause-refused g c = λ h. pages_refused (g.D.Disk.state c.args.disk).bytes c.in-Err.refused.cause (c.in-Err.ensures.refused h)
+
+pub returns-in-Ok-clause-works : goal.returns-in-Ok-clause-works
+returns-in-Ok-clause-works g c = rw (← c.in-Ok.ensures.works) c.take_up.ensures.works
+
+pub returns-in-Ok-clause-quiet : goal.returns-in-Ok-clause-quiet
+returns-in-Ok-clause-quiet g c = rw (← c.in-Ok.ensures.works) c.take_up.ensures.quiet
+
+pub returns-in-Ok-clause-device : goal.returns-in-Ok-clause-device
+returns-in-Ok-clause-device g c = rw (← c.in-Ok.ensures.works) c.take_up.ensures.device
+
+pub returns-in-Ok-clause-untouched : goal.returns-in-Ok-clause-untouched
+returns-in-Ok-clause-untouched g c = λ h. rw (← c.in-Ok.ensures.seen h) (c.take_up.ensures.untouched h)

@@ -1,46 +1,23 @@
-use Rattle.std.proofs.Common.{◌<◌, ◌∙◌, ◌∷◌, List, ℕ, sym, ap, subst, length, arith}
-use Rattle.psu_map.specs.Map.{IsSorted}
-use Rattle.psu_nv.specs.Contents.{Contents}
-use Rattle.psu_nv.proofs.Encoding.{before_register, next_register, before_user, before_macros, before_file, before_recall, next_file}
+use Rattle.std.proofs.Common.{◌∙◌, ◌++◌, List, map, ap, append_assoc}
+use Rattle.psu_map.specs.Map.{Item}
+use Rattle.psu_nv.specs.Contents.{items_of, user_items, macros_items, recall_items, file_item}
+use Rattle.psu_nv.proofs.Encoding.{before_user, before_macros, before_recall}
 use Rattle.psu_nv.proofs.contents.Contents.encode_items.Goals as goal
-use Rattle.psu_nv.proofs.contents.Contents.encode_items.Goals.{in-Some+in_ok-append-2, in_default}
-
-pub append-requires-in-Some : goal.append-requires-in-Some
-append-requires-in-Some g c =
-    let kept = c.args.self.now in
-    let there : c.loop-number.number < length kept.registers = omega (arith, c.self.invariant.count, ap (λ (k : Contents). length k.registers) c.self.view_is, c.loop-number-test.true) in
-    before_register kept c.loop-number.number c.in-Some.register.number c.loop-number.items c.loop-number.invariant c.in-Some.ensures.found there
-
-pub loop-number-preserved : goal.loop-number-preserved
-loop-number-preserved g c =
-    let kept = c.args.self.now in
-    let there : c.loop-number.number < length kept.registers = omega (arith, c.self.invariant.count, ap (λ (k : Contents). length k.registers) c.self.view_is, c.loop-number-test.true) in
-    elim c.match-of.branch [
-      | in-Some+in_ok-append-2 w ↦ w.items-is ∙ next_register kept c.loop-number.number w.in-Some.register.number _ c.loop-number.items _ c.loop-number.invariant w.in-Some.ensures.found (omega arith) there w.in_ok-append-2.ensures
-      | in_default w ↦ absurd (omega (arith, w.in_default.ensures.none, c.loop-number-test.true))
-    ]
 
 pub append-requires-2 : goal.append-requires-2
-append-requires-2 g c = before_user c.args.self.now _ c.loop-number.items c.loop-number.invariant
+append-requires-2 g c = before_user c.args.self.now _ c.in_ok-append_registers.ensures
 
 pub append-requires-3 : goal.append-requires-3
-append-requires-3 g c = before_macros c.args.self.now _ c.loop-number.items _ c.loop-number.invariant c.in_ok-append-3.ensures
-
-pub append-requires-in-loop-pair : goal.append-requires-in-loop-pair
-append-requires-in-loop-pair g c =
-    let same = c.pairs-pair-items.ensures.all ∙ ap (λ (k : Contents). k.files) c.self.view_is in
-    let led = c.in_ok-key.ensures ∙ ap (λ (l : List ℕ). 5 ∷ l) c.key.ensures in
-    before_file c.args.self.now c.pairs-pair-items.result.now c.loop-pair.items c.loop-pair.pair-index _ _ same c.loop-pair.invariant c.loop-pair-test.true c.pair-item.is _ led
-    (subst IsSorted (sym c.pairs-pair-items.ensures.all) c.pairs-pair-items.ensures.sorted)
-
-pub loop-pair-preserved : goal.loop-pair-preserved
-loop-pair-preserved g c =
-    let same = c.pairs-pair-items.ensures.all ∙ ap (λ (k : Contents). k.files) c.self.view_is in
-    let led = c.in_ok-key.ensures ∙ ap (λ (l : List ℕ). 5 ∷ l) c.key.ensures in
-    next_file c.args.self.now c.pairs-pair-items.result.now c.loop-pair.items c.loop-pair.pair-index _ _ same c.loop-pair.invariant c.loop-pair-test.true c.pair-item.is _ led
-    _ _ _ (c.in_ok-to_vec.ensures.items_if_clones_equal (λ x y e. e) ∙ c.value.ensures) (omega arith) c.in_ok-append-5.ensures.ok
+append-requires-3 g c = before_macros c.args.self.now _ _ c.in_ok-append_registers.ensures c.in_ok-append-2.ensures
 
 pub append-requires-4 : goal.append-requires-4
 append-requires-4 g c =
-    let same = c.pairs-pair-items.ensures.all ∙ ap (λ (k : Contents). k.files) c.self.view_is in
-    before_recall c.args.self.now c.pairs-pair-items.result.now c.loop-pair.items c.loop-pair.pair-index same c.loop-pair.invariant
+    let kept = c.args.self.now in
+    before_recall c.args.self.now _ _ (c.in_ok-append-3.ensures ∙ ap (λ (l : List Item). l ++ macros_items kept.macros) (c.in_ok-append-2.ensures ∙ ap (λ (l : List Item). l ++ user_items kept.user) c.in_ok-append_registers.ensures)) c.in_ok-append_files.ensures
+
+pub returns : goal.returns
+unfolding items_of
+returns g c =
+    let kept = c.args.self.now in
+    let front = c.in_ok-append-3.ensures ∙ ap (λ (l : List Item). l ++ macros_items kept.macros) (c.in_ok-append-2.ensures ∙ ap (λ (l : List Item). l ++ user_items kept.user) c.in_ok-append_registers.ensures) in
+    c.in_ok-append-4.ensures ∙ ap (λ (l : List Item). l ++ recall_items kept.recall) (c.in_ok-append_files.ensures ∙ ap (λ (l : List Item). l ++ map file_item kept.files) front) ∙ simp append_assoc

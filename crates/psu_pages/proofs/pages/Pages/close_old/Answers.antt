@@ -1,13 +1,14 @@
-use Rattle.std.proofs.Common.{List, sym, ◌∙◌, arith, subst}
+use Rattle.std.proofs.Common.{List, sym, ◌∙◌, arith, subst, ◌≡◌, length, rules}
 use Rattle.psu_disk.specs.Disk.{SameBut}
 use Rattle.psu_disk.specs.Moments.{started}
-use Rattle.psu_pages.specs.Free.{IsRoster}
+use Rattle.psu_pages.specs.Free.{IsRoster, AreClaimed}
 use Rattle.psu_pages.specs.Image.{other, gate_at, taken, pages_of, Head, IsNone, AreClear}
 use Rattle.psu_pages.specs.Shown.{items_in, Bears}
 use Rattle.psu_pages.proofs.Lists.{clear_swap}
 use Rattle.psu_pages.proofs.Marking.{claimed_beside}
-use Rattle.psu_pages.proofs.Planning.{none_root}
+use Rattle.psu_pages.proofs.Planning.{none_root, pool_within}
 use Rattle.psu_pages.proofs.Publishing.{Keeps, closing, shut_zero, still_left, still_run, still_shown, still_bears}
+use Rattle.psu_pages.specs.declared.standing.Standing.TheVariants.{One, Both}
 use Rattle.psu_pages.proofs.pages.Pages.close_old.Given.{Over}
 use Rattle.psu_pages.proofs.pages.Pages.close_old.Goals.{After-set_gate}
 use Rattle.psu_pages.proofs.pages.Pages.close_old.Goals as goal
@@ -86,3 +87,21 @@ returns-clause-planned g c = λ head was.
       unnamed = was.unnamed;
       unnamed_before = subst (λ (hs : List Head). AreClear (pages_of head) (taken hs)) (sym c.clear.ensures.items) tt;
     }
+
+pub hand_over-requires-clause-there : goal.hand_over-requires-clause-there
+hand_over-requires-clause-there g c = let p = c.args.self.now in rw c.deref.ensures.value (pool_within p.limit (length p.free) (taken p.older.items) p.sized p.older_roster.pool)
+
+pub hand_over-requires-clause-heads_there : goal.hand_over-requires-clause-heads_there
+hand_over-requires-clause-heads_there g c = let p = c.args.self.now in rw c.deref-2.ensures.value (pool_within p.limit (length p.free) (taken p.heads.items) p.sized p.roster.pool)
+
+pub invariant_of-self-2-clause-claimed : goal.invariant_of-self-2-clause-claimed
+invariant_of-self-2-clause-claimed g c = subst (λ (hs : List Head). AreClaimed c.hand_over.new.free (taken hs)) c.deref-2.ensures.value c.hand_over.ensures.kept
+
+pub invariant_of-self-2-clause-lower : goal.invariant_of-self-2-clause-lower
+invariant_of-self-2-clause-lower g c = λ h both. let no : One ≡ Both = both in absurd (cc)
+
+pub returns-clause-works : goal.returns-clause-works
+returns-clause-works g c = c.in_ok-set_gate.ensures.cause.works (search rules)
+
+pub returns-clause-zero : goal.returns-clause-zero
+returns-clause-zero g c = λ h both. rw (← c.other.ensures) (c.in_ok-set_gate.ensures.done h)

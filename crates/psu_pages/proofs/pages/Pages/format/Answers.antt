@@ -1,4 +1,4 @@
-use Rattle.std.proofs.Common.{◌≡◌, ℕ, List, ◌∷◌, [], drop, sym, ◌∙◌, ap, arith, subst}
+use Rattle.std.proofs.Common.{◌≡◌, ℕ, List, ◌∷◌, [], drop, sym, ◌∙◌, ap, arith, subst, rules}
 use Rattle.psu_disk.specs.Ranges.{reads_left}
 use Rattle.psu_pages.specs.declared.root.Root.TheVariants.{First}
 use Rattle.psu_pages.specs.Free.{IsRoster}
@@ -6,6 +6,7 @@ use Rattle.psu_pages.specs.Image.{Head}
 use Rattle.psu_pages.specs.Shown.{items_in, EachBears}
 use Rattle.psu_pages.specs.Spelling.{filled, said, names}
 use Rattle.psu_pages.proofs.Publishing.{told_filled}
+use Rattle.psu_pages.specs.declared.standing.Standing.TheVariants.{One, Both}
 use Rattle.psu_pages.proofs.pages.Pages.format.Given.{Over}
 use Rattle.psu_pages.proofs.pages.Pages.format.Goals.{In-Ok-lay_out}
 use Rattle.psu_pages.proofs.pages.Pages.format.Goals as goal
@@ -33,3 +34,15 @@ pub returns-in-Ok-lay_out-clause-empty : goal.returns-in-Ok-lay_out-clause-empty
 returns-in-Ok-lay_out-clause-empty g c = λ h.
     let new = g.D.Disk.state c.lay_out.new.disk in
     (borne g (goal.at.returns-in-Ok-lay_out-clause-empty g c).In-Ok-lay_out h new.bytes (reads_left new)).says.items_are
+
+pub invariant_of-result-clause-shut : goal.invariant_of-result-clause-shut
+invariant_of-result-clause-shut g c = λ h one. c.in-Ok-lay_out.ensures.shut h
+
+pub invariant_of-result-clause-lower : goal.invariant_of-result-clause-lower
+invariant_of-result-clause-lower g c = λ h both. let no : One ≡ Both = both in absurd (cc)
+
+pub returns-in-Ok-lay_out-clause-works : goal.returns-in-Ok-lay_out-clause-works
+returns-in-Ok-lay_out-clause-works g c = c.in-Ok-lay_out.ensures.cause.works (search rules)
+
+pub returns-in-Ok-lay_out-clause-zero : goal.returns-in-Ok-lay_out-clause-zero
+returns-in-Ok-lay_out-clause-zero g c = λ h. c.in-Ok-lay_out.ensures.zero h

@@ -12,3 +12,6 @@ returns-clause-there g c = λ h sure.
     let p = c.args.self.now in
     subst (λ (hs : List Head). AllByRecursion (λ (head : Head). head_at disk.bytes head.at ≡ head) hs) (sym c.deref.ensures.value)
     (heads_there p.root disk.bytes p.heads.items (p.bears h sure disk.bytes (reads_left disk)).says.heads_are)
+
+pub returns-clause-bears : goal.returns-clause-bears
+returns-clause-bears g c = λ h sure. rw c.deref.ensures.value (let p = c.args.self.now in p.bears h sure)

@@ -1,4 +1,4 @@
-use Rattle.std.proofs.Common.{◌≡◌, ◌≢◌, ◌+◌, ℕ, List, ◌∷◌, drop, refl, sym, ◌∙◌, ap, subst, arith}
+use Rattle.std.proofs.Common.{◌≡◌, ◌≢◌, ◌+◌, ℕ, List, ◌∷◌, drop, refl, sym, ◌∙◌, ap, subst, arith, rules}
 use Rattle.psu_disk.specs.Ranges.{reads_left}
 use Rattle.psu_pages.specs.declared.root.Root.{Root}
 use Rattle.psu_pages.specs.declared.standing.Standing.TheVariants.{One, Both, Unsure}
@@ -101,3 +101,9 @@ invariant_of-self g c =
       shut = λ h same. let no : Unsure ≡ One = same in absurd (cc);
       lower = λ h same. let no : Unsure ≡ Both = same in absurd (cc);
     }
+
+pub invariant_of-self-2-clause-shut : goal.invariant_of-self-2-clause-shut
+invariant_of-self-2-clause-shut g c = λ h same. let no : Both ≡ One = same in absurd (cc)
+
+pub returns-clause-works : goal.returns-clause-works
+returns-clause-works g c = c.in_ok-switch.ensures.cause.works (search rules)

@@ -1,7 +1,7 @@
-use Rattle.std.proofs.Common.{true, ◌∙◌, arith}
+use Rattle.std.proofs.Common.{true, ◌∙◌, arith, length}
 use Rattle.psu_pages.specs.Image.{taken, pages_of}
 use Rattle.psu_pages.proofs.Marking.{claimed_still}
-use Rattle.psu_pages.proofs.Planning.{none_root}
+use Rattle.psu_pages.proofs.Planning.{none_root, pool_within}
 use Rattle.psu_pages.proofs.pages.Pages.unplan.Goals as goal
 
 pub invariant_of-self-clause-first_kept : goal.invariant_of-self-clause-first_kept
@@ -27,3 +27,6 @@ returns-clause-others g c = λ other was clear.
       unnamed = was.unnamed;
       unnamed_before = was.unnamed_before;
     }
+
+pub free_head-requires-clause-there : goal.free_head-requires-clause-there
+free_head-requires-clause-there g c = let p = c.args.self.now in pool_within p.limit (length p.free) (pages_of c.args.head) p.sized c.requires.pool

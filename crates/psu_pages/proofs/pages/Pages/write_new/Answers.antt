@@ -2,7 +2,7 @@ use Rattle.std.proofs.Common.{ℕ, List, arith}
 use Rattle.std.specs.List.{AllByRecursion}
 use Rattle.psu_pages.specs.Image.{other, pages_of, Head, IsInPool, AreClear}
 use Rattle.psu_pages.specs.Writing.{Misses, IsWritten}
-use Rattle.psu_pages.proofs.Publishing.{Keeps, missed, shut_missed, lower_missed, still_left, still_run, still_shown, still_bears, written_still}
+use Rattle.psu_pages.proofs.Publishing.{Keeps, missed, shut_missed, lower_missed, still_left, still_run, still_shown, still_bears, written_still, pool_words, pool_room}
 use Rattle.psu_pages.proofs.pages.Pages.write_new.Given.{Over}
 use Rattle.psu_pages.proofs.pages.Pages.write_new.Goals.{After-write_item}
 use Rattle.psu_pages.proofs.pages.Pages.write_new.Goals as goal
@@ -61,3 +61,9 @@ returns-clause-left g c = λ h. still_left (keeps g (goal.at.returns-clause-left
 
 pub returns-clause-time : goal.returns-clause-time
 returns-clause-time g c = λ h t. still_run (keeps g (goal.at.returns-clause-time g c).After-write_item h) (c.write_item.ensures.time h t)
+
+pub write_item-requires-clause-low : goal.write_item-requires-clause-low
+write_item-requires-clause-low g c = let p = c.args.self.now in pool_words p.limit (let head = c.args.head.now in head.pages) p.limit_most c.requires.planned.pool.1
+
+pub write_item-requires-clause-room : goal.write_item-requires-clause-room
+write_item-requires-clause-room g c = let p = c.args.self.now in pool_room p.limit (g.D.Disk.extent p.disk) (pages_of c.args.head.now) p.room c.requires.planned.pool
