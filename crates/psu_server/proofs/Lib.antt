@@ -15,7 +15,7 @@ pub mod Starting
 pub mod Passing
 pub mod Feeding
 pub mod Reading
-pub mod Reads
+pub mod CutReads
 pub mod Outcomes
 pub mod Causes
 pub mod Asking

@@ -4,7 +4,7 @@ use Rattle.psu_server.specs.Lines.{coming}
 use Rattle.psu_server.specs.declared.run_cause.RunCause.TheVariants.{Read, TooLong}
 use Rattle.psu_server.proofs.Fronts.{passed, consumes_none}
 use Rattle.psu_server.proofs.Reading.{MayBeLong, early_never_long, ran_start, ran_on, ran_front, ran_stop, ran_end, ran_end_front}
-use Rattle.psu_server.proofs.Reads.{read_all, taken_more, ran_cut, ran_cut_front, taken_of}
+use Rattle.psu_server.proofs.CutReads.{read_all, taken_more, ran_cut, ran_cut_front, taken_of}
 use Rattle.psu_server.proofs.engine.execute_all.Goals as goal
 
 pub reading-init : goal.reading-init
