@@ -12,7 +12,7 @@ use Rattle.psu_instrument.specs.Instrument.{Instrument}
 use Rattle.psu_instrument.specs.Meaning.{ActsAs, Meaning, Refuses, Does, Keeps, Completes}
 use Rattle.psu_instrument.specs.declared.act.Act.TheVariants as act
 use Rattle.psu_instrument.specs.declared.completion.Completion.{Completion}
-use Rattle.psu_exec.specs.Device.{Reply, Error, Held, Later, State, Flush, MayMean, Step, AnswersCall, AnswersCalled, after_meant, called, followed, here, is_denied, is_later, is_whole, kept_unless, meant, refused, wants_memory, with_instrument}
+use Rattle.psu_exec.specs.Device.{Reply, Answer, Done, Error, Held, Later, State, Flush, MayMean, Step, AnswersCall, AnswersCalled, after_meant, called, followed, here, is_denied, is_later, is_whole, kept_unless, meant, refused, wants_memory, with_instrument}
 use Rattle.psu_exec.specs.Consistent.{IsConsistent}
 use Rattle.psu_exec.proofs.Answering.{comes_later, is_answered_now, is_held}
 use Rattle.psu_exec.proofs.Latching.{followed_same}
@@ -60,6 +60,24 @@ failed A s session (Does (Some text) after) e new (inl h) = absurd (let bad = h.
 failed A s session (Does (Some text) after) e new (inr h) = (inr (let same = h.0 in cc, refl), ap (λ (i : Instrument). refused (with_instrument s i) e) h.1)
 failed A s session (Keeps change) e new h = absurd h
 failed A s session (Completes c) e new h = absurd (let bad = h.0 in cc)
+
+pub answers_so : (A : Type 0) (s : State) (session : ℕ) (m : Meaning) (text : List ℕ) (new : Instrument) → ActsAs {A = A} m s.volatile.instrument (Ok (act.Answer text)) new
+    → MayMean s.flush m (Answer text) × (with_instrument s new ≡ after_meant s session m (Answer text))
+answers_so A s session (Refuses x) text new h = absurd (let bad = h.0 in cc)
+answers_so A s session (Does None after) text new h = absurd (let bad = h.0 in cc)
+answers_so A s session (Does (Some other) after) text new (inl h) = (inl (let same = h.0 in cc), ap (with_instrument s) h.1)
+answers_so A s session (Does (Some other) after) text new (inr h) = absurd (let bad = h.0 in cc)
+answers_so A s session (Keeps change) text new h = absurd h
+answers_so A s session (Completes c) text new h = absurd (let bad = h.0 in cc)
+
+pub done_so : (A : Type 0) (s : State) (session : ℕ) (m : Meaning) (new : Instrument) → ActsAs {A = A} m s.volatile.instrument (Ok act.Done) new
+    → MayMean s.flush m Done × (with_instrument s new ≡ after_meant s session m Done)
+done_so A s session (Refuses x) new h = absurd (let bad = h.0 in cc)
+done_so A s session (Does None after) new h = (inl refl, ap (with_instrument s) h.1)
+done_so A s session (Does (Some text) after) new (inl h) = absurd (let bad = h.0 in cc)
+done_so A s session (Does (Some text) after) new (inr h) = absurd (let bad = h.0 in cc)
+done_so A s session (Keeps change) new h = absurd h
+done_so A s session (Completes c) new h = absurd (let bad = h.0 in cc)
 
 pub keeps : (A : Type 0) (m : Meaning) (i new : Instrument) (change : NvCommand) → ActsAs {A = A} m i (Ok (act.Keep change)) new → (m ≡ Keeps (command_of change)) × (new ≡ i)
 keeps A (Refuses x) i new change h = absurd (let bad = h.0 in cc)

@@ -4,9 +4,9 @@ use Rattle.psu_tree.specs.Nonvolatile.{is_nonvolatile}
 use Rattle.psu_instrument.specs.Commands.{meaning}
 use Rattle.psu_instrument.specs.Meaning.{Completes, Keeps}
 use Rattle.psu_instrument.proofs.Kept.{kept_are_nonvolatile}
-use Rattle.psu_exec.specs.Device.{Error, State, MayMean, after_meant, here, is_late, refused, wait_of, with_instrument}
+use Rattle.psu_exec.specs.Device.{Error, State, MayMean, after_meant, here, is_late, refused, wait_of, with_instrument, Answer, Done}
 use Rattle.psu_exec.specs.Shown.{outcome_of}
-use Rattle.psu_exec.proofs.Acting.{completes, failed, keeps, seen, then_done}
+use Rattle.psu_exec.proofs.Acting.{completes, failed, keeps, seen, then_done, answers_so, done_so}
 use Rattle.psu_exec.proofs.Staying.{room_for}
 use Rattle.psu_exec.proofs.device.Device.perform.Goals as goal
 
@@ -57,3 +57,27 @@ returns-in-Ok-Complete-clause-is g c =
     let done = completes _ (meaning (here s c.args.session) c.args.command.now) _ _ c.in-Ok-Complete.completion (rw (c.place.ensures.place, c.in-Ok-Complete.field-0-is) at c.in-Ok-Complete.ensures) in
     let step = then_done s c.complete.new.self c.args.session (meaning (here s c.args.session) c.args.command.now) (Completes c.in-Ok-Complete.completion) _ (outcome_of c.complete.result) done.0 done.1 c.complete.ensures.may c.complete.ensures.is in
     subst (λ (t : State). c.complete.new.self ≡ after_meant t c.args.session (meaning (here t c.args.session) c.args.command.now) (outcome_of c.complete.result)) c.self.view_is step.1
+
+pub returns-in-Ok-Answer-clause-may : goal.returns-in-Ok-Answer-clause-may
+returns-in-Ok-Answer-clause-may g c =
+    let s = seen c.self.view_is in
+    let step = answers_so _ s c.args.session (meaning (here s c.args.session) c.args.command.now) c.in-Ok-Answer.text _ (rw (c.place.ensures.place, c.in-Ok-Answer.field-0-is) at c.in-Ok-Answer.ensures) in
+    subst (λ (t : State). MayMean t.flush (meaning (here t c.args.session) c.args.command.now) (Answer c.in-Ok-Answer.text)) c.self.view_is step.0
+
+pub returns-in-Ok-Answer-clause-is : goal.returns-in-Ok-Answer-clause-is
+returns-in-Ok-Answer-clause-is g c =
+    let s = seen c.self.view_is in
+    let step = answers_so _ s c.args.session (meaning (here s c.args.session) c.args.command.now) c.in-Ok-Answer.text _ (rw (c.place.ensures.place, c.in-Ok-Answer.field-0-is) at c.in-Ok-Answer.ensures) in
+    subst (λ (t : State). with_instrument (seen c.self.view_is) c.act.new.self ≡ after_meant t c.args.session (meaning (here t c.args.session) c.args.command.now) (Answer c.in-Ok-Answer.text)) c.self.view_is step.1
+
+pub returns-in-Ok-Done-clause-may : goal.returns-in-Ok-Done-clause-may
+returns-in-Ok-Done-clause-may g c =
+    let s = seen c.self.view_is in
+    let step = done_so _ s c.args.session (meaning (here s c.args.session) c.args.command.now) _ (rw (c.place.ensures.place, c.in-Ok-Done.field-0-is) at c.in-Ok-Done.ensures) in
+    subst (λ (t : State). MayMean t.flush (meaning (here t c.args.session) c.args.command.now) Done) c.self.view_is step.0
+
+pub returns-in-Ok-Done-clause-is : goal.returns-in-Ok-Done-clause-is
+returns-in-Ok-Done-clause-is g c =
+    let s = seen c.self.view_is in
+    let step = done_so _ s c.args.session (meaning (here s c.args.session) c.args.command.now) _ (rw (c.place.ensures.place, c.in-Ok-Done.field-0-is) at c.in-Ok-Done.ensures) in
+    subst (λ (t : State). with_instrument (seen c.self.view_is) c.act.new.self ≡ after_meant t c.args.session (meaning (here t c.args.session) c.args.command.now) Done) c.self.view_is step.1
