@@ -2,7 +2,7 @@
 use Rattle.std.proofs.Common.{◌≡◌, ◌≢◌, ℕ, ◌+◌, ◌<◌, Bool, true, false, List, [], ◌∷◌, ◌++◌, length, get_or, take, map, sym, ◌∙◌, ap, subst, arith}
 use Rattle.std.specs.Prelude.{slice_set}
 use Rattle.std.specs.List.{AllByRecursion}
-use Rattle.std.proofs.lemmas.List.{append-nil, take_more, map-append}
+use Rattle.std.proofs.lemmas.List.{append-nil, take_more, map-append, get_or-set_other}
 use Rattle.psu_pages.specs.Image.{Head, IsHead, IsInPool, IsNone, AreApart, AreClear, pages_of, taken}
 use Rattle.psu_pages.specs.Free.{is_free, Marks, AreClaimed, IsPool}
 use Rattle.psu_pages.specs.Finding.{IsFit, CanStand, AreFit}
@@ -24,6 +24,14 @@ module _ (name : ℕ) (pages : List ℕ) (old mid new : List Bool) (is : is_free
 
   pub head_claimed : Marks false pages mid new → Marks false (name ∷ pages) old new
   head_claimed so = marks_both false (name ∷ []) pages old mid new first so
+
+-- the other pages of a head are free once its own is claimed
+pub head_still_free : (name : ℕ) (pages : List ℕ) (old mid : List Bool) → mid ≡ slice_set old name false → IsNone pages name → AllByRecursion (λ (p : ℕ). is_free old p ≡ true) pages → AllByRecursion (λ (p : ℕ). is_free mid p ≡ true) pages
+head_still_free name [] old mid next none free = tt
+head_still_free name (p ∷ pages) old mid next none free = (ap (λ (marks : List Bool). is_free marks p) next ∙ kept ∙ free.0, head_still_free name pages old mid next none.1 free.1)
+  where
+    kept : is_free (slice_set old name false) p ≡ is_free old p
+    kept = get_or-set_other old name p false false (λ same. none.0 (sym same))
 
 -- no head yet
 pub fit_none : (limit : ℕ) (free : List Bool) → IsPool limit free → AreFit limit [] free

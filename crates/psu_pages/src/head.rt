@@ -5,6 +5,7 @@ ghost use Rattle.psu_pages.specs.Image.{head_on, head_after, words, IsHead};
 ghost use Rattle.psu_pages.specs.Spelling.{spelled, spelled_words};
 
 use crate::page::Page;
+use crate::words::{long, word};
 use std::alloc::{AllocError, Allocator};
 use std::marker::Model;
 
@@ -97,9 +98,9 @@ impl<A: Allocator + Copy> Head<A> {
         ensures memory { OnErr result (IsHead (head_after at key.now bytes.now)) }
     {
         let (number, more) = bytes.split_at(4);
-        let size = u32::from_be_bytes([number[0], number[1], number[2], number[3]]);
+        let size = long(number);
         let (number, pages) = more.split_at(2);
-        let count = u16::from_be_bytes([number[0], number[1]]);
+        let count = word(number);
         if size == 0 || size > 33280 {
             return Ok(None);
         }

@@ -1,6 +1,6 @@
 //! What a root's page says.
 ghost use Rattle.std.specs.Prelude.{◌≡◌, ◌+◌, ◌≤◌, ◌==◌, List, ℕ, length, if◌then◌else◌, slice_index, Some, None, OnOk, IfErr};
-ghost use Rattle.std.specs.Int.{w16, w64, from_be_bytes};
+ghost use Rattle.std.specs.Int.{w16, w32, w64, from_be_bytes};
 ghost use Rattle.psu_disk.specs.Disk.{Range};
 ghost use Rattle.psu_pages.specs.Finding.{IsSound, IsUnsound};
 
@@ -51,6 +51,22 @@ pub fn open_number(page: &[u8]) -> Option<u64>
     ]))
 }
 
+/// The number of two bytes.
+pub fn word(bytes: &[u8]) -> u16
+    requires { length bytes.now ≡ 2 }
+    ensures { result ≡ from_be_bytes w16 bytes.now }
+{
+    u16::from_be_bytes([bytes[0], bytes[1]])
+}
+
+/// The number of four bytes.
+pub fn long(bytes: &[u8]) -> u32
+    requires { length bytes.now ≡ 4 }
+    ensures { result ≡ from_be_bytes w32 bytes.now }
+{
+    u32::from_be_bytes([bytes[0], bytes[1], bytes[2], bytes[3]])
+}
+
 // The number of two bytes at a place.
 fn word_at(page: &[u8], at: usize) -> u16
     requires { at + 2 ≤ length page.now }
@@ -58,7 +74,7 @@ fn word_at(page: &[u8], at: usize) -> u16
 {
     let (_, rest) = page.split_at(at);
     let (number, _) = rest.split_at(2);
-    u16::from_be_bytes([number[0], number[1]])
+    word(number)
 }
 
 /// Whether the words are those of a root of ours, on a disk of this size.

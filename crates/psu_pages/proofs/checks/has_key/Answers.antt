@@ -1,8 +1,9 @@
-use Rattle.std.proofs.Common.{◌≡◌, ◌≢◌, ℕ, List, [], ◌∷◌, true, false, get_or, take, sym, ◌∙◌, ap, subst}
+use Rattle.std.proofs.Common.{◌≡◌, ◌≢◌, ℕ, List, [], ◌∷◌, true, false, get_or, take, sym, ◌∙◌, ap, subst, arith}
 use Rattle.std.proofs.lemmas.Slice.Eq.{bytes_eq-Decides}
 use Rattle.psu_pages.specs.Image.{Head, keys, IsNone}
 use Rattle.psu_pages.proofs.Lists.{all_join}
 use Rattle.psu_pages.proofs.Taken.{key_differs, keys_more}
+use Rattle.std.proofs.lemmas.List.{take_all}
 use Rattle.psu_pages.proofs.checks.has_key.Goals as goal
 
 pub returns-then-eq-clause-yes : goal.returns-then-eq-clause-yes
@@ -20,3 +21,6 @@ loop-head-preserved g c =
     let other : key ≢ (let h = get_or heads i c.head-item.result in h.key) = λ same. let no : false ≡ true = c.if-eq.ensures ∙ (bytes_eq-Decides c.key.result.now key).1 (is ∙ sym same) in absurd (cc) in
     subst (λ (ks : List (List ℕ)). IsNone ks key) (sym (keys_more heads i c.head-item.result c.loop-head-test.true))
     (all_join (λ (k : List ℕ). key ≢ k) (keys (take i heads)) ((let h = get_or heads i c.head-item.result in h.key) ∷ []) c.loop-head.invariant (other, tt))
+
+pub returns-clause-no : goal.returns-clause-no
+returns-clause-no g c = λ no. let l = c.loop-head in subst (λ (hs : List Head). IsNone (keys hs) c.args.key.now) (take_all l.head-index c.args.heads.now (omega (arith, c.loop-head-test.false))) l.invariant

@@ -1,9 +1,10 @@
-use Rattle.std.proofs.Common.{◌≡◌, ◌<◌, ℕ, List, true, false, length, get_or, take, sym, subst}
+use Rattle.std.proofs.Common.{◌≡◌, ◌<◌, ℕ, List, true, false, length, get_or, take, sym, subst, arith}
 use Rattle.std.specs.List.{AllByRecursion}
 use Rattle.psu_pages.specs.Image.{Head, AreApart, pages_of, taken}
 use Rattle.psu_pages.specs.Free.{is_free, AreClaimed, Marks}
 use Rattle.psu_pages.proofs.Marking.{marks_both, claimed_still}
 use Rattle.psu_pages.proofs.Taken.{taken_all, taken_apart, taken_clear, taken_more}
+use Rattle.std.proofs.lemmas.List.{take_all}
 use Rattle.psu_pages.proofs.hand_over.give_up.Goals as goal
 
 pub free_head-requires-clause-there : goal.free_head-requires-clause-there
@@ -31,3 +32,6 @@ loop-head-preserved g c =
     let heads = c.args.heads.now in
     subst (λ (ps : List ℕ). Marks true ps c.args.free.now c.free_head.new.self) (sym (taken_more heads l.head-index c.head-item.result c.loop-head-test.true))
     (marks_both true _ _ c.args.free.now l.free c.free_head.new.self l.invariant (subst (λ (h : Head). Marks true (pages_of h) l.free c.free_head.new.self) c.head-item.is c.free_head.ensures))
+
+pub returns : goal.returns
+returns g c = let l = c.loop-head in subst (λ (hs : List Head). Marks true (taken hs) c.args.free.now l.free) (take_all l.head-index c.args.heads.now (omega (arith, c.loop-head-test.false))) l.invariant

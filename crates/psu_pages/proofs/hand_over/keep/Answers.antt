@@ -1,6 +1,6 @@
-use Rattle.std.proofs.Common.{◌≡◌, ◌<◌, ℕ, List, [], ◌∷◌, false, length, get_or, take, sym, ◌∙◌, ap, subst}
+use Rattle.std.proofs.Common.{◌≡◌, ◌<◌, ℕ, List, [], ◌∷◌, false, length, get_or, take, sym, ◌∙◌, ap, subst, arith}
 use Rattle.std.specs.List.{AllByRecursion}
-use Rattle.std.proofs.lemmas.List.{length-set}
+use Rattle.std.proofs.lemmas.List.{length-set, take_all}
 use Rattle.psu_pages.specs.Image.{Head, pages_of, taken}
 use Rattle.psu_pages.specs.Free.{Marks}
 use Rattle.psu_pages.proofs.Marking.{marks_both, marks_one}
@@ -39,3 +39,6 @@ loop-head-preserved g c =
     ap (λ (p : ℕ). p ∷ c.pages.result.now) c.at.ensures ∙ ap (λ (ps : List ℕ). (let h = c.head-item.result in h.at) ∷ ps) c.pages.ensures ∙ ap pages_of c.head-item.is in
     subst (λ (ps : List ℕ). Marks false ps c.args.free.now c.keep_all.new.self) (sym (taken_more heads l.head-index c.head-item.result c.loop-head-test.true))
     (marks_both false (taken (take l.head-index heads)) (pages_of (get_or heads l.head-index c.head-item.result)) c.args.free.now l.free c.keep_all.new.self l.invariant (subst (λ (ps : List ℕ). Marks false ps l.free c.keep_all.new.self) is both))
+
+pub returns : goal.returns
+returns g c = let l = c.loop-head in subst (λ (hs : List Head). Marks false (taken hs) c.args.free.now l.free) (take_all l.head-index c.args.heads.now (omega (arith, c.loop-head-test.false))) l.invariant

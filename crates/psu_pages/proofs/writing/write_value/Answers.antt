@@ -37,3 +37,9 @@ loop-page-preserved g c =
       left = λ h. follows_on pages (λ x y. misses_one pages i 0 x y lt) (l.invariant.left h) (c.write_page.ensures.left h);
       time = λ h t. run_on pages (λ x y. misses_one pages i 0 x y lt) (c.write_page.ensures.time h t) (l.invariant.time h t) (l.invariant.left h);
     }
+
+pub returns-in_err-write_page-clause-seen : goal.returns-in_err-write_page-clause-seen
+returns-in_err-write_page-clause-seen g c = λ h.
+    let pages = c.args.pages.now in
+    let l = c.loop-page in
+    misses_trans pages _ _ _ (l.invariant.seen h) (misses_one pages l.page-index 0 _ _ c.loop-page-test.true (c.write_page.ensures.seen h))
