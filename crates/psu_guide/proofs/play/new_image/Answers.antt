@@ -1,8 +1,11 @@
-use Rattle.std.proofs.Common.{◌≡◌, ℕ, length, ap, ◌∙◌}
+use Rattle.std.proofs.Common.{◌≡◌, ℕ, arith, length, ap, ◌∙◌}
 use Rattle.std.proofs.lemmas.List.{length-replicate}
 use Rattle.psu_disk.specs.Memory.{memory}
 use Rattle.psu_guide.proofs.Playing.{new_disk}
 use Rattle.psu_guide.proofs.play.new_image.Goals as goal
+
+pub format-requires-clause-room : goal.format-requires-clause-room
+format-requires-clause-room g c = let size = ap length c.in-Ok.ensures.bytes ∙ length-replicate {A = ℕ} 263168 0 in omega (arith, size)
 
 pub returns : goal.returns
 returns g c =
