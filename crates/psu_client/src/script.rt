@@ -126,8 +126,8 @@ impl<R: Net<Stream = TcpStream> + Clock + Copy> Cast<R> {
         }
     }
 
-    fn fails(&mut self, number: u8, timeout: u32) -> Result<(), Missed> {
-        let Some(at) = self.place(number) else {
+    fn fails(&mut self, session: u8, rest: &str) -> Result<(), Missed> {
+        let (Some(timeout), Some(at)) = (number(rest), self.place(session)) else {
             return Err(UNREAD);
         };
         match self.clients.get_mut(at) {
@@ -152,7 +152,7 @@ impl<R: Net<Stream = TcpStream> + Clock + Copy> Cast<R> {
             "joins" => self.joins(session),
             "rejoins" => self.rejoins(session),
             "leaves" => self.leaves(session),
-            "fails" => self.fails(session, number(rest).unwrap_or(0)),
+            "fails" => self.fails(session, rest),
             _ => self.acts(session, word, rest),
         }
     }

@@ -1,7 +1,7 @@
 -- The deeds of an execution, as calls of the seat that executes.
 use Rattle.std.proofs.Common.{◌≡◌, ◌∙◌, ℕ, ap, subst, List, [], ◌∷◌}
-use Rattle.psu_messages.specs.Deeds.{Deed, Runs}
-use Rattle.psu_messages.specs.Courses.{Course, Goes}
+use Rattle.psu_messages.specs.Deeds.{Deed, Halts, Runs}
+use Rattle.psu_messages.specs.Courses.{Course, Goes, Stops}
 use Rattle.psu_messages.specs.Units.{Source}
 
 module _ {X : Type 0} {does : X → Deed → X → Type 0} where
@@ -23,3 +23,11 @@ module _ {X : Type 0} {does : X → Deed → X → Type 0} where
   pub goes_on_part : {V : Type 0} {source : Source} {x y : X} {c d : Course} → Goes does source x c y d → (key : X → ℕ) (part : X → V) (made : ℕ → V → Deed → V → Type 0)
       → ((x y : X) (deed : Deed) → does x deed y → (key y ≡ key x) × made (key x) (part x) deed (part y)) → Goes (made (key x)) source (part x) c (part y) d
   goes_on_part {V} {source} {x} {y} goes key part made makes = record { added = goes.added; runs = on_part key part made makes x goes.added y goes.runs; comes = goes.comes }
+
+  -- where it stopped behind them too
+  pub stops_on_part : {V : Type 0} {source : Source} {x mid : X} {c new : Course} → Goes does source x c mid new → (key : X → ℕ) (part : X → V) (made : ℕ → V → Deed → V → Type 0)
+      → ((x y : X) (deed : Deed) → does x deed y → (key y ≡ key x) × made (key x) (part x) deed (part y)) → (broken : ℕ → V → V → Type 0) (now : V) → Halts (broken (key mid)) (part mid) now
+      → Stops (made (key x)) (broken (key x)) source (part x) c now
+  stops_on_part {V} {source} {x} {mid} {c} {new} goes key part made makes broken now halts =
+      let same = kept_goes goes key (λ x y deed d. (makes x y deed d).0) in
+      (part mid, new, goes_on_part goes key part made makes, subst (λ (k : ℕ). Halts (broken k) (part mid) now) same halts)

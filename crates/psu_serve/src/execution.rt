@@ -1,7 +1,7 @@
 // The units of a session on the shared device, and their answers on its connection.
 ghost use Rattle.std.specs.Prelude.{◌≡◌, IfOk, OnErr, None};
 ghost use Rattle.psu_exec.specs.Shown.{outcome_of};
-ghost use Rattle.psu_messages.specs.Courses.{Goes, IsOver};
+ghost use Rattle.psu_messages.specs.Courses.{Goes, IsOver, Stops};
 ghost use Rattle.psu_messages.specs.Shown.{course_of};
 ghost use Rattle.psu_messages.specs.Units.{source_of};
 ghost use Rattle.psu_serve.specs.Seen.{Makes};
@@ -44,11 +44,14 @@ impl<'a, 'c, 'r, R: Wait, D: Disk + Drop, G: Gate + Drop> Execution<'a, 'c, 'r, 
     }
 
     /// Executes what is left of a transmission, up to a unit that has to wait: what that waits for. One that comes too early is tried once more, as
-    /// there may have been room meanwhile.
+    /// there may have been room meanwhile. Where it stops, what was done till then are calls of the session too, up to some place of the transmission;
+    /// at most the device was told behind them of one more answer, which was not written to its end.
     pub fn advance(&mut self, begun: &mut Begun) -> Result<Option<Need>, Stop>
         ensures goes { IfOk result (λ _. Goes (IsMade D.honest self.old.member.now.session) (source_of begun.old.input) self.old.caller.now.seat (course_of begun.old.course)
             self.new.caller.now.seat (course_of begun.new.course)) }
         ensures over { IfOk result (λ need. need ≡ None → IsOver (source_of begun.old.input) (course_of begun.new.course)) }
+        ensures stops { OnErr result (Stops (IsMade D.honest self.old.member.now.session) (IsBrokenOff D.honest self.old.member.now.session) (source_of begun.old.input)
+            self.old.caller.now.seat (course_of begun.old.course) self.new.caller.now.seat) }
         ensures caller { self.new.caller.ghost_name ≡ self.old.caller.ghost_name }
         ensures input { begun.new.input ≡ begun.old.input }
     {
