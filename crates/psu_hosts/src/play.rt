@@ -147,5 +147,11 @@ where
             return Err(Untrue { line, missed });
         }
     }
-    Ok(())
+    match stage {
+        Some(_) => Ok(()),
+        None => Err(Untrue {
+            line: scripts,
+            missed: Missed::Ground("a heading"),
+        }),
+    }
 }
