@@ -1,10 +1,9 @@
 -- A run on a new image, in the words of the guide.
-use Rattle.std.proofs.Common.{◌≡◌, ℕ, List, [], length, Some, subst}
+use Rattle.std.proofs.Common.{◌≡◌, ℕ, List, [], length, subst}
 use Rattle.psu_disk.specs.Disk.{DiskState, Left}
 use Rattle.psu_items.specs.Image.{EachStands, counting, number_in}
 use Rattle.psu_map.specs.Map.{Item}
-use Rattle.psu_server.specs.Results.{WritesRun}
-use Rattle.psu_guide.specs.Plays.{IsNew, Plays}
+use Rattle.psu_guide.specs.Plays.{IsNew}
 
 -- the disk of a store that was formatted
 pub new_disk : (disk : DiskState) (limit number : ℕ) (map : List Item) → length disk.bytes ≡ 263168
@@ -14,14 +13,4 @@ new_disk disk limit number map size stands is_limit is_map numbered is_number = 
   size = size;
   stands = subst (λ (n : ℕ). EachStands disk n []) is_limit (subst (λ (m : List Item). EachStands disk limit m) is_map stands);
   first = subst (λ (n : ℕ). (image : List ℕ) → Left disk image → number_in (counting image) image ≡ n) is_number numbered;
-}
-
--- a run whose writer held nothing
-pub plays : (disk over : DiskState) (sent old text : List ℕ) → IsNew disk → old ≡ []
-    → WritesRun disk.bytes (Some sent) 0 0 (Some old) (Some text) over → Plays sent text
-plays disk over sent old text is_new is_empty writes = record {
-  disk = disk;
-  is_new = is_new;
-  over = over;
-  writes = subst (λ (x : List ℕ). WritesRun disk.bytes (Some sent) 0 0 (Some x) (Some text) over) is_empty writes;
 }

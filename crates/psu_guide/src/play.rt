@@ -1,12 +1,14 @@
 //! What the instrument answers.
-ghost use Rattle.std.specs.Prelude.{IfErr, IfOk, IfSome};
+ghost use Rattle.std.specs.Prelude.{IfErr, IfOk, IfSome, Some, []};
+ghost use Rattle.psu_server.specs.Reasons.{EndsFor};
+ghost use Rattle.psu_server.specs.Results.{WritesRun};
 ghost use Rattle.psu_guide.specs.Held.{IsFaultOfRun};
 ghost use Rattle.psu_guide.specs.Plays.{IsNew, Plays};
 
 use crate::guide_fault::GuideFault;
 use psu_disk::{Disk, MemDisk};
 use psu_items::Store;
-use psu_server::run;
+use psu_server::{RunCause, run};
 use std::alloc::Allocator;
 
 // How many pages the contents of a new image may cost.
@@ -28,6 +30,23 @@ fn new_image<A: Allocator + Copy>(alloc: A) -> Option<MemDisk<A>>
     Some(store.into_disk())
 }
 
+// What a run of these lines on a disk writes, or why it ends early.
+fn written<D: Disk + Drop, A: Allocator + Copy>(
+    alloc: A,
+    sent: &[u8],
+    disk: D,
+) -> Result<Vec<u8, A>, RunCause>
+    ensures whole { D.honest → IfOk result (λ text. (over : D) × WritesRun (D.state disk).bytes (Some sent.now) (D.failures disk) (D.failures over) (Some []) (Some text.items) (D.state over)) }
+    ensures early { D.honest → IfErr result (λ cause. (over : D) × EndsFor (D.state disk).bytes (D.failures disk) (D.failures over) (D.state over).bytes (Some sent.now) cause) }
+{
+    let mut reader = sent;
+    let mut text = Vec::new(alloc);
+    match run(alloc, &mut reader, &mut text, disk) {
+        Ok(_over) => Ok(text),
+        Err(fault) => Err(fault.cause),
+    }
+}
+
 /// What the instrument answers to these lines, which begin at this line of the guide, on a fresh image in memory.
 pub fn played<A: Allocator + Copy>(
     alloc: A,
@@ -40,10 +59,8 @@ pub fn played<A: Allocator + Copy>(
     let Some(disk) = new_image(alloc) else {
         return Err(GuideFault::Memory);
     };
-    let mut reader = sent;
-    let mut text = Vec::new(alloc);
-    match run(alloc, &mut reader, &mut text, disk) {
-        Ok(_) => Ok(text),
-        Err(fault) => Err(GuideFault::Ended(line, fault.cause)),
+    match written(alloc, sent, disk) {
+        Ok(text) => Ok(text),
+        Err(cause) => Err(GuideFault::Ended(line, cause)),
     }
 }

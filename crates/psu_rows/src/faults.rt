@@ -1,10 +1,10 @@
 // Runs that end in a fault: readers and writers that fail, input that is too long, images that can't be opened.
 use crate::holds::{count, holds};
 use crate::images::{SIZE, formatted};
-use crate::runs::{NOT_OPENED, run_from, run_on};
+use crate::runs::{NOT_OPENED, run_between, run_from, run_on};
 use crate::spelled::spoiled;
 use psu_disk::{FailOnce, MemDisk};
-use psu_server::{RunCause, StartCause, run};
+use psu_server::{RunCause, StartCause};
 use std::alloc::Global;
 use std::io::{self, ErrorKind, Read, Write};
 
@@ -108,7 +108,7 @@ fn written_into(alloc: Global, room: usize) -> Option<bool> {
         bytes: Vec::new(alloc),
         room,
     };
-    let ended_right = match run(alloc, &mut reader, &mut output, formatted(alloc)?) {
+    let ended_right = match run_between(alloc, &mut reader, &mut output, formatted(alloc)?) {
         Ok(_) => room >= OUTPUT.len(),
         Err(fault) => fault.cause == RunCause::Write && room < OUTPUT.len(),
     };
@@ -264,7 +264,7 @@ fn answers_in_two_writes(alloc: Global) -> Option<bool> {
         bytes: Vec::new(alloc),
         calls: 0,
     };
-    run(alloc, &mut reader, &mut output, formatted(alloc)?).ok()?;
+    run_between(alloc, &mut reader, &mut output, formatted(alloc)?).ok()?;
     Some(output.bytes.as_slice() == OUTPUT && output.calls == 2)
 }
 

@@ -1,7 +1,8 @@
 // Images in memory, what a run on one writes and leaves, and the report on it.
+use crate::runs::run_between;
 use psu_disk::MemDisk;
 use psu_items::Store;
-use psu_server::{recover, report_text, run};
+use psu_server::{recover, report_text};
 use std::alloc::Global;
 
 /// The size of an image of 256 pages.
@@ -35,7 +36,7 @@ pub fn written(alloc: Global, input: &[u8]) -> Option<Vec<u8>> {
 pub fn written_on(alloc: Global, disk: MemDisk<Global>, input: &[u8]) -> Option<Vec<u8>> {
     let mut reader = input;
     let mut text = Vec::new(alloc);
-    run(alloc, &mut reader, &mut text, disk).ok()?;
+    run_between(alloc, &mut reader, &mut text, disk).ok()?;
     Some(text)
 }
 
@@ -43,7 +44,7 @@ pub fn written_on(alloc: Global, disk: MemDisk<Global>, input: &[u8]) -> Option<
 pub fn left_by(alloc: Global, disk: MemDisk<Global>, input: &[u8]) -> Option<MemDisk<Global>> {
     let mut reader = input;
     let mut text = Vec::new(alloc);
-    run(alloc, &mut reader, &mut text, disk).ok()
+    run_between(alloc, &mut reader, &mut text, disk).ok()
 }
 
 /// The text of the report on a disk.

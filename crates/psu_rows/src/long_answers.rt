@@ -1,7 +1,7 @@
 // Lines that ask for more than a piece holds: their answers are written whole and in order.
 use crate::holds::holds;
 use crate::images::{formatted, written};
-use psu_server::run;
+use crate::runs::run_between;
 use std::alloc::{AllocError, Global};
 use std::io::{self, Write};
 
@@ -88,7 +88,7 @@ fn measured(alloc: Global) -> Option<Measuring> {
     let input = asking(alloc, &file(alloc).ok()?, 400)?;
     let mut reader = input.as_slice();
     let mut writer = Measuring { all: 0, most: 0 };
-    run(alloc, &mut reader, &mut writer, formatted(alloc)?).ok()?;
+    run_between(alloc, &mut reader, &mut writer, formatted(alloc)?).ok()?;
     Some(writer)
 }
 

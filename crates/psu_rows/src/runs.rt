@@ -1,8 +1,8 @@
 // A run, and what it came to.
 use psu_disk::Disk;
-use psu_server::{RunCause, StartCause, run};
+use psu_server::{RunCause, RunFault, StartCause, run};
 use std::alloc::{Allocator, Global};
-use std::io::Read;
+use std::io::{Read, Write};
 
 /// Why a run ends whose disk fails as it is opened.
 pub const NOT_OPENED: RunCause = RunCause::Open(StartCause::Device);
@@ -13,6 +13,16 @@ pub struct Ran<D: Disk> {
     pub text: Vec<u8>,
     pub cause: Option<RunCause>,
     pub disk: D,
+}
+
+/// The run itself, which all rows make here: what it promises costs a proof half a minute at each call.
+pub fn run_between<R: Read, W: Write, D: Disk, A: Allocator + Copy>(
+    memory: A,
+    reader: &mut R,
+    writer: &mut W,
+    disk: D,
+) -> Result<D, RunFault<D>> {
+    run(memory, reader, writer, disk)
 }
 
 /// A run of this input on a disk.
@@ -29,7 +39,7 @@ pub fn run_from<R: Read, D: Disk, A: Allocator + Copy>(
     disk: D,
 ) -> Ran<D> {
     let mut text = Vec::new(alloc);
-    let (cause, disk) = match run(memory, reader, &mut text, disk) {
+    let (cause, disk) = match run_between(memory, reader, &mut text, disk) {
         Ok(disk) => (None, disk),
         Err(fault) => (Some(fault.cause), fault.disk),
     };
