@@ -1,4 +1,8 @@
 // A transmission between two tries.
+ghost use Rattle.std.specs.Prelude.{◌≡◌};
+ghost use Rattle.psu_messages.specs.Courses.{beginning};
+ghost use Rattle.psu_messages.specs.Shown.{course_of};
+
 use psu_hislip::Origin;
 use psu_messages::Course;
 use psu_sessions::Input;
@@ -14,7 +18,11 @@ pub struct Begun {
 
 impl Begun {
     /// Nothing of it is done.
-    pub fn new(alloc: Global, origin: Origin, input: Input<Global>) -> Begun {
+    pub fn new(alloc: Global, origin: Origin, input: Input<Global>) -> Begun
+        ensures origin { result.origin ≡ origin }
+        ensures input { result.input ≡ input }
+        ensures course { course_of result.course ≡ beginning }
+    {
         Begun {
             origin,
             input,

@@ -1,19 +1,9 @@
 // What a session's notifier is told.
 use psu_hislip::Header;
+use psu_sides::Notice;
 use std::alloc::{AllocError, Global};
 use std::collections::VecDeque;
 use std::sync::{Condvar, Mutex, Wait};
-
-/// What the notifier does next.
-#[derive(Clone, Copy, Debug, PartialEq, Eq)]
-pub enum Notice {
-    /// It writes an answer that came late.
-    Answer(Header),
-    /// It looks for a service request.
-    Look,
-    /// It ends.
-    End,
-}
 
 #[derive(Drop)]
 struct State {

@@ -1,13 +1,11 @@
 // Releases of locks that wait for a message of their session.
 use psu_sessions::is_ahead;
+use psu_sides::BEFORE_FIRST;
 use std::alloc::{AllocError, Global};
 use std::collections::VecDeque;
 
 /// How long a release waits for a message, in milliseconds.
 const PATIENCE: u64 = 100;
-
-/// The number before that of a client's first message (IVI-6.1: they begin at ffffff00, in steps of 2).
-pub const BEFORE_FIRST: u32 = 0xffff_fefe;
 
 #[derive(Clone, Copy, Debug, PartialEq, Eq)]
 struct Release {

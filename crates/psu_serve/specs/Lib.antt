@@ -1,3 +1,4 @@
 pub mod Condition
 pub mod Seen
 pub mod Served
+pub mod Serving

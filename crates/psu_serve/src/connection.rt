@@ -1,15 +1,16 @@
 // A connection, from its first byte to its end.
-use crate::async_reader::AsyncReader;
 use crate::caller::Caller;
 use crate::notifier::notify;
 use crate::opening::{close, fatal, first_messages, open};
-use crate::sync_reader::SyncReader;
+use crate::reading::{read_async, read_sync};
+use crate::serving::Serving;
 use crate::worker::Worker;
 use psu_bench::Gate;
 use psu_disk::Disk;
 use psu_exec::Session;
-use psu_hislip::{Channel, FatalCode, First, Message};
+use psu_hislip::{Channel, FatalCode, First, Message, Side};
 use psu_members::{Link, Member, Server, Silent};
+use psu_sides::receive;
 use std::alloc::Global;
 use std::rt::Clock;
 use std::sync::{Arc, Mutex, Wait};
@@ -77,18 +78,30 @@ where
 
 fn start_notifier<R, D, G>(
     rt: R,
+    server: &Arc<Server>,
     member: &Arc<Member>,
     link: &Arc<Link>,
     mut caller: Caller<D, G>,
 ) -> Option<JoinHandle<()>>
 where
-    R: Threads + Wait + Copy + Send + 'static,
+    R: Threads + Wait + Clock + Copy + Send + 'static,
     D: Disk + Drop + Send + 'static,
     G: Gate + Drop + Send + Sync + 'static,
 {
+    let server = Arc::try_clone(server).ok()?;
     let member = Arc::try_clone(member).ok()?;
     let link = Arc::try_clone(link).ok()?;
-    thread::spawn(&rt, move || notify(&rt, &member, &link, &mut caller)).ok()
+    thread::spawn(&rt, move || {
+        let mut serving = Serving {
+            rt: &rt,
+            server: &server,
+            member: &member,
+            link: &link,
+            caller: &mut caller,
+        };
+        notify(&mut serving)
+    })
+    .ok()
 }
 
 impl<D: Disk + Drop, G: Gate + Drop> Connection<D, G> {
@@ -106,14 +119,15 @@ impl<D: Disk + Drop, G: Gate + Drop> Connection<D, G> {
         };
         let response = member.core.lock(rt).response().bytes();
         let begins = self.link.send(rt, &response).is_ok();
-        let mut reader = SyncReader {
+        let mut serving = Serving {
+            rt,
             server: &self.server,
             member: &member,
             link: &self.link,
             caller: &mut self.caller,
         };
-        if begins && reader.receive(rt, rest) {
-            reader.read(rt, opened, channel, piece.as_mut_slice());
+        if begins && receive(&mut serving, Side::Sync, rest.as_slice()).is_ok() {
+            read_sync(&mut serving, opened, channel, piece.as_mut_slice());
         }
         member.end(rt);
         member.wait_for_end(rt);
@@ -141,7 +155,7 @@ impl<D: Disk + Drop + Send + 'static, G: Gate + Drop + Send + Sync + 'static> Co
         R: Threads + Wait + Clock + Copy + Send + 'static,
     {
         let mut piece = piece(self.server.alloc, PIECE)?;
-        let (working, noting, caller) = (
+        let (working, noting, mut caller) = (
             self.caller.split()?,
             self.caller.split()?,
             self.caller.split()?,
@@ -152,19 +166,21 @@ impl<D: Disk + Drop + Send + 'static, G: Gate + Drop + Send + Sync + 'static> Co
                 .link
                 .send(&rt, &fatal(FatalCode::InvalidInitialization));
         }
-        let mut reader = AsyncReader {
+        let mut serving = Serving {
+            rt: &rt,
             server: &self.server,
             member,
             link: &self.link,
-            caller,
+            caller: &mut caller,
         };
         let worker = start_worker(rt, &self.server, member, working);
-        let goes_on = worker.is_some() && reader.receive(&rt, messages);
-        let notifier = start_notifier(rt, member, &self.link, noting);
+        let goes_on = worker.is_some()
+            && receive(&mut serving, Side::Async, messages.as_slice()).is_ok();
+        let notifier = start_notifier(rt, &self.server, member, &self.link, noting);
         let is_set = self.link.wait_at_most(None).is_ok();
         member.notices.look(&rt);
         if goes_on && notifier.is_some() && is_set {
-            reader.read(&rt, channel, piece.as_mut_slice());
+            read_async(&mut serving, channel, piece.as_mut_slice());
         }
         member.end(&rt);
         if let Some(worker) = worker {

@@ -3,7 +3,6 @@
 #![tactic(auto)]
 
 mod acceptor;
-mod async_reader;
 mod caller;
 mod condition;
 mod connection;
@@ -11,9 +10,10 @@ mod execution;
 mod flushing;
 mod notifier;
 mod opening;
+mod reading;
 mod serve_fault;
+mod serving;
 mod shared_gate;
-mod sync_reader;
 mod worker;
 
 pub use acceptor::{serve, serve_disk};

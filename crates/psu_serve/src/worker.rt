@@ -1,12 +1,12 @@
 // The worker of a session: what can't be executed at once waits here, and what comes after it stands behind it.
 use crate::caller::Caller;
 use crate::execution::Execution;
+use crate::serving::Serving;
 use psu_bench::Gate;
 use psu_disk::Disk;
-use psu_exec::Grant;
-use psu_hislip::{lock_response, release_response};
 use psu_members::{Begun, Member, Server, Stop, Work};
 use psu_messages::Need;
+use psu_sides::give_up;
 use std::rt::Clock;
 use std::sync::Wait;
 use std::time::Duration;
@@ -81,21 +81,15 @@ impl<'a, D: Disk + Drop, G: Gate + Drop> Worker<'a, D, G> {
     }
 
     // A release that has come up.
-    fn release<R: Wait>(&mut self, rt: &R) {
-        let registry = self.server.registry.lock(rt);
-        let released = self.caller.release(rt, self.member.session);
-        let freed = match released {
-            Ok((freed, granted)) => {
-                if let Some(header) = lock_response(Ok(Grant::Granted)) {
-                    registry.answer(rt, &granted, header);
-                }
-                registry.wake_all(rt);
-                Ok(freed)
-            }
-            Err(refusal) => Err(refusal),
+    fn release<R: Wait + Clock>(&mut self, rt: &R) {
+        let mut serving = Serving {
+            rt,
+            server: self.server,
+            member: self.member,
+            link: &self.member.sync,
+            caller: &mut self.caller,
         };
-        drop(registry);
-        self.member.answer_late(rt, release_response(freed));
+        give_up(&mut serving);
         self.member.is_done();
     }
 

@@ -1,0 +1,5 @@
+pub mod Actions
+pub mod Deeds
+pub mod Messages
+pub mod Running
+pub mod Telling
