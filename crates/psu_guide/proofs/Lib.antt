@@ -1,4 +1,1 @@
-pub mod Coming
-pub mod Judging
-pub mod Lines
 pub mod Playing

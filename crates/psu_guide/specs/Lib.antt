@@ -1,4 +1,1 @@
-pub mod Examples
-pub mod Held
 pub mod Plays
-pub mod Shown

@@ -1,10 +1,12 @@
 -- What the instrument answers to lines that are sent to it, in the words of a run.
-use Rattle.std.specs.Prelude.{◌≡◌, ℕ, List, [], length, Some}
+use Rattle.std.specs.Prelude.{◌≡◌, ⊤, ℕ, List, [], length, Some}
 use Rattle.psu_disk.specs.Disk.{DiskState, Left}
 use Rattle.psu_items.specs.Image.{EachStands, counting, number_in}
 use Rattle.psu_server.specs.Results.{WritesRun}
 use Rattle.psu_server.specs.Reasons.{EndsFor}
 use Rattle.psu_server.specs.declared.run_cause.RunCause.{RunCause}
+use Rattle.psu_guide.specs.declared.play_fault.PlayFault.{PlayFault}
+use Rattle.psu_guide.specs.declared.play_fault.PlayFault.TheVariants.{Memory, Run}
 
 -- A disk with a new image, of 263,168 bytes: whatever a power loss leaves of it stands for the empty map, which may take 256 pages,
 -- and the root that counts has the number 1.
@@ -26,3 +28,8 @@ pub record Stops (sent : List ℕ) (cause : RunCause) : Type 0 where
   pub is_new : IsNew disk
   pub left : List ℕ
   pub why : EndsFor disk.bytes 0 0 left (Some sent) cause
+
+-- Why a new instrument gives up. That memory was refused can't be seen.
+abbrev pub GivesUp : List ℕ → PlayFault → Type 0
+GivesUp sent Memory = ⊤
+GivesUp sent (Run cause) = Stops sent cause

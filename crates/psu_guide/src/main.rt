@@ -1,15 +1,13 @@
 //! Tries the examples of the programmer's guide on the instrument, each on a fresh image.
 #![tactic(auto)]
 
-mod check;
-mod example;
-mod guide_fault;
-mod place;
+mod guide;
 mod play;
-mod reading;
+mod play_fault;
 
-use check::examples_held;
-use guide_fault::GuideFault;
+use guide::guide_held;
+use play_fault::PlayFault;
+use psu_examples::GuideFault;
 use std::alloc::Allocator;
 use std::io::Eprint;
 use std::process::ExitCode;
@@ -19,12 +17,11 @@ use std::{fs, str};
 const GUIDE: &str = "COMMANDS.md";
 
 fn main(rt: HostRuntime) -> ExitCode {
-    let alloc = rt.alloc();
-    let checked = match fs::read(&rt, GUIDE) {
-        Ok(guide) => examples_held(alloc, &guide),
-        Err(_) => Err(GuideFault::Unread),
+    let Ok(guide) = fs::read(&rt, GUIDE) else {
+        let _ = eprintln!(rt; "{GUIDE} can't be read");
+        return ExitCode::FAILURE;
     };
-    match checked {
+    match guide_held(rt.alloc(), &guide) {
         Ok(count) => match println!(rt; "{count} examples hold") {
             Ok(()) => ExitCode::SUCCESS,
             Err(_) => ExitCode::FAILURE,
@@ -37,12 +34,14 @@ fn main(rt: HostRuntime) -> ExitCode {
 }
 
 // Why the guide is refused, on standard error.
-fn tell<A: Allocator + Copy>(rt: &impl Eprint, fault: &GuideFault<A>) {
+fn tell<A: Allocator + Copy>(rt: &impl Eprint, fault: &GuideFault<A, PlayFault>) {
     let _ = match fault {
-        GuideFault::Unread => eprintln!(rt; "{GUIDE} can't be read"),
         GuideFault::Empty => eprintln!(rt; "{GUIDE} has no example"),
         GuideFault::Memory => eprintln!(rt; "out of memory"),
-        GuideFault::Ended(line, cause) => eprintln!(rt;
+        GuideFault::Ended(line, PlayFault::Memory) => eprintln!(rt;
+            "{GUIDE}:{line}: out of memory"
+        ),
+        GuideFault::Ended(line, PlayFault::Run(cause)) => eprintln!(rt;
             "{GUIDE}:{line}: the run ends with {cause}"
         ),
         GuideFault::Differs(line, came) => {

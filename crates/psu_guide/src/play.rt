@@ -2,11 +2,11 @@
 ghost use Rattle.std.specs.Prelude.{IfErr, IfOk, IfSome, Some, []};
 ghost use Rattle.psu_server.specs.Reasons.{EndsFor};
 ghost use Rattle.psu_server.specs.Results.{WritesRun};
-ghost use Rattle.psu_guide.specs.Held.{IsFaultOfRun};
-ghost use Rattle.psu_guide.specs.Plays.{IsNew, Plays};
+ghost use Rattle.psu_guide.specs.Plays.{GivesUp, IsNew, Plays};
 
-use crate::guide_fault::GuideFault;
+use crate::play_fault::PlayFault;
 use psu_disk::{Disk, MemDisk};
+use psu_examples::Player;
 use psu_items::Store;
 use psu_server::{RunCause, run};
 use std::alloc::Allocator;
@@ -47,20 +47,23 @@ fn written<D: Disk + Drop, A: Allocator + Copy>(
     }
 }
 
-/// What the instrument answers to these lines, which begin at this line of the guide, on a fresh image in memory.
-pub fn played<A: Allocator + Copy>(
-    alloc: A,
-    line: usize,
-    sent: &[u8],
-) -> Result<Vec<u8, A>, GuideFault<A>>
-    ensures played { IfOk result (λ text. Plays sent.now text.items) }
-    ensures refused { IfErr result (λ fault. IsFaultOfRun line sent.now fault) }
-{
-    let Some(disk) = new_image(alloc) else {
-        return Err(GuideFault::Memory);
-    };
-    match written(alloc, sent, disk) {
-        Ok(text) => Ok(text),
-        Err(cause) => Err(GuideFault::Ended(line, cause)),
+/// An instrument that begins each example on a new image in memory.
+pub struct NewInstrument;
+
+impl<A: Allocator + Copy> Player<A> for NewInstrument {
+    type Fault = PlayFault;
+
+    ghost plays = { Plays };
+
+    ghost stops = { GivesUp };
+
+    fn play(&self, alloc: A, sent: &[u8]) -> Result<Vec<u8, A>, PlayFault> {
+        let Some(disk) = new_image(alloc) else {
+            return Err(PlayFault::Memory);
+        };
+        match written(alloc, sent, disk) {
+            Ok(text) => Ok(text),
+            Err(cause) => Err(PlayFault::Run(cause)),
+        }
     }
 }

@@ -1,11 +1,11 @@
 -- What a line of an example does to the examples to come.
 use Rattle.std.proofs.Common.{◌≡◌, ℕ, ◌+◌, true, false, List, [], ◌∷◌, ◌++◌, refl, sym, ap, ◌∙◌, append_assoc}
 use Rattle.std.proofs.lemmas.List.{append-nil}
-use Rattle.psu_guide.specs.Examples.{Shown, Where, answered_by, answered_in, examples, is_end, sent_by, sent_in}
-use Rattle.psu_guide.specs.Shown.{begun, coming, shown}
-use Rattle.psu_guide.specs.declared.example.Example.{Example}
-use Rattle.psu_guide.specs.declared.place.Place.{Place}
-use Rattle.psu_guide.specs.declared.place.Place.TheVariants.{Text, Block, Inside}
+use Rattle.psu_examples.specs.Examples.{Shown, Where, answered_by, answered_in, examples, is_end, sent_by, sent_in}
+use Rattle.psu_examples.specs.Shown.{begun, coming, shown}
+use Rattle.psu_examples.specs.declared.example.Example.{Example}
+use Rattle.psu_examples.specs.declared.place.Place.{Place}
+use Rattle.psu_examples.specs.declared.place.Place.TheVariants.{Text, Block, Inside}
 
 abbrev made : ℕ → List ℕ → List ℕ → Shown
 made line sent answered = record { line = line; sent = sent; answered = answered }

@@ -5,7 +5,7 @@ use Rattle.std.proofs.lemmas.List.{get_or-take, take-append-drop}
 use Rattle.std.proofs.lemmas.Grind.{common_steps}
 use Rattle.std.proofs.lemmas.Bool.Decides.{nat_tests}
 use Rattle.memchr.specs.Find.{IsFirstByte, is_byte}
-use Rattle.psu_guide.specs.Examples.{first_onto, lines_of}
+use Rattle.psu_examples.specs.Examples.{first_onto, lines_of}
 
 abbrev Lacks : List ℕ → Type 0
 Lacks s = (j : ℕ) → j < length s → ¬ (slice_index s j == 10 ≡ true)

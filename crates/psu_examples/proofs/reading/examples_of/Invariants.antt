@@ -1,7 +1,7 @@
 use Rattle.std.proofs.Common.{◌≡◌, ◌+◌, ◌++◌, ◌≤◌, length, map}
-use Rattle.psu_guide.specs.Examples.{examples_in, lines_of}
-use Rattle.psu_guide.specs.Shown.{coming, shown}
-use Rattle.psu_guide.proofs.reading.examples_of.Given as goal
+use Rattle.psu_examples.specs.Examples.{examples_in, lines_of}
+use Rattle.psu_examples.specs.Shown.{coming, shown}
+use Rattle.psu_examples.proofs.reading.examples_of.Given as goal
 
 abbrev pub invariant-loop-line : goal.invariant-loop-line
 invariant-loop-line g l =

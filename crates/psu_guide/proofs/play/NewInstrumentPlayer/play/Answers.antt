@@ -1,6 +1,5 @@
-use Rattle.std.proofs.Common.{refl}
 use Rattle.psu_disk.specs.Memory.{memory}
-use Rattle.psu_guide.proofs.play.played.Goals as goal
+use Rattle.psu_guide.proofs.play.NewInstrumentPlayer.play.Goals as goal
 
 pub returns-in-Ok-clause-played : goal.returns-in-Ok-clause-played
 returns-in-Ok-clause-played g c =
@@ -8,8 +7,8 @@ returns-in-Ok-clause-played g c =
     let is = c.in-Ok.ensures.whole tt in
     record { disk = memory disk.bytes.items disk.unsynced.items; is_new = c.in-Some.ensures; over = memory is.0.bytes.items is.0.unsynced.items; writes = is.1 }
 
-pub returns-in-Err-clause-refused : goal.returns-in-Err-clause-refused
-returns-in-Err-clause-refused g c =
+pub returns-in-Err-clause-stopped : goal.returns-in-Err-clause-stopped
+returns-in-Err-clause-stopped g c =
     let disk = c.in-Some.disk in
     let is = c.in-Err.ensures.early tt in
-    (refl, record { disk = memory disk.bytes.items disk.unsynced.items; is_new = c.in-Some.ensures; left = is.0.bytes.items; why = is.1 })
+    record { disk = memory disk.bytes.items disk.unsynced.items; is_new = c.in-Some.ensures; left = is.0.bytes.items; why = is.1 }

@@ -1,8 +1,8 @@
 //! The examples of a guide.
 ghost use Rattle.std.specs.Prelude.{◌≡◌, ◌<◌, ◌+◌, ◌++◌, ◌∷◌, [], List, ℕ, OnOk, IfOk, IfSome, IfNone, length, map};
-ghost use Rattle.psu_guide.specs.Examples.{Where, examples, examples_in, is_end, lines_of};
-ghost use Rattle.psu_guide.specs.Shown.{begun, coming, shown};
-ghost use Rattle.psu_guide.specs.declared.place.Place.TheVariants.{Text};
+ghost use Rattle.psu_examples.specs.Examples.{Where, examples, examples_in, is_end, lines_of};
+ghost use Rattle.psu_examples.specs.Shown.{begun, coming, shown};
+ghost use Rattle.psu_examples.specs.declared.place.Place.TheVariants.{Text};
 
 use crate::example::Example;
 use crate::place::Place;

@@ -1,9 +1,9 @@
 -- What was read of a guide, as its examples.
 use Rattle.std.specs.Prelude.{ℕ, List, [], ◌∷◌, ◌++◌}
-use Rattle.psu_guide.specs.Examples.{Shown, Where, answered_in, examples, sent_in}
-use Rattle.psu_guide.specs.declared.example.Example.{Example}
-use Rattle.psu_guide.specs.declared.place.Place.{Place}
-use Rattle.psu_guide.specs.declared.place.Place.TheVariants.{Text, Block, Inside}
+use Rattle.psu_examples.specs.Examples.{Shown, Where, answered_in, examples, sent_in}
+use Rattle.psu_examples.specs.declared.example.Example.{Example}
+use Rattle.psu_examples.specs.declared.place.Place.{Place}
+use Rattle.psu_examples.specs.declared.place.Place.TheVariants.{Text, Block, Inside}
 
 abbrev pub shown : {A : Type 0} → Example A → Shown
 shown e = record { line = e.line; sent = e.sent.items; answered = e.answered.items }

@@ -1,6 +1,6 @@
 //! An example of the guide.
 ghost use Rattle.std.specs.Prelude.{◌≡◌, ◌++◌, ◌∷◌, [], OnOk};
-ghost use Rattle.psu_guide.specs.Examples.{answered_by, sent_by};
+ghost use Rattle.psu_examples.specs.Examples.{answered_by, sent_by};
 
 use std::alloc::{AllocError, Allocator};
 
