@@ -1,4 +1,9 @@
 // The readers of a session's two connections.
+ghost use Rattle.std.specs.Prelude.{List, OnOk};
+ghost use Rattle.psu_hislip.specs.Stream.{Received};
+ghost use Rattle.psu_sides.specs.Messages.{AreReceived};
+ghost use Rattle.psu_serve.specs.Serving.{Serves};
+
 use crate::opening::SILENCE;
 use crate::serving::Serving;
 use psu_bench::Gate;
@@ -18,7 +23,10 @@ fn read_once<R: Wait + Clock, D: Disk + Drop, G: Gate + Drop>(
     side: Side,
     channel: &mut Channel<Global>,
     piece: &mut [u8],
-) -> Result<(), Ended> {
+) -> Result<(), Ended>
+    ensures served { OnOk result ((messages : List Received)
+        × Serves D.honest serving.old.member.now.session (AreReceived side messages) serving.old.caller.now.seat serving.new.caller.now.seat) }
+{
     match serving.link.read(piece) {
         Heard::Bytes(count) => {
             let Ok(messages) = channel.feed(&piece[..count]) else {

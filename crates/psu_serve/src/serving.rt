@@ -1,13 +1,20 @@
 // What a session is served with on the shared device.
-ghost use Rattle.std.specs.Prelude.{◌≡◌, IfOk, OnErr};
+ghost use Rattle.std.specs.Prelude.{◌≡◌, OnOk, OnErr};
+ghost use Rattle.psu_messages.specs.Courses.{beginning};
+ghost use Rattle.psu_messages.specs.Shown.{course_of};
 ghost use Rattle.psu_messages.specs.Units.{source_of};
-ghost use Rattle.psu_serve.specs.Serving.{IsBegun, IsHalted, IsServed};
+ghost use Rattle.psu_turn.specs.Seats.{Calls};
+ghost use Rattle.psu_exec.specs.Calls.Entry.{Cleared};
+ghost use Rattle.psu_bench.specs.Calls.{AdmitsOn};
+ghost use Rattle.psu_hislip.specs.Action.{acts};
+ghost use Rattle.psu_sides.specs.Messages.{clears};
+ghost use Rattle.psu_serve.specs.Serving.{IsAsked, IsBegun, IsHalted, IsServed};
 
 use crate::caller::Caller;
 use crate::execution::Execution;
 use psu_bench::Gate;
 use psu_disk::Disk;
-use psu_exec::{Freed, Grant, Info, Kind, LockRefusal};
+use psu_exec::{Freed, Grant, Info, Kind, LockRefusal, ScpiError};
 use psu_hislip::{Action, Header, Message, Origin, Side, lock_response};
 use psu_members::{Begun, Link, Member, Server, Stop, Work};
 use psu_messages::Need;
@@ -36,8 +43,8 @@ fn goes_on(is_so: bool) -> Result<(), Ended> {
 impl<'a, 'c, 'r, R: Wait + Clock, D: Disk + Drop, G: Gate + Drop> Serving<'a, 'c, 'r, R, D, G> {
     // Executes what has begun as far as it need not wait. What it waits for, if anything; what a device clear drops is over.
     fn advance(&mut self, begun: &mut Begun) -> Result<Option<Need>, Ended>
-        ensures begun { IfOk result (λ _. IsBegun D.honest self.old.member.now.session (source_of begun.old.input) self.old.caller.now.seat self.new.caller.now.seat) }
-        ensures stopped { OnErr result (IsBegun D.honest self.old.member.now.session (source_of begun.old.input) self.old.caller.now.seat self.new.caller.now.seat) }
+        ensures begun { course_of begun.old.course ≡ beginning
+            → IsBegun D.honest self.old.member.now.session (source_of begun.old.input) self.old.caller.now.seat self.new.caller.now.seat }
         ensures caller { self.new.caller.ghost_name ≡ self.old.caller.ghost_name }
         ensures member { self.new.member ≡ self.old.member }
     {
@@ -65,47 +72,38 @@ impl<'a, 'c, 'r, R: Wait + Clock, D: Disk + Drop, G: Gate + Drop> Serving<'a, 'c
         goes_on(handed)
     }
 
-    // A device clear begins, under the core's lock: no unit of before it is executed after it.
-    fn clear(&mut self) -> Result<(), Ended> {
+    // A device clear begins: what waits is dropped, and no release waits any longer.
+    fn clear(&mut self) -> Result<(), Ended>
+        ensures call { Calls (AdmitsOn D.honest) self.old.caller.now.seat (Cleared self.old.member.now.session) self.new.caller.now.seat }
+        ensures caller { self.new.caller.ghost_name ≡ self.old.caller.ghost_name }
+        ensures member { self.new.member ≡ self.old.member }
+    {
         self.caller.clear(self.rt, self.member.session);
         self.member.alarm.wake(self.rt);
         goes_on(self.member.release_all(self.rt))
     }
-}
 
-impl<'a, 'c, 'r, R: Wait + Clock, D: Disk + Drop, G: Gate + Drop> Service<Global>
-    for Serving<'a, 'c, 'r, R, D, G> {
-    ghost does = { λ x deed y. (y.caller.ghost_name ≡ x.caller.ghost_name) × (y.member ≡ x.member) × IsServed D.honest x.member.now.session x.caller.now.seat deed y.caller.now.seat };
-
-    ghost stops = { λ x y. (y.caller.ghost_name ≡ x.caller.ghost_name) × (y.member ≡ x.member) × IsHalted D.honest x.member.now.session x.caller.now.seat y.caller.now.seat };
-
-    fn ask(
-        &mut self,
-        side: Side,
-        message: &Message<Global>,
-    ) -> Result<Vec<Action<Global>>, Ended> {
-        let mut core = self.member.core.lock(self.rt);
-        let Ok(actions) = core.on(side, message) else {
-            return Err(Ended);
-        };
-        if clears(actions.as_slice()) {
-            self.clear()?;
+    // A device clear begins where one is among these actions. It does so under the core's lock: no unit of before it is executed after it.
+    fn begin_clear(&mut self, actions: &[Action<Global>]) -> Result<(), Ended>
+        ensures done { OnOk result (IsAsked D.honest self.old.member.now.session (clears (acts actions.now)) self.old.caller.now.seat self.new.caller.now.seat) }
+        ensures stopped { OnErr result (IsHalted D.honest self.old.member.now.session self.old.caller.now.seat self.new.caller.now.seat) }
+        ensures caller { self.new.caller.ghost_name ≡ self.old.caller.ghost_name }
+        ensures member { self.new.member ≡ self.old.member }
+    {
+        if clears(actions) {
+            self.clear()
+        } else {
+            Ok(())
         }
-        drop(core);
-        Ok(actions)
-    }
-
-    fn count(&mut self, number: u32) -> Result<(), Ended> {
-        goes_on(self.member.receive(self.rt, number))
-    }
-
-    fn write(&mut self, frames: &[u8]) -> Result<(), Ended> {
-        goes_on(self.link.send(self.rt, frames).is_ok())
     }
 
     // At once where nothing stands before it; what has to wait stays at the desk, for the worker. A release that has waited for this comes behind it: the
     // worker comes to the desk first.
-    fn execute(&mut self, origin: Origin, input: Input<Global>) -> Result<(), Ended> {
+    fn begin(&mut self, origin: Origin, input: Input<Global>) -> Result<(), Ended>
+        ensures begun { IsBegun D.honest self.old.member.now.session (source_of input) self.old.caller.now.seat self.new.caller.now.seat }
+        ensures caller { self.new.caller.ghost_name ≡ self.old.caller.ghost_name }
+        ensures member { self.new.member ≡ self.old.member }
+    {
         let mut begun = Begun::new(self.server.alloc, origin, input);
         let mut desk = self.member.desk(self.rt);
         if !self.member.is_idle() {
@@ -118,6 +116,39 @@ impl<'a, 'c, 'r, R: Wait + Clock, D: Disk + Drop, G: Gate + Drop> Service<Global
         }
         goes_on(self.member.held.take(self.rt, begun.input.size()))?;
         goes_on(self.member.leave(self.rt, &mut desk, begun))
+    }
+}
+
+impl<'a, 'c, 'r, R: Wait + Clock, D: Disk + Drop, G: Gate + Drop> Service
+    for Serving<'a, 'c, 'r, R, D, G> {
+    ghost does = { λ x deed y. (y.caller.ghost_name ≡ x.caller.ghost_name) × (y.member ≡ x.member) × IsServed D.honest x.member.now.session x.caller.now.seat deed y.caller.now.seat };
+
+    ghost stops = { λ x y. (y.caller.ghost_name ≡ x.caller.ghost_name) × (y.member ≡ x.member) × IsHalted D.honest x.member.now.session x.caller.now.seat y.caller.now.seat };
+
+    fn ask(&mut self, side: Side, message: &Message<Global>) -> Result<Vec<Action<Global>>, Ended> {
+        let mut core = self.member.core.lock(self.rt);
+        let Ok(actions) = core.on(side, message) else {
+            return Err(Ended);
+        };
+        self.begin_clear(actions.as_slice())?;
+        drop(core);
+        Ok(actions)
+    }
+
+    fn count(&mut self, number: u32) -> Result<(), Ended> {
+        goes_on(self.member.receive(self.rt, number))
+    }
+
+    fn write(&mut self, frames: &[u8]) -> Result<(), Ended> {
+        goes_on(self.link.send(self.rt, frames).is_ok())
+    }
+
+    fn execute(&mut self, origin: Origin, text: Vec<u8>) -> Result<(), Ended> {
+        self.begin(origin, Input::Text(text))
+    }
+
+    fn report(&mut self, origin: Origin, error: ScpiError) -> Result<(), Ended> {
+        self.begin(origin, Input::Fault(error))
     }
 
     fn deliver(&mut self) {

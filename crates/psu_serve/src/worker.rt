@@ -1,4 +1,7 @@
 // The worker of a session: what can't be executed at once waits here, and what comes after it stands behind it.
+ghost use Rattle.psu_sides.specs.Telling.{IsGivenUp};
+ghost use Rattle.psu_serve.specs.Serving.{Serves};
+
 use crate::caller::Caller;
 use crate::execution::Execution;
 use crate::serving::Serving;
@@ -81,7 +84,9 @@ impl<'a, D: Disk + Drop, G: Gate + Drop> Worker<'a, D, G> {
     }
 
     // A release that has come up.
-    fn release<R: Wait + Clock>(&mut self, rt: &R) {
+    fn release<R: Wait + Clock>(&mut self, rt: &R)
+        ensures { Serves D.honest self.old.member.now.session IsGivenUp self.old.caller.seat self.new.caller.seat }
+    {
         let mut serving = Serving {
             rt,
             server: self.server,

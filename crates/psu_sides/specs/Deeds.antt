@@ -10,8 +10,6 @@ use Rattle.psu_hislip.specs.Action.{Act}
 use Rattle.psu_hislip.specs.Stream.{Received}
 use Rattle.psu_hislip.specs.declared.origin.Origin.{Origin}
 use Rattle.psu_hislip.specs.declared.side.Side.{Side}
-use Rattle.psu_sessions.specs.declared.input.Input.{Input}
-use Rattle.psu_sessions.specs.declared.input.Input.TheVariants.{Text, Fault}
 
 pub data Deed : Type 0 where
   -- the core is asked what a message of a channel asks for
@@ -38,8 +36,3 @@ pub data Deed : Type 0 where
   Late : List ℕ → Deed
   -- the session ends
   Ends : Deed
-
--- what is given to be executed
-abbrev pub given : {A : Type 0} → Origin → Input A → Deed
-given origin (Text text) = Executed origin text.items
-given origin (Fault error) = Reported origin error

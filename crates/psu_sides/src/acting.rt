@@ -10,11 +10,11 @@ use crate::{Ended, Service};
 use psu_hislip::{Action, Header, MessageType, lock_info_response, lock_response};
 use psu_lex::ScpiError;
 use psu_locks::Kind;
-use psu_sessions::{Input, lock_kind};
-use std::alloc::Allocator;
+use psu_sessions::lock_kind;
+use std::alloc::Global;
 
 // Tells the device where the client says that it has read the whole of the last answer.
-fn deliver<A: Allocator + Copy, S: Service<A>>(service: &mut S, is_delivered: bool)
+fn deliver<S: Service>(service: &mut S, is_delivered: bool)
     ensures { Runs S.does service.old (delivers is_delivered) service.new }
 {
     if is_delivered {
@@ -23,10 +23,7 @@ fn deliver<A: Allocator + Copy, S: Service<A>>(service: &mut S, is_delivered: bo
 }
 
 // Answers a status query, once what was sent is delivered where the client says so.
-fn answer_status<A: Allocator + Copy, S: Service<A>>(
-    service: &mut S,
-    is_delivered: bool,
-) -> Result<(), Ended>
+fn answer_status<S: Service>(service: &mut S, is_delivered: bool) -> Result<(), Ended>
     ensures done { OnOk result (Comes S.does (IsQueried is_delivered) service.old service.new) }
     ensures stopped { OnErr result (BreaksOff S.does S.stops (IsQueried is_delivered) service.old service.new) }
 {
@@ -39,11 +36,7 @@ fn answer_status<A: Allocator + Copy, S: Service<A>>(
 }
 
 // Asks for a lock. A request that waits is answered once it is granted or its time is over.
-fn ask_for_lock<A: Allocator + Copy, S: Service<A>>(
-    service: &mut S,
-    timeout: u32,
-    kind: Kind,
-) -> Result<(), Ended>
+fn ask_for_lock<S: Service>(service: &mut S, timeout: u32, kind: Kind) -> Result<(), Ended>
     ensures done { OnOk result (Comes S.does (IsLocked timeout (Some kind)) service.old service.new) }
     ensures stopped { OnErr result (BreaksOff S.does S.stops (IsLocked timeout (Some kind)) service.old service.new) }
 {
@@ -55,11 +48,7 @@ fn ask_for_lock<A: Allocator + Copy, S: Service<A>>(
 }
 
 // Asks for a lock under a string. One that no lock has is refused.
-fn answer_lock<A: Allocator + Copy, S: Service<A>>(
-    service: &mut S,
-    timeout: u32,
-    string: &[u8],
-) -> Result<(), Ended>
+fn answer_lock<S: Service>(service: &mut S, timeout: u32, string: &[u8]) -> Result<(), Ended>
     ensures done { OnOk result (Comes S.does (IsLocked timeout (kind_of string.now)) service.old service.new) }
     ensures stopped { OnErr result (BreaksOff S.does S.stops (IsLocked timeout (kind_of string.now)) service.old service.new) }
 {
@@ -73,7 +62,7 @@ fn answer_lock<A: Allocator + Copy, S: Service<A>>(
 }
 
 // Tells who holds locks.
-fn answer_info<A: Allocator + Copy, S: Service<A>>(service: &mut S) -> Result<(), Ended>
+fn answer_info<S: Service>(service: &mut S) -> Result<(), Ended>
     ensures done { OnOk result (Comes S.does IsInformed service.old service.new) }
     ensures stopped { OnErr result (BreaksOff S.does S.stops IsInformed service.old service.new) }
 {
@@ -82,21 +71,19 @@ fn answer_info<A: Allocator + Copy, S: Service<A>>(service: &mut S) -> Result<()
 }
 
 /// Does what an action of a message of this number asks for.
-pub fn do_action<A: Allocator + Copy, S: Service<A>>(
+pub fn do_action<S: Service>(
     service: &mut S,
     number: u32,
-    action: Action<A>,
+    action: Action<Global>,
 ) -> Result<(), Ended>
     ensures done { OnOk result (Comes S.does (Does number (act action)) service.old service.new) }
     ensures stopped { OnErr result (BreaksOff S.does S.stops (Does number (act action)) service.old service.new) }
 {
     match action {
         Action::Send(_, frames) => service.write(frames.as_slice()),
-        Action::Execute(origin, text) => service.execute(origin, Input::Text(text)),
-        Action::TooMuch(origin) => { service.execute(origin, Input::Fault(ScpiError::TooMuchData)) }
-        Action::Trigger(origin) => {
-            service.execute(origin, Input::Fault(ScpiError::TriggerIgnored))
-        }
+        Action::Execute(origin, text) => service.execute(origin, text),
+        Action::TooMuch(origin) => { service.report(origin, ScpiError::TooMuchData) }
+        Action::Trigger(origin) => { service.report(origin, ScpiError::TriggerIgnored) }
         Action::Delivered => {
             service.deliver();
             Ok(())

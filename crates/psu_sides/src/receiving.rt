@@ -10,13 +10,13 @@ ghost use Rattle.psu_sides.specs.Running.{BreaksOff, Comes, Runs};
 use crate::acting::do_action;
 use crate::{Ended, Service};
 use psu_hislip::{Action, Message, MessageType, Side};
-use std::alloc::Allocator;
+use std::alloc::Global;
 
 /// The number before that of a client's first message (IVI-6.1: they begin at ffffff00, in steps of 2).
 pub const BEFORE_FIRST: u32 = 0xffff_fefe;
 
 // Whether something is executed.
-fn is_execution<A: Allocator + Copy>(action: &Action<A>) -> bool
+fn is_execution(action: &Action<Global>) -> bool
     ensures { result ≡ is_execution (act action.now) }
 {
     matches!(
@@ -26,35 +26,35 @@ fn is_execution<A: Allocator + Copy>(action: &Action<A>) -> bool
 }
 
 // Whether one of these actions is that something is executed.
-fn executes<A: Allocator + Copy>(actions: &[Action<A>]) -> bool
+fn executes(actions: &[Action<Global>]) -> bool
     ensures { result ≡ list_any (λ action. is_execution (act action)) actions.now }
 {
     actions.iter().any(is_execution)
 }
 
 // Whether an action is a device clear.
-fn is_clear<A: Allocator + Copy>(action: &Action<A>) -> bool
+fn is_clear(action: &Action<Global>) -> bool
     ensures { result ≡ is_clear (act action.now) }
 {
     matches!(action, Action::Clear)
 }
 
 // Whether one of these actions is a device clear.
-fn has_clear<A: Allocator + Copy>(actions: &[Action<A>]) -> bool
+fn has_clear(actions: &[Action<Global>]) -> bool
     ensures { result ≡ list_any (λ action. is_clear (act action)) actions.now }
 {
     actions.iter().any(is_clear)
 }
 
 /// Whether a device clear is among the actions of a message. It begins as the core is asked, before anything else is done for the message.
-pub fn clears<A: Allocator + Copy>(actions: &[Action<A>]) -> bool
+pub fn clears(actions: &[Action<Global>]) -> bool
     ensures { result ≡ clears (acts actions.now) }
 {
     has_clear(actions)
 }
 
 // The number of a message of the synchronous channel, if it has one. A device clear begins the numbers anew.
-fn number<A: Allocator + Copy>(message: &Message<A>) -> Option<u32>
+fn number(message: &Message<Global>) -> Option<u32>
     ensures { result ≡ number (received message.now) }
 {
     let (Message::Frame(header, _) | Message::Oversize(header)) = message else {
@@ -68,11 +68,7 @@ fn number<A: Allocator + Copy>(message: &Message<A>) -> Option<u32>
 }
 
 // The number that counts as received as a message comes, if one does. That of one which is executed counts where it has its place in the order.
-fn counted<A: Allocator + Copy>(
-    side: Side,
-    message: &Message<A>,
-    actions: &[Action<A>],
-) -> Option<u32>
+fn counted(side: Side, message: &Message<Global>, actions: &[Action<Global>]) -> Option<u32>
     ensures { result ≡ counted side (received message.now) (acts actions.now) }
 {
     match side {
@@ -83,7 +79,7 @@ fn counted<A: Allocator + Copy>(
 }
 
 // The parameter of a message.
-fn parameter<A: Allocator + Copy>(message: &Message<A>) -> u32
+fn parameter(message: &Message<Global>) -> u32
     ensures { result ≡ parameter (received message.now) }
 {
     match message {
@@ -93,10 +89,10 @@ fn parameter<A: Allocator + Copy>(message: &Message<A>) -> u32
 }
 
 // Does what actions of a message of this number ask for, one after another.
-fn do_actions<A: Allocator + Copy, S: Service<A>>(
+fn do_actions<S: Service>(
     service: &mut S,
     number: u32,
-    actions: Vec<Action<A>, A>,
+    actions: Vec<Action<Global>>,
 ) -> Result<(), Ended>
     ensures done { OnOk result (Comes S.does (Each number (acts actions.items)) service.old service.new) }
     ensures stopped { OnErr result (BreaksOff S.does S.stops (Each number (acts actions.items)) service.old service.new) }
@@ -109,10 +105,7 @@ fn do_actions<A: Allocator + Copy, S: Service<A>>(
 }
 
 // Counts the message of a number as received.
-fn count<A: Allocator + Copy, S: Service<A>>(
-    service: &mut S,
-    number: Option<u32>,
-) -> Result<(), Ended>
+fn count<S: Service>(service: &mut S, number: Option<u32>) -> Result<(), Ended>
     ensures done { OnOk result (Runs S.does service.old (counts number) service.new) }
     ensures stopped { OnErr result (S.stops service.old service.new) }
 {
@@ -123,10 +116,10 @@ fn count<A: Allocator + Copy, S: Service<A>>(
 }
 
 // Does what a message asks for.
-fn receive_one<A: Allocator + Copy, S: Service<A>>(
+fn receive_one<S: Service>(
     service: &mut S,
     side: Side,
-    message: &Message<A>,
+    message: &Message<Global>,
 ) -> Result<(), Ended>
     ensures done { OnOk result (Comes S.does (IsReceived side (received message.now)) service.old service.new) }
     ensures stopped { OnErr result (BreaksOff S.does S.stops (IsReceived side (received message.now)) service.old service.new) }
@@ -139,10 +132,10 @@ fn receive_one<A: Allocator + Copy, S: Service<A>>(
 /// Does what the messages of a channel ask for: each is put to the session's core once, in order, and each action that it asks for is done once,
 /// in order; a status query, a lock and the question who holds locks are answered by what the device replied, each in its own frame. Where the session
 /// ends in their midst, what was done is a front of that.
-pub fn receive<A: Allocator + Copy, S: Service<A>>(
+pub fn receive<S: Service>(
     service: &mut S,
     side: Side,
-    messages: &[Message<A>],
+    messages: &[Message<Global>],
 ) -> Result<(), Ended>
     ensures done { OnOk result (Comes S.does (AreReceived side (map received messages.now)) service.old service.new) }
     ensures stopped { OnErr result (BreaksOff S.does S.stops (AreReceived side (map received messages.now)) service.old service.new) }

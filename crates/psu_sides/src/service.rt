@@ -3,17 +3,17 @@ ghost use Rattle.std.specs.Prelude.{IfOk, OnOk, OnErr};
 ghost use Rattle.psu_hislip.specs.Action.{acts};
 ghost use Rattle.psu_hislip.specs.Header.{header_bytes};
 ghost use Rattle.psu_hislip.specs.Stream.{received};
-ghost use Rattle.psu_sides.specs.Deeds.{Deed, Asked, Counted, Wrote, Delivered, Queried, Fetched, Locked, Informed, Awaited, Released, Late, given};
+ghost use Rattle.psu_sides.specs.Deeds.{Deed, Asked, Counted, Wrote, Executed, Reported, Delivered, Queried, Fetched, Locked, Informed, Awaited, Released, Late};
 
 use crate::Ended;
 use psu_exec::{Freed, Grant, Info, Kind, LockRefusal};
 use psu_hislip::{Action, Header, Message, Origin, Side};
-use psu_sessions::Input;
-use std::alloc::Allocator;
+use psu_lex::ScpiError;
+use std::alloc::Global;
 
 /// What a session is served with: the core of its protocol, the instrument, and a connection. Nothing is known of it but how a deed leads from one
 /// state of it to another.
-pub trait Service<A: Allocator + Copy> {
+pub trait Service {
     /// A deed, done to its end.
     ghost does: { Self → Deed → Self → Type 0 };
 
@@ -21,7 +21,7 @@ pub trait Service<A: Allocator + Copy> {
     ghost stops: { Self → Self → Type 0 };
 
     /// What a message of a channel asks for, as the core of the session says. A device clear begins with it.
-    fn ask(&mut self, side: Side, message: &Message<A>) -> Result<Vec<Action<A>, A>, Ended>
+    fn ask(&mut self, side: Side, message: &Message<Global>) -> Result<Vec<Action<Global>>, Ended>
         ensures done { IfOk result (λ actions. does self.old (Asked side (received message.now) (acts actions.items)) self.new) }
         ensures stopped { OnErr result (stops self.old self.new) };
 
@@ -35,9 +35,14 @@ pub trait Service<A: Allocator + Copy> {
         ensures done { OnOk result (does self.old (Wrote frames.now) self.new) }
         ensures stopped { OnErr result (stops self.old self.new) };
 
-    /// Has something executed, behind what came before it.
-    fn execute(&mut self, origin: Origin, input: Input<A>) -> Result<(), Ended>
-        ensures done { OnOk result (does self.old (given origin input) self.new) }
+    /// Has a transmission executed, behind what came before it.
+    fn execute(&mut self, origin: Origin, text: Vec<u8>) -> Result<(), Ended>
+        ensures done { OnOk result (does self.old (Executed origin text.items) self.new) }
+        ensures stopped { OnErr result (stops self.old self.new) };
+
+    /// Has the instrument report this in place of a transmission, behind what came before it.
+    fn report(&mut self, origin: Origin, error: ScpiError) -> Result<(), Ended>
+        ensures done { OnOk result (does self.old (Reported origin error) self.new) }
         ensures stopped { OnErr result (stops self.old self.new) };
 
     /// The client has read the whole of the last answer.

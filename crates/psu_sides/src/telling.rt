@@ -6,10 +6,9 @@ ghost use Rattle.psu_sides.specs.Telling.{IsTold, IsAskedFor};
 use crate::writing::write_header;
 use crate::{Ended, Notice, Service};
 use psu_hislip::{Header, MessageType};
-use std::alloc::Allocator;
 
 // Sends the session's request for service, where there is one.
-fn ask_for_service<A: Allocator + Copy, S: Service<A>>(service: &mut S) -> Result<(), Ended>
+fn ask_for_service<S: Service>(service: &mut S) -> Result<(), Ended>
     ensures done { OnOk result (Comes S.does IsAskedFor service.old service.new) }
     ensures stopped { OnErr result (BreaksOff S.does S.stops IsAskedFor service.old service.new) }
 {
@@ -25,10 +24,7 @@ fn ask_for_service<A: Allocator + Copy, S: Service<A>>(service: &mut S) -> Resul
 }
 
 /// Tells the client what others caused: an answer that came late is written once, and a request for service is the one that the device has.
-pub fn tell<A: Allocator + Copy, S: Service<A>>(
-    service: &mut S,
-    notice: Notice,
-) -> Result<(), Ended>
+pub fn tell<S: Service>(service: &mut S, notice: Notice) -> Result<(), Ended>
     ensures done { OnOk result (Comes S.does (IsTold notice) service.old service.new) }
     ensures stopped { OnErr result (BreaksOff S.does S.stops (IsTold notice) service.old service.new) }
 {

@@ -5,13 +5,9 @@ ghost use Rattle.psu_sides.specs.Deeds.{Wrote};
 
 use crate::{Ended, Service};
 use psu_hislip::Header;
-use std::alloc::Allocator;
 
 /// Writes a message without payload.
-pub fn write_header<A: Allocator + Copy, S: Service<A>>(
-    service: &mut S,
-    header: Header,
-) -> Result<(), Ended>
+pub fn write_header<S: Service>(service: &mut S, header: Header) -> Result<(), Ended>
     ensures done { OnOk result (S.does service.old (Wrote (header_bytes header)) service.new) }
     ensures stopped { OnErr result (S.stops service.old service.new) }
 {

@@ -27,21 +27,21 @@ returns-in-Execute-clause-stopped g c =
 
 pub returns-in-TooMuch-clause-done : goal.returns-in-TooMuch-clause-done
 returns-in-TooMuch-clause-done g c =
-    on_ok c.execute-in-TooMuch.result (one g.S.Service.does (Does c.args.number (act c.args.action)) _ c.args.service.now c.execute-in-TooMuch.new.self (rw c.in-TooMuch.is refl)) c.execute-in-TooMuch.ensures.done
+    on_ok c.report.result (one g.S.Service.does (Does c.args.number (act c.args.action)) _ c.args.service.now c.report.new.self (rw c.in-TooMuch.is refl)) c.report.ensures.done
 
 pub returns-in-TooMuch-clause-stopped : goal.returns-in-TooMuch-clause-stopped
 returns-in-TooMuch-clause-stopped g c =
     let some = some_does c.args.number (act c.args.action) in
-    on_err c.execute-in-TooMuch.result (halts g.S.Service.does g.S.Service.stops (Does c.args.number (act c.args.action)) some.0 c.args.service.now c.execute-in-TooMuch.new.self some.1) c.execute-in-TooMuch.ensures.stopped
+    on_err c.report.result (halts g.S.Service.does g.S.Service.stops (Does c.args.number (act c.args.action)) some.0 c.args.service.now c.report.new.self some.1) c.report.ensures.stopped
 
 pub returns-in-Trigger-clause-done : goal.returns-in-Trigger-clause-done
 returns-in-Trigger-clause-done g c =
-    on_ok c.execute-in-Trigger.result (one g.S.Service.does (Does c.args.number (act c.args.action)) _ c.args.service.now c.execute-in-Trigger.new.self (rw c.in-Trigger.is refl)) c.execute-in-Trigger.ensures.done
+    on_ok c.report-in-Trigger.result (one g.S.Service.does (Does c.args.number (act c.args.action)) _ c.args.service.now c.report-in-Trigger.new.self (rw c.in-Trigger.is refl)) c.report-in-Trigger.ensures.done
 
 pub returns-in-Trigger-clause-stopped : goal.returns-in-Trigger-clause-stopped
 returns-in-Trigger-clause-stopped g c =
     let some = some_does c.args.number (act c.args.action) in
-    on_err c.execute-in-Trigger.result (halts g.S.Service.does g.S.Service.stops (Does c.args.number (act c.args.action)) some.0 c.args.service.now c.execute-in-Trigger.new.self some.1) c.execute-in-Trigger.ensures.stopped
+    on_err c.report-in-Trigger.result (halts g.S.Service.does g.S.Service.stops (Does c.args.number (act c.args.action)) some.0 c.args.service.now c.report-in-Trigger.new.self some.1) c.report-in-Trigger.ensures.stopped
 
 pub returns-in-Delivered-clause-done : goal.returns-in-Delivered-clause-done
 returns-in-Delivered-clause-done g c = one g.S.Service.does (Does c.args.number (act c.args.action)) Delivered c.args.service.now c.deliver.new.self (rw c.in-Delivered.is refl) c.deliver.ensures

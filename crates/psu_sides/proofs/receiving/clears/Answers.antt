@@ -4,4 +4,4 @@ use Rattle.psu_sides.proofs.Asking.{any_act}
 use Rattle.psu_sides.proofs.receiving.clears.Goals as goal
 
 pub returns : goal.returns
-returns g c = c.has_clear.ensures ∙ any_act is_clear c.args.actions.now
+returns c = c.has_clear.ensures ∙ any_act is_clear c.args.actions.now
