@@ -82,8 +82,8 @@ pub fn do_action<S: Service>(
     match action {
         Action::Send(_, frames) => service.write(frames.as_slice()),
         Action::Execute(origin, text) => service.execute(origin, text),
-        Action::TooMuch(origin) => { service.report(origin, ScpiError::TooMuchData) }
-        Action::Trigger(origin) => { service.report(origin, ScpiError::TriggerIgnored) }
+        Action::TooMuch(origin) => service.report(origin, ScpiError::TooMuchData),
+        Action::Trigger(origin) => service.report(origin, ScpiError::TriggerIgnored),
         Action::Delivered => {
             service.deliver();
             Ok(())

@@ -6,9 +6,9 @@ ghost use Rattle.psu_hislip.specs.Stream.{received};
 ghost use Rattle.psu_sides.specs.Deeds.{Deed, Asked, Counted, Wrote, Executed, Reported, Delivered, Queried, Fetched, Locked, Informed, Awaited, Released, Late};
 
 use crate::Ended;
-use psu_exec::{Freed, Grant, Info, Kind, LockRefusal};
 use psu_hislip::{Action, Header, Message, Origin, Side};
 use psu_lex::ScpiError;
+use psu_locks::{Freed, Grant, Info, Kind, LockRefusal};
 use std::alloc::Global;
 
 /// What a session is served with: the core of its protocol, the instrument, and a connection. Nothing is known of it but how a deed leads from one
