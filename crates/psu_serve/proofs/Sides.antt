@@ -1,7 +1,7 @@
 -- The deeds of a thread for its session, as calls of its seat.
-use Rattle.std.proofs.Common.{◌≡◌, ℕ, List, [], ◌∷◌, ap, subst, Result, Ok, Err, OnOk}
+use Rattle.std.proofs.Common.{◌≡◌, ℕ, List, [], ◌∷◌, ap, ◌∙◌, subst, inl, inr, Result, Ok, Err, OnOk, OnErr}
 use Rattle.psu_sides.specs.Deeds.{Deed}
-use Rattle.psu_sides.specs.Running.{Comes, Runs}
+use Rattle.psu_sides.specs.Running.{BreaksOff, Comes, Runs}
 
 pub on_ok : {T E P Q : Type 0} (r : Result T E) → (P → Q) → OnOk r P → OnOk r Q
 on_ok (Ok x) f p = f p
@@ -16,3 +16,16 @@ module _ {X V : Type 0} {does : X → Deed → X → Type 0} (key : X → ℕ) (
   -- where each deed is one of this kind on a part of what does them, all are
   pub comes_on_part : {Are : List Deed → Type 0} (x y : X) → Comes does Are x y → Comes (made (key x)) Are (part x) (part y)
   comes_on_part x y (deeds, are, runs) = (deeds, are, on_part x deeds y runs)
+
+module _ {X Y : Type 0} {does : X → Deed → X → Type 0} {stops : X → X → Type 0} (part : X → Y) (keeps : (x y : X) (deed : Deed) → does x deed y → part y ≡ part x) (ends : (x y : X) → stops x y → part y ≡ part x) where
+  kept : (x : X) (deeds : List Deed) (y : X) → Runs does x deeds y → part y ≡ part x
+  kept x [] y same = ap part same
+  kept x (deed ∷ deeds) y runs = kept runs.0 deeds y runs.2 ∙ keeps x runs.0 deed runs.1
+
+  -- what each deed leaves as it is, all leave so, also where the session is then over
+  pub kept_by : {T E : Type 0} (Are : List Deed → Type 0) (r : Result T E) (x y : X) → OnOk r (Comes does Are x y) → OnErr r (BreaksOff does stops Are x y) → part y ≡ part x
+  kept_by Are (Ok v) x y done stopped = kept x done.0 y done.2
+  kept_by Are (Err e) x y done stopped = elim stopped.halts [
+    | inl same ↦ ap part same ∙ kept x stopped.done stopped.last stopped.runs
+    | inr halt ↦ ends stopped.last y halt ∙ kept x stopped.done stopped.last stopped.runs
+  ]

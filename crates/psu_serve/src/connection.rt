@@ -2,7 +2,7 @@
 use crate::caller::Caller;
 use crate::notifier::notify;
 use crate::opening::{close, fatal, first_messages, open};
-use crate::reading::{read_async, read_sync};
+use crate::reading::{read_async, read_sync, serve_messages};
 use crate::serving::Serving;
 use crate::worker::Worker;
 use psu_bench::Gate;
@@ -10,7 +10,6 @@ use psu_disk::Disk;
 use psu_exec::Session;
 use psu_hislip::{Channel, FatalCode, First, Message, Side};
 use psu_members::{Link, Member, Server, Silent};
-use psu_sides::receive;
 use std::alloc::Global;
 use std::rt::Clock;
 use std::sync::{Arc, Mutex, Wait};
@@ -50,6 +49,45 @@ fn behind_first(alloc: Global, messages: Vec<Message<Global>>) -> io::Result<Vec
         rest.push(message)?;
     }
     Ok(rest)
+}
+
+// Does what the first messages of a session's second connection ask for. Whether the session goes on.
+fn answer_async<'a, R: Wait + Clock, D: Disk + Drop, G: Gate + Drop>(
+    rt: &R,
+    server: &'a Server,
+    member: &'a Member,
+    link: &'a Link,
+    caller: &mut Caller<D, G>,
+    messages: &[Message<Global>],
+) -> bool {
+    let mut serving = Serving {
+        rt,
+        server,
+        member,
+        link,
+        caller,
+    };
+    serve_messages(&mut serving, Side::Async, messages).is_ok()
+}
+
+// Reads it until the session ends.
+fn hear_async<'a, R: Wait + Clock, D: Disk + Drop, G: Gate + Drop>(
+    rt: &R,
+    server: &'a Server,
+    member: &'a Member,
+    link: &'a Link,
+    caller: &mut Caller<D, G>,
+    channel: &mut Channel<Global>,
+    piece: &mut [u8],
+) {
+    let mut serving = Serving {
+        rt,
+        server,
+        member,
+        link,
+        caller,
+    };
+    read_async(&mut serving, channel, piece);
 }
 
 fn start_worker<R, D, G>(
@@ -126,7 +164,7 @@ impl<D: Disk + Drop, G: Gate + Drop> Connection<D, G> {
             link: &self.link,
             caller: &mut self.caller,
         };
-        if begins && receive(&mut serving, Side::Sync, rest.as_slice()).is_ok() {
+        if begins && serve_messages(&mut serving, Side::Sync, rest.as_slice()).is_ok() {
             read_sync(&mut serving, opened, channel, piece.as_mut_slice());
         }
         member.end(rt);
@@ -147,7 +185,7 @@ impl<D: Disk + Drop + Send + 'static, G: Gate + Drop + Send + Sync + 'static> Co
     fn join<R>(
         &mut self,
         rt: R,
-        member: &Arc<Member>,
+        member: Arc<Member>,
         channel: &mut Channel<Global>,
         messages: Vec<Message<Global>>,
     ) -> io::Result<()>
@@ -166,21 +204,30 @@ impl<D: Disk + Drop + Send + 'static, G: Gate + Drop + Send + Sync + 'static> Co
                 .link
                 .send(&rt, &fatal(FatalCode::InvalidInitialization));
         }
-        let mut serving = Serving {
-            rt: &rt,
-            server: &self.server,
-            member,
-            link: &self.link,
-            caller: &mut caller,
-        };
-        let worker = start_worker(rt, &self.server, member, working);
+        let worker = start_worker(rt, &self.server, &member, working);
         let goes_on = worker.is_some()
-            && receive(&mut serving, Side::Async, messages.as_slice()).is_ok();
-        let notifier = start_notifier(rt, &self.server, member, &self.link, noting);
+            && answer_async(
+                &rt,
+                &self.server,
+                &member,
+                &self.link,
+                &mut caller,
+                messages.as_slice(),
+            );
+        let notifier = start_notifier(rt, &self.server, &member, &self.link, noting);
         let is_set = self.link.wait_at_most(None).is_ok();
         member.notices.look(&rt);
         if goes_on && notifier.is_some() && is_set {
-            read_async(&mut serving, channel, piece.as_mut_slice());
+            let piece = piece.as_mut_slice();
+            hear_async(
+                &rt,
+                &self.server,
+                &member,
+                &self.link,
+                &mut caller,
+                channel,
+                piece,
+            );
         }
         member.end(&rt);
         if let Some(worker) = worker {
@@ -219,7 +266,7 @@ impl<D: Disk + Drop + Send + 'static, G: Gate + Drop + Send + Sync + 'static> Co
                 None => self
                     .link
                     .send(&rt, &fatal(FatalCode::InvalidInitialization)),
-                Some(member) => self.join(rt, &member, &mut channel, messages),
+                Some(member) => self.join(rt, member, &mut channel, messages),
             },
         }
     }

@@ -1,6 +1,6 @@
 // The readers of a session's two connections.
-ghost use Rattle.std.specs.Prelude.{List, OnOk};
-ghost use Rattle.psu_hislip.specs.Stream.{Received};
+ghost use Rattle.std.specs.Prelude.{◌≡◌, List, OnOk, map};
+ghost use Rattle.psu_hislip.specs.Stream.{Received, received};
 ghost use Rattle.psu_sides.specs.Messages.{AreReceived};
 ghost use Rattle.psu_serve.specs.Serving.{Serves};
 
@@ -8,7 +8,7 @@ use crate::opening::SILENCE;
 use crate::serving::Serving;
 use psu_bench::Gate;
 use psu_disk::Disk;
-use psu_hislip::{Channel, Side};
+use psu_hislip::{Channel, Message, Side};
 use psu_members::Heard;
 use psu_sides::{Ended, receive};
 use std::alloc::Global;
@@ -16,6 +16,18 @@ use std::io;
 use std::rt::Clock;
 use std::sync::Wait;
 use std::time::{Duration, Instant};
+
+/// Does what the messages of a channel ask for. Where that fails the session is over.
+pub fn serve_messages<R: Wait + Clock, D: Disk + Drop, G: Gate + Drop>(
+    serving: &mut Serving<'_, '_, '_, R, D, G>,
+    side: Side,
+    messages: &[Message<Global>],
+) -> Result<(), Ended>
+    ensures served { OnOk result (Serves D.honest serving.old.member.now.session (AreReceived side (map received messages.now)) serving.old.caller.now.seat serving.new.caller.now.seat) }
+    ensures caller { serving.new.caller.ghost_name ≡ serving.old.caller.ghost_name }
+{
+    receive(serving, side, messages)
+}
 
 // Does what the next bytes of a connection ask for, once they come.
 fn read_once<R: Wait + Clock, D: Disk + Drop, G: Gate + Drop>(
@@ -32,7 +44,7 @@ fn read_once<R: Wait + Clock, D: Disk + Drop, G: Gate + Drop>(
             let Ok(messages) = channel.feed(&piece[..count]) else {
                 return Err(Ended);
             };
-            receive(serving, side, messages.as_slice())
+            serve_messages(serving, side, messages.as_slice())
         }
         Heard::Nothing => Ok(()),
         Heard::End => Err(Ended),
