@@ -51,45 +51,6 @@ fn behind_first(alloc: Global, messages: Vec<Message<Global>>) -> io::Result<Vec
     Ok(rest)
 }
 
-// Does what the first messages of a session's second connection ask for. Whether the session goes on.
-fn answer_async<'a, R: Wait + Clock, D: Disk + Drop, G: Gate + Drop>(
-    rt: &R,
-    server: &'a Server,
-    member: &'a Member,
-    link: &'a Link,
-    caller: &mut Caller<D, G>,
-    messages: &[Message<Global>],
-) -> bool {
-    let mut serving = Serving {
-        rt,
-        server,
-        member,
-        link,
-        caller,
-    };
-    serve_messages(&mut serving, Side::Async, messages).is_ok()
-}
-
-// Reads it until the session ends.
-fn hear_async<'a, R: Wait + Clock, D: Disk + Drop, G: Gate + Drop>(
-    rt: &R,
-    server: &'a Server,
-    member: &'a Member,
-    link: &'a Link,
-    caller: &mut Caller<D, G>,
-    channel: &mut Channel<Global>,
-    piece: &mut [u8],
-) {
-    let mut serving = Serving {
-        rt,
-        server,
-        member,
-        link,
-        caller,
-    };
-    read_async(&mut serving, channel, piece);
-}
-
 fn start_worker<R, D, G>(
     rt: R,
     server: &Arc<Server>,
@@ -173,6 +134,43 @@ impl<D: Disk + Drop, G: Gate + Drop> Connection<D, G> {
         Ok(())
     }
 
+    // Does what the first messages of a session's second connection ask for. Whether the session goes on.
+    fn answer_first<'a, R: Wait + Clock>(
+        &'a self,
+        rt: &R,
+        member: &'a Member,
+        caller: &mut Caller<D, G>,
+        messages: &[Message<Global>],
+    ) -> bool {
+        let mut serving = Serving {
+            rt,
+            server: &self.server,
+            member,
+            link: &self.link,
+            caller,
+        };
+        serve_messages(&mut serving, Side::Async, messages).is_ok()
+    }
+
+    // Reads it until the session ends.
+    fn hear<'a, R: Wait + Clock>(
+        &'a self,
+        rt: &R,
+        member: &'a Member,
+        caller: &mut Caller<D, G>,
+        channel: &mut Channel<Global>,
+        piece: &mut [u8],
+    ) {
+        let mut serving = Serving {
+            rt,
+            server: &self.server,
+            member,
+            link: &self.link,
+            caller,
+        };
+        read_async(&mut serving, channel, piece);
+    }
+
     // The session that waits for this connection, where there is one of this number.
     fn member<R: Wait>(&self, rt: &R, number: u32) -> Option<Arc<Member>> {
         let session = Session::new(u8::try_from(number).ok()?)?;
@@ -206,28 +204,12 @@ impl<D: Disk + Drop + Send + 'static, G: Gate + Drop + Send + Sync + 'static> Co
         }
         let worker = start_worker(rt, &self.server, &member, working);
         let goes_on = worker.is_some()
-            && answer_async(
-                &rt,
-                &self.server,
-                &member,
-                &self.link,
-                &mut caller,
-                messages.as_slice(),
-            );
+            && self.answer_first(&rt, &member, &mut caller, messages.as_slice());
         let notifier = start_notifier(rt, &self.server, &member, &self.link, noting);
         let is_set = self.link.wait_at_most(None).is_ok();
         member.notices.look(&rt);
         if goes_on && notifier.is_some() && is_set {
-            let piece = piece.as_mut_slice();
-            hear_async(
-                &rt,
-                &self.server,
-                &member,
-                &self.link,
-                &mut caller,
-                channel,
-                piece,
-            );
+            self.hear(&rt, &member, &mut caller, channel, piece.as_mut_slice());
         }
         member.end(&rt);
         if let Some(worker) = worker {
