@@ -19,7 +19,7 @@ use Rattle.psu_exec.proofs.Invariant.{kept_at_start, left_in_life, only_left}
 use Rattle.psu_server.specs.Lines.{Message}
 use Rattle.psu_server.specs.Lives.{Life, disk_at, world_of, lived, Calls, CallsAll, unit_in, units_in, PowersOn, IsLeftBy, LeavesPrefix, Reached, StandsForPrefix}
 use Rattle.psu_server.specs.Moments.{Leads}
-use Rattle.psu_server.specs.Runs.{Mishaps, JobDone, Jobs, Flushes, Acts, Begins, UnitRuns, UnitsBegin, UnitsRun, ReplyBegins, ReplyRuns, LineBegins, LineRuns, MessageRuns, NextBegins, Runs, is_final}
+use Rattle.psu_server.specs.Runs.{Mishaps, JobDone, Jobs, Flushes, Acts, Begins, UnitRuns, UnitsBegin, UnitsRun, ReplyBegins, ReplyRuns, LineBegins, LineRuns, NextBegins, is_final}
 
 -- ---- one call of the code
 
@@ -127,7 +127,7 @@ reply_made Parked can w new answers all u = made_none w new u.0
 reply_made Held can w new answers all u = made_none w new u.0
 reply_made Later can w new answers all u = made_none w new u.0
 
-line_made : (requests : List Request) (can : Mishaps) (w new : World) (answers all : List (List ℕ)) → LineRuns can w answers requests all new → Leads w new
+pub line_made : (requests : List Request) (can : Mishaps) (w new : World) (answers all : List (List ℕ)) → LineRuns can w answers requests all new → Leads w new
 line_made [] can w new answers all u = made_none w new u.0
 line_made (request ∷ requests) can w new answers all (reply, mid, some, after, u, told, more) =
     made_then w mid new (request ∷ []) (unit_calls can w mid request reply u)
@@ -162,7 +162,7 @@ line_begun (request ∷ requests) can w new answers all (inr (inr (reply, mid, s
     made_then w mid new (request ∷ []) (unit_calls can w mid request reply u)
     (leads_join mid after new (reply_made reply can mid after answers some told) (line_begun requests can after new some all more))
 
-next_begun : (ms : List Message) (can : Mishaps) (w new : World) (text : List ℕ) → NextBegins can w ms text new → Leads w new
+pub next_begun : (ms : List Message) (can : Mishaps) (w new : World) (text : List ℕ) → NextBegins can w ms text new → Leads w new
 next_begun [] can w new text n = begins_made [] w new n.0
 next_begun (m ∷ ms) can w new text (inl n) = begins_made [] w new n.0
 next_begun (m ∷ ms) can w new text (inr n) = line_begun n.0 can w new [] n.2 n.3
@@ -215,18 +215,6 @@ reached_made w new m r = reached_calls m.0 w new m.1 r
 pub reached_on : (image : List ℕ) (new : World) → PowersOn image new → Reached new
 reached_on image new p = reached_call p.on new (Opened (Some 1)) p.opens (record { first = p.on; events = []; start = p.start; run = refl })
 
-pub reached_message : (m : Message) (can : Mishaps) (w new : World) (text : List ℕ) → MessageRuns can w m text new → Reached w → Reached new
-reached_message Message.Power can w new text m r = reached_on m.1.disk.bytes new m.3
-reached_message Message.Overlong can w new text m r = reached_made w new (line_made m.0 can w new [] m.2 m.3) r
-reached_message (Message.Units bytes) can w new text m r = reached_made w new (line_made m.0 can w new [] m.2 m.3) r
-
-pub reached_runs : (ms : List Message) (can : Mishaps) (w new : World) (text : List ℕ) → Runs can w ms text new → Reached w → Reached new
-reached_runs [] can w new text q r = subst Reached (sym q.0) r
-reached_runs (m ∷ ms) can w new text q r = reached_runs ms can q.2 new q.1 q.4 (reached_message m can w q.2 q.0 q.3 r)
-
-pub reached_next : (ms : List Message) (can : Mishaps) (w new : World) (text : List ℕ) → NextBegins can w ms text new → Reached w → Reached new
-reached_next ms can w new text n r = reached_made w new (next_begun ms can w new text n) r
-
 pub prefix_of_reached : (w : World) (image : List ℕ) → Reached w → Left w.disk image → StandsForPrefix w image
 prefix_of_reached w image r left = prefix_is_left r.first w r.events image r.start r.run left
 
@@ -254,7 +242,7 @@ prefix_of_map w limit map image r was is =
 
 pub leaves_prefix : (w : World) (disk : DiskState) → Reached w → IsLeftBy w disk → LeavesPrefix w disk
 leaves_prefix w disk r (inl same) = λ image left. prefix_of_reached w image r (same image left)
-leaves_prefix w disk r (inr (limit, map, was, is)) = same_prefix w disk limit map r was is
+leaves_prefix w disk r (inr (limit, map, was, is, size)) = same_prefix w disk limit map r was is
 
 -- ---- what is left once all is flushed
 

@@ -170,10 +170,11 @@ pub restart_stops_here : {D A : Type 0} {G : Ghosts D} (old mid : Exec D A G) (d
     → Ghosts.failures G disk ≤ Ghosts.failures G fault.disk → Ghosts.extent G fault.disk ≡ Ghosts.extent G disk
     → (Ghosts.honest G → EachStands (Ghosts.state G disk) mid.device.flush.limit mid.device.flush.before)
     → (Ghosts.honest G → (limit : ℕ) (map : List Item) → EachStands (Ghosts.state G disk) limit map → EachStands (Ghosts.state G fault.disk) limit map)
+    → (Ghosts.honest G → length (Ghosts.state G fault.disk).bytes ≡ length (Ghosts.state G disk).bytes)
     → IsConsistent mid.device.flush → (Ghosts.honest G → NotStarted (Ghosts.state G disk).bytes (Ghosts.failures G disk) (Ghosts.failures G fault.disk) fault.cause)
     → (Ghosts.honest G → Ghosts.tells G → LeavesOnly (Ghosts.moment G) (Ghosts.left_since G) disk fault.disk (IsOldOrSame (Ghosts.state G disk)))
     → StopsHere ⊥ old fault (Message.Power ∷ rest) []
-restart_stops_here {D} {A} {G} old mid disk fault rest r at same_disk same size rose whole was left consistent why time =
+restart_stops_here {D} {A} {G} old mid disk fault rest r at same_disk same size rose whole was left long consistent why time =
     let later : failures_of old ≤ Ghosts.failures G disk = subst (λ (n : ℕ). failures_of old ≤ n) (sym same) r.lasts.later in
     record {
       hands = record { extent = whole ∙ size ∙ r.lasts.extent; later = omega (arith, later, rose) };
@@ -183,7 +184,7 @@ restart_stops_here {D} {A} {G} old mid disk fault rest r at same_disk same size 
             (subst (λ (n : ℕ). n ≤ Ghosts.failures G fault.disk) same rose)
             (within_as _ _ (λ can. Reopens can (world_of life old) (world_of g.0 mid)) (λ can. NextBegins can (world_of life old) (Message.Power ∷ rest) [] (world_of g.0 mid)) g.1
             (λ can x. inl (begins_all (world_of life old) (world_of g.0 mid) [] (reopens_calls can (world_of life old) (world_of g.0 mid) x), refl))),
-        inr (mid.device.flush.limit, mid.device.flush.before, subst (λ (d : DiskState). EachStands d mid.device.flush.limit mid.device.flush.before) at (was h), left h _ _ (was h)),
+        inr (mid.device.flush.limit, mid.device.flush.before, subst (λ (d : DiskState). EachStands d mid.device.flush.limit mid.device.flush.before) at (was h), left h _ _ (was h), long h ∙ ap (λ (d : DiskState). length d.bytes) at),
         restart_stops ⊥ (failures_of old) (Ghosts.failures G disk) (Ghosts.failures G fault.disk) rest (world_of g.0 mid) (Ghosts.state G disk) (Ghosts.state G fault.disk).bytes fault.cause mid.device.flush
             later consistent (was h) (why h),
         λ t now reached. restart_moments old mid disk (Some fault.disk) life g.0 rest (reopens_calls any (world_of life old) (world_of g.0 mid) (within_any _ _ (λ can. Reopens can (world_of life old) (world_of g.0 mid)) g.1))

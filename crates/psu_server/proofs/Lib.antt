@@ -4,6 +4,7 @@ pub mod Within
 pub mod Lasting
 pub mod Telling
 pub mod Calls
+pub mod OneList
 pub mod Moments
 pub mod JobEnds
 pub mod FlushEnds

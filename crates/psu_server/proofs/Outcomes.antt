@@ -25,7 +25,8 @@ use Rattle.psu_server.specs.Script.{IsScript}
 use Rattle.psu_server.specs.Within.{Within}
 use Rattle.psu_server.specs.declared.run_fault.RunFault.{RunFault}
 use Rattle.psu_server.proofs.MessagesAlone.{script_is_alone}
-use Rattle.psu_server.proofs.Calls.{flush_calls, flush_running, flushed_stands, leaves_prefix, reached_calls, reached_next, reached_on, reached_runs}
+use Rattle.psu_server.proofs.Calls.{flush_calls, flush_running, flushed_stands, leaves_prefix, reached_calls, reached_on}
+use Rattle.psu_server.proofs.OneList.{first_leads, left_leads, reached_next, reached_runs, whole_leads}
 use Rattle.psu_server.proofs.Causes.{ends_late}
 use Rattle.psu_server.proofs.Reading.{Early, MayBeLong, Whole}
 use Rattle.psu_server.proofs.Starting.{stops_since}
@@ -45,6 +46,7 @@ run_early {D} {A} {G} from u v image s fault before h starts same worn (due, bro
     let ran = within_itself _ _ (λ can. Runs can (world_of (born s) s) p.done p.text e.0) went in
     let begun = within_itself _ _ (λ can. NextBegins can e.0 p.rest p.part e.1) e.4 in
     let reached : Reached e.1 = reached_next p.rest e.4.0 e.0 e.1 p.part begun (reached_runs p.done went.0 (world_of (born s) s) e.0 p.text ran (reached_on image (world_of (born s) s) starts)) in
+    let behind = left_leads e.1 (Ghosts.state G fault.disk) e.5 in
     record {
       first = world_of (born s) s;
       starts = starts;
@@ -71,6 +73,10 @@ run_early {D} {A} {G} from u v image s fault before h starts same worn (due, bro
       whole = p.whole;
       missing = p.missing;
       kept = leaves_prefix e.1 (Ghosts.state G fault.disk) reached e.5;
+      since = λ from same. first_leads image p.done p.rest went.0 e.4.0 (world_of (born s) s) e.0 e.1 from p.text p.part starts ran begun same;
+      stopped = behind.0;
+      behind = behind.1;
+      back = behind.2;
     }
 
 -- and why
@@ -114,6 +120,8 @@ run_whole {D} {A} {G} from u v image s disk before h starts same (due, brought, 
       ends = both.1;
       flushed = e.3;
       kept = subst (λ (d : DiskState). EachStands d e.1.limit (items_of e.1.state.flush.contents)) e.4 (flushed_stands e.1 reached (flush_running went.0 e.0 e.1 both.1) e.3);
+      since = λ from same. whole_leads image due went.0 first e.0 e.1 from p.text starts both.0 both.1 same;
+      back = e.4;
     }
 
 -- ---- at each moment

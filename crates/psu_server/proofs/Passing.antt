@@ -10,7 +10,8 @@ use Rattle.psu_server.specs.Lives.{Life, StandsForPrefix, world_of}
 use Rattle.psu_server.specs.Moments.{IsBetween, IsWhile, disk_in}
 use Rattle.psu_server.specs.Progress.{EachMoment, GoesOn, RunsOn}
 use Rattle.psu_server.specs.Runs.{Mishaps, any, Begins, MessageBegins, MessageRuns, NextBegins, Runs}
-use Rattle.psu_server.proofs.Calls.{begins_all, executes_none, prefix_of_reached, reached_runs}
+use Rattle.psu_server.proofs.Calls.{begins_all, executes_none, prefix_of_reached}
+use Rattle.psu_server.proofs.OneList.{reached_runs}
 use Rattle.psu_server.proofs.MessageEnds.{line_over}
 use Rattle.psu_server.proofs.Lasting.{lasts_none, lasts_then}
 use Rattle.psu_server.proofs.Moments.{here, leads_none, since_as, since_home, since_then}

@@ -62,10 +62,10 @@ is_started s new limit c is t =
       ap (λ (z : State). z.flush.contents) there,
     )
 
-pub powers_on : {D A : Type 0} {G : Ghosts D} (image : List ℕ) (store : MapOn D) (on new : Exec D A G) → Stands image store.limit store.items → EachStands (Ghosts.state G store.disk) store.limit store.items
+pub powers_on : {D A : Type 0} {G : Ghosts D} (image : List ℕ) (store : MapOn D) (on new : Exec D A G) → Stands image store.limit store.items → EachStands (Ghosts.state G store.disk) store.limit store.items → length (Ghosts.state G store.disk).bytes ≡ length image
     → on.device ≡ power_on store.limit on.device.flush.contents → items_of on.device.flush.contents ≡ store.items → IsContents on.device.flush.contents → fits store.limit on.device.flush.contents ≡ true → on.home ≡ Some (home.Whole store)
     → Allows on.device (Opened (Some 1)) new.device → new.home ≡ on.home → PowersOn image (world_of (born new) new)
-powers_on {D} {A} {G} image store on new stood stands state found sound fitting there opens same =
+powers_on {D} {A} {G} image store on new stood stands size state found sound fitting there opens same =
     let s = is_started on.device new.device store.limit on.device.flush.contents state opens in
     let limit : on.device.flush.limit ≡ store.limit = ap (λ (z : State). z.flush.limit) state in
     let here : world_of (born new) new ≡ world_of (record { limit = on.device.flush.limit; start = on.device.flush.contents; history = [] }) new
@@ -83,6 +83,7 @@ powers_on {D} {A} {G} image store on new stood stands state found sound fitting 
             (subst (λ (m : List Item). EachStands (Ghosts.state G store.disk) store.limit m) (sym found) stands));
       };
       found = subst (λ (n : ℕ). Stands image n (items_of on.device.flush.contents)) (sym limit) (subst (λ (m : List Item). Stands image store.limit m) (sym found) stood);
+      size = subst (λ (z : Option (Home D A G)). length (disk_at z).bytes ≡ length image) (sym there) size;
       opens = called on new (born on) (Opened (Some 1)) opens same (λ d e. e);
     })
 

@@ -1,5 +1,5 @@
 -- The device with its disk, as the theorem on power loss sees it.
-use Rattle.std.specs.Prelude.{◌≡◌, ◌⊎◌, ℕ, ◌++◌, if◌then◌else◌, Option, Some, None, List, [], ◌∷◌}
+use Rattle.std.specs.Prelude.{◌≡◌, ◌⊎◌, ℕ, ◌++◌, if◌then◌else◌, length, Option, Some, None, List, [], ◌∷◌}
 use Rattle.psu_disk.specs.Disk.{DiskState, Left}
 use Rattle.psu_disk.specs.declared.disk.Disk.{Ghosts}
 use Rattle.psu_map.specs.Map.{Item}
@@ -56,18 +56,19 @@ abbrev pub units_in : List Entry → List Request
 units_in [] = []
 units_in (entry ∷ entries) = unit_in entry ++ units_in entries
 
--- The image powers on: the contents are those that it stands for, and the one session is opened.
+-- The image powers on: the contents are those that it stands for, and the one session is opened. The disk keeps its size.
 pub record PowersOn (image : List ℕ) (new : World) : Type 0 where
   pub on : World
   pub start : IsStart on
   pub found : Stands image on.limit (items_of on.start)
+  pub size : length on.disk.bytes ≡ length image
   pub opens : Calls on (Opened (Some 1)) new
 
 -- A disk after the last call, or after a restart that failed behind it: what may be left of it is what may be left in the last
--- world, or stands for the same.
+-- world, or stands for the same on a disk of that size.
 abbrev pub IsLeftBy : World → DiskState → Type 0
 IsLeftBy w disk = ((image : List ℕ) → Left disk image → Left w.disk image)
-    ⊎ ((limit : ℕ) × (map : List Item) × EachStands w.disk limit map × EachStands disk limit map)
+    ⊎ ((limit : ℕ) × (map : List Item) × EachStands w.disk limit map × EachStands disk limit map × (length disk.bytes ≡ length w.disk.bytes))
 
 -- The image stands for the contents after a front of the units executed since power-on, which holds every unit before a `*OPC?` that
 -- was answered.
@@ -77,6 +78,10 @@ StandsForPrefix w image = (k : ℕ) × IsPrefix w k × MayBeKept w.limit (after 
 -- so does each image that may be left of a disk
 abbrev pub LeavesPrefix : World → DiskState → Type 0
 LeavesPrefix w disk = (image : List ℕ) → Left disk image → StandsForPrefix w image
+
+-- events of the theorem on power loss lead from one world to another
+abbrev pub EventsLead : World → World → Type 0
+EventsLead w new = (events : List Event) × Run w events new
 
 -- a world that events lead to, from a device that has just been powered on
 pub record Reached (w : World) : Type 0 where

@@ -9,7 +9,7 @@ use Rattle.psu_nv.specs.Contents.{items_of}
 use Rattle.psu_exec.specs.World.{World}
 use Rattle.psu_server.specs.Causes.{NotStarted}
 use Rattle.psu_server.specs.Lines.{Message, Brings}
-use Rattle.psu_server.specs.Lives.{PowersOn, LeavesPrefix}
+use Rattle.psu_server.specs.Lives.{EventsLead, PowersOn, LeavesPrefix}
 use Rattle.psu_server.specs.Reasons.{StopsFor}
 use Rattle.psu_server.specs.Runs.{Mishaps, none, Flushes, NextBegins, Runs}
 use Rattle.psu_server.specs.Script.{IsScript}
@@ -37,6 +37,8 @@ pub record WritesRun (image : List ℕ) (input : Option (List ℕ)) (old_count n
   pub ends : Flushes gone last over
   pub flushed : over.state.flush.unflushed ≡ 0
   pub kept : EachStands disk over.limit (items_of over.state.flush.contents)
+  pub since : (before : World) → before.disk.bytes ≡ image → EventsLead before over
+  pub back : over.disk ≡ disk
 
 -- A run that did not start: the disk does not power on, for this cause. Nothing was read and nothing written, and what each image that may be
 -- left of the disk stood for each stands for.
@@ -49,7 +51,8 @@ pub record DoesNotStart (cause : RunCause) (old_count new_count : ℕ) (old_rest
 -- A run that ended early: some first messages that the input brings were executed, and of the next one some first units. Their text
 -- and what was told of the next one are written, but where the writer failed: then some of that is missing. Each image that
 -- may be left of the disk stands for the contents after a front of all these units that holds every unit before a `*OPC?` that was
--- answered. It ended for a reason, which came up at the message that was not executed.
+-- answered. It ended for a reason, which came up at the message that was not executed. Events lead through all of it, and on to the disk that
+-- is handed back.
 pub record WritesFirst (cause : RunCause) (image : List ℕ) (input : Option (List ℕ)) (old_count new_count : ℕ) (old_written new_written : Option (List ℕ)) (disk : DiskState) : Type 0 where
   pub first : World
   pub starts : PowersOn image first
@@ -79,6 +82,10 @@ pub record WritesFirst (cause : RunCause) (image : List ℕ) (input : Option (Li
   pub whole : cause ≢ Write → front ≡ text ++ part
   pub missing : cause ≡ Write → length front < length (text ++ part)
   pub kept : LeavesPrefix last disk
+  pub since : (before : World) → before.disk.bytes ≡ image → EventsLead before last
+  pub stopped : World
+  pub behind : EventsLead last stopped
+  pub back : stopped.disk ≡ disk
 
 -- the disk that a run hands back
 abbrev pub disk_of : {D : Type 0} → Result D (RunFault D) → D

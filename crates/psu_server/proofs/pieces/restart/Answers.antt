@@ -40,7 +40,8 @@ returns-in_err-powered-clause-stops g c =
     let disk = c.into_disk.ensures in
     passed c.from_residual.result c.in_err-powered.field-0.0 _ c.from_residual.ensures.1 (λ rest.
     restart_stops_here c.args.powered.exec c.reopen.new.exec c.into_disk.result c.in_err-powered.field-0.0 rest
-    c.in-Ok.ensures.reopens disk.state disk.same disk.failures disk.extent on.later on.extent (λ h. disk.stands h c.in-Ok.ensures.mended) on.left c.contents.ensures.consistent on.refused on.time_refused)
+    c.in-Ok.ensures.reopens disk.state disk.same disk.failures disk.extent on.later on.extent (λ h. disk.stands h c.in-Ok.ensures.mended) on.left
+    (λ h. g.met.D.Disk.sized h c.in_err-powered.field-0.0.disk ∙ on.extent ∙ sym (g.met.D.Disk.sized h c.into_disk.result)) c.contents.ensures.consistent on.refused on.time_refused)
 
 pub returns-clause-runs : goal.returns-clause-runs
 returns-clause-runs g c =

@@ -33,6 +33,7 @@ returns-clause-starts g c = λ h.
     let store = c.in-Ok.store in
     let one = first_opens on.device c.open_session.new.self.device store.limit on.device.flush.contents c.in-Ok-open_session.session c.in-Ok-power_on.ensures.state c.in-Ok-open_session.ensures.opened in
     powers_on (g.D.Disk.state c.args.disk).bytes store on c.open_session.new.self (c.in-Ok.ensures.stood h) (let there = c.in-Ok.ensures.stands h in there.stands)
+    (g.met.D.Disk.sized h store.disk ∙ c.in-Ok.ensures.extent ∙ sym (g.met.D.Disk.sized h c.args.disk))
     c.in-Ok-power_on.ensures.state c.in-Ok-power_on.ensures.found c.in-Ok-power_on.ensures.sound c.in-Ok-power_on.ensures.fitting c.in-Ok-power_on.ensures.home
     (opened_one on.device c.open_session.new.self.device c.in-Ok-open_session.session one c.in-Ok-open_session.ensures.opened) c.open_session.ensures.home
 
