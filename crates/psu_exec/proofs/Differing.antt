@@ -1,5 +1,5 @@
 -- The edits that make a map that of contents, part after part.
-use Rattle.std.proofs.Common.{◌≡◌, ℕ, suc, ◌+◌, ◌<◌, ◌≤◌, List, [], ◌∷◌, ◌++◌, length, map, take, slice_index_or, refl, sym, ap, ◌∙◌, subst, arith, append_assoc, append-nil}
+use Rattle.std.proofs.Common.{◌≡◌, ℕ, zero, suc, ◌+◌, ◌<◌, ◌≤◌, List, [], ◌∷◌, ◌++◌, length, map, take, slice_index_or, refl, sym, ap, ◌∙◌, subst, arith, append_assoc, append-nil}
 use Rattle.std.proofs.Math.Seq.{take-suc}
 use Rattle.std.proofs.lemmas.Grind.{flat_map-append}
 use Rattle.std.proofs.lemmas.List.{take_all}
@@ -9,7 +9,7 @@ use Rattle.psu_map.specs.Batch.{Edit, changed}
 use Rattle.psu_outputs.specs.declared.output_settings.OutputSettings.{OutputSettings}
 use Rattle.psu_nv.specs.Commands.{settings_at}
 use Rattle.psu_nv.specs.Contents.{Contents, IsContents, enables_items, file_item, items_of, macros_items, recall_items, register_items, registers_items, user_items}
-use Rattle.psu_nv.proofs.Encoding.{front, next_register}
+use Rattle.psu_nv.proofs.Encoding.{front}
 use Rattle.psu_nv.proofs.Parts.{items_sorted, rest_of}
 use Rattle.psu_exec.specs.Batch.{assignment, batch, removal}
 use Rattle.psu_exec.proofs.Batches.{changed-batch}
@@ -19,22 +19,25 @@ more_edits : (f : Item → List Edit) (r edits : List Edit) (seen more : List It
 more_edits f r edits seen more is =
     ap (λ (e : List Edit). e ++ flat_map f more) is ∙ append_assoc r (flat_map f seen) (flat_map f more) ∙ ap (λ (e : List Edit). r ++ e) (sym (flat_map-append f seen more))
 
-pub next_number : (f : Item → List Edit) (c : Contents) (r edits new : List Edit) (n : ℕ) → IsContents c → n < 100 → edits ≡ r ++ flat_map f (enables_items c.enables ++ registers_items 0 (take n c.registers))
-    → new ≡ edits ++ flat_map f (register_items n (settings_at c.registers n)) → new ≡ r ++ flat_map f (enables_items c.enables ++ registers_items 0 (take (n + 1) c.registers))
-next_number f c r edits new n is low seen added =
-    added ∙ more_edits f r edits (enables_items c.enables ++ registers_items 0 (take n c.registers)) (register_items n (settings_at c.registers n)) seen
-    ∙ ap (λ (l : List Item). r ++ flat_map f l)
-    (next_register c n n (n + 1) (enables_items c.enables ++ registers_items 0 (take n c.registers)) _ refl refl refl (omega (arith, low, is.count)) refl)
+-- the registers with one more
+registers-push : (q r : ℕ) (registers : List (List OutputSettings)) → r < length registers → registers_items q (take (suc r) registers) ≡ registers_items q (take r registers) ++ register_items (q + r) (settings_at registers r)
+registers-push q r [] lt = absurd (omega (arith, lt))
+registers-push q zero (s ∷ registers) lt = append-nil (register_items q s) ∙ ap (λ (n : ℕ). register_items n s) (let same : q ≡ q + 0 = omega arith in same)
+registers-push q (suc r) (s ∷ registers) lt =
+    ap (λ (l : List Item). register_items q s ++ l) (registers-push (q + 1) r registers (omega (arith, lt)) ∙ ap (λ (n : ℕ). registers_items (q + 1) (take r registers) ++ register_items n (settings_at registers r)) (let same : (q + 1) + r ≡ q + suc r = omega arith in same))
+    ∙ sym (append_assoc (register_items q s) (registers_items (q + 1) (take r registers)) (register_items (q + suc r) (settings_at registers r)))
 
-pub front_edits : (f : Item → List Edit) (c : Contents) (r edits with_user new : List Edit) (n : ℕ) → IsContents c → 100 ≤ n → edits ≡ r ++ flat_map f (enables_items c.enables ++ registers_items 0 (take n c.registers))
-    → with_user ≡ edits ++ flat_map f (user_items c.user) → new ≡ with_user ++ flat_map f (macros_items c.macros) → new ≡ r ++ flat_map f (front c ++ [])
-front_edits f c r edits with_user new n is all seen user macros =
-    let each : edits ≡ r ++ flat_map f (enables_items c.enables ++ registers_items 0 c.registers)
-    = seen ∙ ap (λ (l : List (List OutputSettings)). r ++ flat_map f (enables_items c.enables ++ registers_items 0 l)) (take_all n c.registers (omega (arith, all, is.count))) in
-    let five : with_user ≡ r ++ flat_map f ((enables_items c.enables ++ registers_items 0 c.registers) ++ user_items c.user)
-    = user ∙ more_edits f r edits (enables_items c.enables ++ registers_items 0 c.registers) (user_items c.user) each in
-    macros ∙ more_edits f r with_user ((enables_items c.enables ++ registers_items 0 c.registers) ++ user_items c.user) (macros_items c.macros) five
-    ∙ ap (λ (l : List Item). r ++ flat_map f l) (sym (append-nil (front c)))
+pub next_number : (f : Item → List Edit) (registers : List (List OutputSettings)) (r edits new : List Edit) (n : ℕ) → n < length registers → edits ≡ r ++ flat_map f (registers_items 0 (take n registers))
+    → new ≡ edits ++ flat_map f (register_items n (settings_at registers n)) → new ≡ r ++ flat_map f (registers_items 0 (take (n + 1) registers))
+next_number f registers r edits new n within seen added =
+    added ∙ more_edits f r edits (registers_items 0 (take n registers)) (register_items n (settings_at registers n)) seen
+    ∙ ap (λ (l : List Item). r ++ flat_map f l)
+    (ap (λ (k : ℕ). registers_items 0 (take n registers) ++ register_items k (settings_at registers n)) (let same : n ≡ 0 + n = omega arith in same) ∙ sym (registers-push 0 n registers within)
+    ∙ ap (λ (k : ℕ). registers_items 0 (take k registers)) (let after : suc n ≡ n + 1 = omega arith in after))
+
+pub all_numbers : (f : Item → List Edit) (registers : List (List OutputSettings)) (r edits : List Edit) (n : ℕ) → length registers ≤ n → edits ≡ r ++ flat_map f (registers_items 0 (take n registers))
+    → edits ≡ r ++ flat_map f (registers_items 0 registers)
+all_numbers f registers r edits n all seen = seen ∙ ap (λ (l : List (List OutputSettings)). r ++ flat_map f (registers_items 0 l)) (take_all n registers all)
 
 map-push : (l : List Item) (g : Item) → map file_item (l ++ g ∷ []) ≡ map file_item l ++ file_item g ∷ []
 map-push [] g = refl
@@ -42,16 +45,6 @@ map-push (i ∷ l) g = ap (λ (m : List Item). file_item i ∷ m) (map-push l g)
 
 one_edit : (f : Item → List Edit) (i : Item) → flat_map f (i ∷ []) ≡ f i
 one_edit f i = append-nil (f i)
-
-pub next_file_edits : (f : Item → List Edit) (c : Contents) (r edits new : List Edit) (n : ℕ) (d file : Item) (list : List Item) → list ≡ c.files → n < length list → file ≡ slice_index_or list n d
-    → edits ≡ r ++ flat_map f (front c ++ map file_item (take n c.files)) → new ≡ edits ++ f (file_item file) → new ≡ r ++ flat_map f (front c ++ map file_item (take (n + 1) c.files))
-next_file_edits f c r edits new n d file list same within here seen added =
-    added ∙ ap (λ (e : List Edit). edits ++ e) (sym (one_edit f (file_item file)))
-    ∙ more_edits f r edits (front c ++ map file_item (take n c.files)) (file_item file ∷ []) seen
-    ∙ ap (λ (l : List Item). r ++ flat_map f l)
-    (append_assoc (front c) (map file_item (take n c.files)) (file_item file ∷ [])
-    ∙ ap (λ (l : List Item). front c ++ l) (sym (map-push (take n c.files) file) ∙ ap (map file_item)
-    (ap (λ (i : Item). take n c.files ++ i ∷ []) (here ∙ ap (λ (l : List Item). slice_index_or l n d) same) ∙ sym (take-suc c.files n d (subst (λ (l : List Item). n < length l) same within)) ∙ ap (λ (k : ℕ). take k c.files) (let after : suc n ≡ n + 1 = omega arith in after))))
 
 whole_map : (c : Contents) → (front c ++ map file_item c.files) ++ recall_items c.recall ≡ items_of c
 unfolding items_of
@@ -61,14 +54,38 @@ whole_map c =
     ∙ append_assoc (enables_items c.enables ++ registers_items 0 c.registers) (user_items c.user) (macros_items c.macros ++ rest_of c)
     ∙ append_assoc (enables_items c.enables) (registers_items 0 c.registers) (user_items c.user ++ (macros_items c.macros ++ rest_of c))
 
-pub all_edits : (before : List Item) (c : Contents) (edits new : List Edit) (n : ℕ) (list : List Item) → list ≡ c.files → length list ≤ n
-    → edits ≡ flat_map (removal (items_of c)) before ++ flat_map (assignment before) (front c ++ map file_item (take n c.files)) → new ≡ edits ++ flat_map (assignment before) (recall_items c.recall) → new ≡ batch before (items_of c)
+pub next_file_edits : (f : Item → List Edit) (files : List Item) (r edits new : List Edit) (n : ℕ) (d file : Item) (list : List Item) → list ≡ files → n < length list → file ≡ slice_index_or list n d
+    → edits ≡ r ++ flat_map f (map file_item (take n files)) → new ≡ edits ++ f (file_item file) → new ≡ r ++ flat_map f (map file_item (take (n + 1) files))
+next_file_edits f files r edits new n d file list same within here seen added =
+    added ∙ ap (λ (e : List Edit). edits ++ e) (sym (one_edit f (file_item file)))
+    ∙ more_edits f r edits (map file_item (take n files)) (file_item file ∷ []) seen
+    ∙ ap (λ (l : List Item). r ++ flat_map f l)
+    (sym (map-push (take n files) file) ∙ ap (map file_item)
+    (ap (λ (i : Item). take n files ++ i ∷ []) (here ∙ ap (λ (l : List Item). slice_index_or l n d) same) ∙ sym (take-suc files n d (subst (λ (l : List Item). n < length l) same within)) ∙ ap (λ (k : ℕ). take k files) (let after : suc n ≡ n + 1 = omega arith in after)))
+
+pub all_files : (f : Item → List Edit) (files : List Item) (r edits : List Edit) (n : ℕ) (list : List Item) → list ≡ files → length list ≤ n → edits ≡ r ++ flat_map f (map file_item (take n files))
+    → edits ≡ r ++ flat_map f (map file_item files)
+all_files f files r edits n list same all seen = seen ∙ ap (λ (l : List Item). r ++ flat_map f (map file_item l)) (take_all n files (subst (λ (l : List Item). length l ≤ n) same all))
+
+-- all that is gone
+pub all_removals : (target before : List Item) (made : List Edit) (n : ℕ) (list : List Item) → list ≡ before → length list ≤ n → made ≡ flat_map (removal target) (take n before) → made ≡ flat_map (removal target) before
+all_removals target before made n list same all seen = seen ∙ ap (flat_map (removal target)) (take_all n before (subst (λ (l : List Item). length l ≤ n) same all))
+
+-- the edits of all parts, one after another
+pub all_edits : (before : List Item) (c : Contents) (e0 e1 e2 e3 e4 e5 e6 : List Edit) → e0 ≡ flat_map (removal (items_of c)) before
+    → e1 ≡ e0 ++ flat_map (assignment before) (enables_items c.enables) → e2 ≡ e1 ++ flat_map (assignment before) (registers_items 0 c.registers) → e3 ≡ e2 ++ flat_map (assignment before) (user_items c.user)
+    → e4 ≡ e3 ++ flat_map (assignment before) (macros_items c.macros) → e5 ≡ e4 ++ flat_map (assignment before) (map file_item c.files) → e6 ≡ e5 ++ flat_map (assignment before) (recall_items c.recall)
+    → e6 ≡ batch before (items_of c)
 unfolding batch
-all_edits before c edits new n list same all seen added =
-    let whole : take n c.files ≡ c.files = take_all n c.files (subst (λ (l : List Item). length l ≤ n) same all) in
-    added ∙ more_edits (assignment before) (flat_map (removal (items_of c)) before) edits (front c ++ map file_item (take n c.files)) (recall_items c.recall) seen
-    ∙ ap (λ (l : List Item). flat_map (removal (items_of c)) before ++ flat_map (assignment before) l)
-    (ap (λ (l : List Item). (front c ++ map file_item l) ++ recall_items c.recall) whole ∙ whole_map c)
+all_edits before c e0 e1 e2 e3 e4 e5 e6 first enables registers user macros files recall =
+    let f = assignment before in
+    let r : List Edit = flat_map (removal (items_of c)) before in
+    let one : e1 ≡ r ++ flat_map f (enables_items c.enables) = enables ∙ ap (λ (e : List Edit). e ++ flat_map f (enables_items c.enables)) first in
+    let two = registers ∙ more_edits f r e1 (enables_items c.enables) (registers_items 0 c.registers) one in
+    let three = user ∙ more_edits f r e2 (enables_items c.enables ++ registers_items 0 c.registers) (user_items c.user) two in
+    let four = macros ∙ more_edits f r e3 ((enables_items c.enables ++ registers_items 0 c.registers) ++ user_items c.user) (macros_items c.macros) three in
+    let five = files ∙ more_edits f r e4 (front c) (map file_item c.files) four in
+    recall ∙ more_edits f r e5 (front c ++ map file_item c.files) (recall_items c.recall) five ∙ ap (λ (l : List Item). r ++ flat_map f l) (whole_map c)
 
 pub edits_lead : (before : List Item) (c : Contents) (edits : List Edit) → IsContents c → IsSorted before → edits ≡ batch before (items_of c) → changed before edits ≡ items_of c
 edits_lead before c edits is sorted same = ap (changed before) same ∙ changed-batch before (items_of c) sorted (items_sorted c is.sorted)

@@ -12,7 +12,7 @@ mod sessions;
 mod units;
 
 use crate::marks::{follow, no_mark};
-use crate::{Condition, Contents, Enabled, LockTable, Mark, SESSIONS, Session, Wait};
+use crate::{ChangedParts, Condition, Contents, Enabled, LockTable, Mark, SESSIONS, Session, Wait};
 use psu_instrument::Instrument;
 use psu_items::Plan;
 use std::alloc::{AllocError, Allocator};
@@ -28,6 +28,8 @@ pub struct Device<A: Allocator + Copy> {
     map: Plan<A>,
     // How many changes are in that batch.
     held: Option<usize>,
+    // What may differ from the map that the batch makes, or from the store's where there is none.
+    touched: ChangedParts,
     unflushed: usize,
     store: Condition,
     out: bool,
@@ -50,9 +52,13 @@ impl<A: Allocator + Copy> Model for Device<A> {
       flush = record { limit = d.limit; contents = d.contents; before = d.map.map; unflushed = d.unflushed; held = held_of d.held (changed d.map.map d.map.edits); store = d.store; out = d.out; waits = d.waits };
     } };
 
+    ghost use Rattle.psu_nv.specs.Contents.{items_of};
+    ghost use Rattle.psu_exec.specs.Changed.{KeepsOthers};
     ghost use Rattle.psu_exec.specs.Consistent.{IsConsistent, HasEdits};
+    ghost use Rattle.psu_exec.specs.Device.{map_held};
 
-    ghost invariant = { λ d. HasEdits d.held d.map × IsConsistent (record { limit = d.limit; contents = d.contents; before = d.map.map; unflushed = d.unflushed; held = held_of d.held (changed d.map.map d.map.edits); store = d.store; out = d.out; waits = d.waits }) };
+    ghost invariant = { λ d. HasEdits d.held d.map × IsConsistent (record { limit = d.limit; contents = d.contents; before = d.map.map; unflushed = d.unflushed; held = held_of d.held (changed d.map.map d.map.edits); store = d.store; out = d.out; waits = d.waits })
+        × KeepsOthers d.touched (map_held d.map.map (held_of d.held (changed d.map.map d.map.edits))) (items_of d.contents) };
 }
 
 impl<A: Allocator + Copy> Device<A> {
@@ -76,6 +82,7 @@ impl<A: Allocator + Copy> Device<A> {
             map,
             unflushed: 0,
             held: None,
+            touched: ChangedParts::none(),
             store: Condition::Whole,
             out: false,
             waits: [None; SESSIONS],

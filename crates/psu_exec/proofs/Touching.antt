@@ -1,0 +1,230 @@
+-- A part that has not changed wants no edit, and a change leaves each part but its own.
+use Rattle.std.proofs.Common.{◌≡◌, ◌≢◌, ◌⊎◌, ◌&&◌, ◌||◌, is_some, ℕ, zero, suc, ◌+◌, Bool, true, false, cond, Option, Some, None, List, [], ◌∷◌, ◌++◌, map, refl, sym, ap, ◌∙◌, subst, inl, inr, arith, append-nil, slice_index_or, slice_set, replicate}
+use Rattle.std.proofs.lemmas.Grind.{flat_map-append}
+use Rattle.std.proofs.lemmas.List.{get_or-set_other}
+use Rattle.std.specs.List.{flat_map, AllByRecursion}
+use Rattle.psu_map.specs.Map.{Item, item_of, get, IsSorted}
+use Rattle.psu_map.specs.Batch.{Edit}
+use Rattle.psu_map.proofs.Keys.{same_true}
+use Rattle.psu_map.proofs.Maps.{all_own}
+use Rattle.psu_outputs.specs.declared.output_settings.OutputSettings.{OutputSettings}
+use Rattle.psu_outputs.specs.Settings.{bytes_of, is_reset, reset}
+use Rattle.psu_nv.specs.Commands.{Command, ServiceEnable, EventEnable, PowerOnClear, Save, User, DefineMacro, RemoveMacro, PurgeMacros, StoreBytes, Delete, Copy, Move, StoreState, LoadState, StoreMacro, LoadMacro, Recall, apply, settings_at}
+use Rattle.psu_nv.specs.Contents.{Contents, Macro, enables_items, file_item, items_of, macros_items, macro_bytes, recall_items, register_items, registers_items, user_items}
+use Rattle.psu_nv.specs.Parts as kept
+use Rattle.psu_nv.specs.Parts.{Part, file_items, key_of, part_items, value_in}
+use Rattle.psu_nv.proofs.Gets.{part_found, value_file}
+use Rattle.psu_exec.specs.Batch.{assignment, is_value}
+use Rattle.psu_exec.specs.Changed.{KeepsOthers, is_changed, with_change, with_register}
+use Rattle.psu_exec.specs.Consistent.{IsConsistent}
+use Rattle.psu_exec.specs.Device.{Flush, Target, is_broken, map_held, target}
+use Rattle.psu_exec.specs.declared.changed_parts.ChangedParts.{ChangedParts}
+use Rattle.psu_exec.specs.declared.condition.Condition.TheVariants.{Whole}
+
+-- ---- what has not changed
+
+-- an item that is there wants no assignment
+there : (before : List Item) (key value : List ℕ) → get before key ≡ Some value → assignment before (item_of key value) ≡ []
+there before key value e =
+    ap (λ (o : Option (List ℕ)). cond (is_value value o) [] (record { key = key; value = Some value } ∷ [])) e
+    ∙ ap (λ (b : Bool). cond b [] (record { key = key; value = Some value } ∷ [])) (same_true value value refl)
+
+-- a part is kept as no item, or as one under its key
+abbrev IsAlone : Part → List Item → Type 0
+IsAlone part items = (items ≡ []) ⊎ ((value : List ℕ) × (items ≡ item_of (key_of part) value ∷ []))
+
+alone : (c : Contents) (part : Part) → IsAlone part (part_items c part)
+alone c kept.Enables = at c.enables
+  where
+    at : (e : Option (ℕ × ℕ)) → IsAlone kept.Enables (enables_items e)
+    at None = inl refl
+    at (Some e) = inr (e.0 ∷ e.1 ∷ [], refl)
+alone c (kept.Register number) = at (settings_at c.registers number) (is_reset (settings_at c.registers number))
+  where
+    at : (s : List OutputSettings) (b : Bool) → IsAlone (kept.Register number) (cond b [] (item_of (2 ∷ number ∷ []) (bytes_of s) ∷ []))
+    at s true = inl refl
+    at s false = inr (bytes_of s, refl)
+alone c kept.User = at c.user
+  where
+    at : (bytes : List ℕ) → IsAlone kept.User (user_items bytes)
+    at [] = inl refl
+    at (byte ∷ bytes) = inr (byte ∷ bytes, refl)
+alone c kept.Macros = at c.macros
+  where
+    at : (macros : List Macro) → IsAlone kept.Macros (macros_items macros)
+    at [] = inl refl
+    at (m ∷ macros) = inr (flat_map macro_bytes (m ∷ macros), refl)
+alone c (kept.File name) = at (get c.files name)
+  where
+    at : (found : Option (List ℕ)) → IsAlone (kept.File name) (file_items name found)
+    at None = inl refl
+    at (Some value) = inr (value, refl)
+alone c kept.Recall = at c.recall
+  where
+    at : (on : Bool) → IsAlone kept.Recall (recall_items on)
+    at false = inl refl
+    at true = inr (1 ∷ [], refl)
+
+pub unchanged_part : (p : ChangedParts) (before : List Item) (c : Contents) (part : Part) → KeepsOthers p before (items_of c) → is_changed p part ≡ false → flat_map (assignment before) (part_items c part) ≡ []
+unchanged_part p before c part keeps same = at (alone c part)
+  where
+    at : IsAlone part (part_items c part) → flat_map (assignment before) (part_items c part) ≡ []
+    at (inl none) = ap (flat_map (assignment before)) none
+    at (inr (value, one)) =
+        ap (flat_map (assignment before)) one ∙ append-nil (assignment before (item_of (key_of part) value))
+        ∙ there before (key_of part) value (keeps part same ∙ part_found c part ∙ ap value_in one)
+
+-- no register wants an edit where none by itself does
+none_of : (f : Item → List Edit) (q : ℕ) (registers : List (List OutputSettings)) → ((k : ℕ) → flat_map f (register_items (q + k) (settings_at registers k)) ≡ []) → flat_map f (registers_items q registers) ≡ []
+none_of f q [] each = refl
+none_of f q (s ∷ registers) each =
+    flat_map-append f (register_items q s) (registers_items (q + 1) registers)
+    ∙ ap (λ (l : List Edit). l ++ flat_map f (registers_items (q + 1) registers)) (subst (λ (n : ℕ). flat_map f (register_items n s) ≡ []) (let same : q + 0 ≡ q = omega arith in same) (each zero))
+    ∙ none_of f (q + 1) registers (λ k. subst (λ (n : ℕ). flat_map f (register_items n (settings_at registers k)) ≡ []) (let same : q + suc k ≡ (q + 1) + k = omega arith in same) (each (suc k)))
+
+pub unchanged_registers : (p : ChangedParts) (before : List Item) (c : Contents) → KeepsOthers p before (items_of c) → p.some_register ≡ false → flat_map (assignment before) (registers_items 0 c.registers) ≡ []
+unchanged_registers p before c keeps none =
+    none_of (assignment before) 0 c.registers
+    (λ k. subst (λ (n : ℕ). flat_map (assignment before) (register_items n (settings_at c.registers k)) ≡ []) (let same : k ≡ 0 + k = omega arith in same)
+    (unchanged_part p before c (kept.Register k) keeps (ap (λ (b : Bool). b && slice_index_or p.registers k true) none)))
+
+pub unchanged_files : (p : ChangedParts) (before : List Item) (c : Contents) → KeepsOthers p before (items_of c) → p.files ≡ false → IsSorted c.files → flat_map (assignment before) (map file_item c.files) ≡ []
+unchanged_files p before c keeps none sorted = each c.files (all_own c.files sorted)
+  where
+    each : (files : List Item) → AllByRecursion (λ (i : Item). get c.files i.key ≡ Some i.value) files → flat_map (assignment before) (map file_item files) ≡ []
+    each [] own = refl
+    each (i ∷ files) own =
+        ap (λ (l : List Edit). l ++ flat_map (assignment before) (map file_item files))
+        (there before (5 ∷ i.key) i.value (keeps (kept.File i.key) none ∙ part_found c (kept.File i.key) ∙ value_file i.key (get c.files i.key) ∙ own.0))
+        ∙ each files own.1
+
+-- ---- what a change leaves
+
+-- what hasn't changed with these parts more had not changed before, and is kept as it was
+abbrev LeavesOthers : ChangedParts → ChangedParts → Contents → Contents → Type 0
+LeavesOthers p q c d = (part : Part) → is_changed q part ≡ false → (is_changed p part ≡ false) × (value_in (part_items c part) ≡ value_in (part_items d part))
+
+keeps_then : (p q : ChangedParts) (old : List Item) (c d : Contents) → KeepsOthers p old (items_of c) → LeavesOthers p q c d → KeepsOthers q old (items_of d)
+keeps_then p q old c d keeps leaves = λ part same. let e = leaves part same in keeps part e.0 ∙ part_found c part ∙ e.1 ∙ sym (part_found d part)
+
+module _ (p : ChangedParts) (c : Contents) where
+  enables_alone : (enables : Option (ℕ × ℕ)) → LeavesOthers p (record p { enables = true }) c (record c { enables = enables })
+  enables_alone enables kept.Enables same = cc
+  enables_alone enables (kept.Register number) same = (same, refl)
+  enables_alone enables kept.User same = (same, refl)
+  enables_alone enables kept.Macros same = (same, refl)
+  enables_alone enables (kept.File name) same = (same, refl)
+  enables_alone enables kept.Recall same = (same, refl)
+
+  user_alone : (bytes : List ℕ) → LeavesOthers p (record p { user = true }) c (record c { user = bytes })
+  user_alone bytes kept.Enables same = (same, refl)
+  user_alone bytes (kept.Register number) same = (same, refl)
+  user_alone bytes kept.User same = cc
+  user_alone bytes kept.Macros same = (same, refl)
+  user_alone bytes (kept.File name) same = (same, refl)
+  user_alone bytes kept.Recall same = (same, refl)
+
+  macros_alone : (macros : List Macro) → LeavesOthers p (record p { macros = true }) c (record c { macros = macros })
+  macros_alone macros kept.Enables same = (same, refl)
+  macros_alone macros (kept.Register number) same = (same, refl)
+  macros_alone macros kept.User same = (same, refl)
+  macros_alone macros kept.Macros same = cc
+  macros_alone macros (kept.File name) same = (same, refl)
+  macros_alone macros kept.Recall same = (same, refl)
+
+  files_alone : (files : List Item) → LeavesOthers p (record p { files = true }) c (record c { files = files })
+  files_alone files kept.Enables same = (same, refl)
+  files_alone files (kept.Register number) same = (same, refl)
+  files_alone files kept.User same = (same, refl)
+  files_alone files kept.Macros same = (same, refl)
+  files_alone files (kept.File name) same = cc
+  files_alone files kept.Recall same = (same, refl)
+
+  recall_alone : (on : Bool) → LeavesOthers p (record p { recall = true }) c (record c { recall = on })
+  recall_alone on kept.Enables same = (same, refl)
+  recall_alone on (kept.Register number) same = (same, refl)
+  recall_alone on kept.User same = (same, refl)
+  recall_alone on kept.Macros same = (same, refl)
+  recall_alone on (kept.File name) same = (same, refl)
+  recall_alone on kept.Recall same = cc
+
+  -- a mark that isn't set is another's, and was not set before
+  unset : (marks : List Bool) (r n : ℕ) → slice_index_or (slice_set marks r true) n true ≡ false → (n ≢ r) × (slice_index_or marks n true ≡ false)
+  unset [] r n e = cc
+  unset (m ∷ marks) zero zero e = cc
+  unset (m ∷ marks) zero (suc n) e = ((λ z. cc), e)
+  unset (m ∷ marks) (suc r) zero e = ((λ z. cc), e)
+  unset (m ∷ marks) (suc r) (suc n) e = let u = unset marks r n e in ((λ z. u.0 (let same : n ≡ r = cc in same)), u.1)
+
+  and_false : (a b : Bool) → b ≡ false → a && b ≡ false
+  and_false true b e = e
+  and_false false b e = refl
+
+  register_alone : (r : ℕ) (settings : List OutputSettings) → LeavesOthers p (with_register p r) c (record c { registers = slice_set c.registers r settings })
+  register_alone r settings kept.Enables same = (same, refl)
+  register_alone r settings (kept.Register n) same =
+      let u = unset p.registers r n same in (
+        and_false p.some_register (slice_index_or p.registers n true) u.1,
+        ap (λ (s : List OutputSettings). value_in (register_items n s)) (sym (get_or-set_other c.registers r n settings reset u.0)),
+      )
+  register_alone r settings kept.User same = (same, refl)
+  register_alone r settings kept.Macros same = (same, refl)
+  register_alone r settings (kept.File name) same = (same, refl)
+  register_alone r settings kept.Recall same = (same, refl)
+
+  leaves : (x : Command) → LeavesOthers p (with_change p x) c (apply c x)
+  unfolding apply
+  leaves (ServiceEnable bits) = enables_alone _
+  leaves (EventEnable bits) = enables_alone _
+  leaves (PowerOnClear enables) = enables_alone _
+  leaves (Save r settings) = register_alone r settings
+  leaves (User bytes) = user_alone bytes
+  leaves (DefineMacro label body) = macros_alone _
+  leaves (RemoveMacro label) = macros_alone _
+  leaves PurgeMacros = macros_alone []
+  leaves (StoreBytes name bytes) = files_alone _
+  leaves (Delete name) = files_alone _
+  leaves (Copy from to) = files_alone _
+  leaves (Move from to) = files_alone _
+  leaves (StoreState r name) = files_alone _
+  leaves (LoadState r name) = register_alone r _
+  leaves (StoreMacro label name) = files_alone _
+  leaves (LoadMacro label name) = macros_alone _
+  leaves (Recall on) = recall_alone on
+
+pub change_keeps : (p q : ChangedParts) (old : List Item) (c d : Contents) (x : Command) → KeepsOthers p old (items_of c) → q ≡ with_change p x → d ≡ apply c x → KeepsOthers q old (items_of d)
+change_keeps p q old c d x keeps touched made =
+    subst (λ (r : ChangedParts). KeepsOthers r old (items_of d)) (sym touched) (subst (λ (e : Contents). KeepsOthers (with_change p x) old (items_of e)) (sym made) (keeps_then p (with_change p x) old c (apply c x) keeps (leaves p c x)))
+
+-- ---- all parts, and maps that are the same
+
+pub all_set : (n k : ℕ) → slice_index_or (replicate n true) k true ≡ true
+all_set zero k = refl
+all_set (suc n) zero = refl
+all_set (suc n) (suc k) = all_set n k
+
+pub all_are : (p : ChangedParts) → p.enables ≡ true → ((k : ℕ) → slice_index_or p.registers k true ≡ true) → p.some_register ≡ true → p.user ≡ true → p.macros ≡ true → p.files ≡ true → p.recall ≡ true
+    → (part : Part) → is_changed p part ≡ true
+all_are p enables registers some user macros files recall kept.Enables = enables
+all_are p enables registers some user macros files recall (kept.Register number) = ap (λ (b : Bool). b && slice_index_or p.registers number true) some ∙ registers number
+all_are p enables registers some user macros files recall kept.User = user
+all_are p enables registers some user macros files recall kept.Macros = macros
+all_are p enables registers some user macros files recall (kept.File name) = files
+all_are p enables registers some user macros files recall kept.Recall = recall
+
+pub keeps_all : (p : ChangedParts) (old new : List Item) → ((part : Part) → is_changed p part ≡ true) → KeepsOthers p old new
+keeps_all p old new all = λ part same. let bad = sym (all part) ∙ same in cc
+
+pub keeps_same : (p : ChangedParts) (old new : List Item) → old ≡ new → KeepsOthers p old new
+keeps_same p old new e = λ part same. ap (λ (m : List Item). get m (key_of part)) e
+
+pub keeps_from : (p : ChangedParts) (old other new : List Item) → old ≡ other → KeepsOthers p old new → KeepsOthers p other new
+keeps_from p old other new e keeps = subst (λ (m : List Item). KeepsOthers p m new) e keeps
+
+-- at home a whole store's target is its map
+pub at_home : (f : Flush) → IsConsistent f → f.out ≡ false → f.store ≡ Whole → target f ≡ f.before
+at_home f c home whole = ap (map_held f.before) (none f.held (c.out ∙ ap (λ (b : Bool). b || is_broken f.store) home ∙ ap is_broken whole))
+  where
+    none : (held : Option Target) → is_some held ≡ false → held ≡ None
+    none None e = refl
+    none (Some t) e = cc

@@ -1,0 +1,43 @@
+-- Which parts of what is kept may have changed.
+use Rattle.std.specs.Prelude.{◌≡◌, ℕ, ◌&&◌, Bool, true, false, List, slice_index_or, slice_set}
+use Rattle.psu_map.specs.Map.{Item, get}
+use Rattle.psu_nv.specs.Commands.{Command, ServiceEnable, EventEnable, PowerOnClear, Save, User, DefineMacro, RemoveMacro, PurgeMacros, StoreBytes, Delete, Copy, Move, StoreState, LoadState, StoreMacro, LoadMacro, Recall}
+use Rattle.psu_nv.specs.Parts as kept
+use Rattle.psu_nv.specs.Parts.{Part, key_of}
+use Rattle.psu_exec.specs.declared.changed_parts.ChangedParts.{ChangedParts}
+
+-- a part is among them; of the files all are or none
+abbrev pub is_changed : ChangedParts → Part → Bool
+is_changed p kept.Enables = p.enables
+is_changed p (kept.Register number) = p.some_register && slice_index_or p.registers number true
+is_changed p kept.User = p.user
+is_changed p kept.Macros = p.macros
+is_changed p (kept.File name) = p.files
+is_changed p kept.Recall = p.recall
+
+abbrev pub with_register : ChangedParts → ℕ → ChangedParts
+with_register p number = record p { registers = slice_set p.registers number true; some_register = true }
+
+-- with the part that this change makes another
+abbrev pub with_change : ChangedParts → Command → ChangedParts
+with_change p (ServiceEnable bits) = record p { enables = true }
+with_change p (EventEnable bits) = record p { enables = true }
+with_change p (PowerOnClear enables) = record p { enables = true }
+with_change p (Save register settings) = with_register p register
+with_change p (User bytes) = record p { user = true }
+with_change p (DefineMacro label body) = record p { macros = true }
+with_change p (RemoveMacro label) = record p { macros = true }
+with_change p PurgeMacros = record p { macros = true }
+with_change p (StoreBytes name bytes) = record p { files = true }
+with_change p (Delete name) = record p { files = true }
+with_change p (Copy from to) = record p { files = true }
+with_change p (Move from to) = record p { files = true }
+with_change p (StoreState register name) = record p { files = true }
+with_change p (LoadState register name) = with_register p register
+with_change p (StoreMacro label name) = record p { files = true }
+with_change p (LoadMacro label name) = record p { macros = true }
+with_change p (Recall on) = record p { recall = true }
+
+-- two maps have the same of each part that isn't among them
+abbrev pub KeepsOthers : ChangedParts → List Item → List Item → Type 0
+KeepsOthers p old new = (part : Part) → is_changed p part ≡ false → get old (key_of part) ≡ get new (key_of part)

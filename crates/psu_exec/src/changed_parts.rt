@@ -1,0 +1,117 @@
+// Which parts of what is kept may have changed.
+
+use psu_nv::{NvCommand, Part, Register};
+
+/// Which parts of what is kept may differ from the map that the store holds, or that its job aims at. Each register is a part; all files are one.
+#[derive(Clone, Copy)]
+pub struct ChangedParts {
+    enables: bool,
+    registers: [bool; 100],
+    // Whether there is one among the registers.
+    some_register: bool,
+    user: bool,
+    macros: bool,
+    files: bool,
+    recall: bool,
+}
+
+impl ChangedParts {
+    ghost use Rattle.std.specs.Prelude.{◌≡◌, true, false};
+    ghost use Rattle.psu_nv.specs.Parts.{Part as Kept};
+    ghost use Rattle.psu_nv.specs.Views.{command_of, part_of};
+    ghost use Rattle.psu_exec.specs.Changed.{is_changed, with_change, with_register};
+
+    /// No part.
+    pub fn none() -> ChangedParts
+        ensures { (part : Kept) → is_changed result part ≡ false }
+    {
+        ChangedParts {
+            enables: false,
+            registers: [false; 100],
+            some_register: false,
+            user: false,
+            macros: false,
+            files: false,
+            recall: false,
+        }
+    }
+
+    /// Every part.
+    pub fn all() -> ChangedParts
+        ensures { (part : Kept) → is_changed result part ≡ true }
+    {
+        ChangedParts {
+            enables: true,
+            registers: [true; 100],
+            some_register: true,
+            user: true,
+            macros: true,
+            files: true,
+            recall: true,
+        }
+    }
+
+    /// Whether a part is among them.
+    pub fn has(&self, part: Part<'_>) -> bool
+        ensures { result ≡ is_changed self.now (part_of part.entry) }
+    {
+        match part {
+            Part::Enables => self.enables,
+            Part::Register(register) => {
+                self.some_register && self.registers[register.number() as usize]
+            }
+            Part::User => self.user,
+            Part::Macros => self.macros,
+            Part::File(_) => self.files,
+            Part::Recall => self.recall,
+        }
+    }
+
+    /// Whether a register is among them.
+    pub fn has_registers(&self) -> bool
+        ensures { result ≡ self.now.some_register }
+    {
+        self.some_register
+    }
+
+    /// Whether the files are among them.
+    pub fn has_files(&self) -> bool
+        ensures { result ≡ self.now.files }
+    {
+        self.files
+    }
+
+    /// The part that a change makes another is among them from now on.
+    pub fn add(&mut self, change: &NvCommand<'_>)
+        ensures { self.new ≡ with_change self.old (command_of change.now) }
+    {
+        match change {
+            NvCommand::ServiceEnable(_) | NvCommand::EventEnable(_) | NvCommand::PowerOnClear(_) =>
+                {
+                    self.enables = true;
+                }
+            NvCommand::Save(register, _) | NvCommand::LoadState(register, _) => {
+                self.add_register(*register);
+            }
+            NvCommand::User(_) => self.user = true,
+            NvCommand::DefineMacro(_, _)
+            | NvCommand::RemoveMacro(_)
+            | NvCommand::PurgeMacros
+            | NvCommand::LoadMacro(_, _) => self.macros = true,
+            NvCommand::StoreBytes(_, _)
+            | NvCommand::Delete(_)
+            | NvCommand::Copy(_, _)
+            | NvCommand::Move(_, _)
+            | NvCommand::StoreState(_, _)
+            | NvCommand::StoreMacro(_, _) => self.files = true,
+            NvCommand::Recall(_) => self.recall = true,
+        }
+    }
+
+    fn add_register(&mut self, register: Register)
+        ensures { self.new ≡ with_register self.old register.number }
+    {
+        self.registers[register.number() as usize] = true;
+        self.some_register = true;
+    }
+}
