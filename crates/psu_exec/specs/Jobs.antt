@@ -4,7 +4,7 @@ use Rattle.psu_disk.specs.Disk.{HasFailed}
 use Rattle.psu_disk.specs.declared.disk.Disk.{Ghosts}
 use Rattle.psu_map.specs.Map.{Item}
 use Rattle.psu_map.specs.Batch.{Edit, changed}
-use Rattle.psu_items.specs.Image.{EachIsEither}
+use Rattle.psu_items.specs.Image.{EachIsEither, counting, number_in}
 use Rattle.psu_items.specs.Outcome.{HasStored, IsUnchanged, HasBroken, IsStillBroken}
 use Rattle.psu_items.specs.Standing.{IsOnDisk, MapOn}
 use Rattle.psu_items.specs.declared.commit.UnstartedCause.TheVariants as unstarted
@@ -93,17 +93,19 @@ CommitsTo old batch (finished.Unstarted store back cause) = IsUnchanged old batc
 CommitsTo old batch (finished.Broken broken) = HasBroken old batch broken
 CommitsTo old batch (finished.Reopened store) = ⊥
 
--- The store of the map before or of the target, and no call of the disk failed.
+-- The store of the map before or of the target, under the number of the root that counted, and no call of the disk failed.
 pub record HasReopened {D A : Type 0} {G : Ghosts D} (old : Broken D A G) (store : MapOn D) : Type 0 where
   pub items : (store.items ≡ old.before) ⊎ (store.items ≡ changed old.before old.batch)
   pub limit : store.limit ≡ old.limit
   pub failures : Ghosts.failures G store.disk ≡ Ghosts.failures G old.disk
+  pub number : Ghosts.honest G → store.number ≡ number_in (counting (Ghosts.state G old.disk).bytes) (Ghosts.state G old.disk).bytes
 
--- It is still broken: where a call of the disk failed the count tells.
+-- It is still broken: where a call of the disk failed the count tells, and else none did.
 pub record HasNotReopened {D A : Type 0} {G : Ghosts D} (old broken : Broken D A G) : Type 0 where
   pub same : IsStillBroken old broken
   pub later : Ghosts.failures G old.disk ≤ Ghosts.failures G broken.disk
   pub device : broken.cause ≡ broken_cause.Device → HasFailed (Ghosts.failures G old.disk) (Ghosts.failures G broken.disk)
+  pub quiet : broken.cause ≢ broken_cause.Device → Ghosts.failures G broken.disk ≡ Ghosts.failures G old.disk
   pub strange : Ghosts.honest G → broken.cause ≢ broken_cause.Strange
 
 -- What a reopening may come to: a store of the map before or of the target, or one that is still broken.
