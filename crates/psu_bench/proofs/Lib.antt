@@ -1,4 +1,5 @@
 pub mod Ending
 pub mod Rounds
+pub mod Seen
 pub mod Tries
 pub mod Lives

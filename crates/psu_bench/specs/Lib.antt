@@ -1,4 +1,5 @@
 pub mod Calls
 pub mod Rounds
+pub mod Seen
 pub mod Tries
 pub mod Lives

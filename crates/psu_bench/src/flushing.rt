@@ -1,8 +1,9 @@
 //! The thread that flushes.
-ghost use Rattle.std.specs.Prelude.{◌≡◌, ◌++◌, List};
+ghost use Rattle.std.specs.Prelude.{◌≡◌, ◌<◌, ◌++◌, List};
 ghost use Rattle.psu_turn.specs.Seats.{IsOf, IsSame};
 ghost use Rattle.psu_exec.specs.Calls.{Entry, Taken};
 ghost use Rattle.psu_bench.specs.Rounds.{IsRound, AreRounds};
+ghost use Rattle.psu_bench.specs.Seen.{HasSeen};
 
 use crate::{Bench, Gate, Point, Seat};
 use psu_disk::Disk;
@@ -21,6 +22,7 @@ pub fn flusher<D: Disk + Drop, A: Allocator + Copy, R: Wait, G: Gate>(
     requires own { IsOf bench.now seat }
     ensures same { IsSame seat result }
     ensures calls { (calls : List Entry) × (result.mine ≡ seat.mine ++ calls) × AreRounds rounds calls }
+    ensures seen { 0 < rounds → HasSeen D.honest seat result }
     ensures own { IsOf bench.now result }
 {
     for _ in 0..rounds {
@@ -39,6 +41,7 @@ fn one_round<D: Disk + Drop, A: Allocator + Copy, R: Wait, G: Gate>(
     requires own { IsOf bench.now seat.old }
     ensures same { IsSame seat.old seat.new }
     ensures calls { (taken : Taken) × (calls : List Entry) × (seat.new.mine ≡ seat.old.mine ++ calls) × IsRound taken calls }
+    ensures seen { HasSeen D.honest seat.old seat.new }
     ensures own { IsOf bench.now seat.new }
 {
     match bench.take(rt, seat) {

@@ -4,6 +4,7 @@ ghost use Rattle.psu_turn.specs.Seats.{Calls, IsOf, IsSame};
 ghost use Rattle.psu_exec.specs.Calls.{Entry};
 ghost use Rattle.psu_exec.specs.Shown.{outcome_of};
 ghost use Rattle.psu_bench.specs.Calls.{AdmitsOn};
+ghost use Rattle.psu_bench.specs.Seen.{HasSeen};
 ghost use Rattle.psu_bench.specs.Tries.{AreTries, is_put_off, try_after};
 
 use crate::{Bench, Gate, Point, Seat};
@@ -27,6 +28,7 @@ pub fn session_worker<D: Disk, A: Allocator + Copy, R: Wait, G: Gate>(
     requires some { 0 < tries }
     ensures same { IsSame seat.old seat.new }
     ensures calls { (calls : List Entry) × (seat.new.mine ≡ seat.old.mine ++ calls) × AreTries session tries request.now calls (outcome_of result) }
+    ensures seen { HasSeen D.honest seat.old seat.new }
     ensures own { IsOf bench.now seat.new }
 {
     let mut outcome = bench.execute(rt, seat, session, request);

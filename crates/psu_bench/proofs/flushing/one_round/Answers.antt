@@ -3,6 +3,7 @@ use Rattle.psu_exec.specs.Calls.{Job}
 use Rattle.psu_exec.specs.Calls.Entry.{Took, GaveBack}
 use Rattle.psu_exec.specs.Jobs.{finished_of, job_data, taken_of}
 use Rattle.psu_exec.specs.Shown.{over_of}
+use Rattle.psu_bench.proofs.Seen.{call_seen, seen_then}
 use Rattle.psu_bench.proofs.Rounds.{end_of, both_calls}
 use Rattle.psu_bench.proofs.flushing.one_round.Goals as goal
 
@@ -14,3 +15,9 @@ returns-in-Ok-clause-calls g c = (
       (c.take.ensures.call.mine ∙ ap (λ r. c.args.seat.now.mine ++ Took (taken_of r) ∷ []) c.in-Ok.is) c.give_back-given.ensures.call.mine,
   (finished_of c.run-finished.result, over_of c.give_back-given.result, end_of c.in-Ok.job c.run-finished.result c.run-finished.ensures.end, refl),
 )
+
+pub returns-in-Ok-clause-seen : goal.returns-in-Ok-clause-seen
+returns-in-Ok-clause-seen g c = seen_then _ _ _ _ (call_seen _ _ _ _ c.take.ensures.call) (call_seen _ _ _ _ c.give_back-given.ensures.call)
+
+pub returns-in-Err-clause-seen : goal.returns-in-Err-clause-seen
+returns-in-Err-clause-seen g c = call_seen _ _ _ _ c.take.ensures.call

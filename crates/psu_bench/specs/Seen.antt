@@ -1,0 +1,13 @@
+-- What a seat has seen once it has made its calls.
+use Rattle.std.specs.Prelude.{◌≡◌}
+use Rattle.psu_turn.specs.History.{StartsWith, calls_by}
+use Rattle.psu_turn.specs.Seats.{Sight, IsLegalFrom}
+use Rattle.psu_exec.specs.Device.{State}
+use Rattle.psu_exec.specs.Calls.{Entry}
+use Rattle.psu_bench.specs.Calls.{AdmitsOn}
+
+-- One legal history, which begins with all that the seat had seen, and has under the seat's number just its calls, each once.
+pub record HasSeen (honest : Type 0) (old new : Sight State Entry) : Type 0 where
+  pub seen : StartsWith new.seen old.seen
+  pub legal : IsLegalFrom (AdmitsOn honest) new.opening new.seen
+  pub own : calls_by new.number new.seen ≡ new.mine
