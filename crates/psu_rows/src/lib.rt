@@ -20,6 +20,8 @@ mod images;
 #[cfg(test)]
 mod instrument_rows;
 #[cfg(test)]
+mod kept_parts;
+#[cfg(test)]
 mod long_answers;
 #[cfg(test)]
 mod macro_faults;
