@@ -15,6 +15,7 @@ is_changed p kept.Macros = p.macros
 is_changed p (kept.File name) = p.files
 is_changed p kept.Recall = p.recall
 
+-- with this register
 abbrev pub with_register : ChangedParts → ℕ → ChangedParts
 with_register p number = record p { registers = slice_set p.registers number true; some_register = true }
 

@@ -1,5 +1,4 @@
 // Which parts of what is kept may have changed.
-
 use psu_nv::{NvCommand, Part, Register};
 
 /// Which parts of what is kept may differ from the map that the store holds, or that its job aims at. Each register is a part; all files are one.
