@@ -1,5 +1,5 @@
 -- Headers: what their scan accepts is a header, every header is accepted, and its parts are found.
-use Rattle.std.proofs.Common.{◌≡◌, ℕ, ◌==◌, ◌&&◌, Bool, true, false, List, [], ◌∷◌, ◌++◌, refl, sym, ap, ◌∙◌, arith, append_assoc, inl, inr, ◌-◌, not, length, take, slice_index, suc, length-append}
+use Rattle.std.proofs.Common.{◌≡◌, ℕ, ◌==◌, ◌&&◌, Bool, true, false, List, [], ◌∷◌, ◌++◌, refl, sym, ap, ◌∙◌, subst, arith, append_assoc, inl, inr, ◌-◌, not, length, take, slice_index, suc, length-append}
 use Rattle.std.proofs.lemmas.Bool.{not-true, eqb-true, and_parts, cases_Bool}
 use Rattle.std.proofs.lemmas.Bool.Decides.{nat_tests}
 use Rattle.psu_lex.specs.Bytes.{is_letter}
@@ -231,6 +231,23 @@ behind_every test [] c f h = refl
 behind_every test (n ∷ ns) c f h =
     let parts = and_parts (is_node n) (all_nodes ns) h in
     rw c (every_append test n (behind ns) (every_more is_name_byte test n f (node_every n parts.0)) (behind_every test ns c f parts.1))
+
+-- a test that each byte of a name passes, and the marks, `:` and `?`, is passed by each byte of a header
+ask_every : (test : ℕ → Bool) (asks : Bool) → test 63 ≡ true → every test (ask_text asks) ≡ true
+ask_every test true a = rw a refl
+ask_every test false a = refl
+
+mark_every : (test : ℕ → Bool) (mark : Mark) → test 42 ≡ true → test 58 ≡ true → every test (mark_text mark) ≡ true
+mark_every test Star s c = rw s refl
+mark_every test Colon s c = rw c refl
+mark_every test Bare s c = refl
+
+pub spelled_every : (test : ℕ → Bool) → test 42 ≡ true → test 58 ≡ true → test 63 ≡ true → ((x : ℕ) → is_name_byte x ≡ true → test x ≡ true) → (text : List ℕ) → SpellsHeader text → every test text ≡ true
+spelled_every test s c a f text (h, is, e) =
+    subst (λ (z : List ℕ). every test z ≡ true) (sym e)
+    (every_append test (mark_text h.mark) (h.node ++ (behind h.nodes ++ ask_text h.asks)) (mark_every test h.mark s c)
+    (every_append test h.node (behind h.nodes ++ ask_text h.asks) (every_more is_name_byte test h.node f (node_every h.node is.node))
+    (every_append test (behind h.nodes) (ask_text h.asks) (behind_every test h.nodes c f is.nodes) (ask_every test h.asks a))))
 
 path_plain : (h : Header) → IsHeader h → every is_plain (path_text h) ≡ true
 path_plain h is =

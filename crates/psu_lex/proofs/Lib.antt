@@ -10,4 +10,5 @@ pub mod Expansions
 pub mod HeaderScans
 pub mod WrittenData
 pub mod DataLists
+pub mod PlainUnits
 pub mod UnitParts

@@ -98,7 +98,7 @@ counted_whole n text more some few s =
     = sym (take-append-drop n text) ∙ ap (λ (z : List ℕ). d ++ z) (sym (take-append-drop v (drop n text)) ∙ ap (λ (z : List ℕ). a ++ z) back) ∙ sym (append_assoc d a more) in
     (Counted d a, rw digits (ap (λ (z : List ℕ). 35 ∷ (48 + n) ∷ z) all), (omega (arith, digits), omega (arith, digits), h, bytes))
 
-last_line : (x : ℕ) (xs : List ℕ) → ends_in_newline (x ∷ xs) ≡ true → (front : List ℕ) × (x ∷ xs ≡ front ++ 10 ∷ [])
+pub last_line : (x : ℕ) (xs : List ℕ) → ends_in_newline (x ∷ xs) ≡ true → (front : List ℕ) × (x ∷ xs ≡ front ++ 10 ∷ [])
 last_line x [] h = ([], ap (λ (z : ℕ). z ∷ []) (eqb-true x 10 h))
 last_line x (y ∷ xs) h = let later = last_line y xs h in (x ∷ later.0, ap (λ (z : List ℕ). x ∷ z) later.1)
 

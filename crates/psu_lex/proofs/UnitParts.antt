@@ -1,51 +1,33 @@
 -- A unit: its header, what stands behind it, and whether a text is one.
-use Rattle.std.proofs.Common.{◌≡◌, ℕ, Bool, true, false, List, [], ◌∷◌, ◌++◌, refl, sym, ap, ◌∙◌, subst, arith, inl, inr, Option, Some, None, Result, Ok, Err, IfSome, IfNone, ◌⊎◌, zero, suc, ◌==◌, ◌≤◌, length, ℤ}
+use Rattle.std.proofs.Common.{◌≡◌, ℕ, Bool, true, false, List, [], ◌∷◌, ◌++◌, refl, sym, ap, ◌∙◌, subst, arith, inl, inr, Option, Some, None, Result, Ok, Err, ◌⊎◌, zero, suc, ◌==◌, ◌≤◌, length, ℤ}
 use Rattle.std.proofs.lemmas.Bool.Decides.{nat_tests}
-use Rattle.std.specs.Option.{ok_or}
 use Rattle.psu_lex.specs.Bytes.{is_white, is_dark, is_closed, all_white}
 use Rattle.psu_lex.specs.NumberScan.{run, left, is_number, scanned}
 use Rattle.psu_lex.specs.Message.{Part, Token, Reads}
-use Rattle.psu_lex.specs.Syntax.{error_of, is_name_byte, behind, ask_text, mark_text, Header, IsHeader, header_text, SpellsHeader, Lists, Syntax, is_apart, UnitReads, has_high, TextGives, FaultGives, SyntaxGives, Datum}
-use Rattle.psu_lex.specs.declared.mark.Mark.{Mark}
-use Rattle.psu_lex.specs.declared.mark.Mark.TheVariants.{Star, Colon, Bare}
+use Rattle.psu_lex.specs.Syntax.{error_of, is_name_byte, SpellsHeader, Lists, Syntax, is_apart, UnitReads, has_high, TextGives, FaultGives, SyntaxGives, Datum}
 use Rattle.psu_lex.specs.Shown.{Shows, ShowsSyntax, TailLists}
 use Rattle.psu_lex.specs.declared.unit_syntax.Syntax as rust
 use Rattle.psu_lex.specs.declared.unit_fault.UnitFault.{UnitFault}
 use Rattle.psu_lex.specs.declared.scpi_error.ScpiError.{ScpiError}
 use Rattle.psu_lex.specs.declared.scpi_error.ScpiError.TheVariants.{InvalidCharacter, SyntaxError}
-use Rattle.psu_lex.proofs.Runs.{run_white, every, leads, every_head, every_append, every_more, run_at, left_at, run_left, same_head}
+use Rattle.psu_lex.proofs.Runs.{run_white, every, leads, every_head, run_at, left_at, run_left, same_head}
 use Rattle.psu_lex.proofs.Tokens.{same_tokens, some_tokens}
 use Rattle.psu_lex.proofs.NumberSound.{left_stops, number_in}
-use Rattle.psu_lex.proofs.WrittenData.{node_every}
 use Rattle.psu_lex.proofs.DataLists.{left_over, one_list, lists_in, no_list, no_tail, rest_of, tail_rest, tail_shorter}
 use Rattle.std.proofs.lemmas.Bool.{not-false, cases_Bool, eqb-false, eqb-true}
 use Rattle.psu_lex.specs.Number.{NumberGives, reading_of}
 use Rattle.psu_lex.specs.SyntaxScan.{datum_at, is_header}
 use Rattle.psu_lex.proofs.NumberFound.{no_number}
-use Rattle.psu_lex.proofs.HeaderScans.{behind_every, header_out, no_header}
+use Rattle.psu_lex.proofs.HeaderScans.{header_out, no_header, spelled_every}
+use Rattle.psu_lex.proofs.PlainUnits.{unit_tells}
 
 -- ---- a header has no white space
 
 name_dark : (x : ℕ) → is_name_byte x ≡ true → is_dark x ≡ true
 name_dark x h = grind (arith, nat_tests, h)
 
-ask_dark : (asks : Bool) → every is_dark (ask_text asks) ≡ true
-ask_dark true = refl
-ask_dark false = refl
-
-mark_dark : (mark : Mark) → every is_dark (mark_text mark) ≡ true
-mark_dark Star = refl
-mark_dark Colon = refl
-mark_dark Bare = refl
-
-header_dark : (h : Header) → IsHeader h → every is_dark (header_text h) ≡ true
-header_dark h is =
-    every_append is_dark (mark_text h.mark) (h.node ++ (behind h.nodes ++ ask_text h.asks)) (mark_dark h.mark)
-    (every_append is_dark h.node (behind h.nodes ++ ask_text h.asks) (every_more is_name_byte is_dark h.node name_dark (node_every h.node is.node))
-    (every_append is_dark (behind h.nodes) (ask_text h.asks) (behind_every is_dark h.nodes refl name_dark is.nodes) (ask_dark h.asks)))
-
 spelled_dark : (text : List ℕ) → SpellsHeader text → every is_dark text ≡ true
-spelled_dark text (h, is, e) = subst (λ (z : List ℕ). every is_dark z ≡ true) (sym e) (header_dark h is)
+spelled_dark text spelled = spelled_every is_dark refl refl refl name_dark text spelled
 
 spelled_first : (text rest : List ℕ) → SpellsHeader text → leads is_white (text ++ rest) ≡ false
 spelled_first [] rest s = absurd (no_header [] refl s)
@@ -122,15 +104,17 @@ pub given_fault : (fault : Option UnitFault) (text : List ℕ) (e : UnitFault) (
 given_fault fault text e error is same =
     subst (λ (z : Option UnitFault). Given z text (Err error)) (sym is) (Err (error_of e), refl, same)
 
-given_at : (text : List ℕ) (tokens : List Token) (r : Option rust.Syntax) → Reads is_closed text tokens → has_high tokens ≡ false
-    → IfSome r (λ shown. (s : Syntax) × UnitReads text s × ShowsSyntax shown s) → IfNone r ((s : Syntax) → UnitReads text s → ⊥) → Given None text (ok_or r SyntaxError)
-given_at text tokens (Some shown) reads f (s, u, w) none = (Ok s, (tokens, reads, subst (λ (z : Bool). TextGives z text (Ok s)) (sym f) (inl (s, u, refl))), w)
-given_at text tokens None reads f some none = (Err SyntaxError, (tokens, reads, subst (λ (z : Bool). TextGives z text (Err SyntaxError)) (sym f) (inr (none, refl))), refl)
+pub given_read : (fault : Option UnitFault) (text : List ℕ) (shown : rust.Syntax) (s : Syntax) → fault ≡ None → UnitReads text s → ShowsSyntax shown s → Given fault text (Ok shown)
+given_read fault text shown s is u w =
+    let (tokens, reads, low) = unit_tells text s u in
+    subst (λ (z : Option UnitFault). Given z text (Ok shown)) (sym is)
+    (Ok s, (tokens, reads, subst (λ (z : Bool). TextGives z text (Ok s)) low (inl (s, u, refl))), w)
 
-pub given_cut : (fault : Option UnitFault) (text : List ℕ) (tokens : List Token) (r : Option rust.Syntax) (q : Result rust.Syntax ScpiError) → fault ≡ None → Reads is_closed text tokens → has_high tokens ≡ false
-    → IfSome r (λ shown. (s : Syntax) × UnitReads text s × ShowsSyntax shown s) → IfNone r ((s : Syntax) → UnitReads text s → ⊥) → q ≡ ok_or r SyntaxError → Given fault text q
-given_cut fault text tokens r q is reads f some none e =
-    subst (λ (z : Option UnitFault). Given z text q) (sym is) (subst (Given None text) (sym e) (given_at text tokens r reads f some none))
+pub given_unread : (fault : Option UnitFault) (text : List ℕ) (tokens : List Token) → fault ≡ None → Reads is_closed text tokens → has_high tokens ≡ false → ((s : Syntax) → UnitReads text s → ⊥)
+    → Given fault text (Err SyntaxError)
+given_unread fault text tokens is reads f none =
+    subst (λ (z : Option UnitFault). Given z text (Err SyntaxError)) (sym is)
+    (Err SyntaxError, (tokens, reads, subst (λ (z : Bool). TextGives z text (Err SyntaxError)) (sym f) (inr (none, refl))), refl)
 
 pub given_high : (fault : Option UnitFault) (text : List ℕ) (tokens : List Token) → fault ≡ None → Reads is_closed text tokens → has_high tokens ≡ true → Given fault text (Err InvalidCharacter)
 given_high fault text tokens is reads h =

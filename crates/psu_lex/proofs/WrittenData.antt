@@ -1,20 +1,20 @@
 -- Numbers and words: all up to a `,`, without the white space at its end.
-use Rattle.std.proofs.Common.{◌≡◌, ℕ, zero, suc, ◌-◌, ◌<◌, ◌≤◌, ◌&&◌, Bool, true, false, List, [], ◌∷◌, ◌++◌, length, take, drop, refl, sym, ap, ◌∙◌, subst, arith, append_assoc, inl, inr, Option, Some, None, slice_index, take_all, drop-cons, unwrap_or}
+use Rattle.std.proofs.Common.{◌≡◌, ℕ, zero, suc, ◌-◌, ◌<◌, ◌≤◌, ◌&&◌, not, Bool, true, false, List, [], ◌∷◌, ◌++◌, length, take, drop, refl, sym, ap, ◌∙◌, subst, arith, append_assoc, inl, inr, Option, Some, None, slice_index, take_all, drop-cons, unwrap_or}
 use Rattle.std.proofs.lemmas.Bool.{and_parts, cases_Bool}
 use Rattle.std.proofs.lemmas.Bool.Decides.{nat_tests}
 use Rattle.std.proofs.lemmas.List.{take-append-drop}
 use Rattle.std.proofs.lemmas.Grind.{common_steps}
 use Rattle.std.proofs.Math.Seq.{drop-append_seam}
 use Rattle.memchr.specs.Find.{IsFirstByte, is_byte}
-use Rattle.psu_lex.specs.Bytes.{is_white, is_digit, is_letter, all_white}
+use Rattle.psu_lex.specs.Bytes.{is_white, is_digit, is_letter, all_white, opens}
 use Rattle.psu_lex.specs.Number.{Number, IsNumber, Sign, Exponent, ExponentHolds, number_text, sign_text, fraction_text, fraction_digits, exponent_text, mantissa}
 use Rattle.psu_lex.specs.Number.Sign.{Plus, Minus, Unsigned}
 use Rattle.psu_lex.specs.NumberScan.{run, left, is_number}
 use Rattle.psu_lex.specs.Scan.{has}
 use Rattle.psu_lex.specs.Syntax.{is_name_byte, all_name, is_node, ends_in_white}
-use Rattle.psu_lex.specs.SyntaxScan.{is_uncut, is_parted, put_dark, trimmed, written, after_datum}
+use Rattle.psu_lex.specs.SyntaxScan.{is_high, is_uncut, is_parted, put_dark, trimmed, written, after_datum}
 use Rattle.psu_lex.specs.declared.datum_class.DatumClass.TheVariants.{Numeric, Character}
-use Rattle.psu_lex.proofs.Runs.{run_white, every, leads, digits_every, white_every, letters_every, every_head, every_tail, every_append, every_more, run_at, run_all, run_left, run_every}
+use Rattle.psu_lex.proofs.Runs.{run_white, every, leads, digits_every, white_every, letters_every, every_head, every_tail, every_append, every_more, run_at, run_all, run_left}
 use Rattle.psu_lex.proofs.Searches.{has_head, has_tail, free_before, free_all}
 use Rattle.psu_lex.proofs.NumberFound.{digits_parts, number_out}
 
@@ -55,11 +55,21 @@ last_dark (x ∷ y ∷ s) (suc m) within h = last_dark (y ∷ s) m (omega (arith
 
 -- ---- up to a `,`
 
-white_uncut : (x : ℕ) → is_white x ≡ true → is_uncut x ≡ true
-white_uncut x h = grind (arith, nat_tests, h)
+-- no `,`, and nothing that opens a string or a block or is 127 or more
+abbrev pub is_inner : ℕ → Bool
+is_inner b = is_uncut b && not (opens b) && not (is_high b)
 
-digit_uncut : (x : ℕ) → is_digit x ≡ true → is_uncut x ≡ true
-digit_uncut x h = grind (arith, nat_tests, h)
+white_inner : (x : ℕ) → is_white x ≡ true → is_inner x ≡ true
+white_inner x h = grind (arith, nat_tests, h)
+
+digit_inner : (x : ℕ) → is_digit x ≡ true → is_inner x ≡ true
+digit_inner x h = grind (arith, nat_tests, h)
+
+pub name_inner : (x : ℕ) → is_name_byte x ≡ true → is_inner x ≡ true
+name_inner x h = grind (arith, nat_tests, h)
+
+every_uncut : (xs : List ℕ) → every is_inner xs ≡ true → every is_uncut xs ≡ true
+every_uncut xs h = every_more is_inner is_uncut xs (λ x h. grind (arith, nat_tests, h)) h
 
 name_every : (xs : List ℕ) → all_name xs ≡ every is_name_byte xs
 name_every [] = refl
@@ -72,8 +82,8 @@ node_every (x ∷ text) h =
     let later : all_name text ≡ true = grind (arith, common_steps, h) in
     rw l (sym (name_every text) ∙ later)
 
-node_uncut : (text : List ℕ) → is_node text ≡ true → every is_uncut text ≡ true
-node_uncut text h = every_more is_name_byte is_uncut text (λ x h. grind (arith, nat_tests, h)) (node_every text h)
+pub node_inner : (text : List ℕ) → is_node text ≡ true → every is_inner text ≡ true
+node_inner text h = every_more is_name_byte is_inner text name_inner (node_every text h)
 
 name_end : (text : List ℕ) → every is_name_byte text ≡ true → ends_in_white text ≡ false
 name_end [] h = refl
@@ -83,36 +93,36 @@ name_end (x ∷ y ∷ text) h = name_end (y ∷ text) (every_tail is_name_byte x
 node_end : (text : List ℕ) → is_node text ≡ true → ends_in_white text ≡ false
 node_end text h = name_end text (node_every text h)
 
-sign_uncut : (s : Sign) → every is_uncut (sign_text s) ≡ true
-sign_uncut Plus = refl
-sign_uncut Minus = refl
-sign_uncut Unsigned = refl
+sign_inner : (s : Sign) → every is_inner (sign_text s) ≡ true
+sign_inner Plus = refl
+sign_inner Minus = refl
+sign_inner Unsigned = refl
 
-fraction_uncut : (fraction : Option (List ℕ)) → every is_digit (fraction_digits fraction) ≡ true → every is_uncut (fraction_text fraction) ≡ true
-fraction_uncut None h = refl
-fraction_uncut (Some ds) h = every_more is_digit is_uncut ds digit_uncut h
+fraction_inner : (fraction : Option (List ℕ)) → every is_digit (fraction_digits fraction) ≡ true → every is_inner (fraction_text fraction) ≡ true
+fraction_inner None h = refl
+fraction_inner (Some ds) h = every_more is_digit is_inner ds digit_inner h
 
-whites : (xs : List ℕ) → all_white xs ≡ true → every is_uncut xs ≡ true
-whites xs h = every_more is_white is_uncut xs white_uncut (sym (white_every xs) ∙ h)
+pub whites : (xs : List ℕ) → all_white xs ≡ true → every is_inner xs ≡ true
+whites xs h = every_more is_white is_inner xs white_inner (sym (white_every xs) ∙ h)
 
-exponent_uncut : (exponent : Option Exponent) → ExponentHolds exponent → every is_uncut (exponent_text exponent) ≡ true
-exponent_uncut None h = refl
-exponent_uncut (Some e) h =
-    let digits = every_more is_digit is_uncut e.digits digit_uncut (sym (digits_every e.digits) ∙ h.3) in
-    let signed = every_append is_uncut (sign_text e.sign) e.digits (sign_uncut e.sign) digits in
-    let after = every_append is_uncut e.after (sign_text e.sign ++ e.digits) (whites e.after h.2) signed in
-    let marked : every is_uncut (e.letter ∷ (e.after ++ (sign_text e.sign ++ e.digits))) ≡ true = (let mark : is_uncut e.letter ≡ true = grind (arith, nat_tests, h.1) in rw mark after) in
-    every_append is_uncut e.before (e.letter ∷ (e.after ++ (sign_text e.sign ++ e.digits))) (whites e.before h.0) marked
+exponent_inner : (exponent : Option Exponent) → ExponentHolds exponent → every is_inner (exponent_text exponent) ≡ true
+exponent_inner None h = refl
+exponent_inner (Some e) h =
+    let digits = every_more is_digit is_inner e.digits digit_inner (sym (digits_every e.digits) ∙ h.3) in
+    let signed = every_append is_inner (sign_text e.sign) e.digits (sign_inner e.sign) digits in
+    let after = every_append is_inner e.after (sign_text e.sign ++ e.digits) (whites e.after h.2) signed in
+    let marked : every is_inner (e.letter ∷ (e.after ++ (sign_text e.sign ++ e.digits))) ≡ true = (let mark : is_inner e.letter ≡ true = grind (arith, nat_tests, h.1) in rw mark after) in
+    every_append is_inner e.before (e.letter ∷ (e.after ++ (sign_text e.sign ++ e.digits))) (whites e.before h.0) marked
 
-number_uncut : (n : Number) → IsNumber n → every is_uncut (number_text n) ≡ true
-number_uncut n h =
+pub number_inner : (n : Number) → IsNumber n → every is_inner (number_text n) ≡ true
+number_inner n h =
     let digits = digits_parts n.whole (fraction_digits n.fraction) (sym (digits_every (mantissa n)) ∙ h.digits) in
-    let r1 = every_append is_uncut n.suffix n.rest (every_more is_letter is_uncut n.suffix (λ x h. grind (arith, nat_tests, h)) (sym (letters_every n.suffix) ∙ h.suffix)) (whites n.rest h.rest) in
-    let r2 = every_append is_uncut n.gap (n.suffix ++ n.rest) (whites n.gap h.gap) r1 in
-    let r3 = every_append is_uncut (exponent_text n.exponent) (n.gap ++ (n.suffix ++ n.rest)) (exponent_uncut n.exponent h.exponent) r2 in
-    let r4 = every_append is_uncut (fraction_text n.fraction) (exponent_text n.exponent ++ (n.gap ++ (n.suffix ++ n.rest))) (fraction_uncut n.fraction digits.1) r3 in
-    let r5 = every_append is_uncut n.whole (fraction_text n.fraction ++ (exponent_text n.exponent ++ (n.gap ++ (n.suffix ++ n.rest)))) (every_more is_digit is_uncut n.whole digit_uncut digits.0) r4 in
-    every_append is_uncut (sign_text n.sign) (n.whole ++ (fraction_text n.fraction ++ (exponent_text n.exponent ++ (n.gap ++ (n.suffix ++ n.rest))))) (sign_uncut n.sign) r5
+    let r1 = every_append is_inner n.suffix n.rest (every_more is_letter is_inner n.suffix (λ x h. grind (arith, nat_tests, h)) (sym (letters_every n.suffix) ∙ h.suffix)) (whites n.rest h.rest) in
+    let r2 = every_append is_inner n.gap (n.suffix ++ n.rest) (whites n.gap h.gap) r1 in
+    let r3 = every_append is_inner (exponent_text n.exponent) (n.gap ++ (n.suffix ++ n.rest)) (exponent_inner n.exponent h.exponent) r2 in
+    let r4 = every_append is_inner (fraction_text n.fraction) (exponent_text n.exponent ++ (n.gap ++ (n.suffix ++ n.rest))) (fraction_inner n.fraction digits.1) r3 in
+    let r5 = every_append is_inner n.whole (fraction_text n.fraction ++ (exponent_text n.exponent ++ (n.gap ++ (n.suffix ++ n.rest)))) (every_more is_digit is_inner n.whole digit_inner digits.0) r4 in
+    every_append is_inner (sign_text n.sign) (n.whole ++ (fraction_text n.fraction ++ (exponent_text n.exponent ++ (n.gap ++ (n.suffix ++ n.rest))))) (sign_inner n.sign) r5
 
 parted_leads : (tail : List ℕ) → is_parted tail ≡ true → leads is_uncut tail ≡ false
 parted_leads [] h = refl
@@ -125,7 +135,7 @@ uncut_run text next h p =
     let tail = left is_white next in
     let whole : text ++ next ≡ (text ++ space) ++ tail = ap (λ (z : List ℕ). text ++ z) (sym (run_left is_white next)) ∙ sym (append_assoc text space tail) in
     ap (run is_uncut) whole ∙ run_at is_uncut (text ++ space) tail
-    (every_append is_uncut text space h (every_more is_white is_uncut space white_uncut (run_every is_white next))) (parted_leads tail p)
+    (every_append is_uncut text space h (every_uncut space (whites space (run_white next)))) (parted_leads tail p)
 
 written_found : (body text next : List ℕ) → body ≡ text ++ next → every is_uncut text ≡ true → ends_in_white text ≡ false → is_parted (left is_white next) ≡ true
     → (written body ≡ text) × (drop (length (written body)) body ≡ next)
@@ -136,13 +146,13 @@ written_found body text next e u d p =
 pub number_found : (body text next : List ℕ) (n : Number) → body ≡ text ++ next → IsNumber n → text ≡ number_text n → ends_in_white text ≡ false → is_parted (left is_white next) ≡ true
     → after_datum Numeric body ≡ Some next
 number_found body text next n e h k d p =
-    let w = written_found body text next e (subst (λ (z : List ℕ). every is_uncut z ≡ true) (sym k) (number_uncut n h)) d p in
+    let w = written_found body text next e (subst (λ (z : List ℕ). every is_uncut z ≡ true) (sym k) (every_uncut (number_text n) (number_inner n h))) d p in
     let is : is_number (written body) ≡ true = ap is_number w.0 ∙ number_out text n h k in
     rw is (ap (λ (z : List ℕ). Some z) w.1)
 
 pub word_found : (body text next : List ℕ) → body ≡ text ++ next → is_node text ≡ true → is_parted (left is_white next) ≡ true → after_datum Character body ≡ Some next
 word_found body text next e h p =
-    let w = written_found body text next e (node_uncut text h) (node_end text h) p in
+    let w = written_found body text next e (every_uncut text (node_inner text h)) (node_end text h) p in
     let is : is_node (written body) ≡ true = ap is_node w.0 ∙ h in
     rw is (ap (λ (z : List ℕ). Some z) w.1)
 

@@ -1,44 +1,19 @@
 // The units of a message.
 ghost use Rattle.std.specs.Prelude.{ℕ, List, [], ◌∷◌, ◌≡◌, ◌++◌, ◌+◌, ◌≤◌, ◌==◌, ◌||◌, ◌&&◌, Bool, Some, true, false, length, take, drop, IfOk, IfErr, OnOk};
 ghost use Rattle.psu_lex.specs.Bytes.{all_white};
-ghost use Rattle.psu_lex.specs.Message.{IsMessage, Makes, Part, ended, ends_unit, fault_of, opens_first, parts};
-ghost use Rattle.psu_lex.specs.Scan.{IsStop};
+ghost use Rattle.psu_lex.specs.Message.{IsMessage, Makes, Part, ended, ends_unit, fault_of};
 
-use crate::class::is_white;
-use crate::pieces::{after, between, piece_end};
+use crate::class::{Class, is_white};
+use crate::number_scan::run_of;
+use crate::pieces::{after, begins, opens, piece_end};
 use crate::{Unit, UnitFault, Units};
-use memchr::{memchr2, memchr3};
 use std::alloc::{AllocError, Allocator};
-
-/// Where the first `;` or NL from `at` on stands, or the end.
-fn next_stop(bytes: &[u8], at: usize) -> usize
-    requires { at ≤ length bytes.now }
-    ensures { IsStop bytes.now at result }
-{
-    let rest = after(bytes, at);
-    at + memchr2(b';', b'\n', rest).unwrap_or(rest.len())
-}
-
-/// The same for a later place, where the stop from `at` on is known: it is looked for again only
-/// where the step has gone over it, so that no byte is looked at twice.
-#[tactic(auto, using(crate::proofs::UnitScans::stop_kept))]
-fn later_stop(bytes: &[u8], at: usize, step: usize, stop: usize) -> usize
-    requires known { IsStop bytes.now at stop }
-    requires within { at + step ≤ length bytes.now }
-    ensures { IsStop bytes.now (at + step) result }
-{
-    if at + step <= stop {
-        return stop;
-    }
-    next_stop(bytes, at + step)
-}
 
 /// The fault of a string or block that is not whole.
 fn fault_at(piece: &[u8]) -> UnitFault
-    requires { opens_first piece.now ≡ true }
     ensures { result ≡ fault_of piece.now }
 {
-    if piece[0] == b'#' {
+    if begins(piece, b'#') {
         UnitFault::Block
     } else {
         UnitFault::String
@@ -53,18 +28,16 @@ fn unit_end(bytes: &[u8]) -> Result<usize, UnitFault>
     ensures err { IfErr result (λ fault. (first : Bool) → Makes first [] bytes.now (record { text = bytes.now; first = first; fault = Some fault } ∷ [])) }
 {
     let mut at = 0;
-    let mut stop = next_stop(bytes, 0);
     'pieces: loop {
-        let run = between(bytes, at, stop);
-        let Some(found) = memchr3(b'"', b'\'', b'#', run) else {
-            return Ok(stop);
+        let (plain, rest) = run_of(after(bytes, at), Class::Plain);
+        let end = at + plain.len();
+        if !opens(rest) {
+            return Ok(end);
+        }
+        let Some(length) = piece_end(rest) else {
+            return Err(fault_at(rest));
         };
-        let piece = after(bytes, at + found);
-        let Some(length) = piece_end(piece) else {
-            return Err(fault_at(piece));
-        };
-        stop = later_stop(bytes, at, found + length, stop);
-        at += found + length;
+        at = end + length;
     }
 }
 
@@ -82,17 +55,17 @@ pub fn is_blank(text: &[u8]) -> bool
 
 /// Adds the unit that ends here, unless it is white space alone, and answers whether it is.
 fn add<'a, A: Allocator + Copy>(
-    list: &mut Vec<Unit<'a>, A>,
+    units: &mut Units<'a, A>,
     text: &'a [u8],
     first: bool,
 ) -> Result<bool, AllocError>
-    ensures added { OnOk result (parts list.new.items ≡ parts list.old.items ++ ended first text.now) }
+    ensures added { OnOk result (units.new ≡ units.old ++ ended first text.now) }
     ensures blank { IfOk result (λ blank. blank ≡ all_white text.now) }
 {
     if is_blank(text) {
         return Ok(true);
     }
-    list.push(Unit {
+    units.push(Unit {
         text,
         first,
         fault: None,
@@ -112,24 +85,24 @@ fn is_first(first: bool, blank: bool, separator: u8) -> bool
 pub fn split<'a, A: Allocator + Copy>(alloc: A, bytes: &'a [u8]) -> Result<Units<'a, A>, AllocError>
     ensures { IfOk result (λ units. IsMessage bytes.now units) }
 {
-    let mut list = Vec::new(alloc);
+    let mut units = Units::none(alloc);
     let mut first = true;
     let mut rest = bytes;
     'units: loop {
         match unit_end(rest) {
             Err(fault) => {
-                list.push(Unit {
+                units.push(Unit {
                     text: rest,
                     first,
                     fault: Some(fault),
                 })?;
-                return Ok(Units { list });
+                return Ok(units);
             }
             Ok(end) => {
                 let (text, more) = rest.split_at(end);
-                let blank = add(&mut list, text, first)?;
+                let blank = add(&mut units, text, first)?;
                 if more.is_empty() {
-                    return Ok(Units { list });
+                    return Ok(units);
                 }
                 first = is_first(first, blank, more[0]);
                 rest = after(more, 1);

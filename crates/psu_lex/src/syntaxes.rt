@@ -38,8 +38,11 @@ pub fn syntax<'a>(unit: &Unit<'a>) -> Result<Syntax<'a>, ScpiError>
     if let Some(fault) = unit.fault {
         return Err(fault.error());
     }
+    if let Some(syntax) = cut(unit.text) {
+        return Ok(syntax);
+    }
     if has_high(unit.text) {
         return Err(ScpiError::InvalidCharacter);
     }
-    cut(unit.text).ok_or(ScpiError::SyntaxError)
+    Err(ScpiError::SyntaxError)
 }
