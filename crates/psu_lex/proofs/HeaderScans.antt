@@ -59,13 +59,13 @@ path_out several begun (x ∷ xs) h = elim (cases_Bool (x == 63)) [
 
 -- ---- every path is accepted
 
-name_plain : (x : ℕ) → is_name_byte x ≡ true → ((x == 63) ≡ false) × ((x == 58) ≡ false)
+pub name_plain : (x : ℕ) → is_name_byte x ≡ true → ((x == 63) ≡ false) × ((x == 58) ≡ false)
 name_plain x h = (grind (arith, nat_tests, h), grind (arith, nat_tests, h))
 
-letter_plain : (x : ℕ) → is_letter x ≡ true → (x == 63) ≡ false
+pub letter_plain : (x : ℕ) → is_letter x ≡ true → (x == 63) ≡ false
 letter_plain x h = grind (arith, nat_tests, h)
 
-no_join : (several : Bool) (x : ℕ) → (x == 58) ≡ false → joins true several x ≡ false
+pub no_join : (several : Bool) (x : ℕ) → (x == 58) ≡ false → joins true several x ≡ false
 no_join true x h = h
 no_join false x h = refl
 

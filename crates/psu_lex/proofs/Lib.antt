@@ -8,6 +8,7 @@ pub mod NumberFound
 pub mod Rounding
 pub mod Expansions
 pub mod HeaderScans
+pub mod HeaderEnds
 pub mod WrittenData
 pub mod DataLists
 pub mod PlainUnits

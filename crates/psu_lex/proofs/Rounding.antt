@@ -6,7 +6,7 @@ use Rattle.std.proofs.lemmas.List.{take-append-drop}
 use Rattle.std.proofs.lemmas.Grind.{common_steps}
 use Rattle.std.proofs.lemmas.Bool.Decides.{nat_tests}
 use Rattle.std.proofs.Math.Nat.{mul-div-mul_right, one-le-pow, pow-succ', mul_comm, mul_assoc, suc-mul, mul-suc, add-mul, mul-le-mul_right, div-eq_of_lt-le}
-use Rattle.psu_lex.specs.Bytes.{value_after, all_digits}
+use Rattle.psu_lex.specs.Bytes.{is_digit, value_after, all_digits}
 use Rattle.psu_lex.specs.Number.{magnitude, rounded, without_zeros}
 use Rattle.std.specs.Prelude.{nat_lt}
 use Rattle.std.proofs.lemmas.Str.Parse.{IsNumeralModel, numerals_by_fold}
@@ -192,6 +192,30 @@ pub digit_in : (ds : List ℕ) (i : ℕ) → all_digits ds ≡ true → i < leng
 digit_in [] i h lt = absurd (omega (arith, lt))
 digit_in (x ∷ ds) zero h lt = grind (arith, nat_tests, h)
 digit_in (x ∷ ds) (suc i) h lt = digit_in ds i (grind (arith, common_steps, h)) (omega (arith, lt))
+
+same_held : (top a b : ℕ) (ds : List ℕ) → min top a ≡ min top b → min top (value_after a ds) ≡ min top (value_after b ds)
+same_held top a b [] h = h
+same_held top a b (d ∷ ds) h = same_held top (10 * a + (d - 48)) (10 * b + (d - 48)) ds (omega (arith, h))
+
+-- digits behind those of a value that is held are held as they would be behind the value itself
+pub held_append : (top n x y : ℕ) (a b : List ℕ) → x ≡ min top (value_after n a) → y ≡ min top (value_after x b) → y ≡ min top (value_after n (a ++ b))
+held_append top n x y a b e f =
+    let v = value_after n a in
+    let same : min top x ≡ min top v = omega (arith, e) in
+    f ∙ same_held top x v b same ∙ ap (min top) (sym (after_append n a b))
+
+-- a digit more
+pub held_digit : (n : ℕ) (ds : List ℕ) (i : ℕ) → i < length ds → value_after n (take (i + 1) ds) ≡ 10 * value_after n (take i ds) + (slice_index ds i - 48)
+held_digit n ds i lt =
+    let longer : take (i + 1) ds ≡ take i ds ++ slice_index ds i ∷ [] = grind (arith, common_steps, lt) in
+    ap (value_after n) longer ∙ after_append n (take i ds) (slice_index ds i ∷ [])
+
+pub digits_apart : (a b : List ℕ) → all_digits (a ++ b) ≡ true → (all_digits a ≡ true) × (all_digits b ≡ true)
+digits_apart [] b h = (refl, h)
+digits_apart (x ∷ a) b h =
+    let first : is_digit x ≡ true = grind (arith, common_steps, h) in
+    let later = digits_apart a b (digits_tail x (a ++ b) h) in
+    (rw first later.0, later.1)
 
 pub value_more : (ds : List ℕ) (i : ℕ) → i < length ds → value_after 0 (take (i + 1) ds) ≡ 10 * value_after 0 (take i ds) + (slice_index ds i - 48)
 value_more ds i lt =

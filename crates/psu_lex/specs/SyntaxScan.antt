@@ -1,6 +1,6 @@
 -- Words of the contracts inside this crate: what the scan of a unit's header and data has found.
-use Rattle.std.specs.Prelude.{ℕ, ◌-◌, ◌==◌, ◌&&◌, not, nat_lt, Bool, true, false, List, [], ◌∷◌, length, take, drop, Option, Some, None, if◌then◌else◌}
-use Rattle.psu_lex.specs.Bytes.{is_white, is_letter, is_quote, starts, starts_quoted}
+use Rattle.std.specs.Prelude.{◌≡◌, ℕ, ◌-◌, ◌==◌, ◌&&◌, not, nat_lt, Bool, true, false, List, [], ◌∷◌, length, take, drop, Option, Some, None, if◌then◌else◌}
+use Rattle.psu_lex.specs.Bytes.{is_dark, is_white, is_letter, is_quote, starts, starts_quoted}
 use Rattle.psu_lex.specs.NumberScan.{run, left, is_number}
 use Rattle.psu_lex.specs.Scan.{after_piece}
 use Rattle.psu_lex.specs.Syntax.{is_name_byte, is_node, Datum}
@@ -33,6 +33,12 @@ is_path several begun (x ∷ xs) =
 abbrev pub is_header : List ℕ → Bool
 is_header [] = false
 is_header (x ∷ xs) = if x == 42 then is_path false false xs else (if x == 58 then is_path true false xs else is_path true false (x ∷ xs))
+
+-- the first n bytes are all up to white space or the end, and pass the test
+pub record EndsDark (test : List ℕ → Bool) (text : List ℕ) (n : ℕ) : Type 0 where
+  pub front : take n text ≡ run is_dark text
+  pub back : drop n text ≡ left is_dark text
+  pub passes : test (run is_dark text) ≡ true
 
 -- a mark by the first byte
 abbrev pub mark_at : ℕ → Mark

@@ -26,8 +26,6 @@ pub enum Class {
     Digit,
     /// White space.
     White,
-    /// Anything but white space.
-    Dark,
     /// `A` to `Z` and `a` to `z`.
     Letter,
     /// Anything but `;`, NL, `"`, `'` and `#`.
@@ -42,7 +40,6 @@ impl Class {
         match self {
             Class::Digit => byte.is_ascii_digit(),
             Class::White => is_white(byte),
-            Class::Dark => !is_white(byte),
             Class::Letter => byte.is_ascii_alphabetic(),
             Class::Plain => is_plain(byte),
         }

@@ -180,19 +180,28 @@ fn goes_on(tail: &[u8]) -> bool
     true
 }
 
+/// Whether a text is white space alone, or data separated by `,`, where this is its first datum, if it has one.
+fn is_list(text: &[u8], found: &Option<Found<'_>>) -> bool
+    requires some { IfSome found.now (λ found. datum_at text.now ≡ Some (datum_of found.datum, found.tail.now)) }
+    requires none { IfNone found.now (datum_at text.now ≡ None) }
+    ensures yes { result ≡ true → (list : List DatumData) × Lists text.now list × HoldsFound found.now list }
+    ensures no { result ≡ false → (list : List DatumData) → Lists text.now list → ⊥ }
+{
+    match found {
+        None => is_blank(text),
+        Some(first) => goes_on(first.tail),
+    }
+}
+
 /// The data that a text is, if it is white space alone, or data separated by `,`.
 pub fn list_at(text: &[u8]) -> Option<Data<'_>>
     ensures some { IfSome result (λ shown. (list : List DatumData) × Lists text.now list × HoldsData shown list) }
     ensures none { IfNone result ((list : List DatumData) → Lists text.now list → ⊥) }
 {
-    if is_blank(text) {
-        return Some(Data { found: None });
+    let found = datum_at(text);
+    if is_list(text, &found) {
+        Some(Data { found })
+    } else {
+        None
     }
-    let Some(found) = datum_at(text) else {
-        return None;
-    };
-    if !goes_on(found.tail) {
-        return None;
-    }
-    Some(Data { found: Some(found) })
 }

@@ -1,9 +1,12 @@
 // Headers.
-ghost use Rattle.std.specs.Prelude.{◌≡◌, false, IfSome, IfNone};
-ghost use Rattle.psu_lex.specs.SyntaxScan.{behind_mark, ends_asking, is_header, is_part, is_path, joins, mark_of, without_ask};
+ghost use Rattle.std.specs.Prelude.{◌≡◌, ◌≤◌, ◌<◌, ◌+◌, ◌==◌, true, false, length, slice_index, IfSome, IfNone, if◌then◌else◌};
+ghost use Rattle.psu_lex.specs.Bytes.{is_dark};
+ghost use Rattle.psu_lex.specs.NumberScan.{run};
+ghost use Rattle.psu_lex.specs.SyntaxScan.{EndsDark, behind_mark, ends_asking, is_header, is_part, is_path, joins, mark_of, without_ask};
 ghost use Rattle.psu_lex.specs.Shown.{ShowsHeader};
-ghost use Rattle.psu_lex.specs.Syntax.{Header as Parts, IsHeader, SpellsHeader, header_text, is_node, is_name_byte};
+ghost use Rattle.psu_lex.specs.Syntax.{Header as Parts, IsHeader, header_text, is_apart, is_node, is_name_byte};
 
+use crate::class::is_white;
 use crate::pieces::{after, begins, front};
 use crate::{Header, Mark};
 
@@ -47,38 +50,60 @@ pub fn is_node(text: &[u8]) -> bool
     true
 }
 
-/// Whether the text is one node, or several joined by `:`, and then an optional `?`.
-fn is_path(text: &[u8], several: bool) -> bool
-    ensures { result ≡ is_path several false text.now }
+/// Whether nothing or white space stands here.
+fn is_apart(text: &[u8]) -> bool
+    ensures { result ≡ is_apart text.now }
+{
+    text.is_empty() || is_white(text[0])
+}
+
+/// The place, or the next where a `?` stands there.
+fn behind_ask(text: &[u8], at: usize) -> usize
+    requires { at < length text.now }
+    ensures within { result ≤ length text.now }
+    ensures value { result ≡ (if slice_index text.now at == 63 then at + 1 else at) }
+{
+    if text[at] == b'?' { at + 1 } else { at }
+}
+
+/// How many bytes stand before the first white space, if they are one node, or several joined by `:`, and
+/// then an optional `?`.
+fn path_end(text: &[u8], several: bool) -> Option<usize>
+    ensures within { IfSome result (λ n. n ≤ length text.now) }
+    ensures some { IfSome result (λ n. EndsDark (is_path several false) text.now n) }
+    ensures none { IfNone result (is_path several false (run is_dark text.now) ≡ false) }
 {
     let mut begun = false;
     for at in 0..text.len() {
         let byte = text[at];
-        if byte == b'?' {
-            return begun && after(text, at + 1).is_empty();
-        }
-        if joins(begun, several, byte) {
-            begun = false;
-        } else if is_part(begun, byte) {
+        if is_part(begun, byte) {
             begun = true;
+        } else if joins(begun, several, byte) {
+            begun = false;
         } else {
-            return false;
+            let end = behind_ask(text, at);
+            if !begun || !is_apart(after(text, end)) {
+                return None;
+            }
+            return Some(end);
         }
     }
-    begun
+    if begun { Some(text.len()) } else { None }
 }
 
-/// Whether the text is a header.
-fn is_header(text: &[u8]) -> bool
-    ensures { result ≡ is_header text.now }
+/// How many bytes stand before the first white space, if they are a header.
+pub fn header_end(text: &[u8]) -> Option<usize>
+    ensures within { IfSome result (λ n. n ≤ length text.now) }
+    ensures some { IfSome result (λ n. EndsDark is_header text.now n) }
+    ensures none { IfNone result (is_header (run is_dark text.now) ≡ false) }
 {
     if begins(text, b'*') {
-        return is_path(after(text, 1), false);
+        return Some(1 + path_end(after(text, 1), false)?);
     }
     if begins(text, b':') {
-        return is_path(after(text, 1), true);
+        return Some(1 + path_end(after(text, 1), true)?);
     }
-    is_path(text, true)
+    path_end(text, true)
 }
 
 /// What the text begins with.
@@ -125,21 +150,18 @@ fn without_ask(text: &[u8], asks: bool) -> &[u8]
     }
 }
 
-/// The parts of the header that a text is, if it is one.
-pub fn header_of(text: &[u8]) -> Option<Header<'_>>
-    ensures some { IfSome result (λ shown. (h : Parts) × IsHeader h × (text.now ≡ header_text h) × ShowsHeader shown h) }
-    ensures none { IfNone result (SpellsHeader text.now → ⊥) }
+/// The parts of a header.
+pub fn header_of(text: &[u8]) -> Header<'_>
+    requires { is_header text.now ≡ true }
+    ensures { (h : Parts) × IsHeader h × (text.now ≡ header_text h) × ShowsHeader result h }
 {
-    if !is_header(text) {
-        return None;
-    }
     let mark = mark_of(text);
     let body = behind_mark(text, mark);
     let asks = ends_asking(body);
-    Some(Header {
+    Header {
         text,
         mark,
         nodes: without_ask(body, asks),
         asks,
-    })
+    }
 }

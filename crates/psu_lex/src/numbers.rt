@@ -38,6 +38,20 @@ fn held(whole: &[u8], fraction: &[u8], count: usize) -> u64
     value
 }
 
+/// The number that digits write behind those of a value, held to the greatest.
+fn appended(value: u64, digits: &[u8]) -> u64
+    requires small { value ≤ 10 ^ 15 }
+    requires each { all_digits digits.now ≡ true }
+    ensures small { result ≤ 10 ^ 15 }
+    ensures value { result ≡ min (10 ^ 15) (value_after value digits.now) }
+{
+    let mut value = value;
+    for digit in digits {
+        value = (10 * value + (*digit - b'0') as u64).min(GREATEST);
+    }
+    value
+}
+
 /// The value times a power of ten, held to the greatest.
 fn shifted(value: u64, power: usize) -> u64
     requires { value ≤ 10 ^ 15 }
@@ -59,7 +73,7 @@ fn scaled(whole: &[u8], fraction: &[u8], up: usize, down: usize) -> u64
 {
     let total = whole.len() + fraction.len();
     if up >= down {
-        return shifted(held(whole, fraction, total), up - down);
+        return shifted(appended(appended(0, whole), fraction), up - down);
     }
     let cut = down - up;
     if cut > total {
@@ -158,8 +172,9 @@ fn reading(shown: &Written<'_>, places: u8) -> Result<i64, ScpiError>
 pub fn number(text: &[u8], places: u8) -> Result<i64, ScpiError>
     ensures { NumberGives text.now places result }
 {
-    let Some(shown) = Written::of(text) else {
+    let found = &Written::of(text);
+    let Some(shown) = found else {
         return Err(ScpiError::SyntaxError);
     };
-    reading(&shown, places)
+    reading(shown, places)
 }

@@ -7,7 +7,7 @@ ghost use Rattle.psu_lex.specs.declared.scpi_error.ScpiError.{ScpiError as Error
 
 use crate::class::Class;
 use crate::data_scan::list_at;
-use crate::headers::header_of;
+use crate::headers::{header_end, header_of};
 use crate::high_bytes::has_high;
 use crate::number_scan::run_of;
 use crate::{ScpiError, Syntax, Unit};
@@ -18,14 +18,17 @@ fn cut(text: &[u8]) -> Option<Syntax<'_>>
     ensures none { IfNone result ((syntax : Parts) → UnitReads text.now syntax → ⊥) }
 {
     let (_, body) = run_of(text, Class::White);
-    let (head, rest) = run_of(body, Class::Dark);
-    let Some(header) = header_of(head) else {
+    let Some(end) = header_end(body) else {
         return None;
     };
+    let (head, rest) = body.split_at(end);
     let Some(parameters) = list_at(rest) else {
         return None;
     };
-    Some(Syntax { header, parameters })
+    Some(Syntax {
+        header: header_of(head),
+        parameters,
+    })
 }
 
 /// The header and the data of a unit (IEEE 488.2, 7.3.2). Nothing is copied.

@@ -45,6 +45,7 @@ impl<'a, A: Allocator + Copy> Units<'a, A> {
     }
 
     // Puts a unit behind those that are there.
+    #[inline(always)]
     pub(crate) fn push(&mut self, unit: Unit<'a>) -> Result<(), AllocError>
         ensures { OnOk result (self.new ≡ self.old ++ part unit.entry ∷ []) }
     {

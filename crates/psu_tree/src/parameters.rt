@@ -149,8 +149,8 @@ fn places_of(suffix: &[u8], unit: u8) -> Option<u8>
 fn amount_of(text: &[u8], unit: u8) -> Result<i64, ScpiError>
     ensures { ((n : Number) × IsNumber n × (text.now ≡ number_text n)) → (n : Number) × IsNumber n × (text.now ≡ number_text n) × (result ≡ amount_of unit n) }
 {
-    let found = Written::of(text);
-    let Some(number) = &found else {
+    let found = &Written::of(text);
+    let Some(number) = found else {
         return Err(ScpiError::SyntaxError);
     };
     match places_of(number.suffix(), unit) {

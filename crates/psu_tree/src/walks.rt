@@ -149,11 +149,11 @@ fn may_miss_all(nodes: &[Node]) -> bool
     true
 }
 
-// Whether a last word names the node, and those behind it may be left out.
-fn is_last(node: &Node, later: &[Node], word: &[u8], others: &[&[u8]]) -> bool
-    ensures { result ≡ true → (names (mnemonic node.now) word.now ≡ true) × (fits (map mnemonic later.now) (map (λ word. word.now) others.now) ≡ true) }
+// Whether no word is left, and the nodes may be left out.
+fn are_spent(nodes: &[Node], words: &[&[u8]]) -> bool
+    ensures { result ≡ true → fits (map mnemonic nodes.now) (map (λ word. word.now) words.now) ≡ true }
 {
-    others.is_empty() && is_named(node, word) && may_miss_all(later)
+    words.is_empty() && may_miss_all(nodes)
 }
 
 /// Whether leaving out some bracketed nodes makes each node left a form of the word in its place.
@@ -161,16 +161,18 @@ pub fn walk(nodes: &[Node], words: &[&[u8]]) -> bool
     ensures exact { result ≡ fits (map mnemonic nodes.now) (map (λ word. word.now) words.now) }
     ensures matches { IsTrue result ↔ Matches (map mnemonic nodes.now) (map (λ word. word.now) words.now) }
 {
-    let Some((node, later)) = nodes.split_first() else {
-        return words.is_empty();
+    let Some((word, others)) = words.split_first() else {
+        return may_miss_all(nodes);
     };
-    if let Some((word, others)) = words.split_first() {
-        if is_last(node, later, word, others) {
-            return true;
-        }
-        if is_named(node, word) && walk(later, others) {
-            return true;
-        }
+    let Some((node, later)) = nodes.split_first() else {
+        return false;
+    };
+    let named = is_named(node, word);
+    if named && are_spent(later, others) {
+        return true;
+    }
+    if named && walk(later, others) {
+        return true;
     }
     may_miss(node.kind) && walk(later, words)
 }

@@ -1,13 +1,17 @@
-use Rattle.std.proofs.Common.{◌+◌, ◌-◌, ◌++◌, ◌^◌, min, length, take_all, arith, length-append, ap, ◌∙◌, List, ℕ}
-use Rattle.psu_lex.specs.Bytes.{value_after}
-use Rattle.psu_lex.proofs.Rounding.{scaled_up, cut_away, cut}
+use Rattle.std.proofs.Common.{◌+◌, ◌-◌, ◌++◌, ◌^◌, length, arith, length-append}
+use Rattle.psu_lex.proofs.Rounding.{scaled_up, cut_away, cut, held_append, digits_apart}
 use Rattle.psu_lex.proofs.numbers.scaled.Goals as goal
 
 pub returns-then-up-down : goal.returns-then-up-down
 returns-then-up-down c =
-    let ds = c.args.whole.now ++ c.args.fraction.now in
-    let all = take_all (length c.args.whole.now + length c.args.fraction.now) ds (omega (arith, length-append c.args.whole.now c.args.fraction.now)) in
-    scaled_up ds c.args.up c.args.down c.held.result c.shifted.result (omega (arith, c.if-up-down.true)) (c.held.ensures ∙ ap (λ (z : List ℕ). min (10 ^ 15) (value_after 0 z)) all) c.shifted.ensures
+    scaled_up (c.args.whole.now ++ c.args.fraction.now) c.args.up c.args.down c.appended-then-up-down.result c.shifted.result (omega (arith, c.if-up-down.true))
+    (held_append (10 ^ 15) 0 c.appended.result c.appended-then-up-down.result c.args.whole.now c.args.fraction.now c.appended.ensures.value c.appended-then-up-down.ensures.value) c.shifted.ensures
+
+pub appended-requires-clause-each : goal.appended-requires-clause-each
+appended-requires-clause-each c = (digits_apart c.args.whole.now c.args.fraction.now c.requires).0
+
+pub appended-requires-then-up-down-clause-each : goal.appended-requires-then-up-down-clause-each
+appended-requires-then-up-down-clause-each c = (digits_apart c.args.whole.now c.args.fraction.now c.requires).1
 
 pub returns-then-cut-total : goal.returns-then-cut-total
 returns-then-cut-total c =
