@@ -132,6 +132,7 @@ fn signed(negative: bool, value: u64) -> i64
 }
 
 /// The value of a number that was found in a text, or its fault; its suffix is not looked at.
+#[inline(always)]
 pub fn valued(shown: &Written<'_>, places: u8) -> Result<i64, ScpiError>
     requires { (n : Number) × IsNumber n × ShowsNumber shown.now n }
     ensures { (n : Number) → IsNumber n → ShowsNumber shown.now n → result ≡ valued n places }

@@ -35,6 +35,7 @@ impl<'a> Written<'a> {
     ghost use Rattle.psu_lex.specs.Shown.{ShowsNumber};
 
     /// The number that a text is (IEEE 488.2, 7.7.2), if it is one.
+    #[inline(always)]
     pub fn of(text: &'a [u8]) -> Option<Written<'a>>
         ensures some { IfSome result (λ shown. (n : Number) × IsNumber n × (text.now ≡ number_text n) × ShowsNumber shown n) }
         ensures none { IfNone result ((n : Number) → IsNumber n → text.now ≡ number_text n → ⊥) }
@@ -47,6 +48,7 @@ impl<'a> Written<'a> {
     ///
     /// The first of these that holds is the error: its exponent is over 32000 either way; its mantissa has
     /// more than 255 digits, leading zeros not counted.
+    #[inline(always)]
     pub fn value(&self, places: u8) -> Result<i64, ScpiError>
         requires { (n : Number) × IsNumber n × ShowsNumber self.now n }
         ensures { (n : Number) → IsNumber n → ShowsNumber self.now n → result ≡ valued n places }

@@ -126,6 +126,7 @@ pub fn may_miss(kind: Kind) -> bool
 }
 
 /// Whether a word is a form of the node.
+#[inline(always)]
 pub fn is_named(node: &Node, word: &[u8]) -> bool
     ensures { result ≡ names (mnemonic node.now) word.now }
 {
