@@ -1,19 +1,16 @@
 -- What each token adds to the units, and what the scans of a unit and of a transmission add.
-use Rattle.std.proofs.Common.{length-append, ◌≡◌, ℕ, ◌+◌, ◌<◌, ◌≤◌, Bool, true, false, List, [], ◌∷◌, ◌++◌, length, take, drop, refl, sym, ap, ◌∙◌, subst, arith, append_assoc, length-drop, Option, Some, None, slice_index, drop-cons, ◌==◌, ◌||◌, ◌&&◌, inl, inr}
-use Rattle.std.proofs.lemmas.List.{append-nil, take-append-drop, append_cancel_right}
-use Rattle.std.proofs.Math.Seq.{drop-append_seam, take-add, take-append_seam}
+use Rattle.std.proofs.Common.{◌≡◌, ℕ, ◌+◌, ◌-◌, ◌<◌, ◌≤◌, Bool, true, false, List, [], ◌∷◌, ◌++◌, length, take, drop, refl, sym, ap, ◌∙◌, subst, arith, append_assoc, length-drop, Option, Some, None, slice_index, drop-cons, take_all, unwrap_or, ◌==◌, ◌||◌, ◌&&◌, inl, inr}
+use Rattle.std.proofs.lemmas.List.{append-nil, take-append-drop, get_or-take, append_cancel_right, drop_all}
+use Rattle.std.proofs.Math.Seq.{take-add}
 use Rattle.std.proofs.lemmas.Grind.{common_steps}
-use Rattle.memchr.specs.Find.{IsFirstByte, is_byte3}
-use Rattle.psu_lex.specs.Bytes.{opens, separates, is_closed, is_plain, all_white}
+use Rattle.memchr.specs.Find.{IsFirstByte, is_byte2, is_byte3}
+use Rattle.psu_lex.specs.Bytes.{opens, separates, is_closed, all_white}
 use Rattle.psu_lex.specs.Message.{opens_first, ends_unit, BeginsPiece, HasNoPiece, Makes, Part, ended, next_first, fault_of, spelling, part, parts, Token, Reads}
 use Rattle.psu_lex.specs.declared.unit_fault.UnitFault.{UnitFault}
 use Rattle.psu_lex.specs.Message.Token.{Byte, Separator, Whole, Faulty}
-use Rattle.psu_lex.specs.NumberScan.{run, left}
-use Rattle.psu_lex.specs.Scan.{has, after_piece, units_in}
+use Rattle.psu_lex.specs.Scan.{has, after_piece, units_in, IsStop}
 use Rattle.psu_lex.proofs.PieceScans.{whole}
-use Rattle.psu_lex.proofs.NumberSound.{left_stops}
-use Rattle.psu_lex.proofs.Runs.{every, every_head, every_tail, leads, run_every, run_left}
-use Rattle.psu_lex.proofs.Searches.{has_head, has_tail, free_before, free_all, drop-add}
+use Rattle.psu_lex.proofs.Searches.{has_head, has_tail, has_front, free_before, free_all, drop-add, free_later}
 use Rattle.psu_lex.specs.declared.unit.Unit as rust
 use Rattle.std.proofs.lemmas.Bool.{cases_Bool}
 use Rattle.std.proofs.Math.Bool.{or_assoc, or-false}
@@ -37,20 +34,11 @@ makes_separator first x text rest units h m = (Separator x ∷ m.0, (rest, refl,
 pub opens_at : (s : List ℕ) (n : ℕ) → n < length s → opens (slice_index s n) ≡ true → opens_first (drop n s) ≡ true
 opens_at s n within h = rw (drop-cons s n 0 within) h
 
--- ---- plain bytes
-
-plain_free : (xs : List ℕ) → every is_plain xs ≡ true → (has separates xs ≡ false) × (has opens xs ≡ false)
-plain_free [] h = (refl, refl)
-plain_free (x ∷ xs) h =
-    let first = every_head is_plain x xs h in
-    let later = plain_free xs (every_tail is_plain x xs h) in
-    let s : separates x ≡ false = grind (arith, common_steps, first) in
-    let o : opens x ≡ false = grind (arith, common_steps, first) in
-    (rw s later.0, rw o later.1)
-
-ends_where : (rest : List ℕ) → leads is_plain rest ≡ false → opens_first rest ≡ false → ends_unit rest ≡ true
-ends_where [] h o = refl
-ends_where (x ∷ rest) h o = grind (arith, common_steps, h, o)
+-- the terminator that was found, or the end
+pub stop_at : (s : List ℕ) (r : Option ℕ) → IsFirstByte (is_byte2 59 10) s r
+    → (unwrap_or r (length s) ≤ length s) × (has separates (take (unwrap_or r (length s)) s) ≡ false) × (ends_unit (drop (unwrap_or r (length s)) s) ≡ true)
+stop_at s None h = (omega arith, rw (take_all (length s) s (omega arith)) (free_all separates s h), rw (drop_all (length s) s (omega arith)) refl)
+stop_at s (Some n) h = (omega (arith, h.0.high), free_before separates s n h, rw (drop-cons s n 0 h.0.high) h.1)
 
 -- ---- steps over a transmission
 
@@ -79,47 +67,70 @@ step_fault first bytes at o n =
 
 -- ---- the same, as the scan of a unit goes
 
--- what the plain bytes from a place on are, and what follows them
-pub record PlainRun (bytes plain rest : List ℕ) (at : ℕ) : Type 0 where
-  pub within : at + length plain ≤ length bytes
-  pub rest_is : rest ≡ drop (at + length plain) bytes
-  pub unseparated : has separates (take (length plain) (drop at bytes)) ≡ false
-  pub unopened : has opens (take (length plain) (drop at bytes)) ≡ false
-  pub ends : opens_first rest ≡ false → ends_unit (drop (at + length plain) bytes) ≡ true
+pub unit_step : (first : Bool) (bytes piece : List ℕ) (at found n : ℕ) (units : List Part) → piece ≡ drop (at + found) bytes
+    → has separates (take found (drop at bytes)) ≡ false → has opens (take found (drop at bytes)) ≡ false → after_piece piece ≡ Some (drop n piece) → is_closed (drop n piece) ≡ true
+    → Makes first (take (at + (found + n)) bytes) (drop (at + (found + n)) bytes) units → Makes first (take at bytes) (drop at bytes) units
+unit_step first bytes piece at found n units e a b p h m =
+    let same : at + (found + n) ≡ at + found + n = omega arith in
+    step_run first bytes at found units a b
+    (step_piece first bytes (at + found) n units (whole _ _ (subst (λ (z : List ℕ). after_piece z ≡ Some (drop n z)) e p)) (subst (λ (z : List ℕ). is_closed (drop n z) ≡ true) e h)
+    (subst (λ (z : ℕ). Makes first (take z bytes) (drop z bytes) units) same m))
 
-pub plain_run : (bytes text plain rest : List ℕ) (at : ℕ) → at ≤ length bytes → text ≡ drop at bytes → plain ≡ run is_plain text → rest ≡ left is_plain text → PlainRun bytes plain rest at
-plain_run bytes text plain rest at le e p l =
-    let whole : drop at bytes ≡ plain ++ rest
-    = sym e ∙ sym (run_left is_plain text) ∙ ap (λ (z : List ℕ). z ++ left is_plain text) (sym p) ∙ ap (λ (z : List ℕ). plain ++ z) (sym l) in
-    let front : take (length plain) (drop at bytes) ≡ plain = ap (take (length plain)) whole ∙ take-append_seam plain rest in
-    let back : rest ≡ drop (at + length plain) bytes = sym (drop-append_seam plain rest) ∙ ap (drop (length plain)) (sym whole) ∙ sym (drop-add at (length plain) bytes) in
-    let free = plain_free plain (ap (every is_plain) p ∙ run_every is_plain text) in
-    let stops : leads is_plain rest ≡ false = ap (leads is_plain) l ∙ left_stops is_plain text in record {
-      within = omega (arith, le, ap length whole, length-append plain rest, length-drop at bytes);
-      rest_is = back;
-      unseparated = ap (has separates) front ∙ free.0;
-      unopened = ap (has opens) front ∙ free.1;
-      ends = λ o. ap ends_unit (sym back) ∙ ends_where rest stops o;
+pub unit_fault : (first : Bool) (bytes piece : List ℕ) (at found : ℕ) (fault : UnitFault) → piece ≡ drop (at + found) bytes
+    → has separates (take found (drop at bytes)) ≡ false → has opens (take found (drop at bytes)) ≡ false → opens_first piece ≡ true → HasNoPiece is_closed piece → fault ≡ fault_of piece
+    → Makes first (take at bytes) (drop at bytes) (record { text = bytes; first = first; fault = Some fault } ∷ [])
+unit_fault first bytes piece at found fault e a b o n is =
+    let whole : Part = record { text = bytes; first = first; fault = Some fault } in
+    step_run first bytes at found (whole ∷ []) a b
+    (subst (λ (z : UnitFault). Makes first (take (at + found) bytes) (drop (at + found) bytes) (record { text = bytes; first = first; fault = Some z } ∷ []))
+    (ap fault_of (sym e) ∙ sym is)
+    (step_fault first bytes (at + found) (subst (λ (z : List ℕ). opens_first z ≡ true) e o) (subst (HasNoPiece is_closed) e n)))
+
+-- the unit ends at the stop, where nothing opens before it
+pub unit_stop : (first : Bool) (bytes : List ℕ) (at stop : ℕ) (units : List Part) → IsStop bytes at stop → has opens (take (stop - at) (drop at bytes)) ≡ false
+    → Makes first (take stop bytes) (drop stop bytes) units → Makes first (take at bytes) (drop at bytes) units
+unit_stop first bytes at stop units s f m =
+    let same : stop ≡ at + (stop - at) = omega (arith, s.low) in
+    step_run first bytes at (stop - at) units s.free f (subst (λ (z : ℕ). Makes first (take z bytes) (drop z bytes) units) same m)
+
+-- what stands where a quote or `#` was found before the stop
+pub piece_at : (bytes run : List ℕ) (at stop n : ℕ) → IsStop bytes at stop → run ≡ take (stop - at) (drop at bytes) → IsFirstByte (is_byte3 34 39 35) run (Some n)
+    → (at + n < length bytes) × (has separates (take n (drop at bytes)) ≡ false) × (has opens (take n (drop at bytes)) ≡ false) × (opens_first (drop (at + n) bytes) ≡ true)
+piece_at bytes run at stop n s e h =
+    let rest = drop at bytes in
+    let le : stop - at ≤ length rest = omega (arith, length-drop at bytes, s.low, s.high) in
+    let first = subst (λ (z : List ℕ). IsFirstByte (is_byte3 34 39 35) z (Some n)) e h in
+    let below : n < stop - at = grind (arith, common_steps, first.0.high) in
+    let same : take n (take (stop - at) rest) ≡ take n rest = grind (arith, common_steps, below) in
+    let opened : opens (slice_index rest n) ≡ true = ap opens (sym (get_or-take (stop - at) rest n 0 below)) ∙ first.1 in (
+      omega (arith, below, le, length-drop at bytes),
+      ap (has separates) (sym same) ∙ has_front separates (take (stop - at) rest) n s.free,
+      ap (has opens) (sym same) ∙ free_before opens (take (stop - at) rest) n first,
+      subst (λ (z : List ℕ). opens_first z ≡ true) (sym (drop-add at n bytes)) (opens_at rest n (omega (arith, below, le)) opened),
+    )
+
+-- a search from `at` on finds the stop
+pub stop_found : (bytes rest : List ℕ) (at n : ℕ) (r : Option ℕ) → at ≤ length bytes → rest ≡ drop at bytes → IsFirstByte (is_byte2 59 10) rest r → n ≡ unwrap_or r (length rest)
+    → IsStop bytes at (at + n)
+stop_found bytes rest at n r le e h is =
+    let found = stop_at (drop at bytes) r (subst (λ (z : List ℕ). IsFirstByte (is_byte2 59 10) z r) e h) in
+    let same : n ≡ unwrap_or r (length (drop at bytes)) = is ∙ ap (λ (z : List ℕ). unwrap_or r (length z)) e in
+    let run : at + n - at ≡ unwrap_or r (length (drop at bytes)) = omega (arith, same) in record {
+      low = omega arith;
+      high = omega (arith, found.0, same, length-drop at bytes, le);
+      free = rw run found.1;
+      ends = subst (λ (z : List ℕ). ends_unit z ≡ true) (ap (λ (z : ℕ). drop z (drop at bytes)) (sym same) ∙ sym (drop-add at n bytes)) found.2;
     }
 
-pub unit_step : (first : Bool) (bytes plain piece : List ℕ) (at n : ℕ) (units : List Part) → PlainRun bytes plain piece at → after_piece piece ≡ Some (drop n piece) → is_closed (drop n piece) ≡ true
-    → Makes first (take (at + length plain + n) bytes) (drop (at + length plain + n) bytes) units → Makes first (take at bytes) (drop at bytes) units
-unit_step first bytes plain piece at n units r p h m =
-    step_run first bytes at (length plain) units r.unseparated r.unopened
-    (step_piece first bytes (at + length plain) n units (whole _ _ (subst (λ (z : List ℕ). after_piece z ≡ Some (drop n z)) r.rest_is p)) (subst (λ (z : List ℕ). is_closed (drop n z) ≡ true) r.rest_is h) m)
-
-pub unit_fault : (first : Bool) (bytes plain piece : List ℕ) (at : ℕ) (fault : UnitFault) → PlainRun bytes plain piece at → opens_first piece ≡ true → HasNoPiece is_closed piece → fault ≡ fault_of piece
-    → Makes first (take at bytes) (drop at bytes) (record { text = bytes; first = first; fault = Some fault } ∷ [])
-unit_fault first bytes plain piece at fault r o n is =
-    let whole : Part = record { text = bytes; first = first; fault = Some fault } in
-    step_run first bytes at (length plain) (whole ∷ []) r.unseparated r.unopened
-    (subst (λ (z : UnitFault). Makes first (take (at + length plain) bytes) (drop (at + length plain) bytes) (record { text = bytes; first = first; fault = Some z } ∷ []))
-    (ap fault_of (sym r.rest_is) ∙ sym is)
-    (step_fault first bytes (at + length plain) (subst (λ (z : List ℕ). opens_first z ≡ true) r.rest_is o) (subst (HasNoPiece is_closed) r.rest_is n)))
-
--- a piece of n bytes behind them lies within
-pub piece_within : (bytes plain rest : List ℕ) (at n : ℕ) → PlainRun bytes plain rest at → n ≤ length rest → at + length plain + n ≤ length bytes
-piece_within bytes plain rest at n r le = omega (arith, r.within, le, ap length r.rest_is, length-drop (at + length plain) bytes)
+-- the stop is still ahead
+pub stop_kept : (bytes : List ℕ) (at step stop : ℕ) → IsStop bytes at stop → at + step ≤ stop → IsStop bytes (at + step) stop
+stop_kept bytes at step stop s le =
+    let count : stop - (at + step) ≡ stop - at - step = omega arith in record {
+      low = le;
+      high = s.high;
+      free = rw (count, drop-add at step bytes) (free_later separates (drop at bytes) (stop - at) step s.free);
+      ends = s.ends;
+    }
 
 parts_push : (us : List rust.Unit) (u : rust.Unit) → parts (us ++ u ∷ []) ≡ parts us ++ part u ∷ []
 parts_push [] u = refl

@@ -21,10 +21,6 @@ is_quote b = b == 34 || b == 39
 abbrev pub opens : ℕ → Bool
 opens b = b == 34 || b == 39 || b == 35
 
--- neither separates units nor opens a string or block
-abbrev pub is_plain : ℕ → Bool
-is_plain b = not (separates b) && not (opens b)
-
 abbrev pub is_digit : ℕ → Bool
 is_digit b = nat_lt 47 b && nat_lt b 58
 

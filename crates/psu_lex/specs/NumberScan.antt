@@ -1,10 +1,10 @@
 -- Words of the contracts inside this crate: what a scan of a number takes, from the left, as long as it can.
 use Rattle.std.specs.Prelude.{◌≡◌, ℕ, ◌==◌, ◌||◌, ◌&&◌, not, Bool, true, false, List, [], ◌∷◌, drop, Option, Some, None, is_none, ℤ, pos, neg_ℤ, if◌then◌else◌}
-use Rattle.psu_lex.specs.Bytes.{is_digit, is_letter, is_plain, is_white}
+use Rattle.psu_lex.specs.Bytes.{is_digit, is_letter, is_white}
 use Rattle.psu_lex.specs.Number.{Sign, Exponent, Number, mantissa}
 use Rattle.psu_lex.specs.Number.Sign.{Plus, Minus, Unsigned}
 use Rattle.psu_lex.specs.declared.class.Class.{Class}
-use Rattle.psu_lex.specs.declared.class.Class.TheVariants.{Digit, White, Letter, Plain}
+use Rattle.psu_lex.specs.declared.class.Class.TheVariants.{Digit, White, Letter}
 use Rattle.psu_lex.specs.declared.written.Power as code_power
 use Rattle.psu_lex.specs.Shown.{divides, power_digits}
 
@@ -12,7 +12,6 @@ abbrev pub belongs : Class → ℕ → Bool
 belongs Digit = is_digit
 belongs White = is_white
 belongs Letter = is_letter
-belongs Plain = is_plain
 
 -- the bytes in front that pass the test, and those from the first on that does not
 abbrev pub run : (ℕ → Bool) → List ℕ → List ℕ

@@ -1,6 +1,6 @@
 // Classes of bytes.
 ghost use Rattle.std.specs.Prelude.{◌≡◌};
-ghost use Rattle.psu_lex.specs.Bytes.{is_plain, is_white};
+ghost use Rattle.psu_lex.specs.Bytes.{is_white};
 ghost use Rattle.psu_lex.specs.NumberScan.{belongs};
 
 /// Whether the byte is white space: 0 to 32, but for NL.
@@ -9,14 +9,6 @@ pub fn is_white(byte: u8) -> bool
     ensures { result ≡ is_white byte }
 {
     byte <= 32 && byte != b'\n'
-}
-
-/// Whether the byte neither separates units nor opens a string or block.
-#[inline(always)]
-fn is_plain(byte: u8) -> bool
-    ensures { result ≡ is_plain byte }
-{
-    !matches!(byte, b';' | b'\n' | b'"' | b'\'' | b'#')
 }
 
 /// A class of bytes.
@@ -28,8 +20,6 @@ pub enum Class {
     White,
     /// `A` to `Z` and `a` to `z`.
     Letter,
-    /// Anything but `;`, NL, `"`, `'` and `#`.
-    Plain,
 }
 
 impl Class {
@@ -41,7 +31,6 @@ impl Class {
             Class::Digit => byte.is_ascii_digit(),
             Class::White => is_white(byte),
             Class::Letter => byte.is_ascii_alphabetic(),
-            Class::Plain => is_plain(byte),
         }
     }
 }

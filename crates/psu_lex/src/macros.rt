@@ -1,10 +1,11 @@
 // Macros: a body with its parameters put in.
 ghost use Rattle.std.specs.Prelude.{ℕ, List, [], ◌≡◌, ◌⊎◌, ◌+◌, ◌≤◌, ◌<◌, Ok, Err, false, length, map, min, IfOk, IfErr};
+ghost use Rattle.psu_lex.specs.Message.{opens_first};
 ghost use Rattle.psu_lex.specs.Macros.{ExpandsTo, parameter};
 ghost use Rattle.psu_lex.specs.MacroScan.{Keeps, Puts, Spells, begins_placeholder};
 ghost use Rattle.psu_lex.specs.declared.scpi_error.ScpiError.TheVariants.{OutOfMemory};
 
-use crate::pieces::{after, front, opens, whole_end};
+use crate::pieces::{after, begins, front, whole_end};
 use crate::{Bytes, ScpiError};
 use std::alloc::{AllocError, Allocator};
 
@@ -19,6 +20,13 @@ fn is_placeholder(rest: &[u8]) -> bool
         return false;
     }
     rest[1] >= b'1' && rest[1] <= b'9'
+}
+
+/// Whether a string or a block may begin at the front.
+fn opens(rest: &[u8]) -> bool
+    ensures { result ≡ opens_first rest.now }
+{
+    begins(rest, b'"') || begins(rest, b'\'') || begins(rest, b'#')
 }
 
 /// How many of the next bytes stay as they are: a whole string or block, one that is faulty and all

@@ -1,19 +1,44 @@
 // The units of a message.
 ghost use Rattle.std.specs.Prelude.{ℕ, List, [], ◌∷◌, ◌≡◌, ◌++◌, ◌+◌, ◌≤◌, ◌==◌, ◌||◌, ◌&&◌, Bool, Some, true, false, length, take, drop, IfOk, IfErr, OnOk};
 ghost use Rattle.psu_lex.specs.Bytes.{all_white};
-ghost use Rattle.psu_lex.specs.Message.{IsMessage, Makes, Part, ended, ends_unit, fault_of};
+ghost use Rattle.psu_lex.specs.Message.{IsMessage, Makes, Part, ended, ends_unit, fault_of, opens_first};
+ghost use Rattle.psu_lex.specs.Scan.{IsStop};
 
-use crate::class::{Class, is_white};
-use crate::number_scan::run_of;
-use crate::pieces::{after, begins, opens, piece_end};
+use crate::class::is_white;
+use crate::pieces::{after, between, piece_end};
 use crate::{Unit, UnitFault, Units};
+use memchr::{memchr2, memchr3};
 use std::alloc::{AllocError, Allocator};
+
+/// Where the first `;` or NL from `at` on stands, or the end.
+fn next_stop(bytes: &[u8], at: usize) -> usize
+    requires { at ≤ length bytes.now }
+    ensures { IsStop bytes.now at result }
+{
+    let rest = after(bytes, at);
+    at + memchr2(b';', b'\n', rest).unwrap_or(rest.len())
+}
+
+/// The same for a later place, where the stop from `at` on is known: it is looked for again only
+/// where the step has gone over it, so that no byte is looked at twice.
+#[tactic(auto, using(crate::proofs::UnitScans::stop_kept))]
+fn later_stop(bytes: &[u8], at: usize, step: usize, stop: usize) -> usize
+    requires known { IsStop bytes.now at stop }
+    requires within { at + step ≤ length bytes.now }
+    ensures { IsStop bytes.now (at + step) result }
+{
+    if at + step <= stop {
+        return stop;
+    }
+    next_stop(bytes, at + step)
+}
 
 /// The fault of a string or block that is not whole.
 fn fault_at(piece: &[u8]) -> UnitFault
+    requires { opens_first piece.now ≡ true }
     ensures { result ≡ fault_of piece.now }
 {
-    if begins(piece, b'#') {
+    if piece[0] == b'#' {
         UnitFault::Block
     } else {
         UnitFault::String
@@ -28,16 +53,18 @@ fn unit_end(bytes: &[u8]) -> Result<usize, UnitFault>
     ensures err { IfErr result (λ fault. (first : Bool) → Makes first [] bytes.now (record { text = bytes.now; first = first; fault = Some fault } ∷ [])) }
 {
     let mut at = 0;
+    let mut stop = next_stop(bytes, 0);
     'pieces: loop {
-        let (plain, rest) = run_of(after(bytes, at), Class::Plain);
-        let end = at + plain.len();
-        if !opens(rest) {
-            return Ok(end);
-        }
-        let Some(length) = piece_end(rest) else {
-            return Err(fault_at(rest));
+        let run = between(bytes, at, stop);
+        let Some(found) = memchr3(b'"', b'\'', b'#', run) else {
+            return Ok(stop);
         };
-        at = end + length;
+        let piece = after(bytes, at + found);
+        let Some(length) = piece_end(piece) else {
+            return Err(fault_at(piece));
+        };
+        stop = later_stop(bytes, at, found + length, stop);
+        at += found + length;
     }
 }
 

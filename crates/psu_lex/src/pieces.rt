@@ -1,7 +1,7 @@
 // Where a string or a block ends.
 ghost use Rattle.std.specs.Prelude.{ℕ, ◌≡◌, ◌-◌, ◌≤◌, ◌<◌, true, false, length, take, drop, Some, None, IfSome, IfNone};
 ghost use Rattle.psu_lex.specs.Bytes.{all_digits, ends_in_newline, is_closed, is_quote, starts, starts_quoted, value_after};
-ghost use Rattle.psu_lex.specs.Message.{HasNoPiece, opens_first};
+ghost use Rattle.psu_lex.specs.Message.{HasNoPiece};
 ghost use Rattle.psu_lex.specs.Scan.{after_block, after_piece, after_string};
 
 use crate::class::is_white;
@@ -44,13 +44,6 @@ pub fn is_quote_byte(bytes: &[u8]) -> bool
     ensures { result ≡ starts_quoted bytes.now }
 {
     begins(bytes, b'"') || begins(bytes, b'\'')
-}
-
-/// Whether a string or a block may begin at the front.
-pub fn opens(text: &[u8]) -> bool
-    ensures { result ≡ opens_first text.now }
-{
-    begins(text, b'"') || begins(text, b'\'') || begins(text, b'#')
 }
 
 /// Whether the byte is a quote.

@@ -1,38 +1,31 @@
-use Rattle.std.proofs.Common.{length, sym, ◌∙◌, arith}
-use Rattle.psu_lex.proofs.UnitScans.{piece_within, plain_run, step_run, unit_fault, unit_step}
+use Rattle.std.proofs.Common.{sym, subst, List, ℕ, ◌≡◌, false, true}
+use Rattle.psu_lex.specs.Bytes.{opens}
+use Rattle.psu_lex.specs.Message.{opens_first}
+use Rattle.psu_lex.specs.Scan.{has}
+use Rattle.psu_lex.proofs.Searches.{free_all}
+use Rattle.psu_lex.proofs.UnitScans.{unit_step, unit_fault, unit_stop, piece_at}
 use Rattle.psu_lex.proofs.message.unit_end.Goals as goal
 
-pub returns-then-not-opens-clause-within : goal.returns-then-not-opens-clause-within
-returns-then-not-opens-clause-within c =
-    (plain_run c.args.bytes.now c.after.result.now c.run_of.result.0.now c.run_of.result.1.now c.pieces.at c.pieces.invariant.within c.after.ensures c.run_of.ensures.run c.run_of.ensures.left).within
-
-pub returns-then-not-opens-clause-end : goal.returns-then-not-opens-clause-end
-returns-then-not-opens-clause-end c =
-    (plain_run c.args.bytes.now c.after.result.now c.run_of.result.0.now c.run_of.result.1.now c.pieces.at c.pieces.invariant.within c.after.ensures c.run_of.ensures.run c.run_of.ensures.left).ends
-    (sym c.if-not-opens.ensures)
-
-pub returns-then-not-opens-clause-ok : goal.returns-then-not-opens-clause-ok
-returns-then-not-opens-clause-ok c = λ first units m.
-    let run = plain_run c.args.bytes.now c.after.result.now c.run_of.result.0.now c.run_of.result.1.now c.pieces.at c.pieces.invariant.within c.after.ensures c.run_of.ensures.run c.run_of.ensures.left in
-    c.pieces.invariant.so_far first units (step_run first c.args.bytes.now c.pieces.at (length c.run_of.result.0.now) units run.unseparated run.unopened m)
-
-pub returns-in_default-clause-err : goal.returns-in_default-clause-err
-returns-in_default-clause-err c = λ first.
-    let run = plain_run c.args.bytes.now c.after.result.now c.run_of.result.0.now c.run_of.result.1.now c.pieces.at c.pieces.invariant.within c.after.ensures c.run_of.ensures.run c.run_of.ensures.left in
-    c.pieces.invariant.so_far first _
-    (unit_fault first c.args.bytes.now c.run_of.result.0.now c.run_of.result.1.now c.pieces.at c.fault_at.result run (sym c.opens.ensures ∙ c.if-not-opens.false) c.in_default.ensures.none c.fault_at.ensures)
-
-pub overflow_add-at : goal.overflow_add-at
-overflow_add-at c =
-    let run = plain_run c.args.bytes.now c.after.result.now c.run_of.result.0.now c.run_of.result.1.now c.pieces.at c.pieces.invariant.within c.after.ensures c.run_of.ensures.run c.run_of.ensures.left in
-    let within = piece_within c.args.bytes.now c.run_of.result.0.now c.run_of.result.1.now c.pieces.at c.in-Some.length run c.in-Some.ensures.within.1 in
-    omega (arith, within)
+pub returns-in_default-clause-ok : goal.returns-in_default-clause-ok
+returns-in_default-clause-ok c = λ first units m.
+    c.pieces.invariant.so_far first units
+    (unit_stop first c.args.bytes.now c.pieces.at c.pieces.stop units c.pieces.invariant.stands
+    (subst (λ (z : List ℕ). has opens z ≡ false) c.between-run.ensures (free_all opens c.between-run.result.now c.in_default.ensures)) m)
 
 pub pieces-preserved : goal.pieces-preserved
 pieces-preserved c =
-    let run = plain_run c.args.bytes.now c.after.result.now c.run_of.result.0.now c.run_of.result.1.now c.pieces.at c.pieces.invariant.within c.after.ensures c.run_of.ensures.run c.run_of.ensures.left in
+    let found = piece_at c.args.bytes.now c.between-run.result.now c.pieces.at c.pieces.stop c.in-Some.found c.pieces.invariant.stands c.between-run.ensures c.in-Some.ensures in
     record {
-      within = piece_within c.args.bytes.now c.run_of.result.0.now c.run_of.result.1.now c.pieces.at c.in-Some.length run c.in-Some.ensures.within.1;
+      stands = c.later_stop-stop.ensures;
       so_far = λ first units m. c.pieces.invariant.so_far first units
-          (unit_step first c.args.bytes.now c.run_of.result.0.now c.run_of.result.1.now c.pieces.at c.in-Some.length units run c.in-Some.ensures.some.0 c.in-Some.ensures.some.1 m);
+          (unit_step first c.args.bytes.now c.after-piece.result.now c.pieces.at c.in-Some.found c.in-Some-piece_end.length units c.after-piece.ensures
+          found.1 found.2 c.in-Some-piece_end.ensures.some.0 c.in-Some-piece_end.ensures.some.1 m);
     }
+
+pub returns-in_default-piece_end-clause-err : goal.returns-in_default-piece_end-clause-err
+returns-in_default-piece_end-clause-err c = λ first.
+    let found = piece_at c.args.bytes.now c.between-run.result.now c.pieces.at c.pieces.stop c.in-Some.found c.pieces.invariant.stands c.between-run.ensures c.in-Some.ensures in
+    let opened : opens_first c.after-piece.result.now ≡ true = subst (λ (z : List ℕ). opens_first z ≡ true) (sym c.after-piece.ensures) found.3 in
+    c.pieces.invariant.so_far first _
+    (unit_fault first c.args.bytes.now c.after-piece.result.now c.pieces.at c.in-Some.found c.fault_at.result c.after-piece.ensures found.1 found.2
+    opened c.in_default-piece_end.ensures.none c.fault_at.ensures)
