@@ -70,9 +70,9 @@ fn fill<D: Disk, A: Allocator + Copy>(
     ensures kept { AllByRecursion (λ (slot : SlotOf A). slot.is_new ≡ false → IsOneOf pages.new.heads.items slot.head) slots.new.items }
     ensures claims { (page : ℕ) → IsNone (taken (heads_of slots.new.items)) page → is_free pages.new.free page ≡ is_free pages.old.free page }
 {
+    slots.reserve(target.entries().len())?;
     let mut next = 0;
     for entry in target.entries() {
-        slots.reserve(1)?;
         let slot = slot_for(alloc, pages, &mut next, entry)?;
         add(slots, slot);
     }
@@ -97,7 +97,7 @@ fn slot_for<D: Disk, A: Allocator + Copy>(
 {
     if let Some(at) = kept(next, pages.heads(), entry) {
         return Ok(Slot {
-            head: pages.heads()[at].copy(alloc)?,
+            head: pages.heads()[at].share()?,
             is_new: false,
         });
     }
@@ -111,7 +111,9 @@ fn slot_for<D: Disk, A: Allocator + Copy>(
 // Puts a slot after the others.
 fn add<A: Allocator + Copy>(slots: &mut Vec<Slot<A>, A>, slot: Slot<A>)
     requires { vec_len slots.old < vec_capacity slots.old }
-    ensures { slots.new.items ≡ slots.old.items ++ slot ∷ [] }
+    ensures items { slots.new.items ≡ slots.old.items ++ slot ∷ [] }
+    ensures len { vec_len slots.new ≤ vec_len slots.old + 1 }
+    ensures capacity { vec_capacity slots.old ≤ vec_capacity slots.new }
 {
     match slots.push(slot) {
         Ok(()) => {}

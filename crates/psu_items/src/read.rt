@@ -61,7 +61,7 @@ fn read_item<D: Disk, A: Allocator + Copy>(
     ensures left { D.honest → (x : List ℕ) → Left (D.state pages.new.disk) x → Left (D.state pages.old.disk) x }
     ensures time { D.honest → D.tells → LeavesOnly D.moment D.left_since pages.old.disk pages.new.disk (Left (D.state pages.old.disk)) }
 {
-    let head = pages.heads()[at].copy(alloc)?;
+    let head = pages.heads()[at].share()?;
     let value = pages.load(alloc, &head)?;
     items.insert(head.key().to_vec(alloc)?, value)?;
     Ok(())

@@ -114,13 +114,26 @@ module _ (n i : ℕ) (d : Bool) (free : List Bool) (lt : i < length free) (pages
       ∙ sym (first_more n i (free_pages (take i free)) (subst (λ (l : List ℕ). length l < n) so room))
       ∙ ap (take n) (sym (free_more 0 i d free lt is ∙ ap (λ (m : ℕ). free_pages (take i free) ++ m ∷ []) (let same : 0 + i ≡ i = omega arith in same)))
 
-  pub passed : get_or free i d ≡ true → n ≤ length pages → pages ≡ take n (free_pages (take (i + 1) free))
-  passed is full =
-      so ∙ sym (first_same n (free_pages (take i free)) ((0 + i) ∷ []) (subst (λ (l : List ℕ). n ≤ length l) so full))
-      ∙ ap (take n) (sym (free_more 0 i d free lt is))
-
   pub left_out : get_or free i d ≡ false → pages ≡ take n (free_pages (take (i + 1) free))
   left_out is = so ∙ ap (take n) (sym (free_same 0 i d free lt is))
+
+-- what is free behind the first marks comes after what is free among them
+free_behind : (at i : ℕ) (free : List Bool) → (rest : List ℕ) × (free_from at free ≡ free_from at (take i free) ++ rest)
+free_behind at zero [] = ([], refl)
+free_behind at (suc i) [] = ([], refl)
+free_behind at zero (m ∷ free) = (free_from at (m ∷ free), refl)
+free_behind at (suc i) (true ∷ free) = let more = free_behind (at + 1) i free in (more.0, ap (λ (l : List ℕ). at ∷ l) more.1)
+free_behind at (suc i) (false ∷ free) = free_behind (at + 1) i free
+
+-- the first free pages, where the first marks have as many as are wanted
+pub enough : (n i : ℕ) (free : List Bool) (pages : List ℕ) → pages ≡ take n (free_pages (take i free)) → n ≤ length pages → pages ≡ take n (free_pages free)
+enough n i free pages so full =
+    let more = free_behind 0 i free in
+    so ∙ sym (first_same n (free_pages (take i free)) more.0 (subst (λ (l : List ℕ). n ≤ length l) so full)) ∙ ap (take n) (sym more.1)
+
+-- the first marks have no more free pages than all of them
+pub no_more : (i : ℕ) (free : List Bool) → length (free_pages (take i free)) ≤ length (free_pages free)
+no_more i free = let more = free_behind 0 i free in omega (arith, ap (λ (l : List ℕ). length l) more.1, length-append (free_pages (take i free)) more.0)
 
 -- how many are free, when one mark more is looked at
 module _ (i : ℕ) (d : Bool) (free : List Bool) (lt : i < length free) where

@@ -1,7 +1,7 @@
 -- Pages are claimed for a head, or given up.
-use Rattle.std.proofs.Common.{◌≡◌, ℕ, zero, suc, ◌+◌, ◌*◌, ◌<◌, ◌≤◌, Bool, true, false, List, [], ◌∷◌, length, get_or, take, sym, ◌∙◌, ap, subst, arith}
+use Rattle.std.proofs.Common.{◌≡◌, ℕ, zero, suc, ◌+◌, ◌*◌, ◌<◌, ◌≤◌, Bool, true, false, List, [], ◌∷◌, length, get_or, take, length-take-le, sym, ◌∙◌, ap, subst, arith}
 use Rattle.std.specs.List.{AllByRecursion, remove}
-use Rattle.psu_pages.specs.Image.{IsInPool, IsNone, AreApart}
+use Rattle.psu_pages.specs.Image.{Head, IsInPool, IsNone, AreApart, head_of, pages_of}
 use Rattle.psu_pages.specs.Free.{is_free, free_pages, Marks, AreClaimed}
 use Rattle.psu_pages.proofs.Lists.{all_map, all_take, apart_take, clear_by}
 use Rattle.psu_pages.proofs.Marking.{free_apart, free_are, claimed_still}
@@ -29,6 +29,13 @@ module _ (limit : ℕ) (free : List Bool) (sized : length free ≡ 2 + 2 * limit
 pub first_and_rest : (pages rest : List ℕ) (at : ℕ) → 1 ≤ length pages → at ≡ get_or pages 0 at → rest ≡ remove pages 0 → at ∷ rest ≡ pages
 first_and_rest [] rest at le is last = absurd (omega (arith, le))
 first_and_rest (p ∷ pages) rest at le is last = ap (λ (q : ℕ). q ∷ rest) is ∙ ap (λ (l : List ℕ). p ∷ l) last
+
+-- a head of the first free pages, of which there are as many as it takes
+pub pages_are : (free : List Bool) (n at size : ℕ) (key pages rest : List ℕ) (head : Head) → 1 ≤ n → n ≤ length (free_pages free) → pages ≡ take n (free_pages free) → at ≡ get_or pages 0 at → rest ≡ remove pages 0
+    → head ≡ head_of at key size rest → pages_of head ≡ take n (free_pages free)
+pages_are free n at size key pages rest head some enough is first others so =
+    let long : length pages ≡ n = ap length is ∙ length-take-le n (free_pages free) enough in
+    ap pages_of so ∙ first_and_rest pages rest at (omega (arith, long, some)) first others ∙ is
 
 -- pages that were claimed stay so while free ones are claimed
 module _ (pages : List ℕ) (old new : List Bool) (free : AllByRecursion (λ (p : ℕ). is_free old p ≡ true) pages) (claims : Marks false pages old new) where

@@ -1,5 +1,5 @@
 //! Which pages of a disk are free.
-ghost use Rattle.std.specs.Prelude.{◌≡◌, ◌<◌, ◌≤◌, ◌^◌, ℕ, true, false, length, take, replicate, slice_set, IfOk};
+ghost use Rattle.std.specs.Prelude.{◌≡◌, ◌<◌, ◌≤◌, ◌^◌, ◌↔◌, ℕ, true, false, length, take, replicate, slice_set, IfOk, IsTrue};
 ghost use Rattle.std.specs.List.{AllByRecursion};
 ghost use Rattle.psu_pages.specs.Free.{is_free, free_pages, AreClaimed, Marks};
 ghost use Rattle.psu_pages.specs.Image.{AreApart, pages_of};
@@ -57,17 +57,6 @@ impl<A: Allocator + Copy> FreeMap<A> {
         self.free[page as usize] = true;
     }
 
-    /// Claims pages that are free.
-    pub(crate) fn claim_all(&mut self, pages: &[u16])
-        requires free { AllByRecursion (λ page. is_free self.old page ≡ true) pages.now }
-        requires apart { AreApart pages.now }
-        ensures { Marks false pages.now self.old self.new }
-    {
-        for page in pages {
-            self.claim(*page);
-        }
-    }
-
     /// Gives up pages that are claimed.
     pub(crate) fn free_all(&mut self, pages: &[u16])
         requires there { AllByRecursion (λ page. page < length self.old) pages.now }
@@ -109,6 +98,15 @@ impl<A: Allocator + Copy> FreeMap<A> {
         }
     }
 
+    /// Claims the pages of a head, whether or not they are free.
+    pub(crate) fn keep_head(&mut self, head: &Head<A>)
+        requires { AllByRecursion (λ page. page < length self.old) (pages_of head.now) }
+        ensures { Marks false (pages_of head.now) self.old self.new }
+    {
+        self.keep(head.at());
+        self.keep_all(head.pages());
+    }
+
     /// Claims a page, unless it isn't free.
     pub(crate) fn take(&mut self, page: u16) -> bool
         ensures was { result ≡ is_free self.old page }
@@ -139,27 +137,33 @@ impl<A: Allocator + Copy> FreeMap<A> {
         true
     }
 
-    /// How many pages are free.
-    pub(crate) fn count(&self) -> usize
-        ensures { result ≡ length (free_pages self.now) }
+    /// Whether so many pages are free. It looks no further than to the last of them.
+    pub(crate) fn has_free(&self, count: usize) -> bool
+        ensures { IsTrue result ↔ (count ≤ length (free_pages self.now)) }
     {
-        let mut count = 0;
+        let mut wanted = count;
         for free in &self.free {
+            if wanted == 0 {
+                return true;
+            }
             if *free {
-                count += 1;
+                wanted -= 1;
             }
         }
-        count
+        wanted == 0
     }
 
-    /// The first pages that are free: as many as asked for, or all where there are fewer.
+    /// The first pages that are free: as many as asked for, or all where there are fewer. It looks no further than to the last of them.
     pub(crate) fn first_free(&self, alloc: A, count: usize) -> Result<Vec<u16, A>, AllocError>
         requires { length self.now ≤ 2 ^ 16 }
         ensures { IfOk result (λ pages. pages.items ≡ take count (free_pages self.now)) }
     {
         let mut pages = Vec::with_capacity(alloc, count)?;
         for (page, free) in self.free.iter().enumerate() {
-            if *free && pages.len() < count {
+            if pages.len() == count {
+                return Ok(pages);
+            }
+            if *free {
                 pages.push(page as u16)?;
             }
         }

@@ -38,7 +38,6 @@ fn keep<A: Allocator + Copy>(free: &mut FreeMap<A>, heads: &[Head<A>])
     ensures { Marks false (taken heads.now) free.old free.new }
 {
     for head in heads {
-        free.keep(head.at());
-        free.keep_all(head.pages());
+        free.keep_head(head);
     }
 }

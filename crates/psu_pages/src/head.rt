@@ -1,69 +1,97 @@
 //! What a head says, how it is read, and how it is spelled.
 ghost use Rattle.std.specs.Prelude.{◌≡◌, ◌*◌, ◌≤◌, ◌+◌, ◌++◌, length, IfOk, OnErr, IfSome, IsNone};
 ghost use Rattle.std.specs.List.{AllByRecursion};
-ghost use Rattle.psu_pages.specs.Image.{head_on, head_after, words, IsHead};
+ghost use Rattle.psu_pages.specs.Image.{head_of, head_on, head_after, words, IsHead};
 ghost use Rattle.psu_pages.specs.Spelling.{spelled, spelled_words};
 
 use crate::page::Page;
 use crate::words::{long, word};
 use std::alloc::{AllocError, Allocator};
 use std::marker::Model;
+use std::sync::Arc;
 
-/// The page of an item's head, the item's key, how many bytes its value has, and the pages that hold them.
+// What a head says.
+#[derive(Drop)]
+struct Body<A: Allocator + Copy> {
+    at: u16,
+    key: Vec<u8, A>,
+    size: u32,
+    pages: Vec<u16, A>,
+}
+
+/// The page of an item's head, the item's key, how many bytes its value has, and the pages that hold them. It never changes, and an
+/// item that stays has it in the next root too: so roots share it.
 #[derive(Drop)]
 pub struct Head<A: Allocator + Copy> {
-    pub(crate) at: u16,
-    pub(crate) key: Vec<u8, A>,
-    pub(crate) size: u32,
-    pub(crate) pages: Vec<u16, A>,
+    body: Arc<Body<A>, A>,
 }
 
 impl<A: Allocator + Copy> Model for Head<A> {
+    ghost use Rattle.std.specs.Arc.{arc_value};
     ghost use Rattle.psu_pages.specs.Image.{Head, head_of};
 
     ghost Value = { Head };
 
-    ghost view = { λ h. head_of h.at h.key.items h.size h.pages.items };
+    ghost view = { λ h. let body = arc_value h.body in head_of body.at body.key.items body.size body.pages.items };
 }
 
 impl<A: Allocator + Copy> Head<A> {
+    /// A head that says this.
+    pub(crate) fn new(
+        alloc: A,
+        at: u16,
+        key: Vec<u8, A>,
+        size: u32,
+        pages: Vec<u16, A>,
+    ) -> Result<Head<A>, AllocError>
+        ensures { IfOk result (λ head. head ≡ head_of at key.items size pages.items) }
+    {
+        let body = Arc::new(
+            alloc,
+            Body {
+                at,
+                key,
+                size,
+                pages,
+            },
+        )?;
+        Ok(Head { body })
+    }
+
     /// The page that the head is on.
     pub fn at(&self) -> u16
         ensures { result ≡ self.now.at }
     {
-        self.at
+        self.body.at
     }
 
     /// The item's key.
     pub fn key(&self) -> &[u8]
         ensures { result.now ≡ self.now.key }
     {
-        self.key.as_slice()
+        self.body.key.as_slice()
     }
 
     /// How many bytes the value has.
     pub fn size(&self) -> u32
         ensures { result ≡ self.now.size }
     {
-        self.size
+        self.body.size
     }
 
     /// The pages of the value, in their order.
     pub fn pages(&self) -> &[u16]
         ensures { result.now ≡ self.now.pages }
     {
-        self.pages.as_slice()
+        self.body.pages.as_slice()
     }
 
-    /// The same in memory of its own.
-    pub fn copy(&self, alloc: A) -> Result<Head<A>, AllocError>
+    /// The same, in the same memory. It is refused only where more share it than are counted.
+    pub fn share(&self) -> Result<Head<A>, AllocError>
         ensures { IfOk result (λ copy. copy ≡ self.now) }
     {
         Ok(Head {
-            at: self.at,
-            key: self.key.to_vec(alloc)?,
-            size: self.size,
-            pages: self.pages.to_vec(alloc)?,
+            body: Arc::try_clone(&self.body)?,
         })
     }
 
@@ -107,12 +135,9 @@ impl<A: Allocator + Copy> Head<A> {
         if u32::from(count) != (size + 511) / 512 {
             return Ok(None);
         }
-        Ok(Some(Head {
-            at,
-            key: key.to_vec(alloc)?,
-            size,
-            pages: read_words(alloc, count, pages)?,
-        }))
+        let key = key.to_vec(alloc)?;
+        let pages = read_words(alloc, count, pages)?;
+        Ok(Some(Head::new(alloc, at, key, size, pages)?))
     }
 
     /// The head as its page has it.
@@ -121,11 +146,11 @@ impl<A: Allocator + Copy> Head<A> {
         ensures { result ≡ spelled self.now }
     {
         let mut page = Page::new();
-        page.add(&[self.key.len() as u8]);
-        page.add(&self.key);
-        page.add(&self.size.to_be_bytes());
-        page.add(&(self.pages.len() as u16).to_be_bytes());
-        add_words(&mut page, &self.pages);
+        page.add(&[self.key().len() as u8]);
+        page.add(self.key());
+        page.add(&self.size().to_be_bytes());
+        page.add(&(self.pages().len() as u16).to_be_bytes());
+        add_words(&mut page, self.pages());
         page
     }
 }

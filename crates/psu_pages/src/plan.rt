@@ -26,19 +26,15 @@ impl<D: Disk, A: Allocator + Copy> Pages<D, A> {
         ensures unchanged { OnErr result (self.new ≡ self.old) }
     {
         let count = 1 + (size as usize + 511) / 512;
-        if self.free.count() < count {
+        if !self.free.has_free(count) {
             return Err(PageFault::NoPage);
         }
         let mut pages = self.free.first_free(alloc, count)?;
         let key = key.to_vec(alloc)?;
-        self.free.claim_all(&pages);
         let at = pages.remove(0);
-        Ok(Head {
-            at,
-            key,
-            size,
-            pages,
-        })
+        let head = Head::new(alloc, at, key, size, pages)?;
+        self.free.keep_head(&head);
+        Ok(head)
     }
 
     /// Gives up the pages of a head that was planned.

@@ -15,11 +15,8 @@ use Rattle.psu_map.proofs.Maps.{all_own}
 use Rattle.psu_pages.specs.Image.{taken}
 use Rattle.psu_items.proofs.layout.fill.Goals as goal
 
-pub returns-in_err-reserve-clause-planned : goal.returns-in_err-reserve-clause-planned
-returns-in_err-reserve-clause-planned g c = let l = c.loop-entry in rw c.reserve.ensures.items (slots_planned l.pages (let aim = c.args.target.now in aim.before) (aimed c.args.target.now) _ l.slots.items l.invariant.slots)
-
 pub returns-in_err-slot-clause-planned : goal.returns-in_err-slot-clause-planned
-returns-in_err-slot-clause-planned g c = let l = c.loop-entry in rw c.reserve.ensures.items (planned_still l.pages (let aim = c.args.target.now in aim.before) (aimed c.args.target.now) _ c.slot_for.new.pages c.slot_for.ensures.others l.slots.items l.invariant.slots)
+returns-in_err-slot-clause-planned g c = let l = c.loop-entry in planned_still l.pages (let aim = c.args.target.now in aim.before) (aimed c.args.target.now) _ c.slot_for.new.pages c.slot_for.ensures.others l.slots.items l.invariant.slots
 
 pub loop-entry-preserved : goal.loop-entry-preserved
 loop-entry-preserved g c =
@@ -31,7 +28,7 @@ loop-entry-preserved g c =
     let is : c.entry-item.result ≡ get_or aim.entries l.entry-index c.entry-item.result = c.entry-item.is ∙ ap (λ (xs : List Entry). get_or xs l.entry-index c.entry-item.result) there.ensures.all in
     let within : l.entry-index < length (aimed aim) = omega (arith, c.loop-entry-test.true, many) in
     let of : IsOf aim.before c.entry-item.result = its_own aim.before aim.entries l.entry-index c.entry-item.result within is there.ensures.each in
-    let more = c.add.ensures ∙ ap (λ xs. xs ++ c.in_ok-slot.slot ∷ []) c.reserve.ensures.items in
+    let more = c.add.ensures.items in
     record {
       slots = slots_more l.pages c.slot_for.new.pages s.roots s.others aim.before (aimed aim) l.slots.items c.add.new.slots.items l.entry-index (item_in c.entry-item.result) (item_in c.entry-item.result) c.in_ok-slot.slot there.ensures.sorted within
           (item_there aim.entries l.entry-index c.entry-item.result within is) more (c.in_ok-slot.ensures.slot aim.before of) l.invariant.slots;
@@ -39,16 +36,15 @@ loop-entry-preserved g c =
           (λ stands head one. c.in_ok-slot.ensures.standing stands head (subst (λ hs. IsOneOf hs head) (sym (ap (λ v. v.items) l.invariant.roots.heads)) one));
       roots = roots_on c.args.pages.now l.pages c.slot_for.new.pages l.invariant.roots s.roots;
       claims = claims_step c.args.pages.now l.pages c.slot_for.new.pages l.slots.items c.add.new.slots.items c.in_ok-slot.slot more l.invariant.claims c.in_ok-slot.ensures.marks;
+      len = omega (arith, c.add.ensures.len, l.invariant.len);
+      room = omega (arith, c.add.ensures.capacity, l.invariant.room);
     }
 
 pub returns-clause-planned : goal.returns-clause-planned
 returns-clause-planned g c = let l = c.loop-entry in slots_planned l.pages (let aim = c.args.target.now in aim.before) (aimed c.args.target.now) _ l.slots.items l.invariant.slots
 
-pub returns-in_err-reserve-clause-kept : goal.returns-in_err-reserve-clause-kept
-returns-in_err-reserve-clause-kept g c = let l = c.loop-entry in rw c.reserve.ensures.items (slots_kept l.pages (let aim = c.args.target.now in aim.before) (aimed c.args.target.now) _ l.slots.items l.invariant.slots)
-
 pub returns-in_err-slot-clause-kept : goal.returns-in_err-slot-clause-kept
-returns-in_err-slot-clause-kept g c = let l = c.loop-entry in rw c.reserve.ensures.items (kept_still l.pages c.slot_for.new.pages c.slot_for.ensures.roots l.slots.items (slots_kept l.pages (let aim = c.args.target.now in aim.before) (aimed c.args.target.now) _ l.slots.items l.invariant.slots))
+returns-in_err-slot-clause-kept g c = let l = c.loop-entry in kept_still l.pages c.slot_for.new.pages c.slot_for.ensures.roots l.slots.items (slots_kept l.pages (let aim = c.args.target.now in aim.before) (aimed c.args.target.now) _ l.slots.items l.invariant.slots)
 
 pub returns-clause-kept : goal.returns-clause-kept
 returns-clause-kept g c = let l = c.loop-entry in slots_kept l.pages (let aim = c.args.target.now in aim.before) (aimed c.args.target.now) _ l.slots.items l.invariant.slots

@@ -1,4 +1,4 @@
-use Rattle.std.proofs.Common.{◌≡◌, ℕ, take}
+use Rattle.std.proofs.Common.{◌≡◌, ◌≤◌, ℕ, length, take, vec_len, vec_capacity}
 use Rattle.psu_pages.specs.Outcome.{HasSameRoots}
 use Rattle.psu_items.specs.Layout.{heads_of, AreSlots, HaveStanding}
 use Rattle.psu_pages.specs.Free.{is_free}
@@ -13,4 +13,6 @@ invariant-loop-entry g l = record {
   standing : HaveStanding (take l.entry-index (let aim = l.target in aim.entries)) (let p = l.fn.pages in p.heads.items) l.slots.items;
   roots : HasSameRoots l.fn.pages l.pages;
   claims : (page : ℕ) → IsNone (taken (heads_of l.slots.items)) page → is_free (let p = l.pages in p.free) page ≡ is_free (let p = l.fn.pages in p.free) page;
+  len : vec_len l.slots ≤ l.entry-index;
+  room : length (let aim = l.target in aim.entries) ≤ vec_capacity l.slots;
 }

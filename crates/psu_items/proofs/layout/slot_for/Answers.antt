@@ -14,7 +14,7 @@ returns-in-Some-clause-standing g c = λ stands head one key size.
     let has = subst (λ (hs : List Head). HasHead hs item at) (c.heads.ensures.value ∙ sym c.heads-in-Some.ensures.value) c.in-Some.ensures.head in
     let here = subst (λ (hs : List Head). IsOneOf hs head) (sym c.heads-in-Some.ensures.value) one in
     let same = key_of heads item at found.result found.is has ∙ sym key in
-    c.in_ok-copy.ensures ∙ found.is ∙ one_key heads at here.0 found.result head c.heads-in-Some.ensures.roster.distinct has.within here.1 (ap (λ (h : Head). h.key) (sym found.is) ∙ same ∙ ap (λ (h : Head). h.key) (sym here.2)) ∙ here.2
+    c.in_ok-share.ensures ∙ found.is ∙ one_key heads at here.0 found.result head c.heads-in-Some.ensures.roster.distinct has.within here.1 (ap (λ (h : Head). h.key) (sym found.is) ∙ same ∙ ap (λ (h : Head). h.key) (sym here.2)) ∙ here.2
 
 pub returns-in-Ok-clause-standing : goal.returns-in-Ok-clause-standing
 returns-in-Ok-clause-standing g c = λ stands head one key size.
@@ -28,14 +28,14 @@ returns-in-Some-clause-slot g c = λ before of.
     let item = item_in c.args.entry.now in
     let at = c.in-Some.at in
     let found = c.index-heads-at in
-    let copy = c.in_ok-copy.ensures in
+    let copy = c.in_ok-share.ensures in
     let has = subst (λ (hs : List Head). HasHead hs item at) (c.heads.ensures.value ∙ sym c.heads-in-Some.ensures.value) c.in-Some.ensures.head in
     record {
       key_is = ap (λ (h : Head). h.key) copy ∙ key_of heads item at found.result found.is has;
       size_is = ap (λ (h : Head). h.size) copy ∙ size_of heads item at found.result found.is has;
       planned = λ new. let no : false ≡ true = new in absurd (cc);
       were_free = λ new. let no : false ≡ true = new in absurd (cc);
-      kept = λ old. subst (λ (hs : List Head). IsOneOf hs c.in_ok-copy.field-0) c.heads-in-Some.ensures.value (subst (IsOneOf heads) (sym copy) (at, has.within, sym found.is));
+      kept = λ old. subst (λ (hs : List Head). IsOneOf hs c.in_ok-share.field-0) c.heads-in-Some.ensures.value (subst (IsOneOf heads) (sym copy) (at, has.within, sym found.is));
       stands = λ old. of c.in-Some.ensures.stands;
     }
 

@@ -1,9 +1,0 @@
-use Rattle.std.proofs.Common.{◌≡◌, ◌≤◌, length, take}
-use Rattle.psu_pages.specs.Free.{free_pages}
-use Rattle.psu_pages.proofs.free_map.FreeMap.count.Given as goal
-
-abbrev pub invariant-loop-free : goal.invariant-loop-free
-invariant-loop-free g l = record {
-  found : l.count ≡ length (free_pages (take l.free-index l.free-items));
-  most : l.count ≤ l.free-index;
-}
