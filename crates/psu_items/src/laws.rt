@@ -1,7 +1,11 @@
-//! Laws of what images stand for.
+//! Laws of what images stand for, and of where a store may be.
 ghost use Rattle.std.specs.Prelude.{◌≡◌, ◌≤◌, List, ℕ};
 ghost use Rattle.psu_map.specs.Map.{Item, cost};
 ghost use Rattle.psu_items.specs.Image.{Stands};
+
+use crate::Store;
+use psu_disk::Disk;
+use std::alloc::Global;
 
 /// An image stands for one map at most, under one limit.
 pub fn one_map()
@@ -12,3 +16,17 @@ pub fn one_map()
 pub fn maps_keep_the_limit()
     ensures within { (limit : ℕ) (map : List Item) (image : List ℕ) → Stands image limit map → cost map ≤ limit }
 {}
+
+/// A store moves to another thread where its disk does.
+pub fn stores_move<D: Disk + Send>(store: Store<D, Global>) -> Store<D, Global>
+    ensures { result ≡ store }
+{
+    moved(store)
+}
+
+// What a thread may be given.
+fn moved<T: Send>(value: T) -> T
+    ensures { result ≡ value }
+{
+    value
+}

@@ -7,7 +7,7 @@ use Rattle.std.proofs.lemmas.List.{get_or-set_other, length-set, take_more}
 use Rattle.std.proofs.lemmas.Grind.{get_or-set_at}
 use Rattle.psu_pages.specs.Image.{IsNone, AreApart}
 use Rattle.psu_pages.specs.Free.{is_free, free_from, free_pages, Marks, AreClaimed, HandsOver}
-use Rattle.psu_pages.proofs.Lists.{all_map, all_left, all_right, all_join, all_at, none_before, none_by, apart_more}
+use Rattle.psu_pages.proofs.Lists.{all_map, all_left, all_right, all_join, all_at, none_before, none_by, apart_more, apart_clear, apart_right, clear_swap}
 
 pub marks_none : (mark : Bool) (free : List Bool) → Marks mark [] free free
 marks_none mark free = record { size = refl; marked = tt; others = λ page none. refl }
@@ -212,3 +212,31 @@ apart_one_more pages i d old mid lt so is before =
 pub claimed_beside : (changed pages : List ℕ) (old new : List Bool) → ((page : ℕ) → IsNone changed page → is_free new page ≡ is_free old page) → AreClaimed old pages → AllByRecursion (IsNone changed) pages → AreClaimed new pages
 claimed_beside changed [] old new same claimed apart = tt
 claimed_beside changed (p ∷ pages) old new same claimed apart = (same p apart.0 ∙ claimed.0, claimed_beside changed pages old new same claimed.1 apart.1)
+
+-- no number of a list is none of it
+named : (xs : List ℕ) → AllByRecursion (λ (x : ℕ). IsNone xs x → ⊥) xs
+named [] = tt
+named (x ∷ xs) = (λ none. none.0 refl, all_map (λ (y : ℕ). IsNone xs y → ⊥) (λ (y : ℕ). IsNone (x ∷ xs) y → ⊥) (λ y no none. no none.1) xs (named xs))
+
+-- pages that both roots name stay claimed, before and behind those that are handed over
+pub handed_between : (first older pages last : List ℕ) (old new : List Bool) → AreClaimed old first → AreClaimed old last → AreApart (first ++ (older ++ last)) → HandsOver older pages old new
+    → HandsOver (first ++ (older ++ last)) (first ++ (pages ++ last)) old new
+handed_between first older pages last old new claimed claimed_last apart so = record {
+  size = so.size;
+  kept = all_join (λ (p : ℕ). is_free new p ≡ false) first (pages ++ last) (claimed_beside older first old new so.others claimed before) (all_join (λ (p : ℕ). is_free new p ≡ false) pages last so.kept (claimed_beside older last old new so.others claimed_last behind));
+  given_up = all_join Gone first (older ++ last)
+      (all_map (λ (p : ℕ). IsNone first p → ⊥) Gone (λ p no none. absurd (no (all_left (λ (q : ℕ). p ≢ q) first (pages ++ last) none))) first (named first))
+      (all_join Gone older last
+      (all_map (λ (p : ℕ). IsNone pages p → is_free new p ≡ true) Gone (λ p is none. is (all_left (λ (q : ℕ). p ≢ q) pages last (all_right (λ (q : ℕ). p ≢ q) first (pages ++ last) none))) older so.given_up)
+      (all_map (λ (p : ℕ). IsNone last p → ⊥) Gone (λ p no none. absurd (no (all_right (λ (q : ℕ). p ≢ q) pages last (all_right (λ (q : ℕ). p ≢ q) first (pages ++ last) none)))) last (named last)));
+  others = λ p none. so.others p (all_left (λ (q : ℕ). p ≢ q) older last (all_right (λ (q : ℕ). p ≢ q) first (older ++ last) none));
+}
+  where
+    Gone : ℕ → Type 0
+    Gone p = IsNone (first ++ (pages ++ last)) p → is_free new p ≡ true
+
+    before : AllByRecursion (IsNone older) first
+    before = clear_swap first older (all_left (IsNone first) older last (apart_clear first (older ++ last) apart))
+
+    behind : AllByRecursion (IsNone older) last
+    behind = apart_clear older last (apart_right first (older ++ last) apart)

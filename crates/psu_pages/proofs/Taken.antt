@@ -1,7 +1,7 @@
 -- The pages of heads, head by head.
-use Rattle.std.proofs.Common.{◌≡◌, ◌≢◌, ℕ, zero, suc, ◌+◌, ◌<◌, ◌≤◌, List, [], ◌∷◌, ◌++◌, length, get_or, take, refl, sym, ◌∙◌, ap, append_assoc, arith, length-append}
+use Rattle.std.proofs.Common.{◌≡◌, ◌≢◌, ℕ, zero, suc, ◌+◌, ◌<◌, ◌≤◌, List, [], ◌∷◌, ◌++◌, length, get_or, take, drop, refl, sym, ◌∙◌, ap, subst, append_assoc, arith, length-append}
 use Rattle.std.specs.List.{AllByRecursion}
-use Rattle.std.proofs.lemmas.List.{take_more, append-nil}
+use Rattle.std.proofs.lemmas.List.{take_more, take-append-drop, append-nil}
 use Rattle.psu_pages.specs.Image.{Head, IsNone, AreApart, AreClear, pages_of, taken, keys}
 use Rattle.psu_pages.proofs.Lists.{all_left, all_right, all_join, apart_left, apart_right, apart_clear, clear_none}
 
@@ -36,6 +36,23 @@ taken_more heads i d lt =
     ap taken (take_more heads i d lt)
     ∙ taken-append (take i heads) (get_or heads i d ∷ [])
     ∙ ap (λ (l : List ℕ). taken (take i heads) ++ l) (append-nil (pages_of (get_or heads i d)))
+
+-- the first heads, those between, and the last ones
+pub taken_parts : (heads rest middle : List Head) (first n : ℕ) → rest ≡ drop first heads → middle ≡ take n rest → taken heads ≡ taken (take first heads) ++ (taken middle ++ taken (drop n rest))
+taken_parts heads rest middle first n is so =
+    ap taken (sym (take-append-drop first heads))
+    ∙ taken-append (take first heads) (drop first heads)
+    ∙ ap (λ (hs : List Head). taken (take first heads) ++ taken hs) (sym is ∙ sym (take-append-drop n rest))
+    ∙ ap (λ (l : List ℕ). taken (take first heads) ++ l) (taken-append (take n rest) (drop n rest) ∙ ap (λ (hs : List Head). taken hs ++ taken (drop n rest)) (sym so))
+
+-- what holds of all pages holds of those between
+pub between_all : (P : ℕ → Type 0) (heads rest : List Head) (first n : ℕ) → rest ≡ drop first heads → AllByRecursion P (taken heads) → AllByRecursion P (taken (take n rest))
+between_all P heads rest first n is all =
+    all_left P (taken (take n rest)) (taken (drop n rest)) (all_right P (taken (take first heads)) (taken (take n rest) ++ taken (drop n rest)) (subst (AllByRecursion P) (taken_parts heads rest (take n rest) first n is refl) all))
+
+pub between_apart : (heads rest : List Head) (first n : ℕ) → rest ≡ drop first heads → AreApart (taken heads) → AreApart (taken (take n rest))
+between_apart heads rest first n is apart =
+    apart_left (taken (take n rest)) (taken (drop n rest)) (apart_right (taken (take first heads)) (taken (take n rest) ++ taken (drop n rest)) (subst AreApart (taken_parts heads rest (take n rest) first n is refl) apart))
 
 -- fewer heads have no more pages
 pub taken_few : (heads : List Head) (n : ℕ) → length (taken (take n heads)) ≤ length (taken heads)

@@ -1,5 +1,5 @@
 //! The pages of an older root that no other names come back.
-ghost use Rattle.std.specs.Prelude.{◌≡◌, ◌<◌, ℕ, true, false, length};
+ghost use Rattle.std.specs.Prelude.{◌≡◌, ◌<◌, ◌≤◌, ◌-◌, ◌↔◌, ℕ, true, false, length, take, drop, IsTrue};
 ghost use Rattle.std.specs.List.{AllByRecursion};
 ghost use Rattle.psu_pages.specs.Free.{is_free, AreClaimed, Marks, HandsOver};
 ghost use Rattle.psu_pages.specs.Image.{AreApart, taken, pages_of};
@@ -16,8 +16,49 @@ pub fn hand_over<A: Allocator + Copy>(free: &mut FreeMap<A>, older: &[Head<A>], 
     requires claimed { AreClaimed free.old (taken heads.now) }
     ensures { HandsOver (taken older.now) (taken heads.now) free.old free.new }
 {
-    give_up(free, older);
-    keep(free, heads);
+    let first = same_first(older, heads);
+    let (_, older) = older.split_at(first);
+    let (_, heads) = heads.split_at(first);
+    let last = same_last(older, heads);
+    give_up(free, &older[..older.len() - last]);
+    keep(free, &heads[..heads.len() - last]);
+}
+
+// How many heads have the same pages in both, from the first on. Their pages stay claimed.
+fn same_first<A: Allocator + Copy>(older: &[Head<A>], heads: &[Head<A>]) -> usize
+    ensures older { result ≤ length older.now }
+    ensures heads { result ≤ length heads.now }
+    ensures same { taken (take result older.now) ≡ taken (take result heads.now) }
+{
+    let most = older.len().min(heads.len());
+    for i in 0..most {
+        if !has_same_pages(&older[i], &heads[i]) {
+            return i;
+        }
+    }
+    most
+}
+
+// How many heads have the same pages in both, from the last on.
+fn same_last<A: Allocator + Copy>(older: &[Head<A>], heads: &[Head<A>]) -> usize
+    ensures older { result ≤ length older.now }
+    ensures heads { result ≤ length heads.now }
+    ensures same { taken (drop (length older.now - result) older.now) ≡ taken (drop (length heads.now - result) heads.now) }
+{
+    let most = older.len().min(heads.len());
+    for i in 0..most {
+        if !has_same_pages(&older[older.len() - 1 - i], &heads[heads.len() - 1 - i]) {
+            return i;
+        }
+    }
+    most
+}
+
+// Whether two heads have the same pages.
+fn has_same_pages<A: Allocator + Copy>(head: &Head<A>, other: &Head<A>) -> bool
+    ensures { IsTrue result ↔ (pages_of head.now ≡ pages_of other.now) }
+{
+    head.at() == other.at() && head.pages() == other.pages()
 }
 
 // Gives up the pages of heads.

@@ -10,6 +10,13 @@ use std::alloc::{AllocError, Allocator};
 use std::marker::Model;
 use std::sync::Arc;
 
+/// The page of an item's head, the item's key, how many bytes its value has, and the pages that hold them. It never changes: roots that
+/// name it share it.
+#[derive(Drop)]
+pub struct Head<A: Allocator + Copy> {
+    body: Arc<Body<A>, A>,
+}
+
 // What a head says.
 #[derive(Drop)]
 struct Body<A: Allocator + Copy> {
@@ -17,13 +24,6 @@ struct Body<A: Allocator + Copy> {
     key: Vec<u8, A>,
     size: u32,
     pages: Vec<u16, A>,
-}
-
-/// The page of an item's head, the item's key, how many bytes its value has, and the pages that hold them. It never changes, and an
-/// item that stays has it in the next root too: so roots share it.
-#[derive(Drop)]
-pub struct Head<A: Allocator + Copy> {
-    body: Arc<Body<A>, A>,
 }
 
 impl<A: Allocator + Copy> Model for Head<A> {

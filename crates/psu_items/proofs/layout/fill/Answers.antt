@@ -1,4 +1,4 @@
-use Rattle.std.proofs.Common.{◌≡◌, ◌∙◌, ◌++◌, ◌∷◌, ◌<◌, [], List, Some, ap, sym, subst, length, get_or, take, arith}
+use Rattle.std.proofs.Common.{◌≡◌, ◌∙◌, ◌<◌, List, Some, ap, sym, subst, length, get_or, take, arith}
 use Rattle.std.proofs.lemmas.List.{length-map, take_all}
 use Rattle.psu_pages.proofs.Lists.{all_at, all_take}
 use Rattle.psu_map.specs.Capacity.{Fits}
