@@ -1,12 +1,13 @@
 -- What stands at the place of a key, and what a change there does to the map.
-use Rattle.std.proofs.Common.{◌≡◌, ℕ, zero, suc, ◌+◌, ◌<◌, ◌⊎◌, inl, inr, length, List, [], ◌∷◌, get_or, set, Some, None, refl, sym, ◌∙◌, ap, subst, arith, ◌++◌}
+use Rattle.std.proofs.Common.{◌≡◌, ℕ, zero, suc, ◌+◌, ◌<◌, ◌⊎◌, inl, inr, length, List, [], ◌∷◌, get_or, set, Some, None, true, false, refl, sym, ◌∙◌, ap, subst, arith, ◌++◌}
 use Rattle.std.specs.List.{insert, remove, AllByRecursion}
 use Rattle.std.proofs.Math.Nat.{eq-or-lt_of_le}
 use Rattle.std.proofs.lemmas.Cmp.{nat_list_cmp_total}
 use Rattle.psu_map.proofs.Lists.{all_at}
 use Rattle.psu_map.specs.Map.{Item, item_of, get, put, without, Before, IsSorted, Sets}
 use Rattle.psu_map.specs.Place.{key_at, IsPlace, IsAt, IsGap}
-use Rattle.psu_map.proofs.Keys.{other_key, same_true, before_not_same, after_not_same, turned, is_lt-before, is_lt-not_before}
+use Rattle.std.specs.Str.{bytes_eq}
+use Rattle.psu_map.proofs.Keys.{other_key, same_key, same_true, before_not_same, after_not_same, turned, is_lt-before, is_lt-not_before}
 use Rattle.psu_map.proofs.Maps.{all_after, get_before, get-put, sorted-put, sorted-without}
 
 -- of two places the former has the smaller key
@@ -42,6 +43,27 @@ is_gap-tail i items key at gap = record { place = at-tail i items key at gap.pla
 without_before : (items : List Item) (k : List ℕ) → AllByRecursion (λ (j : Item). Before k j.key) items → without items k ≡ items
 without_before [] k all = refl
 without_before (i ∷ items) k all = rw (after_not_same k i.key all.0) (ap (λ (l : List Item). i ∷ l) (without_before items k all.1))
+
+key_of_place : (items : List Item) (at : ℕ) (d : Item) → at < length items → key_at items at ≡ (let found = get_or items at d in found.key)
+key_of_place [] at d lt = absurd (omega (arith, lt))
+key_of_place (x ∷ items) zero d lt = refl
+key_of_place (x ∷ items) (suc at) d lt = key_of_place items at d (omega (arith, lt))
+
+-- an item that has the key stands at its place
+at_key : (items : List Item) (key : List ℕ) (at : ℕ) → IsSorted items → at < length items → key_at items at ≡ key → IsAt items key at
+at_key items key at sorted within same = record {
+  place = record {
+    bound = omega (arith, within);
+    below = λ j lt. subst (Before (key_at items j)) same (key_before items j at sorted lt within);
+    end = λ lt before. absurd (let bad : false ≡ true = sym (before_not_same (key_at items at) key before) ∙ same_true (key_at items at) key same in cc);
+  };
+  in_range = within;
+  same = same;
+}
+
+pub key_found : (items : List Item) (key : List ℕ) (at : ℕ) (found : Item) → IsSorted items → at < length items → found ≡ get_or items at found → bytes_eq found.key key ≡ true → IsAt items key at
+key_found items key at found sorted within there same =
+    at_key items key at sorted within (key_of_place items at found within ∙ (ap (λ (i : Item). i.key) (sym there) ∙ same_key found.key key same))
 
 -- the item at the place of its key
 pub get-at : (items : List Item) (key : List ℕ) (at : ℕ) (d : Item) → IsAt items key at → get items key ≡ Some (get_or items at d).value

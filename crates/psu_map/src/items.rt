@@ -6,7 +6,7 @@ ghost use Rattle.psu_map.specs.Batch.{edited, changed, Assigns};
 ghost use Rattle.psu_map.specs.Place.{IsAt, IsGap};
 
 use crate::same::same;
-use crate::search::{search, value_of};
+use crate::search::{search, value_near, value_of};
 use crate::{Batch, Edit, Pair};
 use std::alloc::{AllocError, Allocator};
 use std::marker::Model;
@@ -44,6 +44,14 @@ impl<A: Allocator + Copy> Items<A> {
         ensures { option_map (λ v. v.now) result ≡ get self.now key.now }
     {
         value_of(&self.pairs, key)
+    }
+
+    /// The same. The key is looked for first at the place `next`, which then moves behind it: where keys come in their order, each is
+    /// found at once.
+    pub fn get_near(&self, next: &mut usize, key: &[u8]) -> Option<&[u8]>
+        ensures { option_map (λ v. v.now) result ≡ get self.now key.now }
+    {
+        value_near(&self.pairs, next, key)
     }
 
     /// Gives a key a value, in place of the one that it has. The only error is a want of memory.

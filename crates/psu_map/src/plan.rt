@@ -3,7 +3,7 @@ ghost use Rattle.std.specs.Prelude.{◌≡◌, ◌<◌, ◌≤◌, ◌+◌, [], 
 ghost use Rattle.psu_map.specs.Map.{get, put, without, IsSorted};
 ghost use Rattle.psu_map.specs.Batch.{changed, edited};
 
-use crate::search::{search, value_of};
+use crate::search::{search, value_near, value_of};
 use crate::{Batch, Edit, Items, Pair};
 use std::alloc::{AllocError, Allocator};
 use std::marker::Model;
@@ -89,6 +89,14 @@ impl<A: Allocator + Copy> Plan<A> {
         ensures { option_map (λ v. v.now) result ≡ get self.now.map key.now }
     {
         value_of(&self.pairs, key)
+    }
+
+    /// The same. The key is looked for first at the place `next`, which then moves behind it: where keys come in their order, each is
+    /// found at once.
+    pub fn get_near(&self, next: &mut usize, key: &[u8]) -> Option<&[u8]>
+        ensures { option_map (λ v. v.now) result ≡ get self.now.map key.now }
+    {
+        value_near(&self.pairs, next, key)
     }
 
     /// The edits that are planned.

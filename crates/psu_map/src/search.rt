@@ -1,5 +1,5 @@
 //! Where a key stands among things in order.
-ghost use Rattle.std.specs.Prelude.{◌≡◌, ◌<◌, length, map, IfOk, IfErr, option_map};
+ghost use Rattle.std.specs.Prelude.{◌≡◌, ◌<◌, length, map, IfOk, IfErr, IsTrue, option_map};
 ghost use Rattle.std.specs.Ordering.{nat_cmp};
 ghost use Rattle.std.specs.Cmp.Lexicographic.{slice_cmp};
 ghost use Rattle.psu_map.specs.Map.{get, IsSorted};
@@ -19,6 +19,52 @@ pub fn value_of<'p, A: Allocator + Copy>(pairs: &'p [Pair<A>], key: &[u8]) -> Op
         Ok(at) => Some(pairs[at].value()),
         Err(_) => None,
     }
+}
+
+/// The same, where keys come in their order: looked for first behind the place of the key before, which `next` tells, and which
+/// moves behind the place of this one.
+pub fn value_near<'p, A: Allocator + Copy>(
+    pairs: &'p [Pair<A>],
+    next: &mut usize,
+    key: &[u8],
+) -> Option<&'p [u8]>
+    requires { IsSorted pairs.now }
+    ensures { option_map (λ v. v.now) result ≡ get pairs.now key.now }
+{
+    match search_near(pairs, *next, key) {
+        Ok(at) => {
+            *next = at + 1;
+            Some(pairs[at].value())
+        }
+        Err(at) => {
+            *next = at;
+            None
+        }
+    }
+}
+
+// Where the key is among pairs, or where it would go; looked for at this place first.
+fn search_near<A: Allocator + Copy>(
+    pairs: &[Pair<A>],
+    at: usize,
+    key: &[u8],
+) -> Result<usize, usize>
+    requires { IsSorted pairs.now }
+    ensures found { IfOk result (IsAt pairs.now key.now) }
+    ensures absent { IfErr result (IsGap pairs.now key.now) }
+{
+    if is_there(pairs, at, key) {
+        return Ok(at);
+    }
+    search(pairs, key)
+}
+
+// Whether the pair of a place has the key.
+fn is_there<A: Allocator + Copy>(pairs: &[Pair<A>], at: usize, key: &[u8]) -> bool
+    requires { IsSorted pairs.now }
+    ensures { IsTrue result → IsAt pairs.now key.now at }
+{
+    at < pairs.len() && pairs[at].key() == key
 }
 
 /// Where the key is among pairs, or where it would go.
