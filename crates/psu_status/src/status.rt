@@ -228,6 +228,9 @@ impl Status {
         ensures value { result ≡ enabled self.now mav }
         ensures always { IsReported self.now }
     {
+        if self.sre == 0 {
+            return 0;
+        }
         self.summaries(mav) & self.sre
     }
 
