@@ -81,9 +81,7 @@ impl Instrument {
     ) -> Result<Act<'c, A>, ScpiError>
         ensures { (limit : ℕ) (contents : Kept) (available : Bool) → ActsAs (set (situation limit contents self.old available) output thing) self.old result self.new }
     {
-        let mut settings = self.outputs.get();
-        settings.set(output, thing)?;
-        self.outputs.set(settings)?;
+        self.outputs.set_one(output, thing)?;
         self.follow();
         Ok(Act::Done)
     }

@@ -2,4 +2,5 @@ mod Bytes
 mod Four
 mod Ranges
 mod Resets
+mod Settled
 pub mod Apart

@@ -52,6 +52,10 @@ settings_sound s settings e f =
     let parts = both (is_allowed s.settings) (is_load s.load.0) e in
     checked_sound (record { settings = settings; load = s.load; tripped = s.tripped }) (join (is_allowed settings) (is_load s.load.0) f parts.1)
 
+-- one thing that is set within its range
+pub thing_sound : (s : Supply) (thing : Setting) → is_sound s ≡ true → is_in_range thing ≡ true → is_sound (with_settings s (with_setting s.settings thing)) ≡ true
+thing_sound s thing e f = settings_sound s (with_setting s.settings thing) e (set_allowed s.settings thing (both (is_allowed s.settings) (is_load s.load.0) e).0 f)
+
 pub load_sound : (s : Supply) (load : ℕ) → is_sound s ≡ true → is_load load ≡ true → is_sound (with_load s load) ≡ true
 load_sound s load e f =
     let parts = both (is_allowed s.settings) (is_load s.load.0) e in

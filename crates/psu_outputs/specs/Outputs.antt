@@ -1,6 +1,6 @@
 -- The outputs with what is connected to each, and their trips.
 -- Sources: SCPI-1999 volume 2 (OUTPut, PROTection); the rules of trips are this project's profile.
-use Rattle.std.specs.Prelude.{◌≡◌, ℕ, ◌+◌, ◌&&◌, ◌||◌, nat_le, Bool, true, false, if◌then◌else◌, List, [], ◌∷◌, length, map, slice_index_or, slice_set}
+use Rattle.std.specs.Prelude.{◌≡◌, ℕ, ◌+◌, ◌&&◌, ◌||◌, nat_le, not, Bool, true, false, if◌then◌else◌, List, [], ◌∷◌, length, map, slice_index_or, slice_set}
 use Rattle.std.specs.List.{list_any, list_all}
 use Rattle.psu_outputs.specs.declared.output.Output.{Output}
 use Rattle.psu_outputs.specs.declared.setting.Setting.TheVariants.{State}
@@ -28,6 +28,13 @@ is_sound s = is_allowed s.settings && is_load s.load.0
 -- four outputs, each within its ranges
 abbrev pub AreSupplies : List Supply → Type 0
 AreSupplies supplies = (length supplies ≡ 4) × (list_all is_sound supplies ≡ true)
+
+-- nothing is left that would trip it, and it is off while it is tripped
+abbrev pub is_settled : Supply → Bool
+is_settled s = not (trips s.settings s.load.0) && not (s.tripped && s.settings.on)
+
+abbrev pub AreSettled : List Supply → Type 0
+AreSettled supplies = list_all is_settled supplies ≡ true
 
 -- # Changes
 

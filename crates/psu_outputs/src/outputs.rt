@@ -1,13 +1,13 @@
 // The four outputs with what is connected to them.
-ghost use Rattle.std.specs.Prelude.{◌≡◌, OnOk, IfErr, false, true, replicate, if◌then◌else◌};
+ghost use Rattle.std.specs.Prelude.{◌≡◌, ◌⊎◌, OnOk, OnErr, IfErr, false, true, replicate, if◌then◌else◌};
 ghost use Rattle.std.specs.List.{list_any};
 ghost use Rattle.psu_outputs.specs.declared.supply.Supply.{Supply as Each};
-ghost use Rattle.psu_outputs.specs.Settings.{measured};
+ghost use Rattle.psu_outputs.specs.Settings.{after_set, is_in_range, measured};
 ghost use Rattle.psu_outputs.specs.Outputs.{reset_supply, supply_of, with_supply, all_settings, any_conflicts, with_all, with_load, without_trip, restored, is_load, is_in_limit, conditions};
 ghost use Rattle.psu_lex.specs.declared.scpi_error.ScpiError.TheVariants.{DataOutOfRange, SettingsConflict};
 
 use crate::supply::Supply;
-use crate::{Measured, Milliohms, Output, OutputSettings, Settings};
+use crate::{Measured, Milliohms, Output, OutputSettings, Setting, Settings};
 use psu_lex::ScpiError;
 use std::marker::Model;
 
@@ -23,13 +23,13 @@ pub struct Outputs {
 impl Model for Outputs {
     ghost use Rattle.std.specs.Prelude.{List};
     ghost use Rattle.psu_outputs.specs.declared.supply.Supply.{Supply};
-    ghost use Rattle.psu_outputs.specs.Outputs.{AreSupplies};
+    ghost use Rattle.psu_outputs.specs.Outputs.{AreSettled, AreSupplies};
 
     ghost Value = { List Supply };
 
     ghost view = { λ o. o.supplies };
 
-    ghost invariant = { λ o. AreSupplies o.supplies };
+    ghost invariant = { λ o. AreSupplies o.supplies × AreSettled o.supplies };
 }
 
 impl Outputs {
@@ -70,6 +70,26 @@ impl Outputs {
         Ok(())
     }
 
+    /// Sets one thing of an output, which may then trip. It is refused where it is out of its range, or else where it switches a tripped
+    /// output on, and nothing has changed then.
+    pub fn set_one(&mut self, output: Output, setting: Setting) -> Result<(), ScpiError>
+        ensures set { OnOk result ((is_in_range setting ≡ true) × (any_conflicts self.old (after_set (all_settings self.old) output setting) ≡ false) × (self.new ≡ with_all self.old (after_set (all_settings self.old) output setting))) }
+        ensures refused { IfErr result (λ error. ((error ≡ DataOutOfRange) × (is_in_range setting ≡ false)) ⊎ ((error ≡ SettingsConflict) × (is_in_range setting ≡ true) × (any_conflicts self.old (after_set (all_settings self.old) output setting) ≡ true))) }
+        ensures same { OnErr result (self.new ≡ self.old) }
+    {
+        if !setting.is_in_range() {
+            return Err(ScpiError::DataOutOfRange);
+        }
+        let place = output.place();
+        let supply = self.supplies[place];
+        let settings = supply.settings.with(setting);
+        if supply.conflicts(settings) {
+            return Err(ScpiError::SettingsConflict);
+        }
+        self.supplies[place] = supply.with_settings(settings);
+        Ok(())
+    }
+
     /// Clears all trips and sets all that is set of the outputs; each may then trip. Nothing refuses it.
     pub fn restore(&mut self, settings: Settings)
         ensures { self.new ≡ restored self.old settings }
@@ -93,9 +113,10 @@ impl Outputs {
         self.supplies[output.place()].measured()
     }
 
-    /// Whether an output is tripped.
+    /// Whether an output is tripped. It is off until that is cleared.
     pub fn trip(&self, output: Output) -> bool
-        ensures { let s = supply_of self.now output in result ≡ s.tripped }
+        ensures value { let s = supply_of self.now output in result ≡ s.tripped }
+        ensures off { result ≡ true → (let s = supply_of self.now output in s.settings.on ≡ false) }
     {
         self.supplies[output.place()].tripped
     }
