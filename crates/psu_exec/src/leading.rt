@@ -31,16 +31,17 @@ fn behind<'e, A: Allocator + Copy>(
     }
 }
 
-// The edits behind the removal of an item whose key the target has not.
+// The edits behind the removal of an item whose key the target has not. Keys come in their order, and `next` goes with them.
 fn behind_removal<'e, A: Allocator + Copy>(
     edits: &'e [Edit<A>],
     target: &Items<A>,
+    next: &mut usize,
     pair: &Pair<A>,
 ) -> Option<&'e [Edit<A>]>
     ensures some { IfSome result (λ rest. edits.now ≡ removal target.now pair.now ++ rest.now) }
     ensures none { IfNone result ((rest : List EditData) → edits.now ≡ removal target.now pair.now ++ rest → ⊥) }
 {
-    if target.get(pair.key()).is_some() {
+    if target.get_near(next, pair.key()).is_some() {
         return Some(edits);
     }
     behind(edits, pair.key(), None)
@@ -50,12 +51,13 @@ fn behind_removal<'e, A: Allocator + Copy>(
 fn behind_assignment<'e, A: Allocator + Copy>(
     edits: &'e [Edit<A>],
     before: &Plan<A>,
+    next: &mut usize,
     pair: &Pair<A>,
 ) -> Option<&'e [Edit<A>]>
     ensures some { IfSome result (λ rest. edits.now ≡ assignment before.now.map pair.now ++ rest.now) }
     ensures none { IfNone result ((rest : List EditData) → edits.now ≡ assignment before.now.map pair.now ++ rest → ⊥) }
 {
-    if is_value(pair.value(), before.get(pair.key())) {
+    if is_value(pair.value(), before.get_near(next, pair.key())) {
         return Some(edits);
     }
     behind(edits, pair.key(), Some(pair.value()))
@@ -71,8 +73,9 @@ fn behind_removals<'e, A: Allocator + Copy>(
     ensures sorted { IsSorted plan.now.map }
 {
     let mut rest = plan.edits().edits();
+    let mut next = 0;
     for pair in plan.pairs() {
-        match behind_removal(rest, target, pair) {
+        match behind_removal(rest, target, &mut next, pair) {
             Some(behind) => rest = behind,
             None => return None,
         }
@@ -90,8 +93,9 @@ fn are_assignments<A: Allocator + Copy>(
     ensures sorted { IsSorted target.now }
 {
     let mut rest = edits;
+    let mut next = 0;
     for pair in target.pairs() {
-        match behind_assignment(rest, before, pair) {
+        match behind_assignment(rest, before, &mut next, pair) {
             Some(behind) => rest = behind,
             None => return false,
         }
