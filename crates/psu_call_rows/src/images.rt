@@ -13,6 +13,11 @@ pub fn least(alloc: Global) -> Option<MemDisk<Global>> {
     image(alloc, 5_120, 4)
 }
 
+/// A formatted image of 24 pages.
+pub fn small(alloc: Global) -> Option<MemDisk<Global>> {
+    image(alloc, 25_600, 24)
+}
+
 // A formatted image of so many bytes under this limit; none where the limit or the room is not one that an image can have.
 fn image(alloc: Global, size: u64, limit: u16) -> Option<MemDisk<Global>> {
     if limit < 4 || limit > 480 || size < 512 * (2 + 2 * u64::from(limit)) {

@@ -2,6 +2,8 @@
 #![tactic(auto)]
 
 #[cfg(test)]
+mod changes_meanwhile;
+#[cfg(test)]
 mod counts;
 #[cfg(test)]
 mod devices;
