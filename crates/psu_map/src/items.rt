@@ -48,6 +48,7 @@ impl<A: Allocator + Copy> Items<A> {
 
     /// The same. The key is looked for first at the place `next`, which then moves behind it: where keys come in their order, each is
     /// found at once.
+    #[inline(always)]
     pub fn get_near(&self, next: &mut usize, key: &[u8]) -> Option<&[u8]>
         ensures { option_map (λ v. v.now) result ≡ get self.now key.now }
     {

@@ -23,6 +23,7 @@ pub fn value_of<'p, A: Allocator + Copy>(pairs: &'p [Pair<A>], key: &[u8]) -> Op
 
 /// The same, where keys come in their order: looked for first behind the place of the key before, which `next` tells, and which
 /// moves behind the place of this one.
+#[inline(always)]
 pub fn value_near<'p, A: Allocator + Copy>(
     pairs: &'p [Pair<A>],
     next: &mut usize,
@@ -31,7 +32,25 @@ pub fn value_near<'p, A: Allocator + Copy>(
     requires { IsSorted pairs.now }
     ensures { option_map (λ v. v.now) result ≡ get pairs.now key.now }
 {
-    match search_near(pairs, *next, key) {
+    let at = *next;
+    if is_there(pairs, at, key) {
+        *next = at + 1;
+        return Some(pairs[at].value());
+    }
+    value_far(pairs, next, key)
+}
+
+// The same where it is not there.
+#[inline(never)]
+fn value_far<'p, A: Allocator + Copy>(
+    pairs: &'p [Pair<A>],
+    next: &mut usize,
+    key: &[u8],
+) -> Option<&'p [u8]>
+    requires { IsSorted pairs.now }
+    ensures { option_map (λ v. v.now) result ≡ get pairs.now key.now }
+{
+    match search(pairs, key) {
         Ok(at) => {
             *next = at + 1;
             Some(pairs[at].value())
@@ -43,23 +62,8 @@ pub fn value_near<'p, A: Allocator + Copy>(
     }
 }
 
-// Where the key is among pairs, or where it would go; looked for at this place first.
-fn search_near<A: Allocator + Copy>(
-    pairs: &[Pair<A>],
-    at: usize,
-    key: &[u8],
-) -> Result<usize, usize>
-    requires { IsSorted pairs.now }
-    ensures found { IfOk result (IsAt pairs.now key.now) }
-    ensures absent { IfErr result (IsGap pairs.now key.now) }
-{
-    if is_there(pairs, at, key) {
-        return Ok(at);
-    }
-    search(pairs, key)
-}
-
 // Whether the pair of a place has the key.
+#[inline(always)]
 fn is_there<A: Allocator + Copy>(pairs: &[Pair<A>], at: usize, key: &[u8]) -> bool
     requires { IsSorted pairs.now }
     ensures { IsTrue result → IsAt pairs.now key.now at }
