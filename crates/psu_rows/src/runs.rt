@@ -15,7 +15,7 @@ pub struct Ran<D: Disk> {
     pub disk: D,
 }
 
-/// The run itself, which all rows make here: what it promises costs a proof half a minute at each call.
+/// The run itself, which all rows make here, so that its promises are read in one proof alone.
 pub fn run_between<R: Read, W: Write, D: Disk, A: Allocator + Copy>(
     memory: A,
     reader: &mut R,
