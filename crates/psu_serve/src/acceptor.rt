@@ -1,11 +1,8 @@
 // The server: it powers on, and gives each connection a thread.
-use crate::caller::Caller;
-use crate::condition::Condition;
 use crate::connection::Connection;
-use crate::flushing::Flusher;
 use crate::serve_fault::ServeFault;
-use crate::shared_gate::SharedGate;
 use psu_bench::{Gate, Gated};
+use psu_callers::{Caller, Condition, Flusher, SharedGate};
 use psu_disk::{Disk, FileDisk};
 use psu_exec::Exec;
 use psu_items::Store;

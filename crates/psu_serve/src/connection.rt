@@ -1,15 +1,12 @@
 // A connection, from its first byte to its end.
-use crate::caller::Caller;
-use crate::notifier::notify;
 use crate::opening::{close, fatal, first_messages, open};
-use crate::reading::{read_async, read_sync, serve_messages};
-use crate::serving::Serving;
-use crate::worker::Worker;
 use psu_bench::Gate;
+use psu_callers::Caller;
 use psu_disk::Disk;
 use psu_exec::Session;
 use psu_hislip::{Channel, FatalCode, First, Message, Side};
 use psu_members::{Link, Member, Server, Silent};
+use psu_session_threads::{Serving, Worker, notify, read_async, read_sync, serve_messages};
 use std::alloc::Global;
 use std::rt::Clock;
 use std::sync::{Arc, Mutex, Wait};

@@ -1,19 +1,17 @@
 // A connection up to its first message, and sessions that open and close.
-use crate::caller::Caller;
 use crossbeam_channel::unbounded;
 use psu_bench::Gate;
+use psu_callers::Caller;
 use psu_disk::Disk;
 use psu_exec::{Grant, Session};
 use psu_hislip::{Channel, FatalCode, Header, Message, MessageType, lock_response};
 use psu_members::{Heard, Link, Member, Server};
+use psu_session_threads::SILENCE;
 use std::alloc::Global;
 use std::io;
 use std::rt::Clock;
 use std::sync::{Arc, Wait};
 use std::time::{Duration, Instant};
-
-/// How long a connection may take to say what it is, and a session to be joined, in seconds.
-pub const SILENCE: u64 = 10;
 
 /// The sixteen bytes of a FatalError.
 pub fn fatal(code: FatalCode) -> [u8; 16] {

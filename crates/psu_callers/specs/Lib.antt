@@ -1,0 +1,3 @@
+pub mod Condition
+pub mod Seen
+pub mod Served

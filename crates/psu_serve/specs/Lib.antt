@@ -1,4 +1,0 @@
-pub mod Condition
-pub mod Seen
-pub mod Served
-pub mod Serving
