@@ -4,7 +4,7 @@ use crate::sessions_bench::{opened as open_session, powered_on_with, runs_job, s
 use crate::stores::{assigned, opened, stored};
 use psu_disk::{Disk, DiskFault, MemDisk};
 use psu_exec::Exec;
-use psu_items::{Batch, Items};
+use psu_items::{Batch, Items, Value};
 use std::alloc::Global;
 use std::process::Abort;
 
@@ -171,7 +171,9 @@ fn a_small_save_beside_a_file(rt: HostRuntime) {
 fn a_save_with_the_file_writes(alloc: Global) -> Option<bool> {
     let mut batch = enables(alloc)?;
     let file = file_bytes(alloc)?;
-    batch.assign([5, 65].to_vec(alloc).ok()?, file).ok()?;
+    batch
+        .assign([5, 65].to_vec(alloc).ok()?, Value::new(file).ok()?)
+        .ok()?;
     writes(alloc, batch, 5, 1_537)
 }
 

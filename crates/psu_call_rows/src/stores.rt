@@ -4,7 +4,7 @@ ghost use Rattle.psu_map.specs.Batch.{changed};
 ghost use Rattle.psu_map.specs.Capacity.{CanHold, Fits};
 
 use psu_disk::Disk;
-use psu_items::{Batch, Commit, Items, Pair, Store};
+use psu_items::{Batch, Commit, Items, Pair, Store, Value};
 use std::alloc::Global;
 
 /// The store that an opening gives.
@@ -59,6 +59,6 @@ pub fn assigned(alloc: Global, key: &[u8], value: &[u8]) -> Option<Batch<Global>
     let mut batch = Batch::new(alloc);
     let key = key.to_vec(alloc).ok()?;
     let value = value.to_vec(alloc).ok()?;
-    batch.assign(key, value).ok()?;
+    batch.assign(key, Value::new(value).ok()?).ok()?;
     Some(batch)
 }

@@ -7,7 +7,7 @@ ghost use Rattle.psu_items.specs.Image.{listed};
 ghost use Rattle.psu_pages.specs.declared.page_fault.PageFault.TheVariants.{Device, NoPage};
 
 use psu_disk::Disk;
-use psu_map::Items;
+use psu_map::{Items, Value};
 use psu_pages::{PageFault, Pages};
 use std::alloc::Allocator;
 
@@ -63,6 +63,6 @@ fn read_item<D: Disk, A: Allocator + Copy>(
 {
     let head = pages.heads()[at].share()?;
     let value = pages.load(alloc, &head)?;
-    items.insert(head.key().to_vec(alloc)?, value)?;
+    items.insert(head.key().to_vec(alloc)?, Value::new(value)?)?;
     Ok(())
 }

@@ -1,7 +1,7 @@
 //! Changes of a map that are stored as one.
 ghost use Rattle.std.specs.Prelude.{◌≡◌, ◌++◌, ◌∷◌, [], Some, None, IfOk, OnOk, OnErr};
 
-use crate::Edit;
+use crate::{Edit, Value};
 use std::alloc::{AllocError, Allocator};
 use std::marker::Model;
 
@@ -31,8 +31,8 @@ impl<A: Allocator + Copy> Batch<A> {
     }
 
     /// Adds the edit that gives a key a value.
-    pub fn assign(&mut self, key: Vec<u8, A>, value: Vec<u8, A>) -> Result<(), AllocError>
-        ensures ok { OnOk result (self.new ≡ self.old ++ record { key = key.items; value = Some value.items } ∷ []) }
+    pub fn assign(&mut self, key: Vec<u8, A>, value: Value<A>) -> Result<(), AllocError>
+        ensures ok { OnOk result (self.new ≡ self.old ++ record { key = key.items; value = Some value } ∷ []) }
         ensures err { OnErr result (self.new ≡ self.old) }
     {
         self.edits.push(Edit::new(key, Some(value)))?;
@@ -55,7 +55,7 @@ impl<A: Allocator + Copy> Batch<A> {
         &self.edits
     }
 
-    /// The same edits in memory of their own.
+    /// The same edits: the keys in memory of their own, the values shared.
     pub fn copy(&self, alloc: A) -> Result<Self, AllocError>
         ensures { IfOk result (λ copy. copy ≡ self.now) }
     {

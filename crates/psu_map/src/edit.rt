@@ -1,6 +1,7 @@
 //! One change of a batch.
 ghost use Rattle.std.specs.Prelude.{◌≡◌, Some, None, IfOk, option_map};
 
+use crate::Value;
 use std::alloc::{AllocError, Allocator};
 use std::marker::Model;
 
@@ -9,7 +10,7 @@ use std::marker::Model;
 #[derive(Drop)]
 pub struct Edit<A: Allocator + Copy> {
     pub(crate) key: Vec<u8, A>,
-    pub(crate) value: Option<Vec<u8, A>>,
+    pub(crate) value: Option<Value<A>>,
 }
 
 impl<A: Allocator + Copy> Model for Edit<A> {
@@ -18,12 +19,12 @@ impl<A: Allocator + Copy> Model for Edit<A> {
 
     ghost Value = { Edit };
 
-    ghost view = { λ e. record { key = e.key.items; value = option_map (λ v. v.items) e.value } };
+    ghost view = { λ e. record { key = e.key.items; value = e.value } };
 }
 
 impl<A: Allocator + Copy> Edit<A> {
-    pub(crate) fn new(key: Vec<u8, A>, value: Option<Vec<u8, A>>) -> Self
-        ensures { result ≡ record { key = key.items; value = option_map (λ v. v.items) value } }
+    pub(crate) fn new(key: Vec<u8, A>, value: Option<Value<A>>) -> Self
+        ensures { result ≡ record { key = key.items; value = value } }
     {
         Edit { key, value }
     }
@@ -40,18 +41,18 @@ impl<A: Allocator + Copy> Edit<A> {
         ensures { option_map (λ v. v.now) result ≡ self.now.value }
     {
         match &self.value {
-            Some(value) => Some(value),
+            Some(value) => Some(value.bytes()),
             None => None,
         }
     }
 
-    /// The same edit in memory of its own.
+    /// The same edit: the key in memory of its own, the value shared.
     pub(crate) fn copy(&self, alloc: A) -> Result<Self, AllocError>
         ensures { IfOk result (λ copy. copy ≡ self.now) }
     {
         let mut copy = Edit::new(self.key.to_vec(alloc)?, None);
         if let Some(value) = &self.value {
-            copy.value = Some(value.to_vec(alloc)?);
+            copy.value = Some(value.share()?);
         }
         Ok(copy)
     }

@@ -7,7 +7,7 @@ ghost use Rattle.psu_map.specs.Place.{IsAt, IsGap};
 
 use crate::same::same;
 use crate::search::{search, value_near, value_of};
-use crate::{Batch, Edit, Pair};
+use crate::{Batch, Edit, Pair, Value};
 use std::alloc::{AllocError, Allocator};
 use std::marker::Model;
 
@@ -56,12 +56,12 @@ impl<A: Allocator + Copy> Items<A> {
     }
 
     /// Gives a key a value, in place of the one that it has. The only error is a want of memory.
-    pub fn insert(&mut self, key: Vec<u8, A>, value: Vec<u8, A>) -> Result<(), AllocError>
-        ensures ok { OnOk result (self.new ≡ put self.old key.items value.items) }
+    pub fn insert(&mut self, key: Vec<u8, A>, value: Value<A>) -> Result<(), AllocError>
+        ensures ok { OnOk result (self.new ≡ put self.old key.items value) }
         ensures err { OnErr result (self.new ≡ self.old) }
 
         // What follows: every other key has what it had.
-        ensures sets { OnOk result (Sets self.old self.new key.items value.items) }
+        ensures sets { OnOk result (Sets self.old self.new key.items value) }
     {
         match self.search(&key) {
             Ok(at) => {
@@ -73,9 +73,9 @@ impl<A: Allocator + Copy> Items<A> {
     }
 
     /// Adds an item behind all others: its key comes after theirs. The only error is a want of memory.
-    pub fn append(&mut self, key: Vec<u8, A>, value: Vec<u8, A>) -> Result<(), AllocError>
+    pub fn append(&mut self, key: Vec<u8, A>, value: Value<A>) -> Result<(), AllocError>
         requires { AllByRecursion (λ (i : Item). Before i.key key.items) self.old }
-        ensures ok { OnOk result (self.new ≡ self.old ++ item_of key.items value.items ∷ []) }
+        ensures ok { OnOk result (self.new ≡ self.old ++ item_of key.items value ∷ []) }
         ensures err { OnErr result (self.new ≡ self.old) }
     {
         self.pairs.push(Pair::new(key, value))?;
@@ -91,7 +91,7 @@ impl<A: Allocator + Copy> Items<A> {
         }
     }
 
-    /// The same map in memory of its own.
+    /// The same map: the keys in memory of their own, the values shared.
     pub fn copy(&self, alloc: A) -> Result<Self, AllocError>
         ensures { IfOk result (λ copy. copy ≡ self.now) }
     {
@@ -148,8 +148,8 @@ impl<A: Allocator + Copy> Items<A> {
     fn apply(&mut self, alloc: A, edit: &Edit<A>) -> Result<(), AllocError>
         ensures { OnOk result (self.new ≡ edited self.old edit.now.key edit.now.value) }
     {
-        match edit.value() {
-            Some(value) => self.insert(edit.key().to_vec(alloc)?, value.to_vec(alloc)?)?,
+        match &edit.value {
+            Some(value) => self.insert(edit.key().to_vec(alloc)?, value.share()?)?,
             None => self.remove(edit.key()),
         }
         Ok(())

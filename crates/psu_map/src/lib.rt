@@ -11,6 +11,7 @@ mod plan;
 mod same;
 mod search;
 mod target;
+mod value;
 
 pub use batch::Batch;
 pub use edit::Edit;
@@ -19,3 +20,4 @@ pub use items::Items;
 pub use pair::Pair;
 pub use plan::Plan;
 pub use target::Target;
+pub use value::Value;

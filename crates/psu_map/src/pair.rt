@@ -2,6 +2,7 @@
 ghost use Rattle.std.specs.Prelude.{◌≡◌, IfOk};
 ghost use Rattle.psu_map.specs.Map.{item_of};
 
+use crate::Value;
 use std::alloc::{AllocError, Allocator};
 use std::marker::Model;
 
@@ -9,7 +10,7 @@ use std::marker::Model;
 #[derive(Drop)]
 pub struct Pair<A: Allocator + Copy> {
     key: Vec<u8, A>,
-    value: Vec<u8, A>,
+    value: Value<A>,
 }
 
 impl<A: Allocator + Copy> Model for Pair<A> {
@@ -17,12 +18,12 @@ impl<A: Allocator + Copy> Model for Pair<A> {
 
     ghost Value = { Item };
 
-    ghost view = { λ p. item_of p.key.items p.value.items };
+    ghost view = { λ p. item_of p.key.items p.value };
 }
 
 impl<A: Allocator + Copy> Pair<A> {
-    pub(crate) fn new(key: Vec<u8, A>, value: Vec<u8, A>) -> Self
-        ensures { result ≡ item_of key.items value.items }
+    pub(crate) fn new(key: Vec<u8, A>, value: Value<A>) -> Self
+        ensures { result ≡ item_of key.items value }
     {
         Pair { key, value }
     }
@@ -38,16 +39,23 @@ impl<A: Allocator + Copy> Pair<A> {
     pub fn value(&self) -> &[u8]
         ensures { result.now ≡ self.now.value }
     {
-        &self.value
+        self.value.bytes()
     }
 
-    /// The same key and value in memory of its own.
+    /// The value, to be shared.
+    pub fn share_value(&self) -> Result<Value<A>, AllocError>
+        ensures { IfOk result (λ value. value ≡ self.now.value) }
+    {
+        self.value.share()
+    }
+
+    /// The same key and value: the key in memory of its own, the value shared.
     pub(crate) fn copy(&self, alloc: A) -> Result<Self, AllocError>
         ensures { IfOk result (λ copy. copy ≡ self.now) }
     {
         Ok(Pair {
             key: self.key.to_vec(alloc)?,
-            value: self.value.to_vec(alloc)?,
+            value: self.value.share()?,
         })
     }
 }

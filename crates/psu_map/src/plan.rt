@@ -4,7 +4,7 @@ ghost use Rattle.psu_map.specs.Map.{get, put, without, IsSorted};
 ghost use Rattle.psu_map.specs.Batch.{changed, edited};
 
 use crate::search::{search, value_near, value_of};
-use crate::{Batch, Edit, Items, Pair};
+use crate::{Batch, Edit, Items, Pair, Value};
 use std::alloc::{AllocError, Allocator};
 use std::marker::Model;
 use std::mem;
@@ -159,10 +159,10 @@ fn take_out<A: Allocator + Copy>(pairs: &mut Vec<Pair<A>, A>, key: &[u8])
 }
 
 // Gives a key a value, with no memory.
-fn put_within<A: Allocator + Copy>(pairs: &mut Vec<Pair<A>, A>, key: Vec<u8, A>, value: Vec<u8, A>)
+fn put_within<A: Allocator + Copy>(pairs: &mut Vec<Pair<A>, A>, key: Vec<u8, A>, value: Value<A>)
     requires sorted { IsSorted pairs.old.items }
     requires room { vec_len pairs.old < vec_capacity pairs.old }
-    ensures items { pairs.new.items ≡ put pairs.old.items key.items value.items }
+    ensures items { pairs.new.items ≡ put pairs.old.items key.items value }
     ensures sorted { IsSorted pairs.new.items }
     ensures len { vec_len pairs.new ≤ vec_len pairs.old + 1 }
     ensures capacity { vec_capacity pairs.old ≤ vec_capacity pairs.new }

@@ -8,7 +8,7 @@ ghost use Rattle.psu_nv.specs.Views.{part_of};
 
 use crate::part::with_first;
 use crate::{Contents, Part, Register};
-use psu_map::{Batch, Items};
+use psu_map::{Batch, Items, Value};
 use psu_outputs::Settings;
 use std::alloc::{AllocError, Allocator};
 
@@ -48,7 +48,7 @@ impl<A: Allocator + Copy> Contents<A> {
     {
         for pair in self.files.pairs() {
             let key = with_first(alloc, 5, pair.key())?;
-            items.append(key, pair.value().to_vec(alloc)?)?;
+            items.append(key, pair.share_value()?)?;
         }
         Ok(())
     }
@@ -81,7 +81,7 @@ impl<A: Allocator + Copy> Contents<A> {
     {
         let key = part.key(alloc)?;
         match self.encode_part(alloc, part)? {
-            Some(value) => batch.assign(key, value),
+            Some(value) => batch.assign(key, Value::new(value)?),
             None => batch.remove(key),
         }
     }
@@ -92,7 +92,7 @@ impl<A: Allocator + Copy> Contents<A> {
         ensures { OnOk result (items.new ≡ items.old ++ part_items self.now (part_of part.entry)) }
     {
         if let Some(value) = self.encode_part(alloc, part)? {
-            items.append(part.key(alloc)?, value)?;
+            items.append(part.key(alloc)?, Value::new(value)?)?;
         }
         Ok(())
     }

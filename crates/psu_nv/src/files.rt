@@ -5,7 +5,7 @@ ghost use Rattle.psu_map.specs.Map.{Item, IsSorted, get, put, without, cost};
 ghost use Rattle.psu_nv.specs.Costs.{pages_of, IsShort};
 
 use crate::pages::page_count;
-use psu_map::{Items, Pair};
+use psu_map::{Items, Pair, Value};
 use std::alloc::{AllocError, Allocator};
 use std::marker::Model;
 
@@ -94,7 +94,7 @@ impl<A: Allocator + Copy> Files<A> {
         // Names come once each, in order.
         let _ = self.pairs();
         let pages = self.cost() + page_count(value.len() as u128) - self.pages_at(&name);
-        self.items.insert(name, value)?;
+        self.items.insert(name, Value::new(value)?)?;
         self.pages = pages;
         Ok(())
     }

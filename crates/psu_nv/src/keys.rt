@@ -92,7 +92,7 @@ pub(crate) fn files_of<A: Allocator + Copy>(
     let mut files = Items::new(alloc);
     for pair in items.pairs() {
         if let Some(name) = name_in(pair.key()) {
-            files.append(name.to_vec(alloc)?, pair.value().to_vec(alloc)?)?;
+            files.append(name.to_vec(alloc)?, pair.share_value()?)?;
         }
     }
     Ok(files)

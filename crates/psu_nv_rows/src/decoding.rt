@@ -1,7 +1,7 @@
 // Contents from a map: each of its rows good, and each way in which one is bad.
 use crate::maps::{bytes_of, map_of};
 use crate::told::holds;
-use psu_map::Items;
+use psu_map::{Items, Value};
 use psu_nv::{Contents, DecodeFault};
 use psu_tables::row;
 use std::alloc::Global;
@@ -42,7 +42,8 @@ fn told(alloc: Global, items: &Items<Global>, key: &[u8], value: &[u8]) -> Optio
 fn one(alloc: Global, key: &[u8], value: &[u8]) -> Option<Items<Global>> {
     let mut items = Items::new(alloc);
     let key = key.to_vec(alloc).ok()?;
-    items.insert(key, value.to_vec(alloc).ok()?).ok()?;
+    let value = Value::new(value.to_vec(alloc).ok()?).ok()?;
+    items.insert(key, value).ok()?;
     Some(items)
 }
 

@@ -1,5 +1,5 @@
 // Maps as tables: an item a line, its key and its value.
-use psu_map::Items;
+use psu_map::{Items, Value};
 use psu_tables::bytes;
 use std::alloc::Allocator;
 
@@ -27,7 +27,8 @@ fn put<A: Allocator + Copy>(alloc: A, items: &mut Items<A>, line: &str) -> Optio
     }
     let (key, value) = line.split_once("|")?;
     let key = bytes_of(alloc, key)?;
-    items.insert(key, bytes_of(alloc, value)?).ok()?;
+    let value = Value::new(bytes_of(alloc, value)?).ok()?;
+    items.insert(key, value).ok()?;
     Some(())
 }
 

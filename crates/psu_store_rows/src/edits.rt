@@ -1,5 +1,5 @@
 // Batches of edits: as texts, and by their numbers.
-use psu_items::Batch;
+use psu_items::{Batch, Value};
 use psu_tables::bytes;
 use std::alloc::Global;
 
@@ -7,7 +7,7 @@ use std::alloc::Global;
 pub fn assign(alloc: Global, batch: &mut Batch<Global>, key: u8, value: u8) -> Option<()> {
     let key = [key].to_vec(alloc).ok()?;
     let value = [value].to_vec(alloc).ok()?;
-    batch.assign(key, value).ok()
+    batch.assign(key, Value::new(value).ok()?).ok()
 }
 
 /// Adds the removal of a key of one byte.
@@ -25,7 +25,10 @@ pub fn assigned(alloc: Global, key: u8, value: u8) -> Option<Batch<Global>> {
 // Adds the edit that a text has: a value for a key, or the key alone, which is removed.
 fn add(alloc: Global, batch: &mut Batch<Global>, edit: &str) -> Option<()> {
     match edit.split_once(" = ") {
-        Some((key, value)) => batch.assign(bytes(alloc, key)?, bytes(alloc, value)?).ok(),
+        Some((key, value)) => {
+            let value = Value::new(bytes(alloc, value)?).ok()?;
+            batch.assign(bytes(alloc, key)?, value).ok()
+        }
         None => batch.remove(bytes(alloc, edit)?).ok(),
     }
 }

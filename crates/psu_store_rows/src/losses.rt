@@ -4,7 +4,7 @@ use crate::holds::holds;
 use crate::images::formatted;
 use crate::stores::{committed, disk_of, empty, is, is_just, one_edit, opened, stored};
 use psu_disk::{Choice, Disk, FailOnce, Fuse, MemDisk};
-use psu_items::{Batch, Broken, Commit, Items, Store};
+use psu_items::{Batch, Broken, Commit, Items, Store, Value};
 use std::alloc::Global;
 use std::process::Abort;
 
@@ -140,7 +140,9 @@ fn two_items(alloc: Global) -> Option<MemDisk<Global>> {
 // Adds a value of two pages for the key 3.
 fn assign_long(alloc: Global, batch: &mut Batch<Global>) -> Option<()> {
     let value = vec![in alloc; 7; 600].ok()?;
-    batch.assign([3].to_vec(alloc).ok()?, value).ok()
+    batch
+        .assign([3].to_vec(alloc).ok()?, Value::new(value).ok()?)
+        .ok()
 }
 
 // A batch that changes the key 1, drops the key 2, and gives the key 3 a value of two pages.

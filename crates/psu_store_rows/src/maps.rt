@@ -1,14 +1,14 @@
 // The map of items by itself.
 use crate::holds::holds;
 use crate::stores::is_just;
-use psu_items::Items;
+use psu_items::{Items, Value};
 use std::alloc::Global;
 
 // Puts a value of one byte.
 fn put(alloc: Global, items: &mut Items<Global>, key: u8, value: u8) -> Option<()> {
     let key = [key].to_vec(alloc).ok()?;
     let value = [value].to_vec(alloc).ok()?;
-    items.insert(key, value).ok()
+    items.insert(key, Value::new(value).ok()?).ok()
 }
 
 // A map of items that are put in another order than that of their keys, and one of them twice.
@@ -32,7 +32,9 @@ fn a_map_is_in_the_order_of_its_keys(rt: HostRuntime) {
 fn cost_of(alloc: Global, length: usize) -> Option<u128> {
     let mut items = Items::new(alloc);
     let value = vec![in alloc; 0; length].ok()?;
-    items.insert([5].to_vec(alloc).ok()?, value).ok()?;
+    items
+        .insert([5].to_vec(alloc).ok()?, Value::new(value).ok()?)
+        .ok()?;
     Some(items.cost())
 }
 

@@ -18,7 +18,7 @@ pub returns-clause-found : goal.returns-clause-found
 returns-clause-found g c = λ h of.
     let p = c.args.pages.now in
     let is : c.in_ok-head.head ≡ get_or p.heads.items c.args.at c.index-heads-at.result = c.in_ok-head.ensures ∙ c.index-heads-at.is ∙ ap (λ (hs : List Head). get_or hs c.args.at c.index-heads-at.result) c.heads.ensures.value in
-    read_more (g.D.Disk.state p.disk).bytes p.heads.items c.args.at c.index-heads-at.result c.in_ok-head.head c.args.items.now c.insert.new.self c.in_ok-to_vec.field-0.items c.in_ok-value.value.items c.requires is (c.in_ok-to_vec.ensures.items_if_clones_equal (λ x y e. e) ∙ c.key.ensures) (c.in_ok-value.ensures.found h) c.in_ok-insert.ensures.sets of
+    read_more (g.D.Disk.state p.disk).bytes p.heads.items c.args.at c.index-heads-at.result c.in_ok-head.head c.args.items.now c.insert.new.self c.in_ok-to_vec.field-0.items c.in_ok-new.field-0 c.requires is (c.in_ok-to_vec.ensures.items_if_clones_equal (λ x y e. e) ∙ c.key.ensures) (c.in_ok-new.ensures ∙ c.in_ok-value.ensures.found h) c.in_ok-insert.ensures.sets of
 
 pub load-requires-clause-is_head : goal.load-requires-clause-is_head
 load-requires-clause-is_head g c =

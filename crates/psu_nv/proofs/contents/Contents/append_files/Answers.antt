@@ -20,7 +20,7 @@ loop-pair-preserved g c =
     let same = c.pairs-pair-items.ensures.all ∙ ap (λ (k : Contents). k.files) c.self.view_is in
     let led = c.in_ok-key.ensures ∙ ap (λ (l : List ℕ). 5 ∷ l) c.key.ensures in
     next_file c.args.self.now c.pairs-pair-items.result.now c.loop-pair.items c.loop-pair.pair-index _ _ same c.loop-pair.invariant c.loop-pair-test.true c.pair-item.is _ led
-    _ _ _ (c.in_ok-to_vec.ensures.items_if_clones_equal (λ x y e. e) ∙ c.value.ensures) (omega arith) c.in_ok-append.ensures.ok
+    _ _ _ c.in_ok-share_value.ensures (omega arith) c.in_ok-append.ensures.ok
 
 pub returns : goal.returns
 returns g c =

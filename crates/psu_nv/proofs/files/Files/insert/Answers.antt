@@ -16,4 +16,4 @@ invariant_of-self-2 g c =
     let long : c.page_count.result ≡ page_count (length c.args.value.items) = search rules in
     total_with c.args.self.now c.args.name.items c.pairs.ensures.sorted (subst (AllByRecursion IsShort) c.self.view_is c.self.invariant.1) c.cost.result c.pages_at.result c.cost.ensures.value
     (c.pages_at.ensures.value ∙ ap (λ (k : List ℕ). pages_of (get c.args.self.now k)) c.deref.ensures.value)
-    c.insert.new.self c.args.name.items c.args.value.items c.page_count.result _ c.requires refl (c.in_ok-insert.ensures.ok ∙ ap (λ (l : List Item). put l c.args.name.items c.args.value.items) c.self.view_is) long refl
+    c.insert.new.self c.args.name.items c.args.value.items c.page_count.result _ c.requires refl (c.in_ok-insert.ensures.ok ∙ ap (λ (l : List Item). put l c.args.name.items c.in_ok-new.field-0) c.self.view_is ∙ ap (λ (v : List ℕ). put c.args.self.now c.args.name.items v) c.in_ok-new.ensures) long refl
