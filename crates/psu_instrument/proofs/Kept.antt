@@ -34,7 +34,7 @@ use Rattle.psu_instrument.specs.Instrument.{Instrument, with_supplies}
 use Rattle.psu_instrument.specs.Macros.{body_asked}
 use Rattle.psu_instrument.specs.Meaning.{Situation, Meaning, Refuses, Does, Keeps, leaves}
 use Rattle.psu_instrument.specs.Nonvolatile.{IsRefusedOrKept}
-use Rattle.psu_instrument.specs.Supplies.{asked, level_asked, level_of, output_of, set, switch_of}
+use Rattle.psu_instrument.specs.Supplies.{asked, level_asked, level_of, set, switch_of}
 
 -- ---- what is not kept
 
@@ -128,9 +128,9 @@ kept_are_nonvolatile s (command.Filter group which bits) change e = cc
 kept_are_nonvolatile s (command.Register on_register.Save number) change e = refl
 kept_are_nonvolatile s (command.Register on_register.Recall number) change e = absurd (either _ _ _ (refused _) (done _ _) change e)
 kept_are_nonvolatile s (command.Load output milliohms) change e = absurd (either _ _ _ (done _ _) (refused _) change e)
-kept_are_nonvolatile s (command.Level which output n) change e = absurd (thing_set s (output_of output) (level_of which n) change e)
+kept_are_nonvolatile s (command.Level which output n) change e = absurd (thing_set s output (level_of which n) change e)
 kept_are_nonvolatile s (command.LevelQuery which output end) change e = absurd (level_told s which _ end change e)
-kept_are_nonvolatile s (command.Switch which output on) change e = absurd (thing_set s (output_of output) (switch_of which on) change e)
+kept_are_nonvolatile s (command.Switch which output on) change e = absurd (thing_set s output (switch_of which on) change e)
 kept_are_nonvolatile s (command.UserData bytes) change e = refl
 kept_are_nonvolatile s (command.Define label body) change e = refl
 kept_are_nonvolatile s (command.Macro on_macro.Ask label) change e = absurd (body_told s _ change e)

@@ -36,7 +36,7 @@ use Rattle.psu_instrument.specs.Instrument.{Instrument}
 use Rattle.psu_instrument.specs.Macros.{body_asked, labels_text}
 use Rattle.psu_instrument.specs.Meaning.{Situation, Meaning, Refuses, Does, Keeps, Completes, says, says_fixed}
 use Rattle.psu_instrument.specs.Reporting.{error_text}
-use Rattle.psu_instrument.specs.Supplies.{asked, level_asked, level_of, output_of, set, switch_of}
+use Rattle.psu_instrument.specs.Supplies.{asked, level_asked, level_of, set, switch_of}
 use Rattle.psu_instrument.specs.declared.completion.Completion.{Completion}
 
 -- ---- texts
@@ -182,9 +182,9 @@ each_answer_has_text s (command.Filter group which bits) = silent _
 each_answer_has_text s (command.Register on_register.Save number) = either (nat_le 100 number) _ _ (refuses _) (keeps _)
 each_answer_has_text s (command.Register on_register.Recall number) = either (nat_le 100 number) _ _ (refuses _) (silent _)
 each_answer_has_text s (command.Load output milliohms) = either _ _ _ (silent _) (refuses _)
-each_answer_has_text s (command.Level which output n) = thing_set s (output_of output) (level_of which n)
+each_answer_has_text s (command.Level which output n) = thing_set s output (level_of which n)
 each_answer_has_text s (command.LevelQuery which output end) = level_told s which _ end
-each_answer_has_text s (command.Switch which output on) = thing_set s (output_of output) (switch_of which on)
+each_answer_has_text s (command.Switch which output on) = thing_set s output (switch_of which on)
 each_answer_has_text s (command.UserData bytes) = either (nat_lt 63 (length bytes)) _ _ (refuses _) (either s.instrument.protected _ _ (refuses _) (keeps _))
 each_answer_has_text s (command.Define label body) = keeps _
 each_answer_has_text s (command.Macro on_macro.Ask label) = body_told s _

@@ -39,9 +39,9 @@ query_means s query.Labels = macros.labels_asked s
 query_means s query.NextError = reporting.next_error s
 query_means s query.ErrorCount = reporting.error_count s
 query_means s query.Version = reporting.version s
-query_means s (query.Event group) = reporting.events s (reporting.group_of group)
-query_means s (query.Condition group) = reporting.condition s (reporting.group_of group)
-query_means s (query.Filter group which) = reporting.filter_asked s (reporting.group_of group) (reporting.filter_kept which)
+query_means s (query.Event group) = reporting.events s group
+query_means s (query.Condition group) = reporting.condition s group
+query_means s (query.Filter group which) = reporting.filter_asked s group which
 query_means s query.Catalog = files.catalog s
 
 abbrev pub register_means : Situation → OnRegister → ℕ → Meaning
@@ -52,16 +52,16 @@ register_means s on_register.Recall number = common.recalled s number
 abbrev pub meaning : Situation → Command → Meaning
 meaning s (command.Action action) = action_means s action
 meaning s (command.Query query) = query_means s query
-meaning s (command.OutputQuery query output) = supplies.asked s query (supplies.output_of output)
-meaning s (command.ClearTrip output) = supplies.clear_trip s (supplies.output_of output)
+meaning s (command.OutputQuery query output) = supplies.asked s query output
+meaning s (command.ClearTrip output) = supplies.clear_trip s output
 meaning s (command.Enable which bits) = common.enabled s which bits
 meaning s (command.Flag which on) = common.flagged s which on
-meaning s (command.Filter group which bits) = reporting.filtered s (reporting.group_of group) (reporting.filter_kept which) bits
+meaning s (command.Filter group which bits) = reporting.filtered s group which bits
 meaning s (command.Register what number) = register_means s what number
-meaning s (command.Load output milliohms) = supplies.load s (supplies.output_of output) milliohms
-meaning s (command.Level which output n) = supplies.set s (supplies.output_of output) (supplies.level_of which n)
-meaning s (command.LevelQuery which output extreme) = supplies.level_asked s which (supplies.output_of output) extreme
-meaning s (command.Switch which output on) = supplies.set s (supplies.output_of output) (supplies.switch_of which on)
+meaning s (command.Load output milliohms) = supplies.load s output milliohms
+meaning s (command.Level which output n) = supplies.set s output (supplies.level_of which n)
+meaning s (command.LevelQuery which output extreme) = supplies.level_asked s which output extreme
+meaning s (command.Switch which output on) = supplies.set s output (supplies.switch_of which on)
 meaning s (command.UserData bytes) = common.user_data s bytes
 meaning s (command.Define label body) = macros.defined s label body
 meaning s (command.Macro what label) = macros.on_label s what label

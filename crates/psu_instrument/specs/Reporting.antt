@@ -5,13 +5,7 @@ use Rattle.psu_lex.specs.declared.scpi_error.ScpiError.{ScpiError}
 use Rattle.psu_status.specs.Registers.{filter_of, with_filter, fifteen_bits, without_events}
 use Rattle.psu_status.specs.Status as reporting
 use Rattle.psu_status.specs.declared.filter.Filter.{Filter}
-use Rattle.psu_status.specs.declared.filter.Filter.TheVariants as kept
 use Rattle.psu_status.specs.declared.group.Group.{Group}
-use Rattle.psu_status.specs.declared.group.Group.TheVariants as groups
-use Rattle.psu_tree.specs.declared.filter.Filter as named
-use Rattle.psu_tree.specs.declared.filter.Filter.TheVariants as filter
-use Rattle.psu_tree.specs.declared.group.Group as asked
-use Rattle.psu_tree.specs.declared.group.Group.TheVariants as group
 use Rattle.psu_instrument.specs.Instrument.{with_status}
 use Rattle.psu_instrument.specs.Meaning.{Situation, Meaning, Does, answers, says, leaves}
 
@@ -35,15 +29,6 @@ abbrev pub version : Situation → Meaning
 version s = answers s (codes "1999.0")
 
 -- ---- groups
-
-abbrev pub group_of : asked.Group → Group
-group_of group.Operation = groups.Operation
-group_of group.Questionable = groups.Questionable
-
-abbrev pub filter_kept : named.Filter → Filter
-filter_kept filter.Enable = kept.Enable
-filter_kept filter.Rising = kept.Positive
-filter_kept filter.Falling = kept.Negative
 
 -- `:CONDition?`
 abbrev pub condition : Situation → Group → Meaning

@@ -5,7 +5,6 @@ use Rattle.psu_outputs.specs.Outputs.{supply_of, with_supply, with_load, without
 use Rattle.psu_outputs.specs.Settings.{is_in_range, after_set, measured}
 use Rattle.psu_outputs.specs.declared.measured.Measured.{Measured}
 use Rattle.psu_outputs.specs.declared.output.Output.{Output}
-use Rattle.psu_outputs.specs.declared.output.Output.TheVariants as outputs
 use Rattle.psu_outputs.specs.declared.setting.Setting.{Setting}
 use Rattle.psu_outputs.specs.declared.setting.Setting.TheVariants as setting
 use Rattle.psu_outputs.specs.declared.supply.Supply.{Supply}
@@ -14,8 +13,6 @@ use Rattle.psu_tree.specs.declared.extreme.Extreme.{Extreme}
 use Rattle.psu_tree.specs.declared.extreme.Extreme.TheVariants as extreme
 use Rattle.psu_tree.specs.declared.level.Level.{Level}
 use Rattle.psu_tree.specs.declared.level.Level.TheVariants as level
-use Rattle.psu_tree.specs.declared.output.Output as named
-use Rattle.psu_tree.specs.declared.output.Output.TheVariants as output
 use Rattle.psu_tree.specs.declared.output_query.OutputQuery.{OutputQuery}
 use Rattle.psu_tree.specs.declared.output_query.OutputQuery.TheVariants as query
 use Rattle.psu_tree.specs.declared.switch.Switch.{Switch}
@@ -23,13 +20,6 @@ use Rattle.psu_tree.specs.declared.switch.Switch.TheVariants as switch
 use Rattle.psu_instrument.specs.Common.{digit}
 use Rattle.psu_instrument.specs.Instrument.{with_supplies}
 use Rattle.psu_instrument.specs.Meaning.{Situation, Meaning, Refuses, says, says_fixed, leaves}
-
--- the output of a header's numeric suffix
-abbrev pub output_of : named.Output → Output
-output_of output.One = outputs.First
-output_of output.Two = outputs.Second
-output_of output.Three = outputs.Third
-output_of output.Four = outputs.Fourth
 
 -- what is set of an output, with its load and its trip
 abbrev pub supply : Situation → Output → Supply

@@ -7,8 +7,7 @@ ghost use Rattle.psu_instrument.specs.Meaning.{ActsAs, situation};
 use crate::common::{IDENTITY, told};
 use crate::files::{catalog_text, macro_moved, on_name, on_two, state_moved, stored};
 use crate::macros::{labels_text, on_label, text_of};
-use crate::reporting::{filter_kept, group_of};
-use crate::supplies::{level_of, output_of, switch_of};
+use crate::supplies::{level_of, switch_of};
 use crate::{Act, Completion, Instrument};
 use psu_lex::{Bytes, ScpiError, definite, whole};
 use psu_nv::{Contents, NvCommand};
@@ -33,28 +32,24 @@ impl Instrument {
         match command {
             Command::Action(action) => Ok(self.action(*action)),
             Command::Query(query) => self.query(alloc, limit, contents, available, *query),
-            Command::OutputQuery(query, output) => {
-                self.output_query(alloc, *query, output_of(*output))
-            }
+            Command::OutputQuery(query, output) => { self.output_query(alloc, *query, *output) }
             Command::ClearTrip(output) => {
-                self.clear_trip(output_of(*output));
+                self.clear_trip(*output);
                 Ok(Act::Done)
             }
             Command::Enable(which, bits) => Ok(self.enable(contents, *which, *bits)),
             Command::Flag(which, on) => Ok(self.flag(*which, *on)),
             Command::Filter(group, which, bits) => {
-                self.filter(group_of(*group), filter_kept(*which), *bits);
+                self.filter(*group, *which, *bits);
                 Ok(Act::Done)
             }
             Command::Register(what, number) => self.register(contents, *what, *number),
-            Command::Load(output, milliohms) => self.load(output_of(*output), *milliohms),
-            Command::Level(which, output, n) => self.set(output_of(*output), level_of(*which, *n)),
+            Command::Load(output, milliohms) => self.load(*output, *milliohms),
+            Command::Level(which, output, n) => self.set(*output, level_of(*which, *n)),
             Command::LevelQuery(which, output, extreme) => {
-                self.level_query(alloc, *which, output_of(*output), *extreme)
+                self.level_query(alloc, *which, *output, *extreme)
             }
-            Command::Switch(which, output, on) => {
-                self.set(output_of(*output), switch_of(*which, *on))
-            }
+            Command::Switch(which, output, on) => { self.set(*output, switch_of(*which, *on)) }
             Command::UserData(bytes) => self.user_data(bytes.as_slice()),
             Command::Define(label, body) => Ok(Act::Keep(NvCommand::DefineMacro(
                 text_of(label),
@@ -133,15 +128,13 @@ impl Instrument {
             Query::NextError => self.next_error(alloc),
             Query::ErrorCount => Ok(Act::Answer(whole(alloc, self.status.count() as u64)?)),
             Query::Version => Ok(Act::Answer(Bytes::of(alloc, b"1999.0")?)),
-            Query::Event(group) => self.events(alloc, group_of(group)),
+            Query::Event(group) => self.events(alloc, group),
             Query::Condition(group) => {
-                let bits = self.status.group_condition(group_of(group));
+                let bits = self.status.group_condition(group);
                 Ok(Act::Answer(whole(alloc, bits as u64)?))
             }
             Query::Filter(group, which) => {
-                let bits = self
-                    .status
-                    .group_filter(group_of(group), filter_kept(which));
+                let bits = self.status.group_filter(group, which);
                 Ok(Act::Answer(whole(alloc, bits as u64)?))
             }
             Query::Catalog => Ok(Act::Answer(catalog_text(alloc, limit, contents)?)),

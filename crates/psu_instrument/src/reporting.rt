@@ -6,33 +6,12 @@ ghost use Rattle.psu_status.specs.Status.{all_preset, with_group};
 ghost use Rattle.psu_status.specs.Status as status;
 ghost use Rattle.psu_instrument.specs.Instrument.{with_status};
 ghost use Rattle.psu_instrument.specs.Meaning.{ActsAs, situation};
-ghost use Rattle.psu_instrument.specs.Reporting.{error_text, events, filter_kept, group_of, next_error};
+ghost use Rattle.psu_instrument.specs.Reporting.{error_text, events, next_error};
 
 use crate::{Act, Instrument};
 use psu_lex::{Bytes, ScpiError, whole};
 use psu_status::{Filter, Group};
 use std::alloc::{AllocError, Allocator};
-
-// The group of a header.
-pub(crate) fn group_of(group: psu_tree::Group) -> Group
-    ensures { result ≡ group_of group }
-{
-    match group {
-        psu_tree::Group::Operation => Group::Operation,
-        psu_tree::Group::Questionable => Group::Questionable,
-    }
-}
-
-// The register of a header.
-pub(crate) fn filter_kept(filter: psu_tree::Filter) -> Filter
-    ensures { result ≡ filter_kept filter }
-{
-    match filter {
-        psu_tree::Filter::Enable => Filter::Enable,
-        psu_tree::Filter::Rising => Filter::Positive,
-        psu_tree::Filter::Falling => Filter::Negative,
-    }
-}
 
 // An error as answered.
 fn error_text<A: Allocator + Copy>(

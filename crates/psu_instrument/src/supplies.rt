@@ -5,7 +5,7 @@ ghost use Rattle.psu_outputs.specs.Outputs.{restored, supply_of, with_supply, wi
 ghost use Rattle.psu_tree.specs.Commands.{greatest_of};
 ghost use Rattle.psu_instrument.specs.Instrument.{with_supplies};
 ghost use Rattle.psu_instrument.specs.Meaning.{ActsAs, situation};
-ghost use Rattle.psu_instrument.specs.Supplies.{asked, level_asked, level_of, level_set, load, output_of, set, switch_of};
+ghost use Rattle.psu_instrument.specs.Supplies.{asked, level_asked, level_of, level_set, load, set, switch_of};
 
 use crate::common::told;
 use crate::{Act, Instrument};
@@ -13,18 +13,6 @@ use psu_lex::{ScpiError, fixed3, whole};
 use psu_outputs::{Milliamperes, Milliohms, Millivolts, Output, Setting, Settings};
 use psu_tree::{Extreme, Level, OutputQuery, Switch};
 use std::alloc::Allocator;
-
-// The output of a header's numeric suffix.
-pub(crate) fn output_of(output: psu_tree::Output) -> Output
-    ensures { result ≡ output_of output }
-{
-    match output {
-        psu_tree::Output::One => Output::First,
-        psu_tree::Output::Two => Output::Second,
-        psu_tree::Output::Three => Output::Third,
-        psu_tree::Output::Four => Output::Fourth,
-    }
-}
 
 // `VOLTage`, `CURRent`, `VOLTage:PROTection`, in millivolts and milliamperes.
 pub(crate) fn level_of(level: Level, n: u16) -> Setting

@@ -15,8 +15,8 @@ use Rattle.psu_tree.specs.Table.{table}
 use Rattle.psu_tree.specs.declared.command.Command.{Command}
 use Rattle.psu_tree.specs.declared.form.Form.{Form}
 use Rattle.psu_tree.specs.declared.macro_call.MacroCall as rust_call
-use Rattle.psu_tree.specs.declared.output.Output.{Output}
-use Rattle.psu_tree.specs.declared.output.Output.TheVariants.{One, Two, Three, Four}
+use Rattle.psu_outputs.specs.declared.output.Output.{Output}
+use Rattle.psu_outputs.specs.declared.output.Output.TheVariants.{First, Second, Third, Fourth}
 
 -- ---- numeric suffixes
 
@@ -31,11 +31,11 @@ suffix_of (word ∷ words) = elim (digits_of word) as (λ _. List ℕ) [ [] ↦ 
 
 abbrev pub output_at : ℕ → Result Output ScpiError
 output_at n =
-    if n == 1 then Ok One else (if n == 2 then Ok Two else (if n == 3 then Ok Three else (if n == 4 then Ok Four else Err HeaderSuffixOutOfRange)))
+    if n == 1 then Ok First else (if n == 2 then Ok Second else (if n == 3 then Ok Third else (if n == 4 then Ok Fourth else Err HeaderSuffixOutOfRange)))
 
 -- missing is 1
 abbrev pub output_of : List ℕ → Result Output ScpiError
-output_of [] = Ok One
+output_of [] = Ok First
 output_of (d ∷ ds) = output_at (value_after 0 (d ∷ ds))
 
 -- ---- headers

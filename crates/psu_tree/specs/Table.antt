@@ -6,8 +6,8 @@ use Rattle.psu_tree.specs.declared.action.Action.TheVariants as a
 use Rattle.psu_tree.specs.declared.query.Query.TheVariants as q
 use Rattle.psu_tree.specs.declared.enable.Enable.TheVariants as e
 use Rattle.psu_tree.specs.declared.flag.Flag.TheVariants as g
-use Rattle.psu_tree.specs.declared.group.Group.TheVariants.{Operation, Questionable}
-use Rattle.psu_tree.specs.declared.filter.Filter.TheVariants as f
+use Rattle.psu_status.specs.declared.group.Group.TheVariants.{Operation, Questionable}
+use Rattle.psu_status.specs.declared.filter.Filter.TheVariants as f
 use Rattle.psu_tree.specs.declared.output_query.OutputQuery.TheVariants as o
 use Rattle.psu_tree.specs.declared.level.Level.TheVariants as l
 use Rattle.psu_tree.specs.declared.switch.Switch.TheVariants as s
@@ -45,13 +45,13 @@ table =
     ∷ asks (codes "STATus:OPERation[:EVENt]") (Query (q.Event Operation))
     ∷ asks (codes "STATus:OPERation:CONDition") (Query (q.Condition Operation))
     ∷ both (codes "STATus:OPERation:ENABle") (Filter Operation f.Enable) (Query (q.Filter Operation f.Enable))
-    ∷ both (codes "STATus:OPERation:PTRansition") (Filter Operation f.Rising) (Query (q.Filter Operation f.Rising))
-    ∷ both (codes "STATus:OPERation:NTRansition") (Filter Operation f.Falling) (Query (q.Filter Operation f.Falling))
+    ∷ both (codes "STATus:OPERation:PTRansition") (Filter Operation f.Positive) (Query (q.Filter Operation f.Positive))
+    ∷ both (codes "STATus:OPERation:NTRansition") (Filter Operation f.Negative) (Query (q.Filter Operation f.Negative))
     ∷ asks (codes "STATus:QUEStionable[:EVENt]") (Query (q.Event Questionable))
     ∷ asks (codes "STATus:QUEStionable:CONDition") (Query (q.Condition Questionable))
     ∷ both (codes "STATus:QUEStionable:ENABle") (Filter Questionable f.Enable) (Query (q.Filter Questionable f.Enable))
-    ∷ both (codes "STATus:QUEStionable:PTRansition") (Filter Questionable f.Rising) (Query (q.Filter Questionable f.Rising))
-    ∷ both (codes "STATus:QUEStionable:NTRansition") (Filter Questionable f.Falling) (Query (q.Filter Questionable f.Falling))
+    ∷ both (codes "STATus:QUEStionable:PTRansition") (Filter Questionable f.Positive) (Query (q.Filter Questionable f.Positive))
+    ∷ both (codes "STATus:QUEStionable:NTRansition") (Filter Questionable f.Negative) (Query (q.Filter Questionable f.Negative))
     ∷ only (codes "STATus:PRESet") (Action a.PresetStatus)
     ∷ both (codes "OUTPut<n>[:STATe]") (Switch s.Output) (OutputQuery o.State)
     ∷ kept (both (codes "OUTPut:PON:STATe") PowerOn (Query (q.Flag g.Recall)))

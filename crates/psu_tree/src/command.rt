@@ -1,8 +1,10 @@
 // Commands that read well.
 use crate::{
-    Action, Enable, Extreme, Filter, Flag, Group, Level, OnFile, OnMacro, OnNames, OnRegister,
-    Output, OutputQuery, Query, Switch, Text, Transfer,
+    Action, Enable, Extreme, Flag, Level, OnFile, OnMacro, OnNames, OnRegister, OutputQuery, Query,
+    Switch, Text, Transfer,
 };
+use psu_outputs::Output;
+use psu_status::{Filter, Group};
 
 /// A command that reads well, with its values. It borrows its texts from the message.
 #[derive(Drop)]

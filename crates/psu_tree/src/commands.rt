@@ -4,7 +4,7 @@ ghost use Rattle.psu_lex.specs.Shown.{HoldsData};
 ghost use Rattle.psu_lex.specs.Syntax.{Datum as DatumData};
 ghost use Rattle.psu_tree.specs.Commands.{CommandReads};
 ghost use Rattle.psu_tree.specs.declared.form.Form.TheVariants as f;
-ghost use Rattle.psu_tree.specs.declared.output.Output.{Output as SomeOutput};
+ghost use Rattle.psu_outputs.specs.declared.output.Output.{Output as SomeOutput};
 
 use crate::counts::alone;
 use crate::double::{label_and_body, label_and_name, name_and_bytes, register_and_name, two_names};
@@ -13,10 +13,11 @@ use crate::single::{
     perhaps_extreme,
 };
 use crate::{
-    Command, Enable, Filter, Flag, Form, Group, Level, OnFile, OnMacro, OnNames, OnRegister,
-    Output, Switch, Transfer,
+    Command, Enable, Flag, Form, Level, OnFile, OnMacro, OnNames, OnRegister, Switch, Transfer,
 };
 use psu_lex::{Data, ScpiError};
+use psu_outputs::Output;
+use psu_status::{Filter, Group};
 
 // An enable register and its value.
 fn enable<'a>(which: Enable, parameters: &Data<'a>) -> Result<Command<'a>, ScpiError>

@@ -1,8 +1,9 @@
 // What the headers of the table ask for.
 use crate::{
-    Action, Enable, Filter, Flag, Group, Level, OnFile, OnMacro, OnNames, OnRegister, OutputQuery,
-    Query, Switch, Transfer,
+    Action, Enable, Flag, Level, OnFile, OnMacro, OnNames, OnRegister, OutputQuery, Query, Switch,
+    Transfer,
 };
+use psu_status::{Filter, Group};
 
 /// What a header asks for: its parameters, by their kinds, and what they are for.
 #[derive(Clone, Copy)]

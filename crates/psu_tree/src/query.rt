@@ -1,5 +1,6 @@
 // What queries ask that take nothing.
-use crate::{Enable, Filter, Flag, Group};
+use crate::{Enable, Flag};
+use psu_status::{Filter, Group};
 
 /// What a query asks that takes nothing.
 #[derive(Clone, Copy)]

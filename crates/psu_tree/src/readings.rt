@@ -10,9 +10,10 @@ use crate::commands::command_of;
 use crate::lookups::form_of;
 use crate::suffixes::header_output;
 use crate::words::{Words, add_words};
-use crate::{Command, Form, MacroCall, Output, Path, Request};
+use crate::{Command, Form, MacroCall, Path, Request};
 use arrayvec::ArrayVec;
 use psu_lex::{Data, Mark, ScpiError, Syntax, Unit, is_label, syntax};
+use psu_outputs::Output;
 
 // A form at an output; or the fault of its header.
 fn at_output(

@@ -3,19 +3,19 @@ ghost use Rattle.std.specs.Prelude.{◌≡◌, ◌≤◌, min, true, map};
 ghost use Rattle.psu_lex.specs.Bytes.{all_digits, value_after};
 ghost use Rattle.psu_tree.specs.Reading.{output_at, output_of, suffix_of};
 
-use crate::Output;
 use crate::walks::number_of;
 use psu_lex::ScpiError;
+use psu_outputs::Output;
 
 // The output of a number.
 fn output_at(number: usize) -> Result<Output, ScpiError>
     ensures { result ≡ output_at number }
 {
     match number {
-        1 => Ok(Output::One),
-        2 => Ok(Output::Two),
-        3 => Ok(Output::Three),
-        4 => Ok(Output::Four),
+        1 => Ok(Output::First),
+        2 => Ok(Output::Second),
+        3 => Ok(Output::Third),
+        4 => Ok(Output::Fourth),
         _ => Err(ScpiError::HeaderSuffixOutOfRange),
     }
 }
@@ -41,7 +41,7 @@ fn output_of(digits: &[u8]) -> Result<Output, ScpiError>
     ensures { result ≡ output_of digits.now }
 {
     if digits.is_empty() {
-        return Ok(Output::One);
+        return Ok(Output::First);
     }
     output_at(suffix_value(digits, 0))
 }

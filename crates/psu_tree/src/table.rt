@@ -4,11 +4,12 @@ use crate::Form::{
     Macro, MacroFile, Names, OutputQuery, PowerOn, Protect, Query, Register, StateFile, Switch,
     UserData,
 };
-use crate::Group::{Operation, Questionable};
 use crate::{
-    Action as A, Enable as E, Filter as F, Flag as G, Kind, Level as L, Node, OnFile, OnMacro,
-    OnNames, OnRegister, OutputQuery as O, Query as Q, Row, Section, Switch as S, Transfer,
+    Action as A, Enable as E, Flag as G, Kind, Level as L, Node, OnFile, OnMacro, OnNames,
+    OnRegister, OutputQuery as O, Query as Q, Row, Section, Switch as S, Transfer,
 };
+use psu_status::Filter as F;
+use psu_status::Group::{Operation, Questionable};
 
 // One node, as the standard writes it.
 macro_rules! node {
@@ -68,13 +69,13 @@ const STATUS: [Row; 11] = [
     row!({OPERation[:EVENt]}? Query(Q::Event(Operation))),
     row!({OPERation:CONDition}? Query(Q::Condition(Operation))),
     row!({OPERation:ENABle} Filter(Operation, F::Enable), Query(Q::Filter(Operation, F::Enable))),
-    row!({OPERation:PTRansition} Filter(Operation, F::Rising), Query(Q::Filter(Operation, F::Rising))),
-    row!({OPERation:NTRansition} Filter(Operation, F::Falling), Query(Q::Filter(Operation, F::Falling))),
+    row!({OPERation:PTRansition} Filter(Operation, F::Positive), Query(Q::Filter(Operation, F::Positive))),
+    row!({OPERation:NTRansition} Filter(Operation, F::Negative), Query(Q::Filter(Operation, F::Negative))),
     row!({QUEStionable[:EVENt]}? Query(Q::Event(Questionable))),
     row!({QUEStionable:CONDition}? Query(Q::Condition(Questionable))),
     row!({QUEStionable:ENABle} Filter(Questionable, F::Enable), Query(Q::Filter(Questionable, F::Enable))),
-    row!({QUEStionable:PTRansition} Filter(Questionable, F::Rising), Query(Q::Filter(Questionable, F::Rising))),
-    row!({QUEStionable:NTRansition} Filter(Questionable, F::Falling), Query(Q::Filter(Questionable, F::Falling))),
+    row!({QUEStionable:PTRansition} Filter(Questionable, F::Positive), Query(Q::Filter(Questionable, F::Positive))),
+    row!({QUEStionable:NTRansition} Filter(Questionable, F::Negative), Query(Q::Filter(Questionable, F::Negative))),
     row!({PRESet} Action(A::PresetStatus)),
 ];
 

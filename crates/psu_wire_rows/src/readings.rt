@@ -3,8 +3,9 @@
 use crate::told::holds;
 use crate::tree::{fail_as_told, read};
 use psu_lex::{ScpiError, Unit, split};
+use psu_outputs::Output;
 use psu_tables::bracketed;
-use psu_tree::{Command, Enable, Flag, Level, Output, Path, Query, Switch, request};
+use psu_tree::{Command, Enable, Flag, Level, Path, Query, Switch, request};
 use std::alloc::Global;
 
 // Units, and what each puts where: enable registers, the flag of `*PSC`, the voltage of output 3, the state of output 2; or what a query asks for.
@@ -56,9 +57,9 @@ fn puts(command: &Command<'_>, what: &str, value: &str) -> bool {
             && value.parse() == Ok(*bits),
         Command::Enable(Enable::EventStatus, bits) => what == "event" && value.parse() == Ok(*bits),
         Command::Flag(Flag::PowerOnClear, on) => what == "power-on" && is_yes_or_no(*on, value),
-        Command::Level(Level::Voltage, Output::Three, millivolts) => what == "voltage"
+        Command::Level(Level::Voltage, Output::Third, millivolts) => what == "voltage"
             && value.parse() == Ok(*millivolts),
-        Command::Switch(Switch::Output, Output::Two, on) => what == "output"
+        Command::Switch(Switch::Output, Output::Second, on) => what == "output"
             && is_yes_or_no(*on, value),
         Command::Query(query) => what == "query" && called(*query) == value,
         _ => false,

@@ -1,13 +1,13 @@
 use Rattle.psu_instrument.proofs.instrument.Instrument.act.Goals as goal
 
 pub returns-in-Load : goal.returns-in-Load
-returns-in-Load g c = rw c.in-Load.is (rw c.output_of-in-Load.ensures at (c.load.ensures c.args.limit c.args.contents.now c.args.available))
+returns-in-Load g c = rw c.in-Load.is (c.load.ensures c.args.limit c.args.contents.now c.args.available)
 
 pub returns-in-Level : goal.returns-in-Level
-returns-in-Level g c = rw c.in-Level.is (rw (c.output_of-in-Level.ensures, c.level_of.ensures) at (c.set.ensures c.args.limit c.args.contents.now c.args.available))
+returns-in-Level g c = rw c.in-Level.is (rw c.level_of.ensures at (c.set.ensures c.args.limit c.args.contents.now c.args.available))
 
 pub returns-in-Switch : goal.returns-in-Switch
-returns-in-Switch g c = rw c.in-Switch.is (rw (c.output_of-in-Switch.ensures, c.switch_of.ensures) at (c.set-in-Switch.ensures c.args.limit c.args.contents.now c.args.available))
+returns-in-Switch g c = rw c.in-Switch.is (rw c.switch_of.ensures at (c.set-in-Switch.ensures c.args.limit c.args.contents.now c.args.available))
 
 pub returns-in-UserData : goal.returns-in-UserData
 returns-in-UserData g c = rw c.in-UserData.is (rw c.as_slice.ensures at (c.user_data.ensures c.args.limit c.args.contents.now c.args.available))

@@ -7,4 +7,4 @@ pub returns-in-NextError : goal.returns-in-NextError
 returns-in-NextError g c = rw c.in-NextError.is (c.next_error.ensures c.args.limit c.args.contents.now c.args.available)
 
 pub returns-in-Event : goal.returns-in-Event
-returns-in-Event g c = rw c.in-Event.is (rw c.group_of.ensures at (c.events.ensures c.args.limit c.args.contents.now c.args.available))
+returns-in-Event g c = rw c.in-Event.is (c.events.ensures c.args.limit c.args.contents.now c.args.available)
