@@ -1,14 +1,19 @@
 -- Planned edits against the batch that leads to a map.
-use Rattle.std.proofs.Common.{◌≡◌, ◌<◌, ◌≤◌, ◌-◌, ◌||◌, ℕ, zero, suc, true, Option, Some, None, is_some, List, [], ◌∷◌, ◌++◌, length, take, drop, get_or, refl, sym, ap, ◌∙◌, arith}
+use Rattle.std.proofs.Common.{◌≡◌, ◌<◌, ◌≤◌, ◌-◌, ◌||◌, ℕ, zero, suc, true, Option, Some, None, is_some, cond, List, [], ◌∷◌, ◌++◌, length, take, drop, get_or, refl, sym, ap, ◌∙◌, subst, arith, append-nil}
 use Rattle.std.proofs.lemmas.List.{append_assoc, append_cancel_left, take_all}
-use Rattle.std.specs.List.{flat_map}
-use Rattle.psu_map.specs.Map.{Item, IsSorted}
+use Rattle.std.proofs.lemmas.Grind.{flat_map-append}
+use Rattle.std.specs.List.{flat_map, AllByRecursion}
+use Rattle.psu_map.specs.Map.{Item, get, IsSorted}
 use Rattle.psu_map.specs.Batch.{Edit, changed}
 use Rattle.psu_map.specs.Plan.{Planned}
+use Rattle.psu_map.proofs.Maps.{all_own}
+use Rattle.psu_pages.proofs.Lists.{all_left, all_right}
 use Rattle.psu_exec.specs.Batch.{batch, removal, assignment}
+use Rattle.psu_exec.specs.Between.{AreBetween}
 use Rattle.psu_exec.specs.Consistent.{HasEdits, IsConsistent}
 use Rattle.psu_exec.specs.Device.{Flush, held_of, is_broken, map_held, target}
 use Rattle.psu_exec.proofs.Batches.{changed-batch}
+use Rattle.psu_exec.proofs.Touching.{there}
 
 -- edits of which this is the first
 pub with_first : (edits : List Edit) (first : Edit) (key : List ℕ) (value : Option (List ℕ)) → 1 ≤ length edits → first ≡ get_or edits 0 first → first.key ≡ key → first.value ≡ value
@@ -33,6 +38,43 @@ not_next f (y ∷ ys) (suc n) x all rest lt at done none more e =
     let same : f y ++ front ≡ f y ++ (flat_map f ys ++ more) = sym (append_assoc (f y) (flat_map f (take n ys)) rest) ∙ (sym done ∙ (e ∙ append_assoc (f y) (flat_map f ys) more)) in
     not_next f ys n x front rest (omega (arith, lt)) at refl none more (append_cancel_left (f y) front (flat_map f ys ++ more) same)
 
+-- items that a target has want no removal
+no_removals : (target items : List Item) → AllByRecursion (λ (i : Item). get target i.key ≡ Some i.value) items → flat_map (removal target) items ≡ []
+no_removals target [] own = refl
+no_removals target (i ∷ items) own =
+    ap (λ (o : Option (List ℕ)). cond (is_some o) [] (record { key = i.key; value = None } ∷ []) ++ flat_map (removal target) items) own.0 ∙ no_removals target items own.1
+
+-- and such as the map before has no assignment
+no_assignments : (before items : List Item) → AllByRecursion (λ (i : Item). get before i.key ≡ Some i.value) items → flat_map (assignment before) items ≡ []
+no_assignments before [] own = refl
+no_assignments before (i ∷ items) own = ap (λ (l : List Edit). l ++ flat_map (assignment before) items) (there before i.key i.value own.0) ∙ no_assignments before items own.1
+
+middle : (f : Item → List Edit) (whole front part back : List Item) → whole ≡ front ++ (part ++ back) → flat_map f front ≡ [] → flat_map f back ≡ [] → flat_map f whole ≡ flat_map f part
+middle f whole front part back is in_front behind =
+    ap (flat_map f) is ∙ flat_map-append f front (part ++ back) ∙ ap (λ (l : List Edit). l ++ flat_map f (part ++ back)) in_front
+    ∙ flat_map-append f part back ∙ ap (λ (l : List Edit). flat_map f part ++ l) behind ∙ append-nil (flat_map f part)
+
+-- the same of maps that are these
+pub between_of : (one before other target gone come : List Item) → one ≡ before → other ≡ target → AreBetween one other gone come → AreBetween before target gone come
+between_of one before other target gone come same_before same_target between =
+    record { front = between.front; back = between.back; one_is = sym same_before ∙ between.one_is; other_is = sym same_target ∙ between.other_is }
+
+-- what two maps have the same in front and behind wants no edit
+module _ (before target gone come : List Item) (between : AreBetween before target gone come) where
+  pub removals_between : IsSorted target → flat_map (removal target) before ≡ flat_map (removal target) gone
+  removals_between sorted =
+      let P : Item → Type 0 = λ (i : Item). get target i.key ≡ Some i.value in
+      let own = subst (AllByRecursion P) between.other_is (all_own target sorted) in
+      middle (removal target) before between.front gone between.back between.one_is (no_removals target between.front (all_left P between.front (come ++ between.back) own))
+      (no_removals target between.back (all_right P come between.back (all_right P between.front (come ++ between.back) own)))
+
+  pub assignments_between : IsSorted before → flat_map (assignment before) target ≡ flat_map (assignment before) come
+  assignments_between sorted =
+      let P : Item → Type 0 = λ (i : Item). get before i.key ≡ Some i.value in
+      let own = subst (AllByRecursion P) between.one_is (all_own before sorted) in
+      middle (assignment before) target between.front come between.back between.other_is (no_assignments before between.front (all_left P between.front (gone ++ between.back) own))
+      (no_assignments before between.back (all_right P gone between.back (all_right P between.front (gone ++ between.back) own)))
+
 -- the batch in its two parts
 pub batch_of : (plan : Planned) (target : List Item) (rest : List Edit) → plan.edits ≡ flat_map (removal target) plan.map ++ rest → rest ≡ flat_map (assignment plan.map) target → plan.edits ≡ batch plan.map target
 unfolding batch
@@ -45,6 +87,21 @@ rest_of plan target rest e b = append_cancel_left (flat_map (removal target) pla
 pub no_batch : (plan : Planned) (target : List Item) → ((rest : List Edit) → plan.edits ≡ flat_map (removal target) plan.map ++ rest → ⊥) → plan.edits ≡ batch plan.map target → ⊥
 unfolding batch
 no_batch plan target none b = none (flat_map (assignment plan.map) target) b
+
+-- the batch by what is between
+module _ (plan : Planned) (target gone come : List Item) (between : AreBetween plan.map target gone come) (sorted : IsSorted plan.map) (sorted_target : IsSorted target) (edits : List Edit) (are : edits ≡ plan.edits) where
+  with_removals : (rest : List Edit) → edits ≡ flat_map (removal target) gone ++ rest → plan.edits ≡ flat_map (removal target) plan.map ++ rest
+  with_removals rest e = sym are ∙ (e ∙ ap (λ (l : List Edit). l ++ rest) (sym (removals_between plan.map target gone come between sorted_target)))
+
+  pub batch_between : (rest : List Edit) → edits ≡ flat_map (removal target) gone ++ rest
+      → (rest ≡ flat_map (assignment plan.map) come → plan.edits ≡ batch plan.map target) × (plan.edits ≡ batch plan.map target → rest ≡ flat_map (assignment plan.map) come)
+  batch_between rest e =
+      let same = assignments_between plan.map target gone come between sorted in
+      (λ r. batch_of plan target rest (with_removals rest e) (r ∙ sym same), λ b. rest_of plan target rest (with_removals rest e) b ∙ same)
+
+  pub none_between : ((rest : List Edit) → edits ≡ flat_map (removal target) gone ++ rest → ⊥) → plan.edits ≡ batch plan.map target → ⊥
+  none_between none =
+      no_batch plan target (λ rest e. none rest (are ∙ (e ∙ ap (λ (l : List Edit). l ++ rest) (removals_between plan.map target gone come between sorted_target))))
 
 pub led : (plan : Planned) (target : List Item) → IsSorted plan.map → IsSorted target → plan.edits ≡ batch plan.map target → changed plan.map plan.edits ≡ target
 led plan target sp st b = ap (changed plan.map) b ∙ changed-batch plan.map target sp st

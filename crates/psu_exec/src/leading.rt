@@ -1,11 +1,10 @@
 // Whether planned edits lead to a map, with no memory.
 ghost use Rattle.std.specs.Prelude.{◌≡◌, ◌↔◌, ◌++◌, ◌∷◌, IsTrue, IfSome, IfNone, List, Some, None, option_map};
 ghost use Rattle.std.specs.List.{flat_map};
-ghost use Rattle.psu_map.specs.Map.{IsSorted};
 ghost use Rattle.psu_map.specs.Batch.{changed, Edit as EditData};
 ghost use Rattle.psu_exec.specs.Batch.{assignment, batch, removal};
 
-use crate::comparison::same_value;
+use crate::comparison::{between, same_value};
 use crate::difference::is_value;
 use psu_items::{Edit, Items, Pair, Plan};
 use std::alloc::Allocator;
@@ -63,18 +62,18 @@ fn behind_assignment<'e, A: Allocator + Copy>(
     behind(edits, pair.key(), Some(pair.value()))
 }
 
-// The edits behind all removals.
+// The edits behind the removals of these pairs. The first of them would stand at the place `next` of the target.
 fn behind_removals<'e, A: Allocator + Copy>(
-    plan: &'e Plan<A>,
+    edits: &'e [Edit<A>],
     target: &Items<A>,
+    mut next: usize,
+    pairs: &[Pair<A>],
 ) -> Option<&'e [Edit<A>]>
-    ensures some { IfSome result (λ rest. plan.now.edits ≡ flat_map (removal target.now) plan.now.map ++ rest.now) }
-    ensures none { IfNone result ((rest : List EditData) → plan.now.edits ≡ flat_map (removal target.now) plan.now.map ++ rest → ⊥) }
-    ensures sorted { IsSorted plan.now.map }
+    ensures some { IfSome result (λ rest. edits.now ≡ flat_map (removal target.now) pairs.now ++ rest.now) }
+    ensures none { IfNone result ((rest : List EditData) → edits.now ≡ flat_map (removal target.now) pairs.now ++ rest → ⊥) }
 {
-    let mut rest = plan.edits().edits();
-    let mut next = 0;
-    for pair in plan.pairs() {
+    let mut rest = edits;
+    for pair in pairs {
         match behind_removal(rest, target, &mut next, pair) {
             Some(behind) => rest = behind,
             None => return None,
@@ -83,18 +82,17 @@ fn behind_removals<'e, A: Allocator + Copy>(
     Some(rest)
 }
 
-// Whether these edits are all assignments.
+// Whether these edits are the assignments of these pairs. The first of them would stand at the place `next` of the map before.
 fn are_assignments<A: Allocator + Copy>(
     edits: &[Edit<A>],
     before: &Plan<A>,
-    target: &Items<A>,
+    mut next: usize,
+    pairs: &[Pair<A>],
 ) -> bool
-    ensures is { IsTrue result ↔ (edits.now ≡ flat_map (assignment before.now.map) target.now) }
-    ensures sorted { IsSorted target.now }
+    ensures { IsTrue result ↔ (edits.now ≡ flat_map (assignment before.now.map) pairs.now) }
 {
     let mut rest = edits;
-    let mut next = 0;
-    for pair in target.pairs() {
+    for pair in pairs {
         match behind_assignment(rest, before, &mut next, pair) {
             Some(behind) => rest = behind,
             None => return false,
@@ -103,13 +101,14 @@ fn are_assignments<A: Allocator + Copy>(
     rest.is_empty()
 }
 
-/// Whether the planned edits are those that make the map this one.
+/// Whether the planned edits are those that make the map this one. Items that both maps have in front and behind are compared once.
 pub fn leads_to<A: Allocator + Copy>(plan: &Plan<A>, target: &Items<A>) -> bool
     ensures is { IsTrue result ↔ (plan.now.edits ≡ batch plan.now.map target.now) }
     ensures leads { IsTrue result → changed plan.now.map plan.now.edits ≡ target.now }
 {
-    match behind_removals(plan, target) {
-        Some(rest) => are_assignments(rest, plan, target),
+    let (first, gone, come) = between(plan.pairs(), target.pairs());
+    match behind_removals(plan.edits().edits(), target, first, gone) {
+        Some(rest) => are_assignments(rest, plan, first, come),
         None => false,
     }
 }

@@ -9,6 +9,7 @@ use std::alloc::Allocator;
 
 /// Where the head of an item stands, if the item stands already. The search goes on behind the head that was found last: where
 /// heads come in the order of keys, as a commit leaves them, each is looked at once.
+#[inline(always)]
 pub fn kept<A: Allocator + Copy>(
     next: &mut usize,
     heads: &[Head<A>],
@@ -21,12 +22,24 @@ pub fn kept<A: Allocator + Copy>(
     if !entry.stands {
         return None;
     }
-    let at = find(heads, *next, entry)?;
+    let mut at = *next;
+    if !is_there(heads, at, entry) {
+        at = find(heads, at, entry)?;
+    }
     *next = at + 1;
     Some(at)
 }
 
+// Whether the head of an item is at this place.
+#[inline(always)]
+fn is_there<A: Allocator + Copy>(heads: &[Head<A>], at: usize, entry: &Entry<'_>) -> bool
+    ensures { IsTrue result → HasHead heads.now (item_in entry.now) at }
+{
+    at < heads.len() && is_of(heads, at, entry)
+}
+
 // Where the head of an item is, looked for from this place on, and then from the front.
+#[inline(never)]
 fn find<A: Allocator + Copy>(heads: &[Head<A>], from: usize, entry: &Entry<'_>) -> Option<usize>
     ensures head { IfSome result (HasHead heads.now (item_in entry.now)) }
     ensures found { IfNone result ((at : ℕ) → HasHead heads.now (item_in entry.now) at → ⊥) }
@@ -45,6 +58,7 @@ fn find<A: Allocator + Copy>(heads: &[Head<A>], from: usize, entry: &Entry<'_>) 
 }
 
 // Whether the head is one of an item with this key, and with a value of this length.
+#[inline(always)]
 fn is_of<A: Allocator + Copy>(heads: &[Head<A>], at: usize, entry: &Entry<'_>) -> bool
     requires { at < length heads.now }
     ensures { IsTrue result ↔ HasHead heads.now (item_in entry.now) at }

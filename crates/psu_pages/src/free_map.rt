@@ -1,10 +1,11 @@
 //! Which pages of a disk are free.
-ghost use Rattle.std.specs.Prelude.{◌≡◌, ◌<◌, ◌≤◌, ◌^◌, ◌↔◌, ℕ, true, false, length, take, replicate, slice_set, IfOk, IsTrue};
+ghost use Rattle.std.specs.Prelude.{◌≡◌, ◌<◌, ◌≤◌, ◌^◌, ◌↔◌, ℕ, true, false, length, take, replicate, slice_set, IfOk, OnOk, IsErrOf, IsTrue};
 ghost use Rattle.std.specs.List.{AllByRecursion};
 ghost use Rattle.psu_pages.specs.Free.{is_free, free_pages, AreClaimed, Marks};
 ghost use Rattle.psu_pages.specs.Image.{AreApart, pages_of};
+ghost use Rattle.psu_pages.specs.declared.page_fault.PageFault.TheVariants.{NoPage, Device, Memory};
 
-use crate::Head;
+use crate::{Head, PageFault};
 use std::alloc::{AllocError, Allocator};
 use std::marker::Model;
 
@@ -135,6 +136,22 @@ impl<A: Allocator + Copy> FreeMap<A> {
             }
         }
         true
+    }
+
+    /// The first pages that are free, as many as asked for. They are looked for once, and counted only where memory is refused.
+    pub(crate) fn pick_free(&self, alloc: A, count: usize) -> Result<Vec<u16, A>, PageFault>
+        requires { length self.now ≤ 2 ^ 16 }
+        ensures pages { IfOk result (λ pages. pages.items ≡ take count (free_pages self.now)) }
+        ensures enough { OnOk result (count ≤ length (free_pages self.now)) }
+        ensures no_page { IsErrOf result NoPage → length (free_pages self.now) < count }
+        ensures memory { IsErrOf result Memory → count ≤ length (free_pages self.now) }
+        ensures no_call { IsErrOf result Device → ⊥ }
+    {
+        match self.first_free(alloc, count) {
+            Ok(pages) if pages.len() == count => Ok(pages),
+            Err(AllocError) if self.has_free(count) => Err(PageFault::Memory),
+            Ok(_) | Err(AllocError) => Err(PageFault::NoPage),
+        }
     }
 
     /// Whether so many pages are free. It looks no further than to the last of them.

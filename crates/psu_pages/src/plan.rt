@@ -26,10 +26,7 @@ impl<D: Disk, A: Allocator + Copy> Pages<D, A> {
         ensures unchanged { OnErr result (self.new ≡ self.old) }
     {
         let count = 1 + (size as usize + 511) / 512;
-        if !self.free.has_free(count) {
-            return Err(PageFault::NoPage);
-        }
-        let mut pages = self.free.first_free(alloc, count)?;
+        let mut pages = self.free.pick_free(alloc, count)?;
         let key = key.to_vec(alloc)?;
         let at = pages.remove(0);
         let head = Head::new(alloc, at, key, size, pages)?;

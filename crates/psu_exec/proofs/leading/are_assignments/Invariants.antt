@@ -4,4 +4,4 @@ use Rattle.psu_exec.specs.Batch.{assignment}
 use Rattle.psu_exec.proofs.leading.are_assignments.Given as goal
 
 abbrev pub invariant-loop-pair : goal.invariant-loop-pair
-invariant-loop-pair g l = l.edits ≡ flat_map (assignment l.before.map) (take l.pair-index l.target) ++ l.rest
+invariant-loop-pair g l = l.edits ≡ flat_map (assignment l.before.map) (take l.pair-index l.pairs) ++ l.rest

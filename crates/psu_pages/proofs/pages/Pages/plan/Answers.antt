@@ -11,7 +11,7 @@ use Rattle.psu_pages.proofs.pages.Pages.plan.Goals as goal
 -- the pages of the head are the first free ones
 named : (g : Over) (c : After-keep_head g) → pages_of c.in_ok-head.head ≡ take (1 + (c.args.size + 511) / 512) (let p = c.args.self.now in free_pages p.free)
 named g c = pages_are (let p = c.args.self.now in p.free) (1 + (c.args.size + 511) / 512) c.remove-at.result c.args.size c.in_ok-key.key.items c.in_ok-pages.pages.items c.remove-at.new.self.items c.in_ok-head.head (omega arith)
-    (c.has_free.ensures.0 c.if-not-has_free.false) c.in_ok-pages.ensures c.remove-at.ensures.value c.remove-at.ensures.items c.in_ok-head.ensures
+    c.in_ok-pages.ensures.enough c.in_ok-pages.ensures.pages c.remove-at.ensures.value c.remove-at.ensures.items c.in_ok-head.ensures
 
 free : (g : Over) (c : After-keep_head g) → AllByRecursion (λ (q : ℕ). let p = c.args.self.now in is_free p.free q ≡ true) (pages_of c.in_ok-head.head)
 free g c = let p = c.args.self.now in were_free p.limit p.free p.sized p.first_kept p.second_kept _ (pages_of c.in_ok-head.head) (named g c)
@@ -24,7 +24,7 @@ keep_head-requires g c =
     let p = c.args.self.now in
     let head = c.in_ok-head.head in
     let is = pages_are p.free (1 + (c.args.size + 511) / 512) c.remove-at.result c.args.size c.in_ok-key.key.items c.in_ok-pages.pages.items c.remove-at.new.self.items head (omega arith)
-    (c.has_free.ensures.0 c.if-not-has_free.false) c.in_ok-pages.ensures c.remove-at.ensures.value c.remove-at.ensures.items c.in_ok-head.ensures in
+    c.in_ok-pages.ensures.enough c.in_ok-pages.ensures.pages c.remove-at.ensures.value c.remove-at.ensures.items c.in_ok-head.ensures in
     pool_within p.limit (length p.free) (pages_of head) p.sized (in_pool p.limit p.free p.sized p.first_kept p.second_kept _ (pages_of head) is)
 
 pub invariant_of-self-clause-first_kept : goal.invariant_of-self-clause-first_kept
@@ -45,7 +45,7 @@ returns-clause-planned g c =
     let head = c.in_ok-head.head in
     let before = (goal.at.returns-clause-planned g c).After-keep_head in
     let is = named g before in
-    let long = ap length is ∙ length-take-le (1 + (c.args.size + 511) / 512) (free_pages p.free) (c.has_free.ensures.0 c.if-not-has_free.false) in
+    let long = ap length is ∙ length-take-le (1 + (c.args.size + 511) / 512) (free_pages p.free) c.in_ok-pages.ensures.enough in
     let key : c.in_ok-key.key.items ≡ c.args.key.now = search rules in
     let key_is = ap (λ (h : Head). h.key) c.in_ok-head.ensures ∙ key in
     let size_is = ap (λ (h : Head). h.size) c.in_ok-head.ensures in
