@@ -20,7 +20,7 @@ taken source deeds c (Call {deeds = before} {c = old} t added new comes) = comes
 
 -- ---- lists of deeds
 
-answers_append : (xs ys : List Deed) → answers (xs ++ ys) ≡ answers xs ++ answers ys
+pub answers_append : (xs ys : List Deed) → answers (xs ++ ys) ≡ answers xs ++ answers ys
 answers_append [] ys = refl
 answers_append (Executed request reply ∷ xs) ys = ap (λ (l : List (List ℕ)). answer_in reply ++ l) (answers_append xs ys) ∙ sym (append_assoc (answer_in reply) (answers xs) (answers ys))
 answers_append (Settled reply ∷ xs) ys = ap (λ (l : List (List ℕ)). answer_in reply ++ l) (answers_append xs ys) ∙ sym (append_assoc (answer_in reply) (answers xs) (answers ys))
@@ -32,7 +32,7 @@ text_append (Executed request reply ∷ xs) ys = text_append xs ys
 text_append (Settled reply ∷ xs) ys = text_append xs ys
 text_append (Sent text last ∷ xs) ys = ap (λ (l : List ℕ). text ++ l) (text_append xs ys) ∙ sym (append_assoc text (text_sent xs) (text_sent ys))
 
-open_more : (xs : List Deed) (deed : Deed) → ends_text xs ≡ false → ends_text (deed ∷ []) ≡ false → ends_text (xs ++ deed ∷ []) ≡ false
+pub open_more : (xs : List Deed) (deed : Deed) → ends_text xs ≡ false → ends_text (deed ∷ []) ≡ false → ends_text (xs ++ deed ∷ []) ≡ false
 open_more [] deed e f = f
 open_more (Executed request reply ∷ xs) deed e f = open_more xs deed e f
 open_more (Settled reply ∷ xs) deed e f = open_more xs deed e f
@@ -60,15 +60,15 @@ replied given sent text Held m = subst (λ (z : List (List ℕ)). Makes z sent t
 replied given sent text Later m = subst (λ (z : List (List ℕ)). Makes z sent text) (sym (append-nil given)) m
 
 -- a deed that sends nothing and answers so
-acts : (now : List Deed) (text : Text) (deed : Deed) (reply : Reply) → answers (deed ∷ []) ≡ answer_in reply → text_sent (deed ∷ []) ≡ [] → Makes (answers now) (text_sent now) text
+pub told_by : (now : List Deed) (text : Text) (deed : Deed) (reply : Reply) → answers (deed ∷ []) ≡ answer_in reply → text_sent (deed ∷ []) ≡ [] → Makes (answers now) (text_sent now) text
     → Makes (answers (now ++ deed ∷ [])) (text_sent (now ++ deed ∷ [])) (text_after text reply)
-acts now text deed reply gives quiet m =
+told_by now text deed reply gives quiet m =
     let sent : text_sent now ≡ text_sent (now ++ deed ∷ []) = sym (text_append now (deed ∷ []) ∙ ap (λ (l : List ℕ). text_sent now ++ l) quiet ∙ append-nil (text_sent now)) in
     let given : answers now ++ answer_in reply ≡ answers (now ++ deed ∷ []) = sym (answers_append now (deed ∷ []) ∙ ap (λ (l : List (List ℕ)). answers now ++ l) gives) in
     subst (λ (z : List ℕ). Makes (answers (now ++ deed ∷ [])) z (text_after text reply)) sent
     (subst (λ (z : List (List ℕ)). Makes z (text_sent now) (text_after text reply)) given (replied (answers now) (text_sent now) text reply m))
 
-try_gives : (parked : Bool) (request : Request) (deed : Deed) (reply : Reply) → IsTry parked request deed reply → answers (deed ∷ []) ≡ answer_in reply
+pub try_gives : (parked : Bool) (request : Request) (deed : Deed) (reply : Reply) → IsTry parked request deed reply → answers (deed ∷ []) ≡ answer_in reply
 try_gives false request (Executed other answer) reply (same, is) = append-nil (answer_in answer) ∙ ap answer_in is
 try_gives false request (Settled answer) reply none = absurd none
 try_gives false request (Sent text last) reply none = absurd none
@@ -76,7 +76,7 @@ try_gives true request (Executed other answer) reply none = absurd none
 try_gives true request (Settled answer) reply is = append-nil (answer_in answer) ∙ ap answer_in is
 try_gives true request (Sent text last) reply none = absurd none
 
-try_quiet : (parked : Bool) (request : Request) (deed : Deed) (reply : Reply) → IsTry parked request deed reply → (text_sent (deed ∷ []) ≡ []) × (ends_text (deed ∷ []) ≡ false)
+pub try_quiet : (parked : Bool) (request : Request) (deed : Deed) (reply : Reply) → IsTry parked request deed reply → (text_sent (deed ∷ []) ≡ []) × (ends_text (deed ∷ []) ≡ false)
 try_quiet false request (Executed other answer) reply is = (refl, refl)
 try_quiet false request (Settled answer) reply none = absurd none
 try_quiet false request (Sent text last) reply none = absurd none
@@ -95,7 +95,7 @@ tells_more deeds old new deed t still m = record {
 }
 
 -- a part is sent
-parted : (now : List Deed) (text : Text) → Makes (answers now) (text_sent now) text → Makes (answers (now ++ Sent text.rest false ∷ [])) (text_sent (now ++ Sent text.rest false ∷ [])) (emptied text)
+pub parted : (now : List Deed) (text : Text) → Makes (answers now) (text_sent now) text → Makes (answers (now ++ Sent text.rest false ∷ [])) (text_sent (now ++ Sent text.rest false ∷ [])) (emptied text)
 parted now text m =
     let given : answers now ≡ answers (now ++ Sent text.rest false ∷ []) = sym (answers_append now (Sent text.rest false ∷ []) ∙ append-nil (answers now)) in
     let sent : text_sent now ++ text.rest ≡ text_sent (now ++ Sent text.rest false ∷ [])
@@ -112,19 +112,19 @@ has_answer given sent text Begin e = absurd (cc (e))
 has_answer given sent text (Tell {answers = before} {sent = gone} {text = old} m answer) e = has_more before answer
 has_answer given sent text (Send {answers = all} {sent = before} {text = old} m) e = has_answer all before old m e
 
-record Nothing (given : List (List ℕ)) (sent : List ℕ) (text : Text) : Type 0 where
-  unanswered : given ≡ []
-  unsent : sent ≡ []
-  empty : text.rest ≡ []
+pub record Nothing (given : List (List ℕ)) (sent : List ℕ) (text : Text) : Type 0 where
+  pub unanswered : given ≡ []
+  pub unsent : sent ≡ []
+  pub empty : text.rest ≡ []
 
-no_answer : (given : List (List ℕ)) (sent : List ℕ) (text : Text) → Makes given sent text → text.answered ≡ false → Nothing given sent text
+pub no_answer : (given : List (List ℕ)) (sent : List ℕ) (text : Text) → Makes given sent text → text.answered ≡ false → Nothing given sent text
 no_answer given sent text Begin e = record { unanswered = refl; unsent = refl; empty = refl }
 no_answer given sent text (Tell {answers = before} {sent = gone} {text = old} m answer) e = absurd (cc (e))
 no_answer given sent text (Send {answers = all} {sent = before} {text = old} m) e =
     let n = no_answer all before old m e in record { unanswered = n.unanswered; unsent = ap (λ (l : List ℕ). l ++ old.rest) n.unsent ∙ n.empty; empty = refl }
 
 -- a message ends
-answered : PartsAreTheAnswers → (now : List Deed) (text : Text) → ends_text now ≡ false → Makes (answers now) (text_sent now) text → text.answered ≡ true → IsAnswered (now ++ Sent (text.rest ++ 10 ∷ []) true ∷ [])
+pub answered : PartsAreTheAnswers → (now : List Deed) (text : Text) → ends_text now ≡ false → Makes (answers now) (text_sent now) text → text.answered ≡ true → IsAnswered (now ++ Sent (text.rest ++ 10 ∷ []) true ∷ [])
 answered parts now text still m e = record {
   before = now;
   piece = text.rest ++ 10 ∷ [];
@@ -140,9 +140,9 @@ telling parts source deeds c Begins = record { whole = []; now = []; is = refl; 
 telling parts source deeds c (Tries {deeds = before} {c = old} m request next deed reply is) =
     let t = telling parts source before old m in
     let quiet = try_quiet old.standing.parked request deed reply is in
-    tells_more before old.text (text_after old.text reply) deed t quiet.1 (acts t.now old.text deed reply (try_gives old.standing.parked request deed reply is) quiet.0 t.makes)
+    tells_more before old.text (text_after old.text reply) deed t quiet.1 (told_by t.now old.text deed reply (try_gives old.standing.parked request deed reply is) quiet.0 t.makes)
 telling parts source deeds c (Leaves {deeds = before} {c = old} m is) = telling parts source before old m
-telling parts source deeds c (Sends {deeds = before} {c = old} m) =
+telling parts source deeds c (Sends {deeds = before} {c = old} m begun) =
     let t = telling parts source before old m in
     tells_more before old.text (emptied old.text) (Sent old.text.rest false) t refl (parted t.now old.text t.makes)
 telling parts source deeds c (Ends {deeds = before} {c = old} m ends) =

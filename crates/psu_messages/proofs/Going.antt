@@ -67,11 +67,11 @@ tells {X} does source was mid now c request reply new text next t (inl (same, is
     (subst (λ (z : Text). Goes does source was c mid (course new (expansion_after c.standing.inside c.expansion reply) z)) (sym is)
     (subst (λ (z : Standing). Goes does source was c mid (course z (expansion_after c.standing.inside c.expansion reply) (text_after c.text reply))) (sym t.stands)
     (tries does source was mid c request reply new next t)))
-tells {X} does source was mid now c request reply new text next t (inr (sends, is)) =
+tells {X} does source was mid now c request reply new text next t (inr (answered, sends, is)) =
     let d : Course = tried c reply in
     subst (λ (z : Text). Goes does source was c now (course new (expansion_after c.standing.inside c.expansion reply) z)) (sym is)
     (subst (λ (z : Standing). Goes does source was c now (course z (expansion_after c.standing.inside c.expansion reply) (emptied (text_after c.text reply)))) (sym t.stands)
-    (behind does source was mid now c d (sent d) (tries does source was mid c request reply new next t) (one does source mid now d (sent d) (Sent d.text.rest false) sends (λ before b. Sends b))))
+    (behind does source was mid now c d (sent d) (tries does source was mid c request reply new next t) (one does source mid now d (sent d) (Sent d.text.rest false) sends (λ before b. Sends b answered))))
 
 -- ---- a step
 

@@ -30,30 +30,30 @@ no_part list place p after all here =
     let none : drop place list ≡ [] = grind (arith, common_steps) in
     let same : [] ≡ p ∷ after = sym none ∙ here in cc (same)
 
-no_unit : OneList → (inside : Bool) (bytes : List ℕ) (place : ℕ) (p : Part) (request : Request) → IsBehind bytes place → IsUnit inside bytes place p request → ⊥
+pub no_unit : OneList → (inside : Bool) (bytes : List ℕ) (place : ℕ) (p : Part) (request : Request) → IsBehind bytes place → IsUnit inside bytes place p request → ⊥
 no_unit one inside bytes place p request (list, are, all) unit =
     no_part list place p unit.after all (subst (λ (z : List Part). drop place z ≡ p ∷ unit.after) (one bytes unit.units list unit.are are) unit.here)
 
-no_ask : OneList → (source : Source) (place : ℕ) (request : Request) → HasNone source place → IsAsked source place request → ⊥
+pub no_ask : OneList → (source : Source) (place : ℕ) (request : Request) → HasNone source place → IsAsked source place request → ⊥
 no_ask one (units.Text bytes) place request none (first, (p, unit, e)) = no_unit one false bytes place p request none unit
 no_ask one (Fault error) place request none (first, (zero_place, is, e)) = omega arith
 
-untried : (Is : Request → Type 0) (deeds : List Deed) (parked : Bool) → ((request : Request) → Is request → ⊥) → Tried Is deeds parked → deeds ≡ []
+pub untried : (Is : Request → Type 0) (deeds : List Deed) (parked : Bool) → ((request : Request) → Is request → ⊥) → Tried Is deeds parked → deeds ≡ []
 untried Is deeds parked nobody Untried = refl
 untried Is deeds parked nobody (Again t request is deed reply need try e) = absurd (nobody request is)
 
 -- ---- lists of deeds
 
-acts_append : (xs ys : List Deed) → acts (xs ++ ys) ≡ acts xs ++ acts ys
+pub acts_append : (xs ys : List Deed) → acts (xs ++ ys) ≡ acts xs ++ acts ys
 acts_append [] ys = refl
 acts_append (Executed request reply ∷ xs) ys = ap (λ (l : List Deed). Executed request reply ∷ l) (acts_append xs ys)
 acts_append (Settled reply ∷ xs) ys = ap (λ (l : List Deed). Settled reply ∷ l) (acts_append xs ys)
 acts_append (Sent text last ∷ xs) ys = acts_append xs ys
 
-acts_sent : (xs : List Deed) (text : List ℕ) (last : Bool) → acts xs ≡ acts (xs ++ Sent text last ∷ [])
+pub acts_sent : (xs : List Deed) (text : List ℕ) (last : Bool) → acts xs ≡ acts (xs ++ Sent text last ∷ [])
 acts_sent xs text last = sym (acts_append xs (Sent text last ∷ []) ∙ append-nil (acts xs))
 
-acts_one : (parked : Bool) (request : Request) (deed : Deed) (reply : Reply) → IsTry parked request deed reply → acts (deed ∷ []) ≡ deed ∷ []
+pub acts_one : (parked : Bool) (request : Request) (deed : Deed) (reply : Reply) → IsTry parked request deed reply → acts (deed ∷ []) ≡ deed ∷ []
 acts_one false request (Executed other answer) reply is = refl
 acts_one false request (Settled answer) reply none = absurd none
 acts_one false request (Sent text last) reply none = absurd none
@@ -67,41 +67,38 @@ acts_try deeds front part parked request deed reply try is =
 
 -- ---- how far the units are
 
-record Outside (source : Source) (all : List Deed) (place : ℕ) (parked : Bool) : Type 0 where
-  done : List Deed
-  part : List Deed
-  is : all ≡ done ++ part
-  whole : UnitsDone source place done
-  tries : Tried (IsAsked source place) part parked
+pub record Outside (Asked : ℕ → Request → Type 0) (from : ℕ) (all : List Deed) (place : ℕ) (parked : Bool) : Type 0 where
+  pub done : List Deed
+  pub part : List Deed
+  pub is : all ≡ done ++ part
+  pub whole : UnitsDone Asked from place done
+  pub tries : Tried (Asked place) part parked
 
-record Within (source : Source) (all : List Deed) (place : ℕ) (parked : Bool) (expansion : Option (List ℕ)) (next : ℕ) : Type 0 where
-  done : List Deed
-  unit : List Deed
-  inner : List Deed
-  part : List Deed
-  body : List ℕ
-  is : all ≡ (done ++ (unit ++ inner)) ++ part
-  whole : UnitsDone source place done
-  stands : expansion ≡ Some body
-  first : Ended (IsAsked source place) unit (Expand body)
-  within : InsideDone body next inner
-  tries : Tried (IsInside body next) part parked
+pub record Within (Asked : ℕ → Request → Type 0) (from : ℕ) (all : List Deed) (place : ℕ) (parked : Bool) (expansion : Option (List ℕ)) (next : ℕ) : Type 0 where
+  pub done : List Deed
+  pub unit : List Deed
+  pub inner : List Deed
+  pub part : List Deed
+  pub body : List ℕ
+  pub is : all ≡ (done ++ (unit ++ inner)) ++ part
+  pub whole : UnitsDone Asked from place done
+  pub stands : expansion ≡ Some body
+  pub first : Ended (Asked place) unit (Expand body)
+  pub within : InsideDone body next inner
+  pub tries : Tried (IsInside body next) part parked
 
-abbrev At : Source → List Deed → ℕ → Bool → Option (List ℕ) → Option ℕ → Type 0
-At source all place parked expansion None = Outside source all place parked
-At source all place parked expansion (Some next) = Within source all place parked expansion next
-
-abbrev Is : Source → List Deed → Course → Type 0
-Is source deeds c = At source (acts deeds) c.standing.units c.standing.parked c.expansion c.standing.inside
+abbrev pub At : (ℕ → Request → Type 0) → ℕ → List Deed → ℕ → Bool → Option (List ℕ) → Option ℕ → Type 0
+At Asked from all place parked expansion None = Outside Asked from all place parked
+At Asked from all place parked expansion (Some next) = Within Asked from all place parked expansion next
 
 ended : (Is : Request → Type 0) (part : List Deed) (parked : Bool) (request : Request) (deed : Deed) (reply : Reply) → Tried Is part parked → Is request → IsTry parked request deed reply → needs parked reply ≡ None → Ended Is (part ++ deed ∷ []) reply
 ended Is part parked request deed reply t is try e = record { tries = part; parked = parked; tried = t; request = request; is = is; deed = deed; last = try; ends = e; all = refl }
 
 -- ---- a try outside
 
-stays_outside : (source : Source) (deeds : List Deed) (place : ℕ) (parked : Bool) (request : Request) (deed : Deed) (reply : Reply) (need : Need) → Outside source (acts deeds) place parked → IsAsked source place request → IsTry parked request deed reply
-    → needs parked reply ≡ Some need → Outside source (acts (deeds ++ deed ∷ [])) place (accepts parked reply)
-stays_outside source deeds place parked request deed reply need o asks try e = record {
+stays_outside : (Asked : ℕ → Request → Type 0) (from : ℕ) (deeds : List Deed) (place : ℕ) (parked : Bool) (request : Request) (deed : Deed) (reply : Reply) (need : Need) → Outside Asked from (acts deeds) place parked → Asked place request → IsTry parked request deed reply
+    → needs parked reply ≡ Some need → Outside Asked from (acts (deeds ++ deed ∷ [])) place (accepts parked reply)
+stays_outside Asked from deeds place parked request deed reply need o asks try e = record {
   done = o.done;
   part = o.part ++ deed ∷ [];
   is = acts_try deeds o.done o.part parked request deed reply try o.is;
@@ -109,10 +106,10 @@ stays_outside source deeds place parked request deed reply need o asks try e = r
   tries = Again o.tries request asks deed reply need try e;
 }
 
-passes_outside : (source : Source) (deeds : List Deed) (place : ℕ) (parked : Bool) (request : Request) (deed : Deed) (reply : Reply) → Outside source (acts deeds) place parked → IsAsked source place request → IsTry parked request deed reply
-    → needs parked reply ≡ None → is_expansion reply ≡ false → Outside source (acts (deeds ++ deed ∷ [])) (place + 1) false
-passes_outside source deeds place parked request deed reply o asks try e plain =
-    let next : UnitsDone source (place + 1) (o.done ++ (o.part ++ deed ∷ [])) = Plain o.whole (o.part ++ deed ∷ []) reply (ended (IsAsked source place) o.part parked request deed reply o.tries asks try e) plain in
+passes_outside : (Asked : ℕ → Request → Type 0) (from : ℕ) (deeds : List Deed) (place : ℕ) (parked : Bool) (request : Request) (deed : Deed) (reply : Reply) → Outside Asked from (acts deeds) place parked → Asked place request → IsTry parked request deed reply
+    → needs parked reply ≡ None → is_expansion reply ≡ false → Outside Asked from (acts (deeds ++ deed ∷ [])) (place + 1) false
+passes_outside Asked from deeds place parked request deed reply o asks try e plain =
+    let next : UnitsDone Asked from (place + 1) (o.done ++ (o.part ++ deed ∷ [])) = Plain o.whole (o.part ++ deed ∷ []) reply (ended (Asked place) o.part parked request deed reply o.tries asks try e) plain in
     record {
       done = o.done ++ (o.part ++ deed ∷ []);
       part = [];
@@ -121,21 +118,21 @@ passes_outside source deeds place parked request deed reply o asks try e plain =
       tries = Untried;
     }
 
-fails_outside : (source : Source) (deeds : List Deed) (place : ℕ) (parked : Bool) (expansion : Option (List ℕ)) (request : Request) (deed : Deed) (error : ScpiError) (short : Bool) → Outside source (acts deeds) place parked
-    → IsAsked source place request → IsTry parked request deed (Error error) → parked && is_memory error ≡ short
-    → (let s : Standing = if short then record { units = place; inside = None; parked = parked } else record { units = place + 1; inside = None; parked = false } in At source (acts (deeds ++ deed ∷ [])) s.units s.parked expansion s.inside)
-fails_outside source deeds place parked expansion request deed error true o asks try e =
-    stays_outside source deeds place parked request deed (Error error) Memory o asks try (ap (λ (b : Bool). (let n : Option Need = if b then Some Memory else None in n)) e)
-fails_outside source deeds place parked expansion request deed error false o asks try e =
-    passes_outside source deeds place parked request deed (Error error) o asks try (ap (λ (b : Bool). (let n : Option Need = if b then Some Memory else None in n)) e) refl
+fails_outside : (Asked : ℕ → Request → Type 0) (from : ℕ) (deeds : List Deed) (place : ℕ) (parked : Bool) (expansion : Option (List ℕ)) (request : Request) (deed : Deed) (error : ScpiError) (short : Bool) → Outside Asked from (acts deeds) place parked
+    → Asked place request → IsTry parked request deed (Error error) → parked && is_memory error ≡ short
+    → (let s : Standing = if short then record { units = place; inside = None; parked = parked } else record { units = place + 1; inside = None; parked = false } in At Asked from (acts (deeds ++ deed ∷ [])) s.units s.parked expansion s.inside)
+fails_outside Asked from deeds place parked expansion request deed error true o asks try e =
+    stays_outside Asked from deeds place parked request deed (Error error) Memory o asks try (ap (λ (b : Bool). (let n : Option Need = if b then Some Memory else None in n)) e)
+fails_outside Asked from deeds place parked expansion request deed error false o asks try e =
+    passes_outside Asked from deeds place parked request deed (Error error) o asks try (ap (λ (b : Bool). (let n : Option Need = if b then Some Memory else None in n)) e) refl
 
-try_outside : (source : Source) (deeds : List Deed) (place : ℕ) (parked : Bool) (expansion : Option (List ℕ)) (request : Request) (deed : Deed) (reply : Reply) → Outside source (acts deeds) place parked → IsAsked source place request
+pub try_outside : (Asked : ℕ → Request → Type 0) (from : ℕ) (deeds : List Deed) (place : ℕ) (parked : Bool) (expansion : Option (List ℕ)) (request : Request) (deed : Deed) (reply : Reply) → Outside Asked from (acts deeds) place parked → Asked place request
     → IsTry parked request deed reply
-    → (let s : Standing = standing_after (record { units = place; inside = None; parked = parked }) reply in At source (acts (deeds ++ deed ∷ [])) s.units s.parked (expansion_after None expansion reply) s.inside)
-try_outside source deeds place parked expansion request deed Done o asks try = passes_outside source deeds place parked request deed Done o asks try refl refl
-try_outside source deeds place parked expansion request deed (Answer text) o asks try = passes_outside source deeds place parked request deed (Answer text) o asks try refl refl
-try_outside source deeds place parked expansion request deed (Error error) o asks try = fails_outside source deeds place parked expansion request deed error (parked && is_memory error) o asks try refl
-try_outside source deeds place parked expansion request deed (Expand body) o asks try = record {
+    → (let s : Standing = standing_after (record { units = place; inside = None; parked = parked }) reply in At Asked from (acts (deeds ++ deed ∷ [])) s.units s.parked (expansion_after None expansion reply) s.inside)
+try_outside Asked from deeds place parked expansion request deed Done o asks try = passes_outside Asked from deeds place parked request deed Done o asks try refl refl
+try_outside Asked from deeds place parked expansion request deed (Answer text) o asks try = passes_outside Asked from deeds place parked request deed (Answer text) o asks try refl refl
+try_outside Asked from deeds place parked expansion request deed (Error error) o asks try = fails_outside Asked from deeds place parked expansion request deed error (parked && is_memory error) o asks try refl
+try_outside Asked from deeds place parked expansion request deed (Expand body) o asks try = record {
   done = o.done;
   unit = o.part ++ deed ∷ [];
   inner = [];
@@ -144,19 +141,19 @@ try_outside source deeds place parked expansion request deed (Expand body) o ask
   is = acts_try deeds o.done o.part parked request deed (Expand body) try o.is ∙ ap (λ (l : List Deed). o.done ++ l) (sym (append-nil (o.part ++ deed ∷ []))) ∙ sym (append-nil (o.done ++ ((o.part ++ deed ∷ []) ++ [])));
   whole = o.whole;
   stands = refl;
-  first = ended (IsAsked source place) o.part parked request deed (Expand body) o.tries asks try refl;
+  first = ended (Asked place) o.part parked request deed (Expand body) o.tries asks try refl;
   within = NoneInside;
   tries = Untried;
 }
-try_outside source deeds place parked expansion request deed Parked o asks try = stays_outside source deeds place parked request deed Parked Flush o asks try refl
-try_outside source deeds place parked expansion request deed Held o asks try = stays_outside source deeds place parked request deed Held Lock o asks try refl
-try_outside source deeds place parked expansion request deed Later o asks try = stays_outside source deeds place parked request deed Later Room o asks try refl
+try_outside Asked from deeds place parked expansion request deed Parked o asks try = stays_outside Asked from deeds place parked request deed Parked Flush o asks try refl
+try_outside Asked from deeds place parked expansion request deed Held o asks try = stays_outside Asked from deeds place parked request deed Held Lock o asks try refl
+try_outside Asked from deeds place parked expansion request deed Later o asks try = stays_outside Asked from deeds place parked request deed Later Room o asks try refl
 
 -- ---- a try in an expansion
 
-stays_within : (source : Source) (deeds : List Deed) (place : ℕ) (parked : Bool) (expansion : Option (List ℕ)) (next : ℕ) (request : Request) (deed : Deed) (reply : Reply) (need : Need) → (w : Within source (acts deeds) place parked expansion next)
-    → IsInside w.body next request → IsTry parked request deed reply → needs parked reply ≡ Some need → Within source (acts (deeds ++ deed ∷ [])) place (accepts parked reply) expansion next
-stays_within source deeds place parked expansion next request deed reply need w asks try e = record {
+stays_within : (Asked : ℕ → Request → Type 0) (from : ℕ) (deeds : List Deed) (place : ℕ) (parked : Bool) (expansion : Option (List ℕ)) (next : ℕ) (request : Request) (deed : Deed) (reply : Reply) (need : Need) → (w : Within Asked from (acts deeds) place parked expansion next)
+    → IsInside w.body next request → IsTry parked request deed reply → needs parked reply ≡ Some need → Within Asked from (acts (deeds ++ deed ∷ [])) place (accepts parked reply) expansion next
+stays_within Asked from deeds place parked expansion next request deed reply need w asks try e = record {
   done = w.done;
   unit = w.unit;
   inner = w.inner;
@@ -173,9 +170,9 @@ stays_within source deeds place parked expansion next request deed reply need w 
 longer : (done unit inner more : List Deed) → (done ++ (unit ++ inner)) ++ more ≡ done ++ (unit ++ (inner ++ more))
 longer done unit inner more = append_assoc done (unit ++ inner) more ∙ ap (λ (l : List Deed). done ++ l) (append_assoc unit inner more)
 
-passes_within : (source : Source) (deeds : List Deed) (place : ℕ) (parked : Bool) (expansion : Option (List ℕ)) (next : ℕ) (request : Request) (deed : Deed) (reply : Reply) → (w : Within source (acts deeds) place parked expansion next)
-    → IsInside w.body next request → IsTry parked request deed reply → needs parked reply ≡ None → Within source (acts (deeds ++ deed ∷ [])) place false expansion (next + 1)
-passes_within source deeds place parked expansion next request deed reply w asks try e =
+passes_within : (Asked : ℕ → Request → Type 0) (from : ℕ) (deeds : List Deed) (place : ℕ) (parked : Bool) (expansion : Option (List ℕ)) (next : ℕ) (request : Request) (deed : Deed) (reply : Reply) → (w : Within Asked from (acts deeds) place parked expansion next)
+    → IsInside w.body next request → IsTry parked request deed reply → needs parked reply ≡ None → Within Asked from (acts (deeds ++ deed ∷ [])) place false expansion (next + 1)
+passes_within Asked from deeds place parked expansion next request deed reply w asks try e =
     let more : List Deed = w.part ++ deed ∷ [] in
     record {
       done = w.done;
@@ -191,42 +188,42 @@ passes_within source deeds place parked expansion next request deed reply w asks
       tries = Untried;
     }
 
-fails_within : (source : Source) (deeds : List Deed) (place : ℕ) (parked : Bool) (expansion : Option (List ℕ)) (next : ℕ) (request : Request) (deed : Deed) (error : ScpiError) (short : Bool) → (w : Within source (acts deeds) place parked expansion next)
+fails_within : (Asked : ℕ → Request → Type 0) (from : ℕ) (deeds : List Deed) (place : ℕ) (parked : Bool) (expansion : Option (List ℕ)) (next : ℕ) (request : Request) (deed : Deed) (error : ScpiError) (short : Bool) → (w : Within Asked from (acts deeds) place parked expansion next)
     → IsInside w.body next request → IsTry parked request deed (Error error) → parked && is_memory error ≡ short
-    → (let s : Standing = if short then record { units = place; inside = Some next; parked = parked } else record { units = place; inside = Some (next + 1); parked = false } in At source (acts (deeds ++ deed ∷ [])) s.units s.parked expansion s.inside)
-fails_within source deeds place parked expansion next request deed error true w asks try e =
-    stays_within source deeds place parked expansion next request deed (Error error) Memory w asks try (ap (λ (b : Bool). (let n : Option Need = if b then Some Memory else None in n)) e)
-fails_within source deeds place parked expansion next request deed error false w asks try e =
-    passes_within source deeds place parked expansion next request deed (Error error) w asks try (ap (λ (b : Bool). (let n : Option Need = if b then Some Memory else None in n)) e)
+    → (let s : Standing = if short then record { units = place; inside = Some next; parked = parked } else record { units = place; inside = Some (next + 1); parked = false } in At Asked from (acts (deeds ++ deed ∷ [])) s.units s.parked expansion s.inside)
+fails_within Asked from deeds place parked expansion next request deed error true w asks try e =
+    stays_within Asked from deeds place parked expansion next request deed (Error error) Memory w asks try (ap (λ (b : Bool). (let n : Option Need = if b then Some Memory else None in n)) e)
+fails_within Asked from deeds place parked expansion next request deed error false w asks try e =
+    passes_within Asked from deeds place parked expansion next request deed (Error error) w asks try (ap (λ (b : Bool). (let n : Option Need = if b then Some Memory else None in n)) e)
 
-try_within : (source : Source) (deeds : List Deed) (place : ℕ) (parked : Bool) (expansion : Option (List ℕ)) (next : ℕ) (request : Request) (deed : Deed) (reply : Reply) → (w : Within source (acts deeds) place parked expansion next)
+pub try_within : (Asked : ℕ → Request → Type 0) (from : ℕ) (deeds : List Deed) (place : ℕ) (parked : Bool) (expansion : Option (List ℕ)) (next : ℕ) (request : Request) (deed : Deed) (reply : Reply) → (w : Within Asked from (acts deeds) place parked expansion next)
     → IsInside w.body next request → IsTry parked request deed reply
-    → (let s : Standing = standing_after (record { units = place; inside = Some next; parked = parked }) reply in At source (acts (deeds ++ deed ∷ [])) s.units s.parked (expansion_after (Some next) expansion reply) s.inside)
-try_within source deeds place parked expansion next request deed Done w asks try = passes_within source deeds place parked expansion next request deed Done w asks try refl
-try_within source deeds place parked expansion next request deed (Answer text) w asks try = passes_within source deeds place parked expansion next request deed (Answer text) w asks try refl
-try_within source deeds place parked expansion next request deed (Error error) w asks try = fails_within source deeds place parked expansion next request deed error (parked && is_memory error) w asks try refl
-try_within source deeds place parked expansion next request deed (Expand body) w asks try = passes_within source deeds place parked expansion next request deed (Expand body) w asks try refl
-try_within source deeds place parked expansion next request deed Parked w asks try = stays_within source deeds place parked expansion next request deed Parked Flush w asks try refl
-try_within source deeds place parked expansion next request deed Held w asks try = stays_within source deeds place parked expansion next request deed Held Lock w asks try refl
-try_within source deeds place parked expansion next request deed Later w asks try = stays_within source deeds place parked expansion next request deed Later Room w asks try refl
+    → (let s : Standing = standing_after (record { units = place; inside = Some next; parked = parked }) reply in At Asked from (acts (deeds ++ deed ∷ [])) s.units s.parked (expansion_after (Some next) expansion reply) s.inside)
+try_within Asked from deeds place parked expansion next request deed Done w asks try = passes_within Asked from deeds place parked expansion next request deed Done w asks try refl
+try_within Asked from deeds place parked expansion next request deed (Answer text) w asks try = passes_within Asked from deeds place parked expansion next request deed (Answer text) w asks try refl
+try_within Asked from deeds place parked expansion next request deed (Error error) w asks try = fails_within Asked from deeds place parked expansion next request deed error (parked && is_memory error) w asks try refl
+try_within Asked from deeds place parked expansion next request deed (Expand body) w asks try = passes_within Asked from deeds place parked expansion next request deed (Expand body) w asks try refl
+try_within Asked from deeds place parked expansion next request deed Parked w asks try = stays_within Asked from deeds place parked expansion next request deed Parked Flush w asks try refl
+try_within Asked from deeds place parked expansion next request deed Held w asks try = stays_within Asked from deeds place parked expansion next request deed Held Lock w asks try refl
+try_within Asked from deeds place parked expansion next request deed Later w asks try = stays_within Asked from deeds place parked expansion next request deed Later Room w asks try refl
 
 -- ---- the course
 
-same_body : (source : Source) (expansion : Option (List ℕ)) (body other : List ℕ) (place : ℕ) (p : Part) (request : Request) → expansion ≡ Some body → expansion ≡ Some other → IsUnit true other place p request → IsInside body place request
-same_body source expansion body other place p request e f unit =
+pub same_body : (expansion : Option (List ℕ)) (body other : List ℕ) (place : ℕ) (p : Part) (request : Request) → expansion ≡ Some body → expansion ≡ Some other → IsUnit true other place p request → IsInside body place request
+same_body expansion body other place p request e f unit =
     let both : Some body ≡ Some other = sym e ∙ f in
     let same : other ≡ body = cc (both) in (p, subst (λ (z : List ℕ). IsUnit true z place p request) same unit)
 
 try_at : (source : Source) (deeds : List Deed) (place : ℕ) (inside : Option ℕ) (parked : Bool) (expansion : Option (List ℕ)) (text : Text) (request : Request) (deed : Deed) (reply : Reply)
-    → At source (acts deeds) place parked expansion inside → NextAt source (record { standing = record { units = place; inside = inside; parked = parked }; expansion = expansion; text = text }) inside request → IsTry parked request deed reply
-    → (let s : Standing = standing_after (record { units = place; inside = inside; parked = parked }) reply in At source (acts (deeds ++ deed ∷ [])) s.units s.parked (expansion_after inside expansion reply) s.inside)
-try_at source deeds place None parked expansion text request deed reply o (first, asks, clear) try = try_outside source deeds place parked expansion request deed reply o (first, asks) try
+    → At (IsAsked source) 0 (acts deeds) place parked expansion inside → NextAt source (record { standing = record { units = place; inside = inside; parked = parked }; expansion = expansion; text = text }) inside request → IsTry parked request deed reply
+    → (let s : Standing = standing_after (record { units = place; inside = inside; parked = parked }) reply in At (IsAsked source) 0 (acts (deeds ++ deed ∷ [])) s.units s.parked (expansion_after inside expansion reply) s.inside)
+try_at source deeds place None parked expansion text request deed reply o (first, asks, clear) try = try_outside (IsAsked source) 0 deeds place parked expansion request deed reply o (first, asks) try
 try_at source deeds place (Some next) parked expansion text request deed reply w (body, p, stands, unit) try =
-    try_within source deeds place parked expansion next request deed reply w (same_body source expansion w.body body next p request w.stands stands unit) try
+    try_within (IsAsked source) 0 deeds place parked expansion next request deed reply w (same_body expansion w.body body next p request w.stands stands unit) try
 
-leave_at : OneList → (source : Source) (all : List Deed) (place next : ℕ) (parked : Bool) (expansion : Option (List ℕ)) (body : List ℕ) → Within source all place parked expansion next → expansion ≡ Some body → IsBehind body next
-    → Outside source all (place + 1) false
-leave_at one source all place next parked expansion body w stands over =
+pub leave_at : OneList → (Asked : ℕ → Request → Type 0) (from : ℕ) (all : List Deed) (place next : ℕ) (parked : Bool) (expansion : Option (List ℕ)) (body : List ℕ) → Within Asked from all place parked expansion next → expansion ≡ Some body → IsBehind body next
+    → Outside Asked from all (place + 1) false
+leave_at one Asked from all place next parked expansion body w stands over =
     let both : Some body ≡ Some w.body = sym stands ∙ w.stands in
     let same : body ≡ w.body = cc (both) in
     let behind : IsBehind w.body next = subst (λ (z : List ℕ). IsBehind z next) same over in
@@ -239,23 +236,27 @@ leave_at one source all place next parked expansion body w stands over =
       tries = Untried;
     }
 
+abbrev Is : Source → List Deed → Course → Type 0
+Is source deeds c = At (IsAsked source) 0 (acts deeds) c.standing.units c.standing.parked c.expansion c.standing.inside
+
 turning : OneList → (source : Source) → (deeds : List Deed) (c : Course) → Comes source deeds c → Is source deeds c
 turning one source deeds c Begins = record { done = []; part = []; is = refl; whole = NoUnit; tries = Untried }
 turning one source deeds c (Tries {deeds = before} {c = old} m request next deed reply try) =
     try_at source before old.standing.units old.standing.inside old.standing.parked old.expansion old.text request deed reply (turning one source before old m) next try
 turning one source deeds c (Leaves {deeds = before} {c = old} m (body, next, stands, place, over)) =
-    leave_at one source (acts before) old.standing.units next old.standing.parked old.expansion body
-    (subst (λ (z : Option ℕ). At source (acts before) old.standing.units old.standing.parked old.expansion z) place (turning one source before old m)) stands over
-turning one source deeds c (Sends {deeds = before} {c = old} m) =
-    subst (λ (l : List Deed). At source l old.standing.units old.standing.parked old.expansion old.standing.inside) (acts_sent before old.text.rest false) (turning one source before old m)
+    leave_at one (IsAsked source) 0 (acts before) old.standing.units next old.standing.parked old.expansion body
+    (subst (λ (z : Option ℕ). At (IsAsked source) 0 (acts before) old.standing.units old.standing.parked old.expansion z) place (turning one source before old m)) stands over
+turning one source deeds c (Sends {deeds = before} {c = old} m begun) =
+    subst (λ (l : List Deed). At (IsAsked source) 0 l old.standing.units old.standing.parked old.expansion old.standing.inside) (acts_sent before old.text.rest false) (turning one source before old m)
 turning one source deeds c (Ends {deeds = before} {c = old} m ends) =
-    subst (λ (l : List Deed). At source l old.standing.units old.standing.parked old.expansion old.standing.inside) (acts_sent before (old.text.rest ++ 10 ∷ []) true) (turning one source before old m)
+    subst (λ (l : List Deed). At (IsAsked source) 0 l old.standing.units old.standing.parked old.expansion old.standing.inside) (acts_sent before (old.text.rest ++ 10 ∷ []) true) (turning one source before old m)
 
-over_at : OneList → (source : Source) (all : List Deed) (place : ℕ) (parked : Bool) (expansion : Option (List ℕ)) (inside : Option ℕ) → At source all place parked expansion inside → HasNone source place → UnitsDone source place all
-over_at one source all place parked expansion None o none =
-    let empty : o.part ≡ [] = untried (IsAsked source place) o.part parked (λ request is. no_ask one source place request none is) o.tries in
-    subst (λ (l : List Deed). UnitsDone source place l) (sym (o.is ∙ ap (λ (l : List Deed). o.done ++ l) empty ∙ append-nil o.done)) o.whole
-over_at one source all place parked expansion (Some next) w none = absurd (no_ask one source place w.first.request none w.first.is)
+pub over_at : (Asked : ℕ → Request → Type 0) (from : ℕ) (all : List Deed) (place : ℕ) (parked : Bool) (expansion : Option (List ℕ)) (inside : Option ℕ) → At Asked from all place parked expansion inside → ((request : Request) → Asked place request → ⊥) → UnitsDone Asked from place all
+over_at Asked from all place parked expansion None o none =
+    let empty : o.part ≡ [] = untried (Asked place) o.part parked none o.tries in
+    subst (λ (l : List Deed). UnitsDone Asked from place l) (sym (o.is ∙ ap (λ (l : List Deed). o.done ++ l) empty ∙ append-nil o.done)) o.whole
+over_at Asked from all place parked expansion (Some next) w none = absurd (none w.first.request w.first.is)
 
-pub all_done : OneList → (source : Source) (deeds : List Deed) (c : Course) → Comes source deeds c → IsOver source c → UnitsDone source c.standing.units (acts deeds)
-all_done one source deeds c m over = over_at one source (acts deeds) c.standing.units c.standing.parked c.expansion c.standing.inside (turning one source deeds c m) over.units
+pub all_done : OneList → (source : Source) (deeds : List Deed) (c : Course) → Comes source deeds c → IsOver source c → UnitsDone (IsAsked source) 0 c.standing.units (acts deeds)
+all_done one source deeds c m over =
+    over_at (IsAsked source) 0 (acts deeds) c.standing.units c.standing.parked c.expansion c.standing.inside (turning one source deeds c m) (λ request is. no_ask one source c.standing.units request over.units is)

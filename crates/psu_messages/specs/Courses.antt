@@ -83,7 +83,7 @@ pub data Comes (source : Source) : List Deed → Course → Type 0 where
   Begins : Comes source [] beginning
   Tries : {deeds : List Deed} {c : Course} → Comes source deeds c → (request : Request) → IsNext source c request → (deed : Deed) (reply : Reply) → IsTry c.standing.parked request deed reply → Comes source (deeds ++ deed ∷ []) (tried c reply)
   Leaves : {deeds : List Deed} {c : Course} → Comes source deeds c → IsExpanded c → Comes source deeds (outside c)
-  Sends : {deeds : List Deed} {c : Course} → Comes source deeds c → Comes source (deeds ++ Sent c.text.rest false ∷ []) (sent c)
+  Sends : {deeds : List Deed} {c : Course} → Comes source deeds c → c.text.answered ≡ true → Comes source (deeds ++ Sent c.text.rest false ∷ []) (sent c)
   Ends : {deeds : List Deed} {c : Course} → Comes source deeds c → EndsAnswered source c → Comes source (deeds ++ Sent (c.text.rest ++ 10 ∷ []) true ∷ []) (ended c)
 
 -- nothing is left to do
@@ -114,7 +114,7 @@ pub record Trial {X : Type 0} (does : X → Deed → X → Type 0) (at : X) (s :
 abbrev pub Tells : {X : Type 0} → (X → Deed → X → Type 0) → X → Text → Reply → X → Text → Type 0
 Tells does at text reply now new =
     ((now ≡ at) × (new ≡ text_after text reply))
-    ⊎ (does at (Sent (text_after text reply).rest false) now × (new ≡ emptied (text_after text reply)))
+    ⊎ (((text_after text reply).answered ≡ true) × does at (Sent (text_after text reply).rest false) now × (new ≡ emptied (text_after text reply)))
 
 -- the last of a text was sent, where it has an answer
 abbrev pub Closes : {X : Type 0} → (X → Deed → X → Type 0) → X → Text → X → Text → Type 0

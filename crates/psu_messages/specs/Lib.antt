@@ -6,3 +6,4 @@ pub mod Shown
 pub mod Stepping
 pub mod Answers
 pub mod Turns
+pub mod Messages

@@ -53,13 +53,13 @@ pub data InsideDone (body : List ℕ) : ℕ → List Deed → Type 0 where
   NoneInside : InsideDone body 0 []
   OneInside : {place : ℕ} {deeds : List Deed} → InsideDone body place deeds → (unit : List Deed) (reply : Reply) → Ended (IsInside body place) unit reply → InsideDone body (place + 1) (deeds ++ unit)
 
--- so many units, each to its end, with the units of its expansion in its place
-pub data UnitsDone (source : Source) : ℕ → List Deed → Type 0 where
-  NoUnit : UnitsDone source 0 []
-  Plain : {place : ℕ} {deeds : List Deed} → UnitsDone source place deeds → (unit : List Deed) (reply : Reply) → Ended (IsAsked source place) unit reply → is_expansion reply ≡ false → UnitsDone source (place + 1) (deeds ++ unit)
-  Expanded : {place : ℕ} {deeds : List Deed} → UnitsDone source place deeds → (unit : List Deed) (body : List ℕ) → Ended (IsAsked source place) unit (Expand body) → (inner : List Deed) (count : ℕ) → InsideDone body count inner → IsBehind body count
-      → UnitsDone source (place + 1) (deeds ++ (unit ++ inner))
+-- so many units from a place on, each to its end, with the units of its expansion in its place
+pub data UnitsDone (Asked : ℕ → Request → Type 0) (from : ℕ) : ℕ → List Deed → Type 0 where
+  NoUnit : UnitsDone Asked from from []
+  Plain : {place : ℕ} {deeds : List Deed} → UnitsDone Asked from place deeds → (unit : List Deed) (reply : Reply) → Ended (Asked place) unit reply → is_expansion reply ≡ false → UnitsDone Asked from (place + 1) (deeds ++ unit)
+  Expanded : {place : ℕ} {deeds : List Deed} → UnitsDone Asked from place deeds → (unit : List Deed) (body : List ℕ) → Ended (Asked place) unit (Expand body) → (inner : List Deed) (count : ℕ) → InsideDone body count inner → IsBehind body count
+      → UnitsDone Asked from (place + 1) (deeds ++ (unit ++ inner))
 
 -- Once nothing is left to do, each unit was executed to its end, once and in order.
 abbrev pub OverIsDone : Type 0
-OverIsDone = (source : Source) (deeds : List Deed) (c : Course) → Comes source deeds c → IsOver source c → UnitsDone source c.standing.units (acts deeds)
+OverIsDone = (source : Source) (deeds : List Deed) (c : Course) → Comes source deeds c → IsOver source c → UnitsDone (IsAsked source) 0 c.standing.units (acts deeds)

@@ -1,5 +1,6 @@
 // Laws of the course of a transmission.
 ghost use Rattle.psu_messages.specs.Answers.{CallsAreOneCourse, OverIsSent};
+ghost use Rattle.psu_messages.specs.Messages.{OverIsMessages};
 ghost use Rattle.psu_messages.specs.Turns.{OverIsDone};
 
 use psu_answers::parts_are_the_answers;
@@ -22,4 +23,13 @@ pub fn over_is_done()
     ensures { OverIsDone }
 {
     one_list_of_units();
+}
+
+/// Once a transmission is over, what was done for it are its messages one after another: each text that was sent are the answers of one message's units,
+/// in their order.
+pub fn over_is_messages()
+    ensures { OverIsMessages }
+{
+    one_list_of_units();
+    parts_are_the_answers();
 }

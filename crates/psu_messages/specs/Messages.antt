@@ -1,0 +1,28 @@
+-- The messages of a transmission, one after another. Source: IEEE 488.2, 8.4: the answers of a message's units are sent as one text.
+use Rattle.std.specs.Prelude.{◌⊎◌, ℕ, ◌<◌, ◌==◌, List, [], ◌++◌}
+use Rattle.psu_tree.specs.declared.unit_request.Request.{Request}
+use Rattle.psu_messages.specs.Deeds.{Deed}
+use Rattle.psu_messages.specs.Units.{Asks, Source}
+use Rattle.psu_messages.specs.Courses.{Comes, Course, IsOver}
+use Rattle.psu_messages.specs.Answers.{IsAnswered, IsSilent}
+use Rattle.psu_messages.specs.Turns.{UnitsDone, acts}
+
+-- how a unit of the message that begins at a place reads: the one there is the first of a message, and no other is
+abbrev pub IsAskedIn : Source → ℕ → ℕ → Request → Type 0
+IsAskedIn source from place request = Asks source place request (place == from)
+
+-- A message: its units, from the first up to the one at `to`, each to its end, once and in order; what they answered was sent whole as one text behind the last
+-- of them, or they answered nothing, and nothing was sent.
+pub record IsMessage (source : Source) (from to : ℕ) (deeds : List Deed) : Type 0 where
+  pub some : from < to
+  pub units : UnitsDone (IsAskedIn source from) from to (acts deeds)
+  pub text : IsAnswered deeds ⊎ IsSilent deeds
+
+-- messages, one after another, which have so many units together
+pub data AreMessages (source : Source) : ℕ → List Deed → Type 0 where
+  NoMessage : AreMessages source 0 []
+  OneMore : {from : ℕ} {deeds : List Deed} → AreMessages source from deeds → (to : ℕ) (message : List Deed) → IsMessage source from to message → AreMessages source to (deeds ++ message)
+
+-- Once nothing is left to do, what was done are the messages of the transmission: each text that was sent are the answers of the units of one message.
+abbrev pub OverIsMessages : Type 0
+OverIsMessages = (source : Source) (deeds : List Deed) (c : Course) → Comes source deeds c → IsOver source c → AreMessages source c.standing.units deeds
