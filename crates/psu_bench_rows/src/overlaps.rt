@@ -7,7 +7,7 @@ use crate::benches::{
 };
 use crate::holds::Hold;
 use psu_bench::{Bench, Gated, Open, Point, Seat, flusher, session_worker};
-use psu_disk::{Disk, FailOnce};
+use psu_disk::{Disk, FailingDisk};
 use psu_exec::{Outcome, ScpiError, Session};
 use std::alloc::Global;
 use std::process::Abort;
@@ -165,7 +165,7 @@ fn is_refused_beside<D: Disk + Drop + Send, R: Threads + Wait + Sync + Abort>(
 #[test]
 fn a_session_is_answered_while_a_store_is_reopened(rt: HostRuntime) {
     let hold = Hold::new(Point::BeforeRun);
-    let disk = FailOnce::new(formatted(&rt, rt.alloc()), 8);
+    let disk = FailingDisk::once(formatted(&rt, rt.alloc()), 8);
     let (bench, mut seat) = bench_on(&rt, rt.alloc(), disk);
     assert!(rt; is_refused_beside(&rt, &bench, &mut seat, &hold));
     assert!(rt; !is_flushed_at_close(&rt, bench, seat));

@@ -3,13 +3,13 @@ use crate::holds::holds;
 use crate::images::small;
 use crate::sessions_bench::{flush, gives_back, is_said, opened, powered_on_with, taken, whole};
 use crate::stores;
-use psu_disk::{Choice, FailOnce, MemDisk};
+use psu_disk::{Choice, FailingDisk, MemDisk};
 use psu_exec::{Condition, Exec, Session};
 use psu_items::{Items, Store};
 use std::alloc::Global;
 use std::process::Abort;
 
-type Power = Exec<FailOnce<MemDisk<Global>>, Global>;
+type Power = Exec<FailingDisk<MemDisk<Global>>, Global>;
 
 // What is there before the changes, so that each of them is accepted: the enables, a register, two macros and three files.
 const BEFORE: &str = r#"*PSC 0
@@ -69,7 +69,11 @@ fn begun(rt: &impl Abort, exec: &mut Power) -> Session {
 // A device on a disk that fails once: behind so many calls of the job after that.
 fn failing_after(rt: &impl Abort, alloc: Global, calls: u64) -> Power {
     let disk = small(alloc).expect(rt, "a disk");
-    powered_on_with(rt, alloc, FailOnce::new(disk, calls.saturating_add(BEGUN)))
+    powered_on_with(
+        rt,
+        alloc,
+        FailingDisk::once(disk, calls.saturating_add(BEGUN)),
+    )
 }
 
 // A change, and a second one while its job is out. Whether the second is done.

@@ -6,13 +6,13 @@ use crate::sessions_bench::{
 };
 use crate::sessions_script::play;
 use crate::stores::{self, assigned};
-use psu_disk::{Choice, Disk, FailOnce, Fuse, MemDisk};
+use psu_disk::{Choice, Disk, FailingDisk, MemDisk};
 use psu_exec::{Ended, Exec, Finished, NoJob, PowerCause, Session, Stranger};
 use psu_items::Store;
 use std::alloc::Global;
 use std::process::Abort;
 
-type Power = Exec<FailOnce<MemDisk<Global>>, Global>;
+type Power = Exec<FailingDisk<MemDisk<Global>>, Global>;
 
 fn disk(rt: &impl Abort, alloc: Global) -> MemDisk<Global> {
     least(alloc).expect(rt, "a disk")
@@ -20,7 +20,7 @@ fn disk(rt: &impl Abort, alloc: Global) -> MemDisk<Global> {
 
 // A device whose disk fails once, after so many calls.
 fn powered_on(rt: &impl Abort, alloc: Global, passes: u64) -> Power {
-    powered_on_with(rt, alloc, FailOnce::new(disk(rt, alloc), passes))
+    powered_on_with(rt, alloc, FailingDisk::once(disk(rt, alloc), passes))
 }
 
 const LEAST_NUMBERS: &str = "
@@ -261,25 +261,27 @@ fn bad_items_do_not_power_on(rt: HostRuntime) {
     assert!(rt; refusal(rt.alloc(), store) == Some(PowerCause::BadItems));
 }
 
-type Fused = Exec<Fuse<MemDisk<Global>>, Global>;
-
 // A device with a change that is not flushed.
-fn changes(rt: &impl Abort, exec: &mut Fused) {
+fn changes(rt: &impl Abort, exec: &mut Power) {
     let session = opened(rt, exec, 1);
     says(rt, exec, session, "*PSC 0", "done");
 }
 
 // The store of a disk that stops after so many calls; none where that is before it is opened.
-fn fused(
+fn stopping(
     rt: &impl Abort,
     alloc: Global,
     passes: u64,
-) -> Option<Store<Fuse<MemDisk<Global>>, Global>> {
-    stores::opened(alloc, Fuse::new(disk(rt, alloc), passes))
+) -> Option<Store<FailingDisk<MemDisk<Global>>, Global>> {
+    stores::opened(alloc, FailingDisk::from_then_on(disk(rt, alloc), passes))
 }
 
 // Such a device with this store.
-fn changed(rt: &impl Abort, alloc: Global, store: Store<Fuse<MemDisk<Global>>, Global>) -> Fused {
+fn changed(
+    rt: &impl Abort,
+    alloc: Global,
+    store: Store<FailingDisk<MemDisk<Global>>, Global>,
+) -> Power {
     let mut exec = Exec::power_on(alloc, store).ok().expect(rt, "a power-on");
     changes(rt, &mut exec);
     exec
@@ -295,14 +297,14 @@ fn disk_of<D: Disk + Drop>(ended: Ended<D, Global>) -> Option<D> {
 }
 
 // The disk once a device has run its job.
-fn left_by(rt: &impl Abort, mut exec: Fused) -> MemDisk<Global> {
+fn left_by(rt: &impl Abort, mut exec: Power) -> MemDisk<Global> {
     runs_job(rt, &mut exec, 0);
     disk_of(exec.end()).expect(rt, "no job out").into_inner()
 }
 
 // Whether a restart finds the contents before the job or its target, where power is lost after so many calls with these bytes.
 fn leaves_either(rt: &impl Abort, alloc: Global, passes: u64, choice: Choice) -> bool {
-    let Some(store) = fused(rt, alloc, passes) else {
+    let Some(store) = stopping(rt, alloc, passes) else {
         return true;
     };
     let mut disk = left_by(rt, changed(rt, alloc, store));

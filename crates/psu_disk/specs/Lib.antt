@@ -6,3 +6,4 @@ pub mod Ranges
 pub mod Touched
 pub mod Past
 pub mod Medium
+pub mod Failing

@@ -2,24 +2,22 @@
 use crate::holds::{count, either, holds};
 use crate::images::{least, written_on};
 use crate::runs::{NOT_OPENED, Ran, run_on};
-use psu_disk::{Choice, FailOnce, Fuse, MemDisk};
+use psu_disk::{Choice, FailingDisk, MemDisk};
 use psu_items::Store;
 use psu_server::RunCause;
 use std::alloc::Global;
 
-type Fused = Ran<Fuse<MemDisk<Global>>>;
-
-type Failed = Ran<FailOnce<MemDisk<Global>>>;
+type Failed = Ran<FailingDisk<MemDisk<Global>>>;
 
 // A run on a disk that stops after so many calls.
-fn run_on_fuse(alloc: Global, input: &str, calls: u64) -> Option<Fused> {
-    let disk = Fuse::new(least(alloc)?, calls);
+fn run_on_stopping(alloc: Global, input: &str, calls: u64) -> Option<Failed> {
+    let disk = FailingDisk::from_then_on(least(alloc)?, calls);
     Some(run_on(alloc, input.as_bytes(), disk))
 }
 
 // A run on a disk of which one call fails.
 fn run_on_failing(alloc: Global, input: &str, call: u64) -> Option<Failed> {
-    let disk = FailOnce::new(least(alloc)?, call);
+    let disk = FailingDisk::once(least(alloc)?, call);
     Some(run_on(alloc, input.as_bytes(), disk))
 }
 
@@ -65,7 +63,7 @@ fn stop_of(text: &[u8], cause: Option<RunCause>, has: bool) -> Option<usize> {
 
 // A disk that stops after so many calls, with a loss of power then.
 fn stopped(alloc: Global, calls: u64, choice: Choice) -> Option<usize> {
-    let ran = run_on_fuse(alloc, FILE, calls)?;
+    let ran = run_on_stopping(alloc, FILE, calls)?;
     let has = has_file(alloc, ran.disk.into_inner(), choice)?;
     stop_of(&ran.text, ran.cause, has)
 }
@@ -175,7 +173,7 @@ fn confirmed_of(text: &[u8], cause: Option<RunCause>) -> Option<usize> {
 // Whether the register holds one save more than the confirmed ones, on a disk that stops after so many calls, after a loss; it holds the
 // last of those, or that.
 fn is_ahead(alloc: Global, calls: u64, choice: Choice) -> Option<bool> {
-    let ran = run_on_fuse(alloc, THREE_SAVES, calls)?;
+    let ran = run_on_stopping(alloc, THREE_SAVES, calls)?;
     let confirmed = confirmed_of(&ran.text, ran.cause)?;
     let mut disk = ran.disk.into_inner();
     disk.lose(choice);
@@ -274,7 +272,7 @@ const TOLD_WHILE_BROKEN: &str = "-320,\"Storage fault\"\n4;4\n\
 
 // Whether the store broke in the first commit, where the disk stops after so many calls; then the text is what it must be.
 fn breaks(alloc: Global, calls: u64) -> Option<bool> {
-    let ran = run_on_fuse(alloc, WHILE_BROKEN, calls)?;
+    let ran = run_on_stopping(alloc, WHILE_BROKEN, calls)?;
     if ran.cause != Some(RunCause::Device) || ran.text.starts_with(b"1\n") {
         return Some(false);
     }

@@ -3,7 +3,7 @@ use crate::holds::{count, holds};
 use crate::images::{SIZE, formatted};
 use crate::runs::{NOT_OPENED, run_between, run_from, run_on};
 use crate::spelled::spoiled;
-use psu_disk::{FailOnce, MemDisk};
+use psu_disk::{FailingDisk, MemDisk};
 use psu_server::{RunCause, StartCause};
 use std::alloc::Global;
 use std::io::{self, ErrorKind, Read, Write};
@@ -183,7 +183,7 @@ fn way_of(cause: Option<RunCause>, text: &[u8]) -> Option<usize> {
 
 // A run of saves on a disk of which this call fails.
 fn saved_on_failing(alloc: Global, call: u64) -> Option<usize> {
-    let ended = run_on(alloc, SAVES, FailOnce::new(formatted(alloc)?, call));
+    let ended = run_on(alloc, SAVES, FailingDisk::once(formatted(alloc)?, call));
     way_of(ended.cause, &ended.text)
 }
 
@@ -201,9 +201,9 @@ fn a_disk_that_fails_once_is_opened_again(rt: HostRuntime) {
 
 // Whether two calls that fail leave what was answered where power comes back, and no more was written where an opening failed.
 fn fails_twice(alloc: Global, first: u64, second: u64) -> Option<bool> {
-    let disk = FailOnce::new(formatted(alloc)?, first.saturating_add(second));
+    let disk = FailingDisk::once(formatted(alloc)?, first.saturating_add(second));
     let input = b"*PSC 0;*OPC?\n*OPC?\n!POWER\n*PSC?\n";
-    let ended = run_on(alloc, input, FailOnce::new(disk, first));
+    let ended = run_on(alloc, input, FailingDisk::once(disk, first));
     Some(if ended.cause.is_none() {
         ended.text.ends_with(b"1\n0\n")
     } else {

@@ -3,7 +3,7 @@ use crate::holds::{count, either, holds};
 use crate::images::{formatted, least, left_by, reported, written_on};
 use crate::runs::run_on;
 use crate::transcripts::play;
-use psu_disk::{Choice, Fuse, MemDisk};
+use psu_disk::{Choice, FailingDisk, MemDisk};
 use std::alloc::Global;
 use std::process::Abort;
 
@@ -139,7 +139,11 @@ const CONFIRMED: usize = 2;
 // What a restart finds of a line's choice on a disk that stops after so many calls of its commit; none where the old choice stands behind
 // one that was confirmed.
 fn found(alloc: Global, before: &[u8], line: &[u8], calls: u64, choice: Choice) -> Option<usize> {
-    let ran = run_on(alloc, line, Fuse::new(chosen(alloc, before)?, calls));
+    let ran = run_on(
+        alloc,
+        line,
+        FailingDisk::from_then_on(chosen(alloc, before)?, calls),
+    );
     let confirmed = either(
         ran.text.is_empty(),
         ran.text.as_slice() == b"1\n".as_slice(),

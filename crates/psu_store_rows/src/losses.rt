@@ -3,7 +3,7 @@ use crate::edits::{assign, assigned, remove};
 use crate::holds::holds;
 use crate::images::formatted;
 use crate::stores::{committed, disk_of, empty, is, is_just, one_edit, opened, stored};
-use psu_disk::{Choice, Disk, FailOnce, Fuse, MemDisk};
+use psu_disk::{Choice, Disk, FailingDisk, MemDisk};
 use psu_items::{Batch, Broken, Commit, Items, Store, Value};
 use std::alloc::Global;
 use std::process::Abort;
@@ -22,7 +22,11 @@ pub fn left_by(
     calls: u64,
     choice: Choice,
 ) -> Option<MemDisk<Global>> {
-    let mut disk = disk_of(committed(alloc, Fuse::new(disk, calls), batch)?).into_inner();
+    let mut disk = disk_of(committed(
+        alloc,
+        FailingDisk::from_then_on(disk, calls),
+        batch,
+    )?).into_inner();
     disk.lose(choice);
     Some(disk)
 }
@@ -82,7 +86,7 @@ pub fn lost_in_opening(
     calls: u64,
     choice: Choice,
 ) -> MemDisk<Global> {
-    let mut disk = match Store::open(alloc, Fuse::new(disk, calls)) {
+    let mut disk = match Store::open(alloc, FailingDisk::from_then_on(disk, calls)) {
         Ok(store) => store.into_disk().into_inner(),
         Err(refused) => refused.disk.into_inner(),
     };
@@ -188,13 +192,13 @@ fn a_loss_among_several_items(rt: HostRuntime) {
     }
 }
 
-type Failing = FailOnce<FailOnce<MemDisk<Global>>>;
+type Failing = FailingDisk<FailingDisk<MemDisk<Global>>>;
 
 // A store that broke at a call of its commit, and whose disk is to fail again after so many calls more.
 fn broken(alloc: Global, k: u64, more: u64) -> Option<Broken<Failing, Global>> {
     let call = TWO_OPENED.saturating_add(k);
-    let once = FailOnce::new(two_items(alloc)?, call.saturating_add(more));
-    match committed(alloc, FailOnce::new(once, call), three_edits(alloc)?)? {
+    let once = FailingDisk::once(two_items(alloc)?, call.saturating_add(more));
+    match committed(alloc, FailingDisk::once(once, call), three_edits(alloc)?)? {
         Commit::Broken(broken) => Some(broken),
         _ => None,
     }

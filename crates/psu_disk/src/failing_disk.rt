@@ -1,26 +1,46 @@
-// A disk whose calls are passed on until they all fail: what a stop in the midst of a run leaves.
+// A disk that fails behind some calls: what a stop in the midst of a run leaves, or what one failure does.
 ghost use Rattle.psu_disk.specs.Disk.{Left, Range, Holds, SameBut, IsSynced, IsFlagged, Touches, Only, Follows, Elapses, HasCause};
-ghost use Rattle.std.specs.Prelude.{◌≡◌, ◌+◌, ◌<◌, ◌≤◌, ◌^◌, ◌-◌, ◌↔◌, min, IsErr, ◌⊎◌, List, ℕ, length, OnOk, OnErr};
+ghost use Rattle.psu_disk.specs.Failing.{is_failing};
+ghost use Rattle.psu_disk.specs.declared.failing.Failing.TheVariants.{Always, Once};
+ghost use Rattle.std.specs.Prelude.{◌≡◌, ◌+◌, ◌≤◌, ◌^◌, ◌-◌, ◌↔◌, min, true, false, IsErr, List, ℕ, length, OnOk, OnErr};
 
-use crate::{Disk, DiskFault};
+use crate::{Disk, DiskFault, Failing};
 
-/// A disk that passes some calls on, and then fails each without passing it on.
+/// A disk that passes some calls on, and then fails one, or each, without passing it on.
 #[derive(Drop)]
-pub struct Fuse<D: Disk> {
+pub struct FailingDisk<D: Disk> {
     inner: D,
+    failing: Failing,
     passes: u64,
     failed: u64,
 }
 
-impl<D: Disk> Fuse<D> {
-    /// A disk that passes the first `k` calls on.
-    pub fn new(inner: D, k: u64) -> Fuse<D>
+impl<D: Disk> FailingDisk<D> {
+    /// A disk that passes the first `k` calls on, and fails each after them.
+    pub fn from_then_on(inner: D, k: u64) -> FailingDisk<D>
         ensures inner { result.inner ≡ inner }
+        ensures failing { result.failing ≡ Always }
         ensures passes { result.passes ≡ k }
         ensures failed { result.failed ≡ 0 }
     {
-        Fuse {
+        FailingDisk {
             inner,
+            failing: Failing::Always,
+            passes: k,
+            failed: 0,
+        }
+    }
+
+    /// A disk of which the call after the first `k` fails, and no other.
+    pub fn once(inner: D, k: u64) -> FailingDisk<D>
+        ensures inner { result.inner ≡ inner }
+        ensures failing { result.failing ≡ Once }
+        ensures passes { result.passes ≡ k }
+        ensures failed { result.failed ≡ 0 }
+    {
+        FailingDisk {
+            inner,
+            failing: Failing::Once,
             passes: k,
             failed: 0,
         }
@@ -30,32 +50,39 @@ impl<D: Disk> Fuse<D> {
     pub fn into_inner(self) -> D
         ensures { result ≡ self.inner }
     {
-        let Fuse {
-            inner,
-            passes: _,
-            failed: _,
-        } = self;
+        let FailingDisk { inner, .. } = self;
         inner
+    }
+
+    // Whether the next call fails.
+    fn is_failing(&self) -> bool
+        ensures { result ≡ is_failing self.now.failing self.now.passes self.now.failed }
+    {
+        match self.failing {
+            Failing::Once => self.passes == 0 && self.failed == 0,
+            Failing::Always => self.passes == 0,
+        }
     }
 
     // Whether the next call is passed on.
     fn step(&mut self) -> Result<(), DiskFault>
         ensures inner { self.new.inner ≡ self.old.inner }
+        ensures failing { self.new.failing ≡ self.old.failing }
         ensures passes { self.new.passes ≡ self.old.passes - 1 }
-        ensures spent { IsErr result ↔ (self.old.passes ≡ 0) }
-        ensures passed { (0 < self.old.passes) → self.new.failed ≡ self.old.failed }
-        ensures failed { (self.old.passes ≡ 0) → self.new.failed ≡ min (self.old.failed + 1) (2 ^ 64 - 1) }
+        ensures fails { IsErr result ↔ (is_failing self.old.failing self.old.passes self.old.failed ≡ true) }
+        ensures failed { is_failing self.old.failing self.old.passes self.old.failed ≡ true → self.new.failed ≡ min (self.old.failed + 1) (2 ^ 64 - 1) }
+        ensures passed { is_failing self.old.failing self.old.passes self.old.failed ≡ false → self.new.failed ≡ self.old.failed }
     {
-        if self.passes == 0 {
+        if self.is_failing() {
             self.failed = self.failed.saturating_add(1);
             return Err(DiskFault);
         }
-        self.passes -= 1;
+        self.passes = self.passes.saturating_sub(1);
         Ok(())
     }
 }
 
-impl<D: Disk> Disk for Fuse<D> {
+impl<D: Disk> Disk for FailingDisk<D> {
     ghost use Rattle.std.specs.Prelude.{◌+◌, ◌-◌, ◌^◌, min};
 
     ghost honest = { D.honest };
@@ -95,10 +122,12 @@ impl<D: Disk> Disk for Fuse<D> {
         ensures seen { D.honest → (D.state self.new.inner).bytes ≡ (D.state self.old.inner).bytes }
         ensures left { D.honest → (x : List ℕ) → Left (D.state self.new.inner) x → Left (D.state self.old.inner) x }
         ensures time { D.tells → Elapses (D.moment self.old.inner) (D.moment self.new.inner) (D.left_since self.old.inner) (D.left_since self.new.inner) (Left (D.state self.new.inner)) }
-        // A spent fuse fails the call without passing it on.
-        ensures spent { self.old.passes ≡ 0 → IsErr result × (self.new.inner ≡ self.old.inner) × (self.new.passes ≡ 0) }
-        // Until then a call is passed on, and fails only where it fails there.
-        ensures passed { 0 < self.old.passes → (self.new.passes + 1 ≡ self.old.passes) × (self.new.failed ≡ self.old.failed) × HasCause (D.failures self.old.inner) (D.failures self.new.inner) result }
+        ensures failing { self.new.failing ≡ self.old.failing }
+        ensures passes { self.new.passes ≡ self.old.passes - 1 }
+        // A call that fails isn't passed on.
+        ensures fails { is_failing self.old.failing self.old.passes self.old.failed ≡ true → IsErr result × (self.new.inner ≡ self.old.inner) × (self.new.failed ≡ min (self.old.failed + 1) (2 ^ 64 - 1)) }
+        // Each other is passed on, and fails only where it fails there.
+        ensures passed { is_failing self.old.failing self.old.passes self.old.failed ≡ false → (self.new.failed ≡ self.old.failed) × HasCause (D.failures self.old.inner) (D.failures self.new.inner) result }
     {
         self.step()?;
         self.inner.read(at, into)
@@ -114,10 +143,12 @@ impl<D: Disk> Disk for Fuse<D> {
         ensures seen { D.honest → SameBut at (length bytes.now) (D.state self.old.inner).bytes (D.state self.new.inner).bytes }
         ensures left { D.honest → Follows (SameBut at (length bytes.now)) (Left (D.state self.old.inner)) (Left (D.state self.new.inner)) }
         ensures time { D.tells → Elapses (D.moment self.old.inner) (D.moment self.new.inner) (D.left_since self.old.inner) (D.left_since self.new.inner) (Left (D.state self.new.inner)) }
-        // A spent fuse fails the call without passing it on.
-        ensures spent { self.old.passes ≡ 0 → IsErr result × (self.new.inner ≡ self.old.inner) × (self.new.passes ≡ 0) }
-        // Until then a call is passed on, and fails only where it fails there.
-        ensures passed { 0 < self.old.passes → (self.new.passes + 1 ≡ self.old.passes) × (self.new.failed ≡ self.old.failed) × HasCause (D.failures self.old.inner) (D.failures self.new.inner) result }
+        ensures failing { self.new.failing ≡ self.old.failing }
+        ensures passes { self.new.passes ≡ self.old.passes - 1 }
+        // A call that fails isn't passed on.
+        ensures fails { is_failing self.old.failing self.old.passes self.old.failed ≡ true → IsErr result × (self.new.inner ≡ self.old.inner) × (self.new.failed ≡ min (self.old.failed + 1) (2 ^ 64 - 1)) }
+        // Each other is passed on, and fails only where it fails there.
+        ensures passed { is_failing self.old.failing self.old.passes self.old.failed ≡ false → (self.new.failed ≡ self.old.failed) × HasCause (D.failures self.old.inner) (D.failures self.new.inner) result }
     {
         self.step()?;
         self.inner.write(at, bytes)
@@ -132,10 +163,12 @@ impl<D: Disk> Disk for Fuse<D> {
         ensures only { D.honest → OnOk result (Only (D.state self.new.inner)) }
         ensures left { D.honest → (x : List ℕ) → Left (D.state self.new.inner) x → Left (D.state self.old.inner) x }
         ensures time { D.tells → Elapses (D.moment self.old.inner) (D.moment self.new.inner) (D.left_since self.old.inner) (D.left_since self.new.inner) (Left (D.state self.new.inner)) }
-        // A spent fuse fails the call without passing it on.
-        ensures spent { self.old.passes ≡ 0 → IsErr result × (self.new.inner ≡ self.old.inner) × (self.new.passes ≡ 0) }
-        // Until then a call is passed on, and fails only where it fails there.
-        ensures passed { 0 < self.old.passes → (self.new.passes + 1 ≡ self.old.passes) × (self.new.failed ≡ self.old.failed) × HasCause (D.failures self.old.inner) (D.failures self.new.inner) result }
+        ensures failing { self.new.failing ≡ self.old.failing }
+        ensures passes { self.new.passes ≡ self.old.passes - 1 }
+        // A call that fails isn't passed on.
+        ensures fails { is_failing self.old.failing self.old.passes self.old.failed ≡ true → IsErr result × (self.new.inner ≡ self.old.inner) × (self.new.failed ≡ min (self.old.failed + 1) (2 ^ 64 - 1)) }
+        // Each other is passed on, and fails only where it fails there.
+        ensures passed { is_failing self.old.failing self.old.passes self.old.failed ≡ false → (self.new.failed ≡ self.old.failed) × HasCause (D.failures self.old.inner) (D.failures self.new.inner) result }
     {
         self.step()?;
         self.inner.sync()

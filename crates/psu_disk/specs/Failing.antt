@@ -1,0 +1,9 @@
+-- Which calls of a failing disk fail.
+use Rattle.std.specs.Prelude.{ℕ, ◌==◌, ◌&&◌, Bool}
+use Rattle.psu_disk.specs.declared.failing.Failing.{Failing}
+use Rattle.psu_disk.specs.declared.failing.Failing.TheVariants.{Always, Once}
+
+-- whether the next call fails, with so many calls that are passed on before, and so many that have failed
+abbrev pub is_failing : Failing → ℕ → ℕ → Bool
+is_failing Once passes failed = passes == 0 && failed == 0
+is_failing Always passes failed = passes == 0
