@@ -18,7 +18,7 @@ use Rattle.psu_nv.specs.Parts as kept
 use Rattle.psu_nv.specs.Parts.{Part, file_items, key_of, part_items, value_in}
 use Rattle.psu_nv.proofs.Gets.{part_found, value_file}
 use Rattle.psu_exec.specs.Batch.{assignment, is_value}
-use Rattle.psu_exec.specs.Changed.{KeepsOthers, is_changed, is_key_changed, is_kind_changed, is_number_changed, with_change, with_register}
+use Rattle.psu_exec.specs.Changed.{IsUnchanged, KeepsOthers, is_changed, with_change, with_register}
 use Rattle.psu_exec.specs.Consistent.{IsConsistent}
 use Rattle.psu_exec.specs.Device.{Flush, Target, is_broken, map_held, target}
 use Rattle.psu_exec.specs.declared.changed_parts.ChangedParts.{ChangedParts}
@@ -101,63 +101,9 @@ unchanged_files p before c keeps none sorted = each c.files (all_own c.files sor
         (there before (5 ∷ i.key) i.value (keeps (kept.File i.key) none ∙ part_found c (kept.File i.key) ∙ value_file i.key (get c.files i.key) ∙ own.0))
         ∙ each files own.1
 
--- ---- keys of parts that have not changed
-
--- a key is that of a part that has not changed
-abbrev IsUnchanged : ChangedParts → List ℕ → Type 0
-IsUnchanged p key = (part : Part) × (key ≡ key_of part) × (is_changed p part ≡ false)
-
-is_it : (n k : ℕ) → (n == k) ≡ true → n ≡ k
-is_it n k e = grind (arith, nat_tests, e)
-
-of_number : (p : ChangedParts) (bytes : List ℕ) → is_number_changed p bytes ≡ false → IsUnchanged p (2 ∷ bytes)
-of_number p [] e = absurd cc
-of_number p (number ∷ []) e = (kept.Register number, refl, e)
-of_number p (number ∷ byte ∷ bytes) e = absurd cc
-
-of_kind : (p : ChangedParts) (kind : ℕ) → is_kind_changed p kind ≡ false → IsUnchanged p (kind ∷ [])
-of_kind p kind e = by_one (kind == 1) refl e
-  where
-    under : (n : ℕ) → (kind == n) ≡ true → IsUnchanged p (n ∷ []) → IsUnchanged p (kind ∷ [])
-    under n e is = subst (λ (k : ℕ). IsUnchanged p (k ∷ [])) (sym (is_it kind n e)) is
-
-    by_six : (b : Bool) → (kind == 6) ≡ b → cond b p.recall true ≡ false → IsUnchanged p (kind ∷ [])
-    by_six true test e = under 6 test (kept.Recall, refl, e)
-    by_six false test e = absurd cc
-
-    by_four : (b : Bool) → (kind == 4) ≡ b → cond b p.macros (cond (kind == 6) p.recall true) ≡ false → IsUnchanged p (kind ∷ [])
-    by_four true test e = under 4 test (kept.Macros, refl, e)
-    by_four false test e = by_six (kind == 6) refl e
-
-    by_three : (b : Bool) → (kind == 3) ≡ b → cond b p.user (cond (kind == 4) p.macros (cond (kind == 6) p.recall true)) ≡ false → IsUnchanged p (kind ∷ [])
-    by_three true test e = under 3 test (kept.User, refl, e)
-    by_three false test e = by_four (kind == 4) refl e
-
-    by_one : (b : Bool) → (kind == 1) ≡ b → cond b p.enables (cond (kind == 3) p.user (cond (kind == 4) p.macros (cond (kind == 6) p.recall true))) ≡ false → IsUnchanged p (kind ∷ [])
-    by_one true test e = under 1 test (kept.Enables, refl, e)
-    by_one false test e = by_three (kind == 3) refl e
-
-unchanged_key : (p : ChangedParts) (key : List ℕ) → is_key_changed p key ≡ false → IsUnchanged p key
-unchanged_key p [] e = absurd cc
-unchanged_key p (kind ∷ bytes) e = by_two (kind == 2) refl e
-  where
-    alone : (bytes : List ℕ) → not (is_nothing bytes) || is_kind_changed p kind ≡ false → IsUnchanged p (kind ∷ bytes)
-    alone [] e = of_kind p kind e
-    alone (byte ∷ bytes) e = absurd cc
-
-    by_five : (b : Bool) → (kind == 5) ≡ b → cond b p.files (not (is_nothing bytes) || is_kind_changed p kind) ≡ false → IsUnchanged p (kind ∷ bytes)
-    by_five true test e = subst (λ (k : ℕ). IsUnchanged p (k ∷ bytes)) (sym (is_it kind 5 test)) (kept.File bytes, refl, e)
-    by_five false test e = alone bytes e
-
-    by_two : (b : Bool) → (kind == 2) ≡ b → cond b (is_number_changed p bytes) (cond (kind == 5) p.files (not (is_nothing bytes) || is_kind_changed p kind)) ≡ false → IsUnchanged p (kind ∷ bytes)
-    by_two true test e = subst (λ (k : ℕ). IsUnchanged p (k ∷ bytes)) (sym (is_it kind 2 test)) (of_number p bytes e)
-    by_two false test e = by_five (kind == 5) refl e
-
 -- an item stays of whose key the part has not changed
-pub stays_there : (p : ChangedParts) (before new : List Item) (n : ℕ) (i : Item) → KeepsOthers p before new → IsSorted before → n < length before → i ≡ slice_index_or before n i → is_key_changed p i.key ≡ false
-    → is_some (get new i.key) ≡ true
-stays_there p before new n i keeps sorted within at same =
-    let part = unchanged_key p i.key same in
+pub stays_there : (p : ChangedParts) (before new : List Item) (n : ℕ) (i : Item) → KeepsOthers p before new → IsSorted before → n < length before → i ≡ slice_index_or before n i → IsUnchanged p i.key → is_some (get new i.key) ≡ true
+stays_there p before new n i keeps sorted within at part =
     let own : get before i.key ≡ Some i.value = subst (λ (j : Item). get before j.key ≡ Some j.value) (sym at) (all_at (λ (j : Item). get before j.key ≡ Some j.value) before n i within (all_own before sorted)) in
     let kept : get before i.key ≡ get new i.key = subst (λ (k : List ℕ). get before k ≡ get new k) (sym part.1) (keeps part.0 part.2) in
     ap is_some (sym kept ∙ own)

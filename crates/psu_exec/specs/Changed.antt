@@ -1,7 +1,6 @@
 -- Which parts of what is kept may have changed.
-use Rattle.std.specs.Prelude.{◌≡◌, ℕ, ◌==◌, ◌&&◌, ◌||◌, not, if◌then◌else◌, Bool, true, false, List, [], ◌∷◌, slice_index_or, slice_set}
+use Rattle.std.specs.Prelude.{◌≡◌, ℕ, ◌&&◌, Bool, true, false, List, slice_index_or, slice_set}
 use Rattle.psu_map.specs.Map.{Item, get}
-use Rattle.psu_nv.specs.Decoding.{is_nothing}
 use Rattle.psu_nv.specs.Commands.{Command, ServiceEnable, EventEnable, PowerOnClear, Save, User, DefineMacro, RemoveMacro, PurgeMacros, StoreBytes, Delete, Copy, Move, StoreState, LoadState, StoreMacro, LoadMacro, Recall}
 use Rattle.psu_nv.specs.Parts as kept
 use Rattle.psu_nv.specs.Parts.{Part, key_of}
@@ -16,27 +15,9 @@ is_changed p kept.Macros = p.macros
 is_changed p (kept.File name) = p.files
 is_changed p kept.Recall = p.recall
 
--- the same of a register's number as a key has it; bytes that are no number count as one that is changed
-abbrev pub is_number_changed : ChangedParts → List ℕ → Bool
-is_number_changed p [] = true
-is_number_changed p (number ∷ bytes) = not (is_nothing bytes) || (p.some_register && slice_index_or p.registers number true)
-
--- the same of the part whose key is this byte alone
-abbrev pub is_kind_changed : ChangedParts → ℕ → Bool
-is_kind_changed p kind =
-    if kind == 1 then p.enables
-    else (if kind == 3 then p.user
-    else (if kind == 4 then p.macros
-    else (if kind == 6 then p.recall
-    else true)))
-
--- the same of the part of a key; a key of no part counts as one that is changed
-abbrev pub is_key_changed : ChangedParts → List ℕ → Bool
-is_key_changed p [] = true
-is_key_changed p (kind ∷ bytes) =
-    if kind == 2 then is_number_changed p bytes
-    else (if kind == 5 then p.files
-    else not (is_nothing bytes) || is_kind_changed p kind)
+-- a key is that of a part that has not changed
+abbrev pub IsUnchanged : ChangedParts → List ℕ → Type 0
+IsUnchanged p key = (part : Part) × (key ≡ key_of part) × (is_changed p part ≡ false)
 
 -- with this register
 abbrev pub with_register : ChangedParts → ℕ → ChangedParts

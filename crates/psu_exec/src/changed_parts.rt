@@ -18,7 +18,7 @@ impl ChangedParts {
     ghost use Rattle.std.specs.Prelude.{◌≡◌, true, false};
     ghost use Rattle.psu_nv.specs.Parts.{Part as Kept, Register as KeptRegister};
     ghost use Rattle.psu_nv.specs.Views.{command_of, part_of};
-    ghost use Rattle.psu_exec.specs.Changed.{is_changed, is_key_changed, is_kind_changed, is_number_changed, with_change, with_register};
+    ghost use Rattle.psu_exec.specs.Changed.{IsUnchanged, is_changed, with_change, with_register};
 
     /// No part.
     pub fn none() -> ChangedParts
@@ -66,27 +66,14 @@ impl ChangedParts {
         }
     }
 
-    /// Whether the part of a key is among them; a key of no part counts as one that is.
+    /// Whether the part of a key may be among them.
     #[inline]
     pub fn has_key(&self, key: &[u8]) -> bool
-        ensures { result ≡ is_key_changed self.now key.now }
+        ensures { result ≡ false → IsUnchanged self.now key.now }
     {
-        match key {
-            [] => true,
-            [2, number @ ..] => self.has_number(number),
-            [5, ..] => self.files,
-            [kind, rest @ ..] => !rest.is_empty() || self.has_kind(*kind),
-        }
-    }
-
-    // The same of the bytes of a register's number.
-    #[inline]
-    fn has_number(&self, bytes: &[u8]) -> bool
-        ensures { result ≡ is_number_changed self.now bytes.now }
-    {
-        match bytes {
-            [number] => self.has_register(*number),
-            _ => true,
+        match Part::of_key(key) {
+            Some(part) => self.has(part),
+            None => true,
         }
     }
 
@@ -96,20 +83,6 @@ impl ChangedParts {
         ensures { result ≡ is_changed self.now (KeptRegister number) }
     {
         self.some_register && (number >= 100 || self.registers[number as usize])
-    }
-
-    // The same of a part whose key is this byte alone.
-    #[inline]
-    fn has_kind(&self, kind: u8) -> bool
-        ensures { result ≡ is_kind_changed self.now kind }
-    {
-        match kind {
-            1 => self.enables,
-            3 => self.user,
-            4 => self.macros,
-            6 => self.recall,
-            _ => true,
-        }
     }
 
     /// Whether a register is among them.

@@ -1,5 +1,6 @@
 // The parts that contents are kept as.
-ghost use Rattle.std.specs.Prelude.{◌≡◌, ◌∷◌, IfOk};
+ghost use Rattle.std.specs.Prelude.{◌≡◌, ◌∷◌, false, IfOk, IfSome, IfNone};
+ghost use Rattle.psu_nv.specs.Decoding.{is_key};
 ghost use Rattle.psu_nv.specs.Parts.{key_of};
 ghost use Rattle.psu_nv.specs.Views.{part_of};
 
@@ -35,6 +36,23 @@ impl<'a> Part<'a> {
             Part::Macros => [4].to_vec(alloc),
             Part::File(name) => with_first(alloc, 5, name),
             Part::Recall => [6].to_vec(alloc),
+        }
+    }
+
+    /// The part that a key is of; none where contents may not have the key.
+    #[inline]
+    pub fn of_key(key: &'a [u8]) -> Option<Part<'a>>
+        ensures some { IfSome result (λ part. key.now ≡ key_of (part_of part)) }
+        ensures none { IfNone result (is_key key.now ≡ false) }
+    {
+        match key {
+            [1] => Some(Part::Enables),
+            [2, number] => Some(Part::Register(Register::of(*number)?)),
+            [3] => Some(Part::User),
+            [4] => Some(Part::Macros),
+            [5, name @ ..] => Some(Part::File(name)),
+            [6] => Some(Part::Recall),
+            _ => None,
         }
     }
 }
