@@ -22,14 +22,17 @@ pub fn fixed3<A: Allocator + Copy>(alloc: A, thousandths: i64) -> Result<Bytes<A
     let magnitude = thousandths.unsigned_abs();
     let part = magnitude % 1000;
     let mut buffer = Buffer::new();
-    let mut list = Vec::new(alloc);
+    let whole = buffer.format(magnitude / 1000).as_bytes();
+    let mut list = Vec::with_capacity(alloc, whole.len() + 5)?;
     if thousandths < 0 {
         list.push(b'-')?;
     }
-    list.extend_from_slice(buffer.format(magnitude / 1000).as_bytes())?;
-    list.push(b'.')?;
-    list.push(b'0' + (part / 100) as u8)?;
-    list.push(b'0' + (part / 10 % 10) as u8)?;
-    list.push(b'0' + (part % 10) as u8)?;
+    list.extend_from_slice(whole)?;
+    list.extend_from_slice(&[
+        b'.',
+        b'0' + (part / 100) as u8,
+        b'0' + (part / 10 % 10) as u8,
+        b'0' + (part % 10) as u8,
+    ])?;
     Ok(Bytes { list })
 }

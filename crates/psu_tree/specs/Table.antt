@@ -19,16 +19,16 @@ use Rattle.psu_tree.specs.declared.transfer.Transfer.TheVariants as transfer
 
 abbrev pub table : List Entry
 table =
-    asks (codes "*IDN") (Query q.Identification)
-    ∷ asks (codes "*TST") (Query q.SelfTest)
-    ∷ only (codes "*CLS") (Action a.ClearStatus)
-    ∷ only (codes "*RST") (Action a.Reset)
+    asks (codes "*ESR") (Query q.EventStatus)
+    ∷ asks (codes "*STB") (Query q.StatusByte)
     ∷ both (codes "*OPC") (Action a.OperationComplete) (Query q.OperationComplete)
-    ∷ only (codes "*WAI") (Action a.Wait)
+    ∷ only (codes "*CLS") (Action a.ClearStatus)
     ∷ kept_while_false (both (codes "*ESE") (Enable e.EventStatus) (Query (q.Enable e.EventStatus)))
     ∷ kept_while_false (both (codes "*SRE") (Enable e.ServiceRequest) (Query (q.Enable e.ServiceRequest)))
-    ∷ asks (codes "*ESR") (Query q.EventStatus)
-    ∷ asks (codes "*STB") (Query q.StatusByte)
+    ∷ asks (codes "*IDN") (Query q.Identification)
+    ∷ asks (codes "*TST") (Query q.SelfTest)
+    ∷ only (codes "*RST") (Action a.Reset)
+    ∷ only (codes "*WAI") (Action a.Wait)
     ∷ kept (both (codes "*PSC") (Flag g.PowerOnClear) (Query (q.Flag g.PowerOnClear)))
     ∷ kept (only (codes "*SAV") (Register on_register.Save))
     ∷ only (codes "*RCL") (Register on_register.Recall)

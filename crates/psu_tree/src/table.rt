@@ -36,17 +36,18 @@ macro_rules! row {
     ({$($part:tt)*}? $query:expr) => { Row { nodes: nodes!($($part)*), command: None, query: Some($query) } };
 }
 
+// What programs ask for again and again stands first, since the rows are tried in this order.
 const COMMON: [Row; 20] = [
-    row!({IDN}? Query(Q::Identification)),
-    row!({TST}? Query(Q::SelfTest)),
-    row!({CLS} Action(A::ClearStatus)),
-    row!({RST} Action(A::Reset)),
-    row!({OPC} Action(A::OperationComplete), Query(Q::OperationComplete)),
-    row!({WAI} Action(A::Wait)),
-    row!({ESE} Enable(E::EventStatus), Query(Q::Enable(E::EventStatus))),
-    row!({SRE} Enable(E::ServiceRequest), Query(Q::Enable(E::ServiceRequest))),
     row!({ESR}? Query(Q::EventStatus)),
     row!({STB}? Query(Q::StatusByte)),
+    row!({OPC} Action(A::OperationComplete), Query(Q::OperationComplete)),
+    row!({CLS} Action(A::ClearStatus)),
+    row!({ESE} Enable(E::EventStatus), Query(Q::Enable(E::EventStatus))),
+    row!({SRE} Enable(E::ServiceRequest), Query(Q::Enable(E::ServiceRequest))),
+    row!({IDN}? Query(Q::Identification)),
+    row!({TST}? Query(Q::SelfTest)),
+    row!({RST} Action(A::Reset)),
+    row!({WAI} Action(A::Wait)),
     row!({PSC} Flag(G::PowerOnClear), Query(Q::Flag(G::PowerOnClear))),
     row!({SAV} Register(OnRegister::Save)),
     row!({RCL} Register(OnRegister::Recall)),
