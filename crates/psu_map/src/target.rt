@@ -38,7 +38,7 @@ impl<'t, A: Allocator + Copy> Target<'t, A> {
         ensures aimed { IfOk result (λ target. aimed target ≡ changed before.now batch.now) }
         ensures standing { IfOk result (λ target. (key value : List ℕ) → get before.now key ≡ Some value → KeepsValue batch.now key value → standing target.entries key ≡ Some value) }
     {
-        let mut target = Target::standing(alloc, before)?;
+        let mut target = Target::standing(alloc, before, batch.edits().len())?;
         for edit in batch.edits() {
             target.make(edit)?;
         }
@@ -64,14 +64,14 @@ impl<'t, A: Allocator + Copy> Target<'t, A> {
         }
     }
 
-    // The map before, as it stands.
-    fn standing(alloc: A, before: &'t [Pair<A>]) -> Result<Self, AllocError>
+    // The map before, as it stands, with room for so many more items.
+    fn standing(alloc: A, before: &'t [Pair<A>], more: usize) -> Result<Self, AllocError>
         requires { IsSorted before.now }
         ensures before { IfOk result (λ target. target.before ≡ before.now) }
         ensures aimed { IfOk result (λ target. aimed target ≡ before.now) }
         ensures standing { IfOk result (λ target. (key : List ℕ) → standing target.entries key ≡ get before.now key) }
     {
-        let mut entries = Vec::with_capacity(alloc, before.len())?;
+        let mut entries = Vec::with_capacity(alloc, before.len().saturating_add(more))?;
         for pair in before {
             entries.push(Entry::standing(pair))?;
         }
