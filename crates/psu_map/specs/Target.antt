@@ -15,6 +15,10 @@ item_in e = item_of e.key e.value
 abbrev pub items_in : List Entry → List Item
 items_in entries = map item_in entries
 
+-- an item that stands
+abbrev pub stand : Item → Entry
+stand i = record { key = i.key; value = i.value; stands = true }
+
 -- what is said to stand the map before has
 abbrev pub IsOf : List Item → Entry → Type 0
 IsOf before e = e.stands ≡ true → get before e.key ≡ Some e.value

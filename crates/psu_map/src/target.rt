@@ -1,12 +1,12 @@
 //! The map that a commit aims at: that before, after a batch.
-ghost use Rattle.std.specs.Prelude.{◌≡◌, ℕ, List, OnOk, Some, None, IfOk, option_map};
+ghost use Rattle.std.specs.Prelude.{◌≡◌, ◌++◌, ◌∷◌, ℕ, List, OnOk, Some, None, IfOk, map, option_map};
 ghost use Rattle.std.specs.List.{AllByRecursion};
 ghost use Rattle.psu_map.specs.Map.{get, IsSorted};
 ghost use Rattle.psu_map.specs.Batch.{changed, edited, KeepsValue};
-ghost use Rattle.psu_map.specs.Target.{aimed, items_in, standing, IsOf};
+ghost use Rattle.psu_map.specs.Target.{aimed, items_in, stand, standing, IsOf};
 
 use crate::entry::Entry;
-use crate::search::find;
+use crate::search::{find, search};
 use crate::{Batch, Edit, Pair};
 use std::alloc::{AllocError, Allocator};
 use std::marker::Model;
@@ -38,11 +38,14 @@ impl<'t, A: Allocator + Copy> Target<'t, A> {
         ensures aimed { IfOk result (λ target. aimed target ≡ changed before.now batch.now) }
         ensures standing { IfOk result (λ target. (key value : List ℕ) → get before.now key ≡ Some value → KeepsValue batch.now key value → standing target.entries key ≡ Some value) }
     {
-        let mut target = Target::standing(alloc, before, batch.edits().len())?;
-        for edit in batch.edits() {
-            target.make(edit)?;
+        match batch.edits() {
+            [] => Target::standing(alloc, before),
+            [first, rest @ ..] => {
+                let mut target = Target::begun(alloc, before, first, rest.len())?;
+                target.make_all(rest)?;
+                Ok(target)
+            }
         }
-        Ok(target)
     }
 
     /// Its items in the order of their keys.
@@ -64,18 +67,98 @@ impl<'t, A: Allocator + Copy> Target<'t, A> {
         }
     }
 
-    // The map before, as it stands, with room for so many more items.
-    fn standing(alloc: A, before: &'t [Pair<A>], more: usize) -> Result<Self, AllocError>
+    // The map before, as it stands.
+    fn standing(alloc: A, before: &'t [Pair<A>]) -> Result<Self, AllocError>
         requires { IsSorted before.now }
         ensures before { IfOk result (λ target. target.before ≡ before.now) }
         ensures aimed { IfOk result (λ target. aimed target ≡ before.now) }
         ensures standing { IfOk result (λ target. (key : List ℕ) → standing target.entries key ≡ get before.now key) }
     {
-        let mut entries = Vec::with_capacity(alloc, before.len().saturating_add(more))?;
+        let mut entries = Vec::with_capacity(alloc, before.len())?;
         for pair in before {
             entries.push(Entry::standing(pair))?;
         }
         Ok(Target { before, entries })
+    }
+
+    // The map before after one edit, with room for so many more items. Nothing is moved for it.
+    fn begun(
+        alloc: A,
+        before: &'t [Pair<A>],
+        edit: &'t Edit<A>,
+        more: usize,
+    ) -> Result<Self, AllocError>
+        requires { IsSorted before.now }
+        ensures before { IfOk result (λ target. target.before ≡ before.now) }
+        ensures aimed { IfOk result (λ target. aimed target ≡ edited before.now edit.now.key edit.now.value) }
+        ensures standing { IfOk result (λ target. (key value : List ℕ) → get before.now key ≡ Some value → (edit.now.key ≡ key → edit.now.value ≡ Some value) → standing target.entries key ≡ Some value) }
+    {
+        match edit.value() {
+            Some(value) => Ok(Target::begun_with(alloc, before, edit.key(), value, more)?),
+            None => Ok(Target::begun_without(alloc, before, edit.key(), more)?),
+        }
+    }
+
+    // The same of an assignment.
+    fn begun_with(
+        alloc: A,
+        before: &'t [Pair<A>],
+        key: &'t [u8],
+        value: &'t [u8],
+        more: usize,
+    ) -> Result<Self, AllocError>
+        requires { IsSorted before.now }
+        ensures before { IfOk result (λ target. target.before ≡ before.now) }
+        ensures aimed { IfOk result (λ target. aimed target ≡ edited before.now key.now (Some value.now)) }
+        ensures standing { IfOk result (λ target. (other its : List ℕ) → get before.now other ≡ Some its → (key.now ≡ other → value.now ≡ its) → standing target.entries other ≡ Some its) }
+    {
+        match search(before, key) {
+            Ok(at) => {
+                let stands = before[at].value() == value;
+                let entry = Entry { key, value, stands };
+                let entries = list_with(alloc, &before[..at], entry, &before[at + 1..], more)?;
+                Ok(Target { before, entries })
+            }
+            Err(at) => {
+                let stands = false;
+                let entry = Entry { key, value, stands };
+                let entries = list_with(alloc, &before[..at], entry, &before[at..], more)?;
+                Ok(Target { before, entries })
+            }
+        }
+    }
+
+    // The same of a removal.
+    fn begun_without(
+        alloc: A,
+        before: &'t [Pair<A>],
+        key: &[u8],
+        more: usize,
+    ) -> Result<Self, AllocError>
+        requires { IsSorted before.now }
+        ensures before { IfOk result (λ target. target.before ≡ before.now) }
+        ensures aimed { IfOk result (λ target. aimed target ≡ edited before.now key.now None) }
+        ensures standing { IfOk result (λ target. (other its : List ℕ) → get before.now other ≡ Some its → (key.now ≡ other → ⊥) → standing target.entries other ≡ Some its) }
+    {
+        match search(before, key) {
+            Ok(at) => {
+                let entries = list(alloc, &before[..at], &before[at + 1..], more)?;
+                Ok(Target { before, entries })
+            }
+            Err(_) => Ok(Target::standing(alloc, before)?),
+        }
+    }
+
+    // Makes edits, in their order.
+    fn make_all(&mut self, edits: &'t [Edit<A>]) -> Result<(), AllocError>
+        ensures before { OnOk result (self.new.before ≡ self.old.before) }
+        ensures aimed { OnOk result (aimed self.new ≡ changed (aimed self.old) edits.now) }
+        ensures standing { OnOk result ((key value : List ℕ) → standing self.old.entries key ≡ Some value → KeepsValue edits.now key value → standing self.new.entries key ≡ Some value) }
+    {
+        for edit in edits {
+            self.make(edit)?;
+        }
+        Ok(())
     }
 
     // Makes one edit.
@@ -122,4 +205,51 @@ impl<'t, A: Allocator + Copy> Target<'t, A> {
             self.entries.remove(at);
         }
     }
+}
+
+// Items that stand, an entry between them, and room for so many more.
+fn list_with<'t, A: Allocator + Copy>(
+    alloc: A,
+    front: &'t [Pair<A>],
+    entry: Entry<'t>,
+    back: &'t [Pair<A>],
+    more: usize,
+) -> Result<Vec<Entry<'t>, A>, AllocError>
+    ensures { IfOk result (λ entries. entries.items ≡ map stand front.now ++ entry.entry ∷ map stand back.now) }
+{
+    let room = front.len().saturating_add(back.len()).saturating_add(more);
+    let mut entries = Vec::with_capacity(alloc, room.saturating_add(1))?;
+    stand(&mut entries, front)?;
+    entries.push(entry)?;
+    stand(&mut entries, back)?;
+    Ok(entries)
+}
+
+// Items that stand, those in front and those behind, and room for so many more.
+fn list<'t, A: Allocator + Copy>(
+    alloc: A,
+    front: &'t [Pair<A>],
+    back: &'t [Pair<A>],
+    more: usize,
+) -> Result<Vec<Entry<'t>, A>, AllocError>
+    ensures { IfOk result (λ entries. entries.items ≡ map stand front.now ++ map stand back.now) }
+{
+    let room = front.len().saturating_add(back.len()).saturating_add(more);
+    let mut entries = Vec::with_capacity(alloc, room)?;
+    stand(&mut entries, front)?;
+    stand(&mut entries, back)?;
+    Ok(entries)
+}
+
+// Adds items that stand.
+fn stand<'t, A: Allocator + Copy>(
+    entries: &mut Vec<Entry<'t>, A>,
+    pairs: &'t [Pair<A>],
+) -> Result<(), AllocError>
+    ensures { OnOk result (entries.new.items ≡ entries.old.items ++ map stand pairs.now) }
+{
+    for pair in pairs {
+        entries.push(Entry::standing(pair))?;
+    }
+    Ok(())
 }

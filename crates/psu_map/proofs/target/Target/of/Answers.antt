@@ -1,23 +1,10 @@
-use Rattle.std.proofs.Common.{◌≡◌, ◌∙◌, ◌∷◌, ◌+◌, List, Some, ap, sym, subst, drop}
-use Rattle.std.proofs.lemmas.List.{drop_more}
-use Rattle.psu_map.proofs.Lists.{all_at}
-use Rattle.psu_map.specs.Batch.{Edit, changed, KeepsValue}
-use Rattle.psu_map.specs.Target.{aimed}
+use Rattle.std.proofs.Common.{List, sym, subst}
+use Rattle.psu_map.specs.Batch.{Edit, KeepsValue}
+use Rattle.psu_map.proofs.Begun.{keeps_first, keeps_rest}
 use Rattle.psu_map.proofs.target.Target.of.Goals as goal
 
-pub loop-edit-preserved : goal.loop-edit-preserved
-loop-edit-preserved g c =
-    let l = c.loop-edit in
-    let n = l.edit-index in
-    let edits = c.edits-edit-items.result.now in
-    let edit = c.edit-item.result in
-    let make = c.in_ok-make.ensures in
-    let next : edit ∷ drop (n + 1) edits ≡ drop n edits = ap (λ (e : Edit). e ∷ drop (n + 1) edits) c.edit-item.is ∙ sym (drop_more edits n edit c.loop-edit-test.true) in
-    record {
-      before = make.before ∙ l.invariant.before;
-      aimed = ap (λ m. changed m (drop (n + 1) edits)) make.aimed ∙ ap (changed (aimed l.target)) next ∙ l.invariant.aimed;
-      standing = λ key value had keeps.
-          let kept : KeepsValue edits key value = subst (λ (es : List Edit). KeepsValue es key value) (sym c.edits-edit-items.ensures) keeps in
-          let its : edit.key ≡ key → edit.value ≡ Some value = subst (λ (e : Edit). e.key ≡ key → e.value ≡ Some value) (sym c.edit-item.is) (all_at (λ (e : Edit). e.key ≡ key → e.value ≡ Some value) edits n edit c.loop-edit-test.true kept) in
-          make.standing key value (l.invariant.standing key value had keeps) its;
-    }
+pub returns-in_ok-make_all-in-len1-up-clause-standing : goal.returns-in_ok-make_all-in-len1-up-clause-standing
+returns-in_ok-make_all-in-len1-up-clause-standing g c = λ key value had keeps.
+    let edits = c.edits.result.now in
+    let kept = subst (λ (es : List Edit). KeepsValue es key value) (sym c.edits.ensures) keeps in
+    c.in_ok-make_all-in-len1-up.ensures.standing key value (c.in_ok-target-in-len1-up.ensures.standing key value had (keeps_first edits c.first-item.result key value c.in-len1-up.len_at_least c.first-item.is kept)) (keeps_rest edits key value kept)
