@@ -18,7 +18,7 @@ impl ChangedParts {
     ghost use Rattle.std.specs.Prelude.{◌≡◌, true, false};
     ghost use Rattle.psu_nv.specs.Parts.{Part as Kept, Register as KeptRegister};
     ghost use Rattle.psu_nv.specs.Views.{command_of, part_of};
-    ghost use Rattle.psu_exec.specs.Changed.{is_changed, is_key_changed, is_kind_changed, with_change, with_register};
+    ghost use Rattle.psu_exec.specs.Changed.{is_changed, is_key_changed, is_kind_changed, is_number_changed, with_change, with_register};
 
     /// No part.
     pub fn none() -> ChangedParts
@@ -72,9 +72,20 @@ impl ChangedParts {
         ensures { result ≡ is_key_changed self.now key.now }
     {
         match key {
-            [2, number] => self.has_register(*number),
+            [] => true,
+            [2, number @ ..] => self.has_number(number),
             [5, ..] => self.files,
-            [kind] => self.has_kind(*kind),
+            [kind, rest @ ..] => !rest.is_empty() || self.has_kind(*kind),
+        }
+    }
+
+    // The same of the bytes of a register's number.
+    #[inline]
+    fn has_number(&self, bytes: &[u8]) -> bool
+        ensures { result ≡ is_number_changed self.now bytes.now }
+    {
+        match bytes {
+            [number] => self.has_register(*number),
             _ => true,
         }
     }
