@@ -1,6 +1,6 @@
 // The parts that contents are kept as.
-ghost use Rattle.std.specs.Prelude.{◌≡◌, ◌∷◌, false, IfOk, IfSome, IfNone};
-ghost use Rattle.psu_nv.specs.Decoding.{is_key};
+ghost use Rattle.std.specs.Prelude.{◌≡◌, ◌∷◌, [], true, false, IfOk, IfSome, IfNone};
+ghost use Rattle.psu_nv.specs.Decoding.{is_key, is_number, is_single};
 ghost use Rattle.psu_nv.specs.Parts.{key_of};
 ghost use Rattle.psu_nv.specs.Views.{part_of};
 
@@ -46,18 +46,42 @@ impl<'a> Part<'a> {
         ensures none { IfNone result (is_key key.now ≡ false) }
     {
         match key {
-            [1] => Some(Part::Enables),
-            [2, number] => Some(Part::Register(Register::of(*number)?)),
-            [3] => Some(Part::User),
-            [4] => Some(Part::Macros),
+            [] => None,
+            [2, number @ ..] => Part::of_number(number),
             [5, name @ ..] => Some(Part::File(name)),
-            [6] => Some(Part::Recall),
+            [kind] => Part::of_kind(*kind),
+            [_, ..] => None,
+        }
+    }
+
+    // The register of a number.
+    #[inline]
+    fn of_number(bytes: &[u8]) -> Option<Part<'a>>
+        ensures some { IfSome result (λ part. 2 ∷ bytes.now ≡ key_of (part_of part)) }
+        ensures none { IfNone result (is_number bytes.now ≡ false) }
+    {
+        match bytes {
+            [number] => Some(Part::Register(Register::of(*number)?)),
+            _ => None,
+        }
+    }
+
+    // The part whose key is this byte alone.
+    #[inline]
+    fn of_kind(kind: u8) -> Option<Part<'a>>
+        ensures some { IfSome result (λ part. kind ∷ [] ≡ key_of (part_of part)) }
+        ensures none { IfNone result (is_single kind ≡ true → kind ≡ 2) }
+    {
+        match kind {
+            1 => Some(Part::Enables),
+            3 => Some(Part::User),
+            4 => Some(Part::Macros),
+            6 => Some(Part::Recall),
             _ => None,
         }
     }
 }
 
-// A byte, and other bytes behind it.
 pub(crate) fn with_first<A: Allocator + Copy>(
     alloc: A,
     first: u8,
