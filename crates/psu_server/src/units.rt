@@ -118,6 +118,7 @@ pub fn act<D: Disk, A: Allocator + Copy>(
 }
 
 /// Executes a unit; where it comes later, after a flush.
+#[inline(always)]
 pub fn unit<D: Disk, A: Allocator + Copy>(
     powered: &mut Powered<D, A>,
     request: &Request<'_>,
@@ -209,6 +210,7 @@ fn expansion<W: Write, D: Disk, A: Allocator + Copy>(
 }
 
 /// Executes a request of a line, or the expansion that replaces it, and tells what it answers.
+#[inline(always)]
 pub fn perform<W: Write, D: Disk, A: Allocator + Copy>(
     alloc: A,
     powered: &mut Powered<D, A>,

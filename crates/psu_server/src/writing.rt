@@ -11,6 +11,7 @@ use std::alloc::Allocator;
 use std::io::Write;
 
 /// Tells what a unit answers, behind the answers of its line so far. What has grown long is written before.
+#[inline(always)]
 pub fn tell<W: Write, A: Allocator + Copy>(
     gathered: &mut Gathered<A>,
     outcome: &Outcome<A>,
