@@ -197,7 +197,7 @@ fn tally(alloc: Global, step: &str) -> Option<(u32, u32)> {
 
 fn has_both(alloc: Global, step: &str) -> bool {
     match tally(alloc, step) {
-        Some((done, refused)) => done > 66 && refused > 33,
+        Some((done, refused)) => done > 66 && refused > 20,
         None => false,
     }
 }
