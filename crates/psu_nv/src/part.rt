@@ -39,7 +39,7 @@ impl<'a> Part<'a> {
         }
     }
 
-    /// The part that a key is of; none where contents may not have the key.
+    /// The part that has this key; none only for a key that contents may not have.
     #[inline]
     pub fn of_key(key: &'a [u8]) -> Option<Part<'a>>
         ensures some { IfSome result (λ part. key.now ≡ key_of (part_of part)) }

@@ -88,7 +88,11 @@ fn written_and_loaded<'a>(contents: &mut Contents<&'a Bump>) -> End {
 
 // A file.
 fn stored<'a>(contents: &mut Contents<&'a Bump>) -> End {
-    let answer = write(contents, b"NAME", b"some bytes of a file");
+    let answer = write(
+        contents,
+        b"NAME",
+        b"some bytes of a file, and some more of them, and some more of them, and some more of them, and some more of them, and the last",
+    );
     let count = contents.names().len();
     end_of(answer, count == 1, count == 0 && contents.cost() == 0)
 }
@@ -197,7 +201,7 @@ fn tally(alloc: Global, step: &str) -> Option<(u32, u32)> {
 
 fn has_both(alloc: Global, step: &str) -> bool {
     match tally(alloc, step) {
-        Some((done, refused)) => done > 66 && refused > 20,
+        Some((done, refused)) => done > 66 && refused > 33,
         None => false,
     }
 }
