@@ -8,18 +8,12 @@ use Rattle.std.proofs.Math.Seq.{take-add}
 use Rattle.psu_lex.specs.Bytes.{is_dark, is_white, starts}
 use Rattle.psu_lex.specs.NumberScan.{run, left}
 use Rattle.psu_lex.specs.Syntax.{is_apart}
-use Rattle.psu_lex.specs.SyntaxScan.{EndsDark, is_header, is_part, is_path, joins}
+use Rattle.psu_lex.specs.SyntaxScan.{EndsDark, Reaches, is_header, is_part, is_path, joins}
 use Rattle.psu_lex.proofs.HeaderScans.{letter_plain, name_plain, no_join}
 use Rattle.psu_lex.proofs.Runs.{both}
 use Rattle.psu_lex.proofs.Searches.{drop-add}
 
 -- ---- the scan of a path goes on
-
--- what the bytes before a place say of all up to white space, where a node has begun or not
-pub record Reaches (several begun : Bool) (text : List ℕ) (at : ℕ) : Type 0 where
-  pub front : take at text ++ run is_dark (drop at text) ≡ run is_dark text
-  pub back : left is_dark (drop at text) ≡ left is_dark text
-  pub path : is_path several begun (run is_dark (drop at text)) ≡ is_path several false (run is_dark text)
 
 -- a byte that is not white space, behind which a node has begun or not
 abbrev Steps : Bool → Bool → Bool → ℕ → Type 0

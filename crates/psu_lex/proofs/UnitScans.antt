@@ -1,16 +1,16 @@
 -- What each token adds to the units, and what the scans of a unit and of a transmission add.
-use Rattle.std.proofs.Common.{◌≡◌, ℕ, ◌+◌, ◌-◌, ◌<◌, ◌≤◌, Bool, true, false, List, [], ◌∷◌, ◌++◌, length, take, drop, refl, sym, ap, ◌∙◌, subst, arith, append_assoc, length-drop, Option, Some, None, slice_index, drop-cons, take_all, unwrap_or, ◌==◌, ◌||◌, ◌&&◌, inl, inr}
-use Rattle.std.proofs.lemmas.List.{append-nil, take-append-drop, get_or-take, append_cancel_right, drop_all}
+use Rattle.std.proofs.Common.{◌≡◌, ℕ, ◌+◌, ◌<◌, Bool, true, false, List, [], ◌∷◌, ◌++◌, length, take, drop, refl, sym, ap, ◌∙◌, subst, arith, append_assoc, Option, Some, None, slice_index, drop-cons, ◌==◌, ◌||◌, ◌&&◌, inl, inr}
+use Rattle.std.proofs.lemmas.List.{append-nil, take-append-drop, append_cancel_right}
 use Rattle.std.proofs.Math.Seq.{take-add}
 use Rattle.std.proofs.lemmas.Grind.{common_steps}
-use Rattle.memchr.specs.Find.{IsFirstByte, is_byte2, is_byte3}
+use Rattle.memchr.specs.Find.{IsFirstByte, is_byte3}
 use Rattle.psu_lex.specs.Bytes.{opens, separates, is_closed, all_white}
 use Rattle.psu_lex.specs.Message.{opens_first, ends_unit, BeginsPiece, HasNoPiece, Makes, Part, ended, next_first, fault_of, spelling, part, parts, Token, Reads}
 use Rattle.psu_lex.specs.declared.unit_fault.UnitFault.{UnitFault}
 use Rattle.psu_lex.specs.Message.Token.{Byte, Separator, Whole, Faulty}
-use Rattle.psu_lex.specs.Scan.{has, after_piece, units_in, IsStop}
+use Rattle.psu_lex.specs.Scan.{has, after_piece, stops, stops_first, units_in}
 use Rattle.psu_lex.proofs.PieceScans.{whole}
-use Rattle.psu_lex.proofs.Searches.{has_head, has_tail, has_front, free_before, free_all, drop-add, free_later}
+use Rattle.psu_lex.proofs.Searches.{has_head, has_tail, free_before, free_all, drop-add}
 use Rattle.psu_lex.specs.declared.unit.Unit as rust
 use Rattle.std.proofs.lemmas.Bool.{cases_Bool}
 use Rattle.std.proofs.Math.Bool.{or_assoc, or-false}
@@ -34,11 +34,19 @@ makes_separator first x text rest units h m = (Separator x ∷ m.0, (rest, refl,
 pub opens_at : (s : List ℕ) (n : ℕ) → n < length s → opens (slice_index s n) ≡ true → opens_first (drop n s) ≡ true
 opens_at s n within h = rw (drop-cons s n 0 within) h
 
--- the terminator that was found, or the end
-pub stop_at : (s : List ℕ) (r : Option ℕ) → IsFirstByte (is_byte2 59 10) s r
-    → (unwrap_or r (length s) ≤ length s) × (has separates (take (unwrap_or r (length s)) s) ≡ false) × (ends_unit (drop (unwrap_or r (length s)) s) ≡ true)
-stop_at s None h = (omega arith, rw (take_all (length s) s (omega arith)) (free_all separates s h), rw (drop_all (length s) s (omega arith)) refl)
-stop_at s (Some n) h = (omega (arith, h.0.high), free_before separates s n h, rw (drop-cons s n 0 h.0.high) h.1)
+free_snoc : (xs : List ℕ) (x : ℕ) → has stops xs ≡ false → stops x ≡ false → has stops (xs ++ x ∷ []) ≡ false
+free_snoc [] x f h = rw h refl
+free_snoc (y ∷ xs) x f h = rw (has_head stops y xs f) (free_snoc xs x (has_tail stops y xs f) h)
+
+plain_byte : (x : ℕ) → stops x ≡ false → (separates x ≡ false) × (opens x ≡ false)
+plain_byte x h = (grind (arith, nat_tests, h), grind (arith, nat_tests, h))
+
+free_parts : (xs : List ℕ) → has stops xs ≡ false → (has separates xs ≡ false) × (has opens xs ≡ false)
+free_parts [] h = (refl, refl)
+free_parts (x ∷ xs) h =
+    let b = plain_byte x (has_head stops x xs h) in
+    let later = free_parts xs (has_tail stops x xs h) in
+    (rw b.0 later.0, rw b.1 later.1)
 
 -- ---- steps over a transmission
 
@@ -86,51 +94,26 @@ unit_fault first bytes piece at found fault e a b o n is =
     (ap fault_of (sym e) ∙ sym is)
     (step_fault first bytes (at + found) (subst (λ (z : List ℕ). opens_first z ≡ true) e o) (subst (HasNoPiece is_closed) e n)))
 
--- the unit ends at the stop, where nothing opens before it
-pub unit_stop : (first : Bool) (bytes : List ℕ) (at stop : ℕ) (units : List Part) → IsStop bytes at stop → has opens (take (stop - at) (drop at bytes)) ≡ false
-    → Makes first (take stop bytes) (drop stop bytes) units → Makes first (take at bytes) (drop at bytes) units
-unit_stop first bytes at stop units s f m =
-    let same : stop ≡ at + (stop - at) = omega (arith, s.low) in
-    step_run first bytes at (stop - at) units s.free f (subst (λ (z : ℕ). Makes first (take z bytes) (drop z bytes) units) same m)
+-- a byte more that does not stop the scan
+pub free_on : (text : List ℕ) (at : ℕ) → at < length text → has stops (take at text) ≡ false → stops (slice_index text at) ≡ false → has stops (take (at + 1) text) ≡ false
+free_on text at within f h =
+    let longer : take (at + 1) text ≡ take at text ++ slice_index text at ∷ [] = grind (arith, common_steps, within) in
+    ap (has stops) longer ∙ free_snoc (take at text) (slice_index text at) f h
 
--- what stands where a quote or `#` was found before the stop
-pub piece_at : (bytes run : List ℕ) (at stop n : ℕ) → IsStop bytes at stop → run ≡ take (stop - at) (drop at bytes) → IsFirstByte (is_byte3 34 39 35) run (Some n)
-    → (at + n < length bytes) × (has separates (take n (drop at bytes)) ≡ false) × (has opens (take n (drop at bytes)) ≡ false) × (opens_first (drop (at + n) bytes) ≡ true)
-piece_at bytes run at stop n s e h =
-    let rest = drop at bytes in
-    let le : stop - at ≤ length rest = omega (arith, length-drop at bytes, s.low, s.high) in
-    let first = subst (λ (z : List ℕ). IsFirstByte (is_byte3 34 39 35) z (Some n)) e h in
-    let below : n < stop - at = grind (arith, common_steps, first.0.high) in
-    let same : take n (take (stop - at) rest) ≡ take n rest = grind (arith, common_steps, below) in
-    let opened : opens (slice_index rest n) ≡ true = ap opens (sym (get_or-take (stop - at) rest n 0 below)) ∙ first.1 in (
-      omega (arith, below, le, length-drop at bytes),
-      ap (has separates) (sym same) ∙ has_front separates (take (stop - at) rest) n s.free,
-      ap (has opens) (sym same) ∙ free_before opens (take (stop - at) rest) n first,
-      subst (λ (z : List ℕ). opens_first z ≡ true) (sym (drop-add at n bytes)) (opens_at rest n (omega (arith, below, le)) opened),
+-- what stands behind plain bytes, and that they neither end a unit nor begin a string or a block
+pub plain_at : (bytes rest piece : List ℕ) (at plain : ℕ) → rest ≡ drop at bytes → piece ≡ drop plain rest → has stops (take plain rest) ≡ false
+    → (piece ≡ drop (at + plain) bytes) × (has separates (take plain (drop at bytes)) ≡ false) × (has opens (take plain (drop at bytes)) ≡ false)
+plain_at bytes rest piece at plain e p f =
+    let free : has stops (take plain (drop at bytes)) ≡ false = subst (λ (z : List ℕ). has stops (take plain z) ≡ false) e f in (
+      p ∙ ap (drop plain) e ∙ sym (drop-add at plain bytes),
+      (free_parts (take plain (drop at bytes)) free).0,
+      (free_parts (take plain (drop at bytes)) free).1,
     )
 
--- a search from `at` on finds the stop
-pub stop_found : (bytes rest : List ℕ) (at n : ℕ) (r : Option ℕ) → at ≤ length bytes → rest ≡ drop at bytes → IsFirstByte (is_byte2 59 10) rest r → n ≡ unwrap_or r (length rest)
-    → IsStop bytes at (at + n)
-stop_found bytes rest at n r le e h is =
-    let found = stop_at (drop at bytes) r (subst (λ (z : List ℕ). IsFirstByte (is_byte2 59 10) z r) e h) in
-    let same : n ≡ unwrap_or r (length (drop at bytes)) = is ∙ ap (λ (z : List ℕ). unwrap_or r (length z)) e in
-    let run : at + n - at ≡ unwrap_or r (length (drop at bytes)) = omega (arith, same) in record {
-      low = omega arith;
-      high = omega (arith, found.0, same, length-drop at bytes, le);
-      free = rw run found.1;
-      ends = subst (λ (z : List ℕ). ends_unit z ≡ true) (ap (λ (z : ℕ). drop z (drop at bytes)) (sym same) ∙ sym (drop-add at n bytes)) found.2;
-    }
-
--- the stop is still ahead
-pub stop_kept : (bytes : List ℕ) (at step stop : ℕ) → IsStop bytes at stop → at + step ≤ stop → IsStop bytes (at + step) stop
-stop_kept bytes at step stop s le =
-    let count : stop - (at + step) ≡ stop - at - step = omega arith in record {
-      low = le;
-      high = s.high;
-      free = rw (count, drop-add at step bytes) (free_later separates (drop at bytes) (stop - at) step s.free);
-      ends = s.ends;
-    }
+-- the unit ends where the scan stops and nothing begins
+pub unit_ends : (xs : List ℕ) → stops_first xs ≡ true → opens_first xs ≡ false → ends_unit xs ≡ true
+unit_ends [] s f = refl
+unit_ends (x ∷ xs) s f = grind (arith, common_steps, s, f)
 
 parts_push : (us : List rust.Unit) (u : rust.Unit) → parts (us ++ u ∷ []) ≡ parts us ++ part u ∷ []
 parts_push [] u = refl

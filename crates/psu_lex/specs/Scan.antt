@@ -1,20 +1,21 @@
 -- Words of the contracts inside this crate: what a scan has found so far.
-use Rattle.std.specs.Prelude.{◌≡◌, ℕ, ◌+◌, ◌-◌, ◌≤◌, ◌==◌, ◌||◌, ◌&&◌, nat_lt, nat_le, Bool, true, false, List, [], ◌∷◌, length, take, drop, slice_index, Option, Some, None, if◌then◌else◌}
+use Rattle.std.specs.Prelude.{ℕ, ◌+◌, ◌-◌, ◌==◌, ◌||◌, ◌&&◌, nat_lt, nat_le, Bool, true, false, List, [], ◌∷◌, length, take, drop, slice_index, Option, Some, None, if◌then◌else◌}
 use Rattle.std.specs.List.{list_any}
-use Rattle.psu_lex.specs.Bytes.{all_digits, ends_in_newline, is_quote, separates, starts_quoted, value_after}
-use Rattle.psu_lex.specs.Message.{ends_unit}
+use Rattle.psu_lex.specs.Bytes.{all_digits, ends_in_newline, is_quote, opens, separates, starts_quoted, value_after}
 use Rattle.psu_lex.specs.declared.unit.Unit as rust
 
 -- some byte passes the test
 abbrev pub has : (ℕ → Bool) → List ℕ → Bool
 has test bytes = list_any test bytes
 
--- the first separator from `at` on stands at `stop`, or there is none and `stop` is the end
-pub record IsStop (bytes : List ℕ) (at stop : ℕ) : Type 0 where
-  pub low : at ≤ stop
-  pub high : stop ≤ length bytes
-  pub free : has separates (take (stop - at) (drop at bytes)) ≡ false
-  pub ends : ends_unit (drop stop bytes) ≡ true
+-- the byte ends a unit, or begins a string or a block
+abbrev pub stops : ℕ → Bool
+stops b = separates b || opens b
+
+-- the first byte does, or none is left
+abbrev pub stops_first : List ℕ → Bool
+stops_first [] = true
+stops_first (x ∷ xs) = stops x
 
 -- the only unit, or all of a list
 abbrev pub units_in : Option rust.Unit → List rust.Unit → List rust.Unit

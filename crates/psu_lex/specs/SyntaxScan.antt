@@ -1,5 +1,5 @@
 -- Words of the contracts inside this crate: what the scan of a unit's header and data has found.
-use Rattle.std.specs.Prelude.{◌≡◌, ℕ, ◌-◌, ◌==◌, ◌&&◌, not, nat_lt, Bool, true, false, List, [], ◌∷◌, length, take, drop, Option, Some, None, if◌then◌else◌}
+use Rattle.std.specs.Prelude.{◌≡◌, ℕ, ◌+◌, ◌-◌, ◌==◌, ◌&&◌, not, nat_lt, Bool, true, false, List, [], ◌∷◌, ◌++◌, length, take, drop, slice_index, Option, Some, None, if◌then◌else◌}
 use Rattle.psu_lex.specs.Bytes.{is_dark, is_white, is_letter, is_quote, starts, starts_quoted}
 use Rattle.psu_lex.specs.NumberScan.{run, left, is_number}
 use Rattle.psu_lex.specs.Scan.{after_piece}
@@ -39,6 +39,16 @@ pub record EndsDark (test : List ℕ → Bool) (text : List ℕ) (n : ℕ) : Typ
   pub front : take n text ≡ run is_dark text
   pub back : drop n text ≡ left is_dark text
   pub passes : test (run is_dark text) ≡ true
+
+-- what the bytes before a place say of all up to white space, where a node has begun or not
+pub record Reaches (several begun : Bool) (text : List ℕ) (at : ℕ) : Type 0 where
+  pub front : take at text ++ run is_dark (drop at text) ≡ run is_dark text
+  pub back : left is_dark (drop at text) ≡ left is_dark text
+  pub path : is_path several begun (run is_dark (drop at text)) ≡ is_path several false (run is_dark text)
+
+-- the place, or the next where a `?` stands there
+abbrev pub behind_ask : List ℕ → ℕ → ℕ
+behind_ask text at = if slice_index text at == 63 then at + 1 else at
 
 -- a mark by the first byte
 abbrev pub mark_at : ℕ → Mark

@@ -38,7 +38,7 @@ pub fn block<A: Allocator + Copy>(alloc: A, text: &[u8]) -> Result<Bytes<A>, Scp
     let content = after(front(rest, end), 1 + digits);
     let mut list = Vec::new(alloc);
     match list.extend_from_slice(content) {
-        Ok(()) => Ok(Bytes { list }),
+        Ok(()) => Ok(Bytes::many(list)),
         Err(_) => Err(ScpiError::OutOfMemory),
     }
 }
@@ -56,5 +56,5 @@ pub fn definite<A: Allocator + Copy>(alloc: A, bytes: &[u8]) -> Result<Bytes<A>,
     list.push(b'0' + digits.len() as u8)?;
     list.extend_from_slice(digits)?;
     list.extend_from_slice(bytes)?;
-    Ok(Bytes { list })
+    Ok(Bytes::many(list))
 }

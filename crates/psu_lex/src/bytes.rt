@@ -1,20 +1,34 @@
 // Bytes that a call hands out.
-ghost use Rattle.std.specs.Prelude.{◌≡◌, List, ℕ, [], ◌++◌, decimal, IfOk, OnOk, OnErr};
+ghost use Rattle.std.specs.Prelude.{◌≡◌, [], ◌++◌, decimal, IfOk, OnOk, OnErr};
 
+use crate::held::Held;
+use arrayvec::ArrayVec;
 use itoa::Buffer;
 use std::alloc::{AllocError, Allocator};
 use std::marker::Model;
 
-/// Bytes that a call hands out. Contracts see the list of them.
+/// Bytes that a call hands out; a few that are known at once take no memory. Contracts see the list of them.
 #[derive(Drop)]
 pub struct Bytes<A: Allocator + Copy> {
-    pub(crate) list: Vec<u8, A>,
+    held: Held<A>,
 }
 
 impl<A: Allocator + Copy> Model for Bytes<A> {
+    ghost use Rattle.std.specs.Prelude.{List, ℕ};
+    ghost use Rattle.psu_lex.specs.Held.{bytes_in};
+
     ghost Value = { List ℕ };
 
-    ghost view = { λ bytes. bytes.list.items };
+    ghost view = { λ bytes. bytes_in bytes.held };
+}
+
+// A few bytes, and more behind them.
+fn joined<A: Allocator + Copy>(alloc: A, few: &[u8], more: &[u8]) -> Result<Vec<u8, A>, AllocError>
+    ensures { IfOk result (λ list. list.items ≡ few.now ++ more.now) }
+{
+    let mut list = few.to_vec(alloc)?;
+    list.extend_from_slice(more)?;
+    Ok(list)
 }
 
 impl<A: Allocator + Copy> Bytes<A> {
@@ -22,8 +36,15 @@ impl<A: Allocator + Copy> Bytes<A> {
     pub fn new(alloc: A) -> Bytes<A>
         ensures { result ≡ [] }
     {
+        Bytes::many(Vec::new(alloc))
+    }
+
+    /// The bytes of a list.
+    pub(crate) fn many(list: Vec<u8, A>) -> Bytes<A>
+        ensures { result ≡ list.items }
+    {
         Bytes {
-            list: Vec::new(alloc),
+            held: Held::Many(list),
         }
     }
 
@@ -31,9 +52,13 @@ impl<A: Allocator + Copy> Bytes<A> {
     pub fn of(alloc: A, bytes: &[u8]) -> Result<Bytes<A>, AllocError>
         ensures { IfOk result (λ copy. copy ≡ bytes.now) }
     {
-        Ok(Bytes {
-            list: bytes.to_vec(alloc)?,
-        })
+        let mut few = ArrayVec::new();
+        match few.try_extend_from_slice(bytes) {
+            Ok(()) => Ok(Bytes {
+                held: Held::Few(alloc, few),
+            }),
+            Err(_) => Ok(Bytes::many(bytes.to_vec(alloc)?)),
+        }
     }
 
     /// Puts bytes behind those that are there.
@@ -41,7 +66,16 @@ impl<A: Allocator + Copy> Bytes<A> {
         ensures ok { OnOk result (self.new ≡ self.old ++ bytes.now) }
         ensures err { OnErr result (self.new ≡ self.old) }
     {
-        self.list.extend_from_slice(bytes)
+        match &mut self.held {
+            Held::Few(alloc, few) => {
+                if few.try_extend_from_slice(bytes).is_err() {
+                    let list = joined(*alloc, few.as_slice(), bytes)?;
+                    self.held = Held::Many(list);
+                }
+                Ok(())
+            }
+            Held::Many(list) => list.extend_from_slice(bytes),
+        }
     }
 
     /// Puts a number behind the bytes that are there, in decimal digits.
@@ -57,6 +91,9 @@ impl<A: Allocator + Copy> Bytes<A> {
     pub fn as_slice(&self) -> &[u8]
         ensures { result.now ≡ self.now }
     {
-        &self.list
+        match &self.held {
+            Held::Few(_, few) => few.as_slice(),
+            Held::Many(list) => list.as_slice(),
+        }
     }
 }

@@ -1,5 +1,5 @@
 // Numbers as answered.
-ghost use Rattle.std.specs.Prelude.{◌≡◌, decimal, IfOk};
+ghost use Rattle.std.specs.Prelude.{◌≡◌, [], ◌∷◌, ◌++◌, decimal, if◌then◌else◌, IfOk};
 ghost use Rattle.psu_lex.specs.Decimals.{fixed3_text};
 
 use crate::Bytes;
@@ -14,6 +14,22 @@ pub fn whole<A: Allocator + Copy>(alloc: A, number: u64) -> Result<Bytes<A>, All
     Bytes::of(alloc, buffer.format(number).as_bytes())
 }
 
+// Digits, behind a `-` where they are those of a number below 0.
+fn signed<A: Allocator + Copy>(
+    alloc: A,
+    negative: bool,
+    digits: &[u8],
+) -> Result<Bytes<A>, AllocError>
+    ensures { IfOk result (λ text. text ≡ (if negative then 45 ∷ [] else []) ++ digits.now) }
+{
+    if !negative {
+        return Bytes::of(alloc, digits);
+    }
+    let mut text = Bytes::of(alloc, b"-")?;
+    text.put(digits)?;
+    Ok(text)
+}
+
 /// A number of thousandths as answered: the whole part, a point and three decimals (IEEE 488.2, 8.7.3),
 /// as `-0.005` for -5.
 pub fn fixed3<A: Allocator + Copy>(alloc: A, thousandths: i64) -> Result<Bytes<A>, AllocError>
@@ -23,16 +39,12 @@ pub fn fixed3<A: Allocator + Copy>(alloc: A, thousandths: i64) -> Result<Bytes<A
     let part = magnitude % 1000;
     let mut buffer = Buffer::new();
     let whole = buffer.format(magnitude / 1000).as_bytes();
-    let mut list = Vec::with_capacity(alloc, whole.len() + 5)?;
-    if thousandths < 0 {
-        list.push(b'-')?;
-    }
-    list.extend_from_slice(whole)?;
-    list.extend_from_slice(&[
+    let mut text = signed(alloc, thousandths < 0, whole)?;
+    text.put(&[
         b'.',
         b'0' + (part / 100) as u8,
         b'0' + (part / 10 % 10) as u8,
         b'0' + (part % 10) as u8,
     ])?;
-    Ok(Bytes { list })
+    Ok(text)
 }

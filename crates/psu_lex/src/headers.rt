@@ -1,8 +1,8 @@
 // Headers.
-ghost use Rattle.std.specs.Prelude.{◌≡◌, ◌≤◌, ◌<◌, ◌+◌, ◌==◌, true, false, length, slice_index, IfSome, IfNone, if◌then◌else◌};
-ghost use Rattle.psu_lex.specs.Bytes.{is_dark};
+ghost use Rattle.std.specs.Prelude.{◌≡◌, ◌≤◌, ◌<◌, ◌==◌, ◌||◌, Bool, true, false, length, drop, slice_index, IfSome, IfNone};
+ghost use Rattle.psu_lex.specs.Bytes.{is_dark, is_digit};
 ghost use Rattle.psu_lex.specs.NumberScan.{run};
-ghost use Rattle.psu_lex.specs.SyntaxScan.{EndsDark, behind_mark, ends_asking, is_header, is_part, is_path, joins, mark_of, without_ask};
+ghost use Rattle.psu_lex.specs.SyntaxScan.{EndsDark, Reaches, behind_ask, behind_mark, ends_asking, is_header, is_path, joins, mark_of, without_ask};
 ghost use Rattle.psu_lex.specs.Shown.{ShowsHeader};
 ghost use Rattle.psu_lex.specs.Syntax.{Header as Parts, IsHeader, header_text, is_apart, is_node, is_name_byte};
 
@@ -10,29 +10,27 @@ use crate::class::is_white;
 use crate::pieces::{after, begins, front};
 use crate::{Header, Mark};
 
-/// Whether another node comes.
-fn joins(begun: bool, several: bool, byte: u8) -> bool
-    ensures { result ≡ joins begun several byte }
+/// Whether another node comes behind one.
+fn joins(several: bool, byte: u8) -> bool
+    ensures { result ≡ joins true several byte }
 {
-    begun && several && byte == b':'
+    several && byte == b':'
+}
+
+/// Whether the byte is a digit or `_`: few names have one, so its code stands apart.
+#[inline(never)]
+fn is_rare(byte: u8) -> bool
+    ensures { result ≡ (is_digit byte || byte == 95) }
+{
+    byte.is_ascii_digit() || byte == b'_'
 }
 
 /// Whether the byte is a letter, a digit or `_`.
+#[inline(always)]
 pub fn is_name_byte(byte: u8) -> bool
     ensures { result ≡ is_name_byte byte }
 {
-    byte.is_ascii_alphabetic() || byte.is_ascii_digit() || byte == b'_'
-}
-
-/// Whether the byte may stand in a node, which has begun or not.
-fn is_part(begun: bool, byte: u8) -> bool
-    ensures { result ≡ is_part begun byte }
-{
-    if begun {
-        is_name_byte(byte)
-    } else {
-        byte.is_ascii_alphabetic()
-    }
+    byte.is_ascii_alphabetic() || is_rare(byte)
 }
 
 /// Whether the text is a letter followed by letters, digits or `_`.
@@ -61,9 +59,40 @@ fn is_apart(text: &[u8]) -> bool
 fn behind_ask(text: &[u8], at: usize) -> usize
     requires { at < length text.now }
     ensures within { result ≤ length text.now }
-    ensures value { result ≡ (if slice_index text.now at == 63 then at + 1 else at) }
+    ensures value { result ≡ behind_ask text.now at }
 {
     if text[at] == b'?' { at + 1 } else { at }
+}
+
+/// Where the bytes of a name end that stand from a place on.
+fn name_end(text: &[u8], at: usize) -> usize
+    requires { at ≤ length text.now }
+    ensures low { at ≤ result }
+    ensures high { result ≤ length text.now }
+    ensures reaches { (several : Bool) → Reaches several true text.now at → Reaches several true text.now result }
+    ensures stops { result < length text.now → is_name_byte (slice_index text.now result) ≡ false }
+{
+    for end in at..text.len() {
+        if !is_name_byte(text[end]) {
+            return end;
+        }
+    }
+    text.len()
+}
+
+/// Where a path ends whose last node ends here, if nothing or white space follows it.
+fn last_end(text: &[u8], at: usize) -> Option<usize>
+    requires { at < length text.now }
+    ensures within { IfSome result (λ n. n ≤ length text.now) }
+    ensures some { IfSome result (λ n. (n ≡ behind_ask text.now at) × (is_apart (drop n text.now) ≡ true)) }
+    ensures none { IfNone result (is_apart (drop (behind_ask text.now at) text.now) ≡ false) }
+{
+    let end = behind_ask(text, at);
+    if is_apart(after(text, end)) {
+        Some(end)
+    } else {
+        None
+    }
 }
 
 /// How many bytes stand before the first white space, if they are one node, or several joined by `:`, and
@@ -73,22 +102,20 @@ fn path_end(text: &[u8], several: bool) -> Option<usize>
     ensures some { IfSome result (λ n. EndsDark (is_path several false) text.now n) }
     ensures none { IfNone result (is_path several false (run is_dark text.now) ≡ false) }
 {
-    let mut begun = false;
-    for at in 0..text.len() {
-        let byte = text[at];
-        if is_part(begun, byte) {
-            begun = true;
-        } else if joins(begun, several, byte) {
-            begun = false;
-        } else {
-            let end = behind_ask(text, at);
-            if !begun || !is_apart(after(text, end)) {
-                return None;
-            }
+    let mut at = 0;
+    'nodes: loop {
+        if at == text.len() || !text[at].is_ascii_alphabetic() {
+            return None;
+        }
+        let end = name_end(text, at + 1);
+        if end == text.len() {
             return Some(end);
         }
+        if !joins(several, text[end]) {
+            return last_end(text, end);
+        }
+        at = end + 1;
     }
-    if begun { Some(text.len()) } else { None }
 }
 
 /// How many bytes stand before the first white space, if they are a header.

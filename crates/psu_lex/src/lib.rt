@@ -13,6 +13,7 @@ mod error_class;
 mod found;
 mod header;
 mod headers;
+mod held;
 mod high_bytes;
 pub mod laws;
 mod macros;

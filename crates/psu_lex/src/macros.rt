@@ -123,7 +123,7 @@ fn filled<'a, A: Allocator + Copy>(
         list.extend_from_slice(piece)?;
         rest = after(rest, used);
     }
-    Ok(Bytes { list })
+    Ok(Bytes::many(list))
 }
 
 /// The expansion of a macro (IEEE 488.2, 10.8): its body with `$1` to `$9` outside strings and blocks

@@ -1,36 +1,53 @@
 // The units of a message.
 ghost use Rattle.std.specs.Prelude.{ℕ, List, [], ◌∷◌, ◌≡◌, ◌++◌, ◌+◌, ◌≤◌, ◌==◌, ◌||◌, ◌&&◌, Bool, Some, true, false, length, take, drop, IfOk, IfErr, OnOk};
-ghost use Rattle.psu_lex.specs.Bytes.{all_white};
+ghost use Rattle.psu_lex.specs.Bytes.{all_white, opens};
 ghost use Rattle.psu_lex.specs.Message.{IsMessage, Makes, Part, ended, ends_unit, fault_of, opens_first};
-ghost use Rattle.psu_lex.specs.Scan.{IsStop};
+ghost use Rattle.psu_lex.specs.Scan.{has, stops, stops_first};
 
 use crate::class::is_white;
-use crate::pieces::{after, between, piece_end};
+use crate::pieces::{after, piece_end};
 use crate::{Unit, UnitFault, Units};
-use memchr::{memchr2, memchr3};
 use std::alloc::{AllocError, Allocator};
 
-/// Where the first `;` or NL from `at` on stands, or the end.
-fn next_stop(bytes: &[u8], at: usize) -> usize
-    requires { at ≤ length bytes.now }
-    ensures { IsStop bytes.now at result }
+/// Whether the byte begins a string or a block.
+fn opens(byte: u8) -> bool
+    ensures { result ≡ opens byte }
 {
-    let rest = after(bytes, at);
-    at + memchr2(b';', b'\n', rest).unwrap_or(rest.len())
+    byte == b'"' || byte == b'\'' || byte == b'#'
 }
 
-/// The same for a later place, where the stop from `at` on is known: it is looked for again only
-/// where the step has gone over it, so that no byte is looked at twice.
-#[tactic(auto, using(crate::proofs::UnitScans::stop_kept))]
-fn later_stop(bytes: &[u8], at: usize, step: usize, stop: usize) -> usize
-    requires known { IsStop bytes.now at stop }
-    requires within { at + step ≤ length bytes.now }
-    ensures { IsStop bytes.now (at + step) result }
+/// Whether a string or a block begins here.
+fn opens_first(text: &[u8]) -> bool
+    ensures { result ≡ opens_first text.now }
 {
-    if at + step <= stop {
-        return stop;
+    !text.is_empty() && opens(text[0])
+}
+
+/// Whether the byte ends a unit, or begins a string or a block. No letter and no digit does, which is seen first.
+fn stops(byte: u8) -> bool
+    ensures { result ≡ stops byte }
+{
+    if byte > b';' {
+        return false;
     }
-    next_stop(bytes, at + step)
+    if byte >= b'(' {
+        return byte == b';';
+    }
+    byte == b'\n' || opens(byte)
+}
+
+/// How many bytes stand before the first that does.
+fn plain_end(text: &[u8]) -> usize
+    ensures within { result ≤ length text.now }
+    ensures free { has stops (take result text.now) ≡ false }
+    ensures ends { stops_first (drop result text.now) ≡ true }
+{
+    for at in 0..text.len() {
+        if stops(text[at]) {
+            return at;
+        }
+    }
+    text.len()
 }
 
 /// The fault of a string or block that is not whole.
@@ -53,18 +70,17 @@ fn unit_end(bytes: &[u8]) -> Result<usize, UnitFault>
     ensures err { IfErr result (λ fault. (first : Bool) → Makes first [] bytes.now (record { text = bytes.now; first = first; fault = Some fault } ∷ [])) }
 {
     let mut at = 0;
-    let mut stop = next_stop(bytes, 0);
     'pieces: loop {
-        let run = between(bytes, at, stop);
-        let Some(found) = memchr3(b'"', b'\'', b'#', run) else {
-            return Ok(stop);
-        };
-        let piece = after(bytes, at + found);
+        let rest = after(bytes, at);
+        let plain = plain_end(rest);
+        let piece = after(rest, plain);
+        if !opens_first(piece) {
+            return Ok(at + plain);
+        }
         let Some(length) = piece_end(piece) else {
             return Err(fault_at(piece));
         };
-        stop = later_stop(bytes, at, found + length, stop);
-        at += found + length;
+        at += plain + length;
     }
 }
 

@@ -22,7 +22,7 @@ fn undoubled<A: Allocator + Copy>(alloc: A, body: &[u8], quote: u8) -> Result<By
         list.push(*byte)?;
         second = *byte == quote;
     }
-    Ok(Bytes { list })
+    Ok(Bytes::many(list))
 }
 
 /// Whether the text is one whole string.

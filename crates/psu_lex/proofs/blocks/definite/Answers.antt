@@ -5,5 +5,5 @@ use Rattle.psu_lex.proofs.blocks.definite.Goals as goal
 
 pub returns-clause-read : goal.returns-clause-read
 returns-clause-read g c =
-    let exact : c.extend_from_slice-2.new.self.items ≡ definite_text c.args.bytes.now = search rules in
+    let exact : c.many.result ≡ definite_text c.args.bytes.now = search rules in
     subst (λ (z : List ℕ). IsBlockOf z c.args.bytes.now) (sym exact) (definite_is_block c.args.bytes.now c.requires)

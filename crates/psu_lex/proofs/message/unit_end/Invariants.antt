@@ -1,11 +1,10 @@
-use Rattle.std.proofs.Common.{List, [], Bool, ◌-◌, length, take, drop}
+use Rattle.std.proofs.Common.{◌≤◌, List, [], Bool, ◌-◌, length, take, drop}
 use Rattle.psu_lex.specs.Message.{Makes, Part}
-use Rattle.psu_lex.specs.Scan.{IsStop}
 use Rattle.psu_lex.proofs.message.unit_end.Given as goal
 
 abbrev pub invariant-pieces : goal.invariant-pieces
 invariant-pieces l = record {
-  stands : IsStop l.bytes l.at l.stop;
+  within : l.at ≤ length l.bytes;
   so_far : (first : Bool) (units : List Part) → Makes first (take l.at l.bytes) (drop l.at l.bytes) units → Makes first [] l.bytes units;
 }
 

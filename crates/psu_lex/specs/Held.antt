@@ -1,0 +1,8 @@
+-- Words of the contracts inside this crate: bytes with or without memory of their own.
+use Rattle.std.specs.Prelude.{ℕ, List}
+use Rattle.psu_lex.specs.declared.held.Held.{Held}
+use Rattle.psu_lex.specs.declared.held.Held.TheVariants as held
+
+abbrev pub bytes_in : {A : Type 0} → Held A → List ℕ
+bytes_in (held.Few alloc few) = few.items
+bytes_in (held.Many list) = list.items
