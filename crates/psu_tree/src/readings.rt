@@ -1,8 +1,9 @@
 // The command of a unit.
 ghost use Rattle.std.specs.Prelude.{◌≡◌, List, [], OnOk, map};
 ghost use Rattle.psu_lex.specs.Message.{part};
+ghost use Rattle.psu_lex.specs.Names.{is_label};
 ghost use Rattle.psu_lex.specs.Shown.{HoldsData, ShowsHeader, ShowsSyntax};
-ghost use Rattle.psu_lex.specs.Syntax.{Datum as DatumData, Header as HeaderParts, IsHeader, Syntax as Parts};
+ghost use Rattle.psu_lex.specs.Syntax.{Datum as DatumData, Header as HeaderParts, IsHeader, Syntax as Parts, header_text};
 ghost use Rattle.psu_tree.specs.Path.{moved, words_of};
 ghost use Rattle.psu_tree.specs.Reading.{Calls, FormReads, Moves, Reads, SyntaxCalls, SyntaxReads, header_reads, placed};
 
@@ -12,7 +13,7 @@ use crate::suffixes::header_output;
 use crate::words::{Words, add_words};
 use crate::{Command, Form, MacroCall, Path, Request};
 use arrayvec::ArrayVec;
-use psu_lex::{Data, Mark, ScpiError, Syntax, Unit, is_label, syntax};
+use psu_lex::{Data, Header, Mark, ScpiError, Syntax, Unit, is_label, syntax};
 use psu_outputs::Output;
 
 // A form at an output; or the fault of its header.
@@ -83,11 +84,18 @@ pub fn read_unit<'a>(path: &Path<'a>, unit: &Unit<'a>) -> Result<Command<'a>, Sc
     }
 }
 
+// Whether a header has the form of a label; none with a `?` has.
+fn is_call(header: &Header<'_>) -> bool
+    ensures { (h : HeaderParts) → IsHeader h → ShowsHeader header.now h → result ≡ is_label (header_text h) }
+{
+    !header.asks && is_label(header.text)
+}
+
 // The call that a unit may be.
 fn call_of<'a>(parts: &Syntax<'a>) -> Option<MacroCall<'a>>
     ensures { (given : Parts) → ShowsSyntax parts.now given → SyntaxCalls (Ok given) result }
 {
-    if is_label(parts.header.text) {
+    if is_call(&parts.header) {
         Some(MacroCall {
             label: parts.header.text,
             args: parts.parameters,
@@ -97,13 +105,17 @@ fn call_of<'a>(parts: &Syntax<'a>) -> Option<MacroCall<'a>>
     }
 }
 
-// Moves the path to a header's nodes without the last; a common header leaves it.
+// Moves the path to a header's nodes without the last, of one node to the root; a common header leaves it.
 fn move_path<'a>(path: &mut Path<'a>, mut words: Words<'a>, mark: Mark)
     ensures { path.new ≡ moved mark path.old (map (λ word. word.now) words.entry.items) }
 {
     match mark {
         Mark::Star => {}
         Mark::Colon | Mark::Bare => {
+            if words.len() <= 1 {
+                path.words.clear();
+                return;
+            }
             let _last = words.pop();
             path.words = words;
         }
