@@ -48,7 +48,7 @@ impl<A: Allocator + Copy> Bytes<A> {
         }
     }
 
-    /// These bytes, in memory of their own.
+    /// These bytes; only more than a few take memory.
     pub fn of(alloc: A, bytes: &[u8]) -> Result<Bytes<A>, AllocError>
         ensures { IfOk result (λ copy. copy ≡ bytes.now) }
     {

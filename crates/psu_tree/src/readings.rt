@@ -15,6 +15,7 @@ use crate::{Command, Form, MacroCall, Path, Request};
 use arrayvec::ArrayVec;
 use psu_lex::{Data, Header, Mark, ScpiError, Syntax, Unit, is_label, syntax};
 use psu_outputs::Output;
+use std::mem;
 
 // A form at an output; or the fault of its header.
 fn at_output(
@@ -105,9 +106,9 @@ fn call_of<'a>(parts: &Syntax<'a>) -> Option<MacroCall<'a>>
     }
 }
 
-// Moves the path to a header's nodes without the last, of one node to the root; a common header leaves it.
-fn move_path<'a>(path: &mut Path<'a>, mut words: Words<'a>, mark: Mark)
-    ensures { path.new ≡ moved mark path.old (map (λ word. word.now) words.entry.items) }
+// Moves the path to a header's nodes without the last, which it takes out of the words; a common header leaves it.
+fn move_path<'a>(path: &mut Path<'a>, words: &mut Words<'a>, mark: Mark)
+    ensures { path.new ≡ moved mark path.old (map (λ word. word.now) words.old.items) }
 {
     match mark {
         Mark::Star => {}
@@ -117,7 +118,7 @@ fn move_path<'a>(path: &mut Path<'a>, mut words: Words<'a>, mark: Mark)
                 return;
             }
             let _last = words.pop();
-            path.words = words;
+            mem::swap(&mut path.words, words);
         }
     }
 }
@@ -144,7 +145,7 @@ pub fn request<'a>(path: &mut Path<'a>, unit: &Unit<'a>, inside: bool) -> Reques
     let mut words = ArrayVec::new();
     let reading = read_parts(&mut words, path, parts);
     if reading.is_ok() {
-        move_path(path, words, parts.header.mark);
+        move_path(path, &mut words, parts.header.mark);
     }
     Request {
         call: call_of(parts),

@@ -50,14 +50,13 @@ fn output_of(digits: &[u8]) -> Result<Output, ScpiError>
 fn suffix_of<'a>(words: &[&'a [u8]]) -> &'a [u8]
     ensures { result.now ≡ suffix_of (map (λ word. word.now) words.now) }
 {
-    let Some((word, others)) = words.split_first() else {
-        return &[];
-    };
-    let digits = number_of(word);
-    if !digits.is_empty() {
-        return digits;
+    for word in words {
+        let digits = number_of(word);
+        if !digits.is_empty() {
+            return digits;
+        }
     }
-    suffix_of(others)
+    &[]
 }
 
 /// The output of a header: the number of the node that has one.
