@@ -1,5 +1,5 @@
 -- What a search of bytes says of the bytes before the place that it found, and of a string.
-use Rattle.std.proofs.Common.{◌≡◌, ℕ, zero, suc, ◌+◌, ◌-◌, ◌<◌, Bool, true, false, List, [], ◌∷◌, ◌++◌, length, take, drop, refl, sym, ap, ◌∙◌, arith, inl, inr, Some, None, slice_index, add-one, drop-cons, ◌==◌, length-drop}
+use Rattle.std.proofs.Common.{◌≡◌, ℕ, suc, ◌+◌, ◌-◌, ◌<◌, Bool, true, false, List, [], ◌∷◌, ◌++◌, length, take, drop, refl, sym, ap, ◌∙◌, arith, inl, inr, Some, None, slice_index, add-one, drop-cons, ◌==◌, length-drop}
 use Rattle.std.proofs.lemmas.Bool.{cases_Bool, cases_lt, eq-eqb, ne_eqb}
 use Rattle.std.proofs.lemmas.List.{take-append-drop, get_or-take, append-nil, drop_all}
 use Rattle.std.proofs.lemmas.Grind.{common_steps}
@@ -34,20 +34,8 @@ pub parts_at : (s : List ℕ) (at : ℕ) → at < length s → s ≡ take at s +
 parts_at s at within =
     sym (take-append-drop at s) ∙ ap (λ (z : List ℕ). take at s ++ z) (drop-cons s at 0 within ∙ ap (λ (n : ℕ). slice_index s at ∷ drop n s) (sym (add-one at)))
 
-pub has_front : (test : ℕ → Bool) (s : List ℕ) (n : ℕ) → has test s ≡ false → has test (take n s) ≡ false
-has_front test s zero h = refl
-has_front test [] (suc n) h = refl
-has_front test (x ∷ s) (suc n) h = rw (has_head test x s h) (has_front test s n (has_tail test x s h))
-
 pub drop-add : (a b : ℕ) (s : List ℕ) → drop (a + b) s ≡ drop b (drop a s)
 drop-add a b s = grind (arith, common_steps)
-
--- what is free of a byte is so from any later place on
-pub free_later : (test : ℕ → Bool) (s : List ℕ) (n k : ℕ) → has test (take n s) ≡ false → has test (take (n - k) (drop k s)) ≡ false
-free_later test s n zero h = let e : n - 0 ≡ n = omega arith in rw e h
-free_later test [] n (suc k) h = grind (arith, common_steps)
-free_later test (x ∷ s) zero (suc k) h = let e : 0 - suc k ≡ 0 = omega arith in rw e refl
-free_later test (x ∷ s) (suc n) (suc k) h = let e : suc n - suc k ≡ n - k = omega arith in rw e (free_later test s n k (has_tail test x (take n s) h))
 
 over_run : (q : ℕ) (front rest : List ℕ) → has (is_byte2 q 10) front ≡ false → after_string false q (front ++ rest) ≡ after_string false q rest
 over_run q [] rest h = refl

@@ -8,7 +8,7 @@ use Rattle.psu_lex.specs.Bytes.{opens, separates, is_closed, all_white}
 use Rattle.psu_lex.specs.Message.{opens_first, ends_unit, BeginsPiece, HasNoPiece, Makes, Part, ended, next_first, fault_of, spelling, part, parts, Token, Reads}
 use Rattle.psu_lex.specs.declared.unit_fault.UnitFault.{UnitFault}
 use Rattle.psu_lex.specs.Message.Token.{Byte, Separator, Whole, Faulty}
-use Rattle.psu_lex.specs.Scan.{has, after_piece, stops, stops_first, units_in}
+use Rattle.psu_lex.specs.Scan.{has, after_piece, stops, units_in}
 use Rattle.psu_lex.proofs.PieceScans.{whole}
 use Rattle.psu_lex.proofs.Searches.{has_head, has_tail, free_before, free_all, drop-add}
 use Rattle.psu_lex.specs.declared.unit.Unit as rust
@@ -109,11 +109,6 @@ plain_at bytes rest piece at plain e p f =
       (free_parts (take plain (drop at bytes)) free).0,
       (free_parts (take plain (drop at bytes)) free).1,
     )
-
--- the unit ends where the scan stops and nothing begins
-pub unit_ends : (xs : List ℕ) → stops_first xs ≡ true → opens_first xs ≡ false → ends_unit xs ≡ true
-unit_ends [] s f = refl
-unit_ends (x ∷ xs) s f = grind (arith, common_steps, s, f)
 
 parts_push : (us : List rust.Unit) (u : rust.Unit) → parts (us ++ u ∷ []) ≡ parts us ++ part u ∷ []
 parts_push [] u = refl
