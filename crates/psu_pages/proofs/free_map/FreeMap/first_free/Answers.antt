@@ -3,7 +3,7 @@ use Rattle.std.proofs.lemmas.List.{length-take}
 use Rattle.psu_pages.specs.Free.{free_pages}
 use Rattle.psu_pages.proofs.Marking.{picked, left_out, enough}
 use Rattle.psu_pages.proofs.free_map.FreeMap.first_free.Goals as goal
-use Rattle.psu_pages.proofs.free_map.FreeMap.first_free.Goals.{then-free+in_ok-push, else-free}
+use Rattle.psu_pages.proofs.free_map.FreeMap.first_free.Goals.{then-free+else-len-count+in_ok-push, else-free}
 
 pub returns-then-len-count : goal.returns-then-len-count
 returns-then-len-count g c =
@@ -17,9 +17,9 @@ loop-page-preserved g c =
     let l = c.loop-page in
     let free = c.deref-free-items.result.now in
     elim c.if-free.branch [
-      | then-free+in_ok-push w ↦
+      | then-free+else-len-count+in_ok-push w ↦
           let few : length l.pages.items ≤ c.args.count = omega (arith, ap length l.invariant, length-take c.args.count (free_pages (take l.page free))) in
-          let room : length l.pages.items < c.args.count = omega (arith, few, c.if-len-count.false, c.len.ensures) in
+          let room : length l.pages.items < c.args.count = omega (arith, few, w.if-len-count.false, w.len.ensures) in
           ap (λ v. v.items) w.pages-is ∙ w.in_ok-push.ensures.items ∙ picked c.args.count l.page _ free c.loop-page-test.true l.pages.items l.invariant w.if-free.true room
       | else-free w ↦ ap (λ v. v.items) w.pages-is ∙ left_out c.args.count l.page _ free c.loop-page-test.true l.pages.items l.invariant w.if-free.false
     ]
