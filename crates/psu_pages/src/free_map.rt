@@ -170,18 +170,21 @@ impl<A: Allocator + Copy> FreeMap<A> {
         wanted == 0
     }
 
-    /// The first pages that are free: as many as asked for, or all where there are fewer. It looks no further than to the one behind them.
+    /// The first pages that are free: as many as asked for, or all where there are fewer. It looks no further than to the last of them.
     pub(crate) fn first_free(&self, alloc: A, count: usize) -> Result<Vec<u16, A>, AllocError>
         requires { length self.now ≤ 2 ^ 16 }
         ensures { IfOk result (λ pages. pages.items ≡ take count (free_pages self.now)) }
     {
         let mut pages = Vec::with_capacity(alloc, count)?;
+        if count == 0 {
+            return Ok(pages);
+        }
         for (page, free) in self.free.iter().enumerate() {
             if *free {
+                pages.push(page as u16)?;
                 if pages.len() == count {
                     return Ok(pages);
                 }
-                pages.push(page as u16)?;
             }
         }
         Ok(pages)
