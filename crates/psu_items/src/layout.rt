@@ -53,7 +53,6 @@ pub fn lay_out<D: Disk, A: Allocator + Copy>(
 }
 
 // A slot for each item, in the order of keys.
-#[inline(never)]
 fn fill<D: Disk, A: Allocator + Copy>(
     alloc: A,
     pages: &mut Pages<D, A>,
