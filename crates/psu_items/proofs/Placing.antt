@@ -140,11 +140,13 @@ module _ (A : Type 0) where
     pub stands_step : (at : ℕ) (heads : List Head) → ((n : ℕ) (d : Head) → n < length heads → at + n ≡ written → IsIn target y (get_or heads n d)) → ((n : ℕ) (d : Head) → n < length heads → at + n ≢ written → IsIn target x (get_or heads n d) → IsIn target y (get_or heads n d))
         → AllByRecursion (StandsWritten x target) (slots {A = A} at heads (written ∷ rest)) → AllByRecursion (StandsWritten y target) (slots {A = A} at heads rest)
     stands_step at [] here others all = tt
-    stands_step at (head ∷ heads) here others all =
-        (λ old. elim (eqb_tells written at) [
-          | inl same ↦ here 0 head (omega arith) (omega (arith, same.1))
-          | inr other ↦ others 0 head (omega arith) (λ same. other.1 (omega (arith, same))) (all.0 (ap (λ (b : Bool). b || is_there at rest) other.0 ∙ old))
-        ], stands_step (at + 1) heads (λ n d lt same. here (suc n) d (omega (arith, lt)) (omega (arith, same))) (λ n d lt apart. others (suc n) d (omega (arith, lt)) (λ same. apart (omega (arith, same)))) all.1)
+    stands_step at (head ∷ heads) here others all = (
+      λ old. elim (eqb_tells written at) [
+        | inl same ↦ here 0 head (omega arith) (omega (arith, same.1))
+        | inr other ↦ others 0 head (omega arith) (λ same. other.1 (omega (arith, same))) (all.0 (ap (λ (b : Bool). b || is_there at rest) other.0 ∙ old))
+      ],
+      stands_step (at + 1) heads (λ n d lt same. here (suc n) d (omega (arith, lt)) (omega (arith, same))) (λ n d lt apart. others (suc n) d (omega (arith, lt)) (λ same. apart (omega (arith, same)))) all.1,
+    )
 
   -- the head at a new place is written
   pub written_on : (target : List Item) (x y : List ℕ) (limit : ℕ) (heads : List Head) (places : List ℕ) (n place : ℕ) (head : Head) → n < length places → place ≡ get_or places n place → place < length heads → head ≡ get_or heads place head
@@ -156,9 +158,9 @@ module _ (A : Type 0) where
       stands_step target x y place (drop (n + 1) places) 0 heads
       (λ k d lt_k same. let at : place ≡ k = omega (arith, same) in subst (IsIn target y) (head_is ∙ get_or_default heads place head d within ∙ ap (λ (m : ℕ). get_or heads m d) at) now)
       (λ k d lt_k beside w.
-          let o = get_or heads k d in
-          let clear = two_clear heads place k head d within lt_k (λ same. beside (omega (arith, same))) apart in
-          others o (value_at target o.key) w (taken_all (IsInPool limit) heads k d lt_k pool) (subst (λ (h : Head). AreClear (pages_of h) (pages_of o)) (sym head_is) clear))
+      let o = get_or heads k d in
+      let clear = two_clear heads place k head d within lt_k (λ same. beside (omega (arith, same))) apart in
+      others o (value_at target o.key) w (taken_all (IsInPool limit) heads k d lt_k pool) (subst (λ (h : Head). AreClear (pages_of h) (pages_of o)) (sym head_is) clear))
       (subst (λ (ps : List ℕ). AllByRecursion (StandsWritten x target) (slots {A = A} 0 heads ps)) next all)
 
   -- once no place is left

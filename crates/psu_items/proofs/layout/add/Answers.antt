@@ -1,6 +1,5 @@
-use Rattle.std.proofs.Common.{◌≡◌, ◌++◌, ◌∷◌, [], ℕ, List, length, ◌∙◌, ap, sym, arith}
+use Rattle.std.proofs.Common.{◌++◌, ◌∷◌, [], ℕ, ◌∙◌, ap, arith}
 use Rattle.psu_items.proofs.Placing.{added_kept, added_new, there_kept, there_new}
-use Rattle.psu_pages.specs.Image.{Head}
 use Rattle.psu_items.proofs.layout.add.Goals.{then-slot, else-slot}
 use Rattle.psu_items.proofs.layout.add.Goals as goal
 

@@ -1,5 +1,5 @@
-use Rattle.std.proofs.Common.{refl, ℕ, Bool, true, false, List, ◌≡◌, ◌∙◌, [], ◌∷◌, length, ap, sym, arith}
-use Rattle.psu_items.proofs.Placing.{head_less, is_there, slot, slots}
+use Rattle.std.proofs.Common.{refl, ℕ, List, ◌≡◌, ◌∙◌, [], ◌∷◌, length, ap, sym, arith}
+use Rattle.psu_items.proofs.Placing.{head_less, is_there, slots}
 use Rattle.psu_items.proofs.Sparing.{given_step, kept_step, kept_still, left_kept, last_kept, roots_none}
 use Rattle.psu_items.proofs.Laying.{last_planned, left_planned, left_apart, still_planned, roots_on}
 use Rattle.psu_items.specs.Layout.{slots_of}

@@ -1,7 +1,5 @@
 use Rattle.std.proofs.Common.{◌≡◌, ◌∙◌, ℕ, List, refl, ap, sym, subst, arith}
-use Rattle.std.specs.List.{AllByRecursion}
 use Rattle.psu_disk.specs.Disk.{Left, SameBut, Follows, LeavesOnly, HasFailed}
-use Rattle.psu_pages.specs.Outcome.{IsPlanned}
 use Rattle.psu_items.specs.Image.{listed, IsEitherRoot}
 use Rattle.psu_map.specs.Target.{aimed}
 use Rattle.psu_items.proofs.Opening.{err_any}
