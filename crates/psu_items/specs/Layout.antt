@@ -28,7 +28,7 @@ abbrev pub slots_from : {A : Type 0} → ℕ → List Head → List ℕ → List
 slots_from at [] places = []
 slots_from at (head ∷ heads) places = record { head = head; is_new = list_any (λ place. place == at) places } ∷ slots_from (at + 1) heads places
 
--- the slots that a layout is of
+-- the slots of a layout
 abbrev pub slots_of : {A : Type 0} → Layout A → List (Slot A)
 slots_of layout = slots_from 0 layout.heads.items layout.unwritten.items
 
