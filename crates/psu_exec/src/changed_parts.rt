@@ -71,9 +71,12 @@ impl ChangedParts {
     pub fn has_key(&self, key: &[u8]) -> bool
         ensures { result ≡ false → IsUnchanged self.now key.now }
     {
-        match Part::of_key(key) {
-            Some(part) => self.has(part),
-            None => true,
+        match key {
+            [2, number] => self.has_register(*number),
+            _ => match Part::of_key(key) {
+                Some(part) => self.has(part),
+                None => true,
+            },
         }
     }
 

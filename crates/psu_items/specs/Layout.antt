@@ -1,6 +1,6 @@
 -- What the next root is to name.
-use Rattle.std.specs.Prelude.{◌≡◌, ℕ, ◌<◌, true, false, List, [], length, map, slice_index_or, Option, Some, None}
-use Rattle.std.specs.List.{AllByRecursion}
+use Rattle.std.specs.Prelude.{◌≡◌, ℕ, ◌+◌, ◌==◌, ◌<◌, true, false, List, [], ◌∷◌, length, map, slice_index_or, Option, Some, None}
+use Rattle.std.specs.List.{AllByRecursion, list_any}
 use Rattle.psu_disk.specs.declared.disk.Disk.{Ghosts}
 use Rattle.psu_map.specs.Map.{Item, get}
 use Rattle.psu_pages.specs.Image.{Head, taken, keys, AreApart, pages_of}
@@ -10,6 +10,7 @@ use Rattle.psu_pages.specs.Outcome.{IsPlanned}
 use Rattle.psu_pages.specs.declared.pages.Pages.{Pages}
 use Rattle.psu_map.specs.Batch.{Edit, KeepsValue}
 use Rattle.psu_map.specs.Target.{Entry, standing}
+use Rattle.psu_items.specs.declared.layout.Layout.{Layout}
 use Rattle.psu_items.specs.declared.slot.Slot.{Slot}
 
 -- the head at this place is one of an item with this key, and with a value of this length
@@ -21,6 +22,15 @@ pub record HasHead (heads : List Head) (item : Item) (at : ℕ) : Type 0 where
 -- a head is one of these
 abbrev pub IsOneOf : List Head → Head → Type 0
 IsOneOf heads head = (at : ℕ) × (at < length heads) × (slice_index_or heads at head ≡ head)
+
+-- heads as slots, counted from here on: those at these places are new
+abbrev pub slots_from : {A : Type 0} → ℕ → List Head → List ℕ → List (Slot A)
+slots_from at [] places = []
+slots_from at (head ∷ heads) places = record { head = head; is_new = list_any (λ place. place == at) places } ∷ slots_from (at + 1) heads places
+
+-- the slots of a layout
+abbrev pub slots_of : {A : Type 0} → Layout A → List (Slot A)
+slots_of layout = slots_from 0 layout.heads.items layout.unwritten.items
 
 -- the heads of slots, in their order
 abbrev pub heads_of : {A : Type 0} → List (Slot A) → List Head

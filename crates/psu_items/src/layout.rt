@@ -7,7 +7,7 @@ ghost use Rattle.psu_pages.specs.Free.{is_free, free_pages};
 ghost use Rattle.psu_items.specs.Standing.{AreSpare, IsSpare};
 ghost use Rattle.psu_pages.specs.Image.{IsNone, pages_of, taken, AreApart, Head as HeadOf};
 ghost use Rattle.psu_pages.specs.Outcome.{IsPlanned, HasSameRoots, pages_for};
-ghost use Rattle.psu_items.specs.Layout.{heads_of, IsOneOf, IsSlot, IsSlotFor, AreSlots, HaveStanding};
+ghost use Rattle.psu_items.specs.Layout.{heads_of, slots_of, IsOneOf, IsSlot, IsSlotFor, AreSlots, HaveStanding};
 ghost use Rattle.psu_map.specs.Target.{aimed, item_in, IsOf};
 ghost use Rattle.psu_items.specs.declared.slot.Slot.{Slot as SlotOf};
 
@@ -18,11 +18,12 @@ use psu_map::{Entry, Target};
 use psu_pages::{Head, PageFault, Pages};
 use std::alloc::{AllocError, Allocator};
 
-/// The slots of the next root, and room for their heads.
+/// The heads that the next root is to name.
 #[derive(Drop)]
 pub struct Layout<A: Allocator + Copy> {
-    pub slots: Vec<Slot<A>, A>,
     pub heads: Vec<Head<A>, A>,
+    /// The places of those whose pages are yet to be written: the root that counts doesn't name them.
+    pub unwritten: Vec<usize, A>,
 }
 
 /// Claims the pages of all items that don't stand already. The pool has room for them beside those that stand: the only error is a want
@@ -35,18 +36,20 @@ pub fn lay_out<D: Disk, A: Allocator + Copy>(
     requires spare { IsSpare pages.old pages.old.heads.items }
     requires can { CanHold pages.old.limit (aimed target.now) }
     ensures roots { HasSameRoots pages.old pages.new }
-    ensures laid { IfOk result (λ layout. AreSlots pages.new target.now.before (aimed target.now) (aimed target.now) layout.slots.items) }
-    ensures standing { IfOk result (λ layout. HaveStanding target.now.entries pages.old.heads.items layout.slots.items) }
-    ensures claims { IfOk result (λ layout. (page : ℕ) → IsNone (taken (heads_of layout.slots.items)) page → is_free pages.new.free page ≡ is_free pages.old.free page) }
+    ensures laid { IfOk result (λ layout. AreSlots pages.new target.now.before (aimed target.now) (aimed target.now) (slots_of layout)) }
+    ensures standing { IfOk result (λ layout. HaveStanding target.now.entries pages.old.heads.items (slots_of layout)) }
+    ensures claims { IfOk result (λ layout. (page : ℕ) → IsNone (taken (heads_of (slots_of layout))) page → is_free pages.new.free page ≡ is_free pages.old.free page) }
     ensures spare { IfErr result (λ _. IsSpare pages.new pages.new.heads.items) }
-    ensures room { IfOk result (λ layout. (layout.heads.items ≡ []) × (length (aimed target.now) ≤ vec_capacity layout.heads)) }
+    ensures there { IfOk result (λ layout. AllByRecursion (λ place. place < length layout.heads.items) layout.unwritten.items) }
 {
-    let heads = Vec::with_capacity(alloc, target.entries().len())?;
-    let mut slots = Vec::new(alloc);
-    match fill(alloc, pages, target, &mut slots) {
-        Ok(()) => Ok(Layout { slots, heads }),
+    let mut layout = Layout {
+        heads: Vec::with_capacity(alloc, target.entries().len())?,
+        unwritten: Vec::with_capacity(alloc, target.entries().len())?,
+    };
+    match fill(alloc, pages, target, &mut layout) {
+        Ok(()) => Ok(layout),
         Err(AllocError) => {
-            give_up(pages, slots);
+            give_up(pages, layout);
             Err(AllocError)
         }
     }
@@ -57,24 +60,27 @@ fn fill<D: Disk, A: Allocator + Copy>(
     alloc: A,
     pages: &mut Pages<D, A>,
     target: &Target<'_, A>,
-    slots: &mut Vec<Slot<A>, A>,
+    layout: &mut Layout<A>,
 ) -> Result<(), AllocError>
     requires spare { IsSpare pages.old pages.old.heads.items }
     requires can { CanHold pages.old.limit (aimed target.now) }
-    requires none { slots.old.items ≡ [] }
+    requires none { slots_of layout.old ≡ [] }
+    requires none_unwritten { layout.old.unwritten.items ≡ [] }
+    requires heads_room { vec_len layout.old.heads + length target.now.entries ≤ vec_capacity layout.old.heads }
+    requires places_room { vec_len layout.old.unwritten + length target.now.entries ≤ vec_capacity layout.old.unwritten }
     ensures roots { HasSameRoots pages.old pages.new }
-    ensures filled { OnOk result (AreSlots pages.new target.now.before (aimed target.now) (aimed target.now) slots.new.items) }
-    ensures standing { OnOk result (HaveStanding target.now.entries pages.old.heads.items slots.new.items) }
-    ensures planned { AllByRecursion (λ (slot : SlotOf A). slot.is_new ≡ true → IsPlanned pages.new slot.head) slots.new.items }
-    ensures apart { AreApart (taken (heads_of slots.new.items)) }
-    ensures kept { AllByRecursion (λ (slot : SlotOf A). slot.is_new ≡ false → IsOneOf pages.new.heads.items slot.head) slots.new.items }
-    ensures claims { (page : ℕ) → IsNone (taken (heads_of slots.new.items)) page → is_free pages.new.free page ≡ is_free pages.old.free page }
+    ensures filled { OnOk result (AreSlots pages.new target.now.before (aimed target.now) (aimed target.now) (slots_of layout.new)) }
+    ensures standing { OnOk result (HaveStanding target.now.entries pages.old.heads.items (slots_of layout.new)) }
+    ensures planned { AllByRecursion (λ (slot : SlotOf A). slot.is_new ≡ true → IsPlanned pages.new slot.head) (slots_of layout.new) }
+    ensures apart { AreApart (taken (heads_of (slots_of layout.new))) }
+    ensures kept { AllByRecursion (λ (slot : SlotOf A). slot.is_new ≡ false → IsOneOf pages.new.heads.items slot.head) (slots_of layout.new) }
+    ensures claims { (page : ℕ) → IsNone (taken (heads_of (slots_of layout.new))) page → is_free pages.new.free page ≡ is_free pages.old.free page }
+    ensures there { AllByRecursion (λ place. place < length layout.new.heads.items) layout.new.unwritten.items }
 {
-    slots.reserve(target.entries().len())?;
     let mut next = 0;
     for entry in target.entries() {
         let slot = slot_for(alloc, pages, &mut next, entry)?;
-        add(slots, slot);
+        add(layout, slot);
     }
     Ok(())
 }
@@ -109,29 +115,60 @@ fn slot_for<D: Disk, A: Allocator + Copy>(
 }
 
 // Puts a slot after the others.
-fn add<A: Allocator + Copy>(slots: &mut Vec<Slot<A>, A>, slot: Slot<A>)
-    requires { vec_len slots.old < vec_capacity slots.old }
-    ensures items { slots.new.items ≡ slots.old.items ++ slot ∷ [] }
-    ensures len { vec_len slots.new ≤ vec_len slots.old + 1 }
-    ensures capacity { vec_capacity slots.old ≤ vec_capacity slots.new }
+fn add<A: Allocator + Copy>(layout: &mut Layout<A>, slot: Slot<A>)
+    requires there { AllByRecursion (λ place. place < length layout.old.heads.items) layout.old.unwritten.items }
+    requires heads_room { vec_len layout.old.heads < vec_capacity layout.old.heads }
+    requires places_room { vec_len layout.old.unwritten < vec_capacity layout.old.unwritten }
+    ensures slots { slots_of layout.new ≡ slots_of layout.old ++ slot ∷ [] }
+    ensures there { AllByRecursion (λ place. place < length layout.new.heads.items) layout.new.unwritten.items }
+    ensures heads_len { vec_len layout.new.heads ≤ vec_len layout.old.heads + 1 }
+    ensures places_len { vec_len layout.new.unwritten ≤ vec_len layout.old.unwritten + 1 }
+    ensures heads_capacity { vec_capacity layout.old.heads ≤ vec_capacity layout.new.heads }
+    ensures places_capacity { vec_capacity layout.old.unwritten ≤ vec_capacity layout.new.unwritten }
 {
-    match slots.push(slot) {
+    if slot.is_new {
+        add_place(&mut layout.unwritten, layout.heads.len());
+    }
+    add_head(&mut layout.heads, slot.head);
+}
+
+// Puts a head after the others.
+fn add_head<A: Allocator + Copy>(heads: &mut Vec<Head<A>, A>, head: Head<A>)
+    requires { vec_len heads.old < vec_capacity heads.old }
+    ensures items { heads.new.items ≡ heads.old.items ++ head ∷ [] }
+    ensures len { vec_len heads.new ≤ vec_len heads.old + 1 }
+    ensures capacity { vec_capacity heads.old ≤ vec_capacity heads.new }
+{
+    match heads.push(head) {
         Ok(()) => {}
         Err(_) => unreachable!(),
     }
 }
 
-// Gives up the pages of slots that were planned.
-fn give_up<D: Disk, A: Allocator + Copy>(pages: &mut Pages<D, A>, mut slots: Vec<Slot<A>, A>)
-    requires planned { AllByRecursion (λ (slot : SlotOf A). slot.is_new ≡ true → IsPlanned pages.old slot.head) slots.items }
-    requires apart { AreApart (taken (heads_of slots.items)) }
-    requires kept { AllByRecursion (λ (slot : SlotOf A). slot.is_new ≡ false → IsOneOf pages.old.heads.items slot.head) slots.items }
-    ensures roots { HasSameRoots pages.old pages.new }
-    ensures spare { AreSpare pages.old (taken pages.old.heads.items) (taken (heads_of slots.items)) → IsSpare pages.new pages.new.heads.items }
+// Puts a place after the others.
+fn add_place<A: Allocator + Copy>(places: &mut Vec<usize, A>, place: usize)
+    requires { vec_len places.old < vec_capacity places.old }
+    ensures items { places.new.items ≡ places.old.items ++ place ∷ [] }
+    ensures len { vec_len places.new ≤ vec_len places.old + 1 }
+    ensures capacity { vec_capacity places.old ≤ vec_capacity places.new }
 {
-    while let Some(slot) = slots.pop() {
-        if slot.is_new {
-            pages.unplan(slot.head);
+    match places.push(place) {
+        Ok(()) => {}
+        Err(_) => unreachable!(),
+    }
+}
+
+// Gives up the pages of heads that were planned.
+fn give_up<D: Disk, A: Allocator + Copy>(pages: &mut Pages<D, A>, mut layout: Layout<A>)
+    requires planned { AllByRecursion (λ (slot : SlotOf A). slot.is_new ≡ true → IsPlanned pages.old slot.head) (slots_of layout) }
+    requires apart { AreApart (taken (heads_of (slots_of layout))) }
+    requires kept { AllByRecursion (λ (slot : SlotOf A). slot.is_new ≡ false → IsOneOf pages.old.heads.items slot.head) (slots_of layout) }
+    ensures roots { HasSameRoots pages.old pages.new }
+    ensures spare { AreSpare pages.old (taken pages.old.heads.items) (taken (heads_of (slots_of layout))) → IsSpare pages.new pages.new.heads.items }
+{
+    while let Some(head) = layout.heads.pop() {
+        if layout.unwritten.contains(&layout.heads.len()) {
+            pages.unplan(head);
         }
     }
 }

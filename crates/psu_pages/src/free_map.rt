@@ -176,12 +176,15 @@ impl<A: Allocator + Copy> FreeMap<A> {
         ensures { IfOk result (λ pages. pages.items ≡ take count (free_pages self.now)) }
     {
         let mut pages = Vec::with_capacity(alloc, count)?;
+        if count == 0 {
+            return Ok(pages);
+        }
         for (page, free) in self.free.iter().enumerate() {
-            if pages.len() == count {
-                return Ok(pages);
-            }
             if *free {
                 pages.push(page as u16)?;
+                if pages.len() == count {
+                    return Ok(pages);
+                }
             }
         }
         Ok(pages)

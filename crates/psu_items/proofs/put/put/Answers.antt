@@ -1,14 +1,15 @@
-use Rattle.std.proofs.Common.{◌≡◌, ◌∙◌, ℕ, List, true, sym, subst, arith}
-use Rattle.std.specs.List.{AllByRecursion}
+use Rattle.std.proofs.Common.{◌≡◌, ◌∙◌, ℕ, List, refl, ap, sym, subst, arith}
 use Rattle.psu_disk.specs.Disk.{Left, SameBut, Follows, LeavesOnly, HasFailed}
-use Rattle.psu_pages.specs.Outcome.{IsPlanned}
 use Rattle.psu_items.specs.Image.{listed, IsEitherRoot}
 use Rattle.psu_map.specs.Target.{aimed}
 use Rattle.psu_items.proofs.Opening.{err_any}
-use Rattle.psu_items.proofs.Putting.{heads_there, heads_list, as_many, from_bears, run_one, from_either, run_two, from_two, run_three, shown_last}
-use Rattle.psu_pages.specs.Image.{gate_at, other}
+use Rattle.psu_items.proofs.Placing.{heads_are}
+use Rattle.psu_items.proofs.Putting.{heads_there, heads_list, from_bears, run_one, from_either, run_two, from_two, run_three, shown_last}
+use Rattle.psu_pages.specs.Free.{AreClaimed, IsRoster}
+use Rattle.psu_pages.specs.Image.{Head, gate_at, other, taken}
 use Rattle.psu_pages.specs.Writing.{Reaches}
-use Rattle.psu_items.specs.Layout.{heads_of}
+use Rattle.psu_items.specs.declared.layout.Layout.{Layout}
+use Rattle.psu_items.specs.Layout.{heads_of, slots_of}
 use Rattle.psu_map.specs.Map.{Item}
 use Rattle.psu_items.specs.Standing.{ShowsMap}
 use Rattle.psu_items.specs.Writing.{SameBehind}
@@ -19,53 +20,61 @@ use Rattle.psu_items.proofs.put.put.Given.{Over}
 use Rattle.psu_items.proofs.put.put.Goals.{After-publish_root, After-close_old}
 use Rattle.psu_items.proofs.put.put.Goals as goal
 
-pub write_slots-requires-clause-planned : goal.write_slots-requires-clause-planned
-write_slots-requires-clause-planned g c = subst (AllByRecursion (λ slot. slot.is_new ≡ true → IsPlanned c.args.pages.now slot.head)) (sym c.deref.ensures.value) c.requires.planned
+-- the heads of the slots are those of the layout
+named : {A : Type 0} (layout : Layout A) → layout.heads.items ≡ heads_of (slots_of layout)
+named {A = A} layout = sym (heads_are A 0 layout.heads.items layout.unwritten.items)
 
-pub returns-in_err-write_slots-clause-left : goal.returns-in_err-write_slots-clause-left
-returns-in_err-write_slots-clause-left g c = λ h before shows x l. from_bears c.args.pages.now c.write_slots.new.pages before (aimed c.args.target.now) h shows x (c.write_slots.ensures.left h x l)
+pub returns-in_err-write_heads-clause-left : goal.returns-in_err-write_heads-clause-left
+returns-in_err-write_heads-clause-left g c = λ h before shows x l. from_bears c.args.pages.now c.write_heads.new.pages before (aimed c.args.target.now) h shows x (c.write_heads.ensures.left h x l)
 
-pub returns-in_err-write_slots-clause-time : goal.returns-in_err-write_slots-clause-time
-returns-in_err-write_slots-clause-time g c = λ h t before shows. run_one c.args.pages.now c.write_slots.new.pages before (aimed c.args.target.now) h shows (c.write_slots.ensures.time h t)
+pub returns-in_err-write_heads-clause-time : goal.returns-in_err-write_heads-clause-time
+returns-in_err-write_heads-clause-time g c = λ h t before shows. run_one c.args.pages.now c.write_heads.new.pages before (aimed c.args.target.now) h shows (c.write_heads.ensures.time h t)
 
-pub name_heads-requires-clause-room : goal.name_heads-requires-clause-room
-name_heads-requires-clause-room g c = omega (arith, as_many c.args.layout.slots.items (aimed c.args.target.now) c.requires.keys, c.requires.room.1)
+pub publish_root-requires-clause-roster : goal.publish_root-requires-clause-roster
+publish_root-requires-clause-roster g c =
+    let mid = c.write_heads.new.pages in
+    subst (IsRoster mid.limit) (sym (named c.args.layout)) (subst (λ (n : ℕ). IsRoster n (heads_of (slots_of c.args.layout))) (sym c.write_heads.ensures.same.limit) c.requires.roster)
+
+pub publish_root-requires-clause-claimed : goal.publish_root-requires-clause-claimed
+publish_root-requires-clause-claimed g c =
+    let mid = c.write_heads.new.pages in
+    subst (λ (hs : List Head). AreClaimed mid.free (taken hs)) (sym (named c.args.layout)) (subst (λ free. AreClaimed free (taken (heads_of (slots_of c.args.layout)))) (sym c.write_heads.ensures.same.free) c.requires.claimed)
 
 pub publish_root-requires-clause-there : goal.publish_root-requires-clause-there
 publish_root-requires-clause-there g c = λ h.
     let d = g.D.Disk in
     let old = c.args.pages.now in
-    let mid = c.write_slots.new.pages in
-    heads_there (d.state old.disk).bytes (d.state mid.disk).bytes (aimed c.args.target.now) c.args.layout.slots.items c.deref.result.now c.name_heads.result.items c.deref.ensures.value c.name_heads.ensures (c.requires.kept h) (c.in_ok-write_slots.ensures.written h)
+    let mid = c.write_heads.new.pages in
+    heads_there (d.state old.disk).bytes (d.state mid.disk).bytes (aimed c.args.target.now) (slots_of c.args.layout) (slots_of c.args.layout) (let layout = c.args.layout in layout.heads.items) refl (named c.args.layout) (c.requires.kept h) (c.in_ok-write_heads.ensures.written h)
 
 pub returns-in_err-publish_root-clause-device : goal.returns-in_err-publish_root-clause-device
 returns-in_err-publish_root-clause-device g c =
     let d = g.D.Disk in
-    err_any _ _ (λ e. subst (λ (n : ℕ). HasFailed n (d.failures (let p = c.publish_root.new.self in p.disk))) c.in_ok-write_slots.ensures.works c.in_err-publish_root.ensures.device.1)
+    err_any _ _ (λ e. subst (λ (n : ℕ). HasFailed n (d.failures (let p = c.publish_root.new.self in p.disk))) c.in_ok-write_heads.ensures.works c.in_err-publish_root.ensures.device.1)
 
 pub returns-in_err-close_old-clause-device : goal.returns-in_err-close_old-clause-device
 returns-in_err-close_old-clause-device g c =
     let d = g.D.Disk in
-    err_any _ _ (λ e. subst (λ (n : ℕ). HasFailed n (d.failures (let p = c.close_old.new.self in p.disk))) (c.in_ok-publish_root.ensures.works ∙ c.in_ok-write_slots.ensures.works) c.in_err-close_old.ensures.device.1)
+    err_any _ _ (λ e. subst (λ (n : ℕ). HasFailed n (d.failures (let p = c.close_old.new.self in p.disk))) (c.in_ok-publish_root.ensures.works ∙ c.in_ok-write_heads.ensures.works) c.in_err-close_old.ensures.device.1)
 
 -- the heads that are published stand for the target
-are : (g : Over) (c : After-publish_root g) → g.D.Disk.honest → let mid = c.write_slots.new.pages in listed (g.D.Disk.state mid.disk).bytes c.name_heads.result.items ≡ aimed c.args.target.now
+are : (g : Over) (c : After-publish_root g) → g.D.Disk.honest → let mid = c.write_heads.new.pages in listed (g.D.Disk.state mid.disk).bytes (let layout = c.args.layout in layout.heads.items) ≡ aimed c.args.target.now
 are g c h =
     let d = g.D.Disk in
     let old = c.args.pages.now in
-    let mid = c.write_slots.new.pages in
-    heads_list (d.state old.disk).bytes (d.state mid.disk).bytes (aimed c.args.target.now) c.args.layout.slots.items c.deref.result.now c.name_heads.result.items c.deref.ensures.value c.name_heads.ensures (c.requires.kept h) (c.in_ok-write_slots.ensures.written h) c.requires.sorted c.requires.keys
+    let mid = c.write_heads.new.pages in
+    heads_list (d.state old.disk).bytes (d.state mid.disk).bytes (aimed c.args.target.now) (slots_of c.args.layout) (slots_of c.args.layout) (let layout = c.args.layout in layout.heads.items) refl (named c.args.layout) (c.requires.kept h) (c.in_ok-write_heads.ensures.written h) c.requires.sorted c.requires.keys
 
 -- once they are published
-left : (g : Over) (c : After-close_old g) → g.D.Disk.honest → (let mid = c.write_slots.new.pages in listed (g.D.Disk.state mid.disk).bytes c.name_heads.result.items ≡ aimed c.args.target.now)
+left : (g : Over) (c : After-close_old g) → g.D.Disk.honest → (let mid = c.write_heads.new.pages in listed (g.D.Disk.state mid.disk).bytes (let layout = c.args.layout in layout.heads.items) ≡ aimed c.args.target.now)
     → let old = c.args.pages.now in (before : List Item) → ShowsMap old before → (x : List ℕ) → Left (g.D.Disk.state (let last = c.close_old.new.self in last.disk)) x → IsEitherRoot old.version old.number old.limit before (aimed c.args.target.now) x
 left g c h e before shows x l =
-    from_two c.args.pages.now c.write_slots.new.pages before (aimed c.args.target.now) h shows c.write_slots.ensures.same (c.write_slots.ensures.shown h) c.requires.sorted c.name_heads.result.items e c.publish_root.new.self c.in_ok-publish_root.ensures.published c.publish_root.ensures.limit (c.in_ok-publish_root.ensures.shown h) x (c.close_old.ensures.left h x l)
+    from_two c.args.pages.now c.write_heads.new.pages before (aimed c.args.target.now) h shows c.write_heads.ensures.same (c.write_heads.ensures.shown h) c.requires.sorted (let layout = c.args.layout in layout.heads.items) e c.publish_root.new.self c.in_ok-publish_root.ensures.published c.publish_root.ensures.limit (c.in_ok-publish_root.ensures.shown h) x (c.close_old.ensures.left h x l)
 
-time : (g : Over) (c : After-close_old g) → g.D.Disk.honest → g.D.Disk.tells → (let mid = c.write_slots.new.pages in listed (g.D.Disk.state mid.disk).bytes c.name_heads.result.items ≡ aimed c.args.target.now)
+time : (g : Over) (c : After-close_old g) → g.D.Disk.honest → g.D.Disk.tells → (let mid = c.write_heads.new.pages in listed (g.D.Disk.state mid.disk).bytes (let layout = c.args.layout in layout.heads.items) ≡ aimed c.args.target.now)
     → let old = c.args.pages.now in (before : List Item) → ShowsMap old before → LeavesOnly g.D.Disk.moment g.D.Disk.left_since old.disk (let last = c.close_old.new.self in last.disk) (IsEitherRoot old.version old.number old.limit before (aimed c.args.target.now))
 time g c h t e before shows =
-    run_three c.args.pages.now c.write_slots.new.pages before (aimed c.args.target.now) h shows c.write_slots.ensures.same (c.write_slots.ensures.shown h) c.requires.sorted c.name_heads.result.items e c.publish_root.new.self c.in_ok-publish_root.ensures.published c.publish_root.ensures.limit (c.in_ok-publish_root.ensures.shown h) (let p = c.close_old.new.self in p.disk) (c.write_slots.ensures.time h t) (c.publish_root.ensures.time h t) (c.close_old.ensures.time h t)
+    run_three c.args.pages.now c.write_heads.new.pages before (aimed c.args.target.now) h shows c.write_heads.ensures.same (c.write_heads.ensures.shown h) c.requires.sorted (let layout = c.args.layout in layout.heads.items) e c.publish_root.new.self c.in_ok-publish_root.ensures.published c.publish_root.ensures.limit (c.in_ok-publish_root.ensures.shown h) (let p = c.close_old.new.self in p.disk) (c.write_heads.ensures.time h t) (c.publish_root.ensures.time h t) (c.close_old.ensures.time h t)
 
 -- what lies behind the pool stays
 published_behind : (g : Over) (c : After-publish_root g) → g.D.Disk.honest
@@ -73,28 +82,28 @@ published_behind : (g : Over) (c : After-publish_root g) → g.D.Disk.honest
 published_behind g c h =
     let d = g.D.Disk in
     let old = c.args.pages.now in
-    let mid = c.write_slots.new.pages in
+    let mid = c.write_heads.new.pages in
     let two = c.publish_root.new.self in
-    behind_on d old.limit old.disk mid.disk (c.write_slots.ensures.behind h) two.disk (behind_step d old.limit mid.disk (SameBut (gate_at (other mid.root)) 512) (λ x y b. but_behind old.limit (other mid.root) 512 x y (omega arith) b) two.disk (c.publish_root.ensures.touched h))
+    behind_on d old.limit old.disk mid.disk (c.write_heads.ensures.behind h) two.disk (behind_step d old.limit mid.disk (SameBut (gate_at (other mid.root)) 512) (λ x y b. but_behind old.limit (other mid.root) 512 x y (omega arith) b) two.disk (c.publish_root.ensures.touched h))
 
 published_time : (g : Over) (c : After-publish_root g) → g.D.Disk.honest → g.D.Disk.tells
     → let d = g.D.Disk in let old = c.args.pages.now in LeavesOnly d.moment d.left_since old.disk (let two = c.publish_root.new.self in two.disk) (Reaches (SameBehind old.limit) (Left (d.state old.disk)))
 published_time g c h t =
     let d = g.D.Disk in
     let old = c.args.pages.now in
-    let mid = c.write_slots.new.pages in
+    let mid = c.write_heads.new.pages in
     let two = c.publish_root.new.self in
-    behind_run d old.limit old.disk mid.disk (c.write_slots.ensures.behind h) two.disk (c.write_slots.ensures.behind_time h t) (behind_step_run d old.limit mid.disk (SameBut (gate_at (other mid.root)) 512) (λ x y b. but_behind old.limit (other mid.root) 512 x y (omega arith) b) two.disk (c.publish_root.ensures.touched_time h t))
+    behind_run d old.limit old.disk mid.disk (c.write_heads.ensures.behind h) two.disk (c.write_heads.ensures.behind_time h t) (behind_step_run d old.limit mid.disk (SameBut (gate_at (other mid.root)) 512) (λ x y b. but_behind old.limit (other mid.root) 512 x y (omega arith) b) two.disk (c.publish_root.ensures.touched_time h t))
 
 pub returns-in_err-publish_root-clause-left : goal.returns-in_err-publish_root-clause-left
 returns-in_err-publish_root-clause-left g c = λ h before shows x l.
     let at = goal.at.returns-in_err-publish_root-clause-left g c in
-    from_either c.args.pages.now c.write_slots.new.pages before (aimed c.args.target.now) h shows c.write_slots.ensures.same (c.write_slots.ensures.shown h) c.requires.sorted c.name_heads.result.items (are g at.After-publish_root h) x (c.publish_root.ensures.left h x l)
+    from_either c.args.pages.now c.write_heads.new.pages before (aimed c.args.target.now) h shows c.write_heads.ensures.same (c.write_heads.ensures.shown h) c.requires.sorted (let layout = c.args.layout in layout.heads.items) (are g at.After-publish_root h) x (c.publish_root.ensures.left h x l)
 
 pub returns-in_err-publish_root-clause-time : goal.returns-in_err-publish_root-clause-time
 returns-in_err-publish_root-clause-time g c = λ h t before shows.
     let at = goal.at.returns-in_err-publish_root-clause-time g c in
-    run_two c.args.pages.now c.write_slots.new.pages before (aimed c.args.target.now) h shows c.write_slots.ensures.same (c.write_slots.ensures.shown h) c.requires.sorted c.name_heads.result.items (are g at.After-publish_root h) (let p = c.publish_root.new.self in p.disk) (c.write_slots.ensures.time h t) (c.publish_root.ensures.time h t)
+    run_two c.args.pages.now c.write_heads.new.pages before (aimed c.args.target.now) h shows c.write_heads.ensures.same (c.write_heads.ensures.shown h) c.requires.sorted (let layout = c.args.layout in layout.heads.items) (are g at.After-publish_root h) (let p = c.publish_root.new.self in p.disk) (c.write_heads.ensures.time h t) (c.publish_root.ensures.time h t)
 
 pub returns-in_err-publish_root-clause-behind : goal.returns-in_err-publish_root-clause-behind
 returns-in_err-publish_root-clause-behind g c = published_behind g (goal.at.returns-in_err-publish_root-clause-behind g c).After-publish_root
@@ -160,18 +169,21 @@ pub returns-clause-shows : goal.returns-clause-shows
 returns-clause-shows g c = record {
   one = c.in_ok-close_old.ensures.closed.standing;
   sorted = c.requires.sorted;
-  holds = λ h. shown_last c.write_slots.new.pages c.publish_root.new.self c.close_old.new.self (aimed c.args.target.now) c.name_heads.result.items (are g (goal.at.returns-clause-shows g c).After-publish_root h) (c.in_ok-publish_root.ensures.shown h) (c.in_ok-close_old.ensures.shown h);
+  holds = λ h. shown_last c.write_heads.new.pages c.publish_root.new.self c.close_old.new.self (aimed c.args.target.now) (let layout = c.args.layout in layout.heads.items) (are g (goal.at.returns-clause-shows g c).After-publish_root h) (c.in_ok-publish_root.ensures.shown h) (c.in_ok-close_old.ensures.shown h);
 }
 
 pub returns-clause-spare : goal.returns-clause-spare
 returns-clause-spare g c =
     let old = c.args.pages.now in
-    let mid = c.write_slots.new.pages in
+    let mid = c.write_heads.new.pages in
     let two = c.publish_root.new.self in
-    spare_closed two c.close_old.new.self c.in_ok-close_old.ensures.closed c.close_old.ensures.limit (spare_published old mid two c.name_heads.result.items (heads_of c.args.layout.slots.items) c.write_slots.ensures.same c.in_ok-publish_root.ensures.published c.publish_root.ensures.limit c.name_heads.ensures c.requires.spare)
+    spare_closed two c.close_old.new.self c.in_ok-close_old.ensures.closed c.close_old.ensures.limit (spare_published old mid two (let layout = c.args.layout in layout.heads.items) (heads_of (slots_of c.args.layout)) c.write_heads.ensures.same c.in_ok-publish_root.ensures.published c.publish_root.ensures.limit (named c.args.layout) c.requires.spare)
 
-pub write_slots-requires-clause-sure : goal.write_slots-requires-clause-sure
-write_slots-requires-clause-sure g c = λ same. let no : One ≡ Unsure = sym c.requires.shut ∙ same in absurd (cc)
+pub write_heads-requires-clause-sure : goal.write_heads-requires-clause-sure
+write_heads-requires-clause-sure g c = λ same. let no : One ≡ Unsure = sym c.requires.shut ∙ same in absurd (cc)
 
 pub close_old-requires : goal.close_old-requires
 close_old-requires g c = record { sure = λ same. let no : Both ≡ Unsure = sym c.in_ok-publish_root.ensures.published.standing ∙ same in absurd (cc) }
+
+pub returns-clause-heads : goal.returns-clause-heads
+returns-clause-heads g c = ap (λ v. v.items) c.in_ok-close_old.ensures.closed.heads ∙ c.in_ok-publish_root.ensures.published.heads_are ∙ named c.args.layout

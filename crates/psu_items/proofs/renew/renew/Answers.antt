@@ -4,7 +4,7 @@ use Rattle.psu_map.specs.Map.{IsSorted}
 use Rattle.psu_map.specs.Capacity.{CanHold}
 use Rattle.psu_map.specs.Batch.{changed}
 use Rattle.psu_items.specs.Standing.{ShowsMap}
-use Rattle.psu_items.specs.Layout.{IsOneOf}
+use Rattle.psu_items.specs.Layout.{slots_of, IsOneOf}
 use Rattle.psu_map.specs.Target.{aimed}
 use Rattle.psu_pages.specs.Image.{Head}
 use Rattle.psu_map.proofs.Maps.{sorted-changed}
@@ -37,29 +37,29 @@ returns-in_default-lay_out-clause-time g c = λ h t.
     rw c.lay_out.ensures.roots.disk (none_run p c.args.before.now (changed c.args.before.now c.args.batch.now) c.requires.keeps.shows h (g.met.D.Disk.only_now t p.disk))
 
 pub put-requires-clause-planned : goal.put-requires-clause-planned
-put-requires-clause-planned g c = let t = c.in-Ok.target in slots_planned c.lay_out.new.pages t.before (aimed t) (aimed t) c.in-Ok-lay_out.layout.slots.items c.in-Ok-lay_out.ensures.laid
+put-requires-clause-planned g c = let t = c.in-Ok.target in slots_planned c.lay_out.new.pages t.before (aimed t) (aimed t) (slots_of c.in-Ok-lay_out.layout) c.in-Ok-lay_out.ensures.laid
 
 pub put-requires-clause-sized : goal.put-requires-clause-sized
-put-requires-clause-sized g c = let t = c.in-Ok.target in slots_sized c.lay_out.new.pages t.before (aimed t) c.in-Ok-lay_out.layout.slots.items c.in-Ok-lay_out.ensures.laid
+put-requires-clause-sized g c = let t = c.in-Ok.target in slots_sized c.lay_out.new.pages t.before (aimed t) (slots_of c.in-Ok-lay_out.layout) c.in-Ok-lay_out.ensures.laid
 
 pub put-requires-clause-roster : goal.put-requires-clause-roster
 put-requires-clause-roster g c =
     let t = c.in-Ok.target in
     let p = c.args.pages.now in
     let can : CanHold p.limit (aimed t) = subst (CanHold p.limit) (sym c.in-Ok.ensures.aimed) c.requires.can in
-    slots_roster c.lay_out.new.pages t.before (aimed t) c.in-Ok-lay_out.layout.slots.items c.in-Ok-lay_out.ensures.laid p.limit c.lay_out.ensures.roots.limit can
+    slots_roster c.lay_out.new.pages t.before (aimed t) (slots_of c.in-Ok-lay_out.layout) c.in-Ok-lay_out.ensures.laid p.limit c.lay_out.ensures.roots.limit can
     (subst IsSorted (sym c.in-Ok.ensures.aimed) (sorted-changed c.args.before.now c.args.batch.now c.requires.keeps.shows.sorted))
 
 pub put-requires-clause-claimed : goal.put-requires-clause-claimed
-put-requires-clause-claimed g c = let t = c.in-Ok.target in slots_claimed c.lay_out.new.pages t.before (aimed t) c.in-Ok-lay_out.layout.slots.items c.in-Ok-lay_out.ensures.laid
+put-requires-clause-claimed g c = let t = c.in-Ok.target in slots_claimed c.lay_out.new.pages t.before (aimed t) (slots_of c.in-Ok-lay_out.layout) c.in-Ok-lay_out.ensures.laid
 
 pub put-requires-clause-spare : goal.put-requires-clause-spare
-put-requires-clause-spare g c = laid_spare c.args.pages.now c.lay_out.new.pages c.lay_out.ensures.roots c.in-Ok-lay_out.layout.slots.items c.in-Ok-lay_out.ensures.claims c.requires.keeps.spare
+put-requires-clause-spare g c = laid_spare c.args.pages.now c.lay_out.new.pages c.lay_out.ensures.roots (slots_of c.in-Ok-lay_out.layout) c.in-Ok-lay_out.ensures.claims c.requires.keeps.spare
 
 pub put-requires-clause-kept : goal.put-requires-clause-kept
 put-requires-clause-kept g c =
     let t = c.in-Ok.target in
-    slots_stand c.lay_out.new.pages t.before (aimed t) c.in-Ok-lay_out.layout.slots.items c.in-Ok-lay_out.ensures.laid
+    slots_stand c.lay_out.new.pages t.before (aimed t) (slots_of c.in-Ok-lay_out.layout) c.in-Ok-lay_out.ensures.laid
     (subst (ShowsMap c.lay_out.new.pages) (sym c.in-Ok.ensures.before) (still_shows c.args.pages.now c.lay_out.new.pages c.lay_out.ensures.roots c.args.before.now c.requires.keeps.shows))
 
 pub returns-in-Ok-put-clause-keeps : goal.returns-in-Ok-put-clause-keeps

@@ -1,19 +1,19 @@
-use Rattle.std.proofs.Common.{◌≡◌, ℕ, List, take, drop}
+use Rattle.std.proofs.Common.{◌≡◌, ℕ, List, drop}
 use Rattle.std.specs.List.{AllByRecursion}
 use Rattle.psu_disk.specs.Disk.{Left, Follows, LeavesOnly}
 use Rattle.psu_pages.specs.Image.{Head}
 use Rattle.psu_pages.specs.Outcome.{IsPlanned, HasSameHeads}
 use Rattle.psu_pages.specs.Shown.{items_in}
-use Rattle.psu_pages.specs.Writing.{IsWritten, Reaches}
+use Rattle.psu_pages.specs.Writing.{Reaches}
 use Rattle.psu_items.specs.Writing.{SameBehind}
-use Rattle.psu_items.specs.Layout.{value_at, StandsWritten}
+use Rattle.psu_items.specs.Layout.{slots_from, slots_of, StandsWritten}
 use Rattle.psu_map.specs.Target.{aimed}
 use Rattle.psu_items.proofs.Taking.{BearsOf}
-use Rattle.psu_items.proofs.put.write_slots.Given as goal
+use Rattle.psu_items.proofs.put.write_heads.Given as goal
 
--- the slots so far are written, and the rest stand or are planned; the same items stand all the while
-abbrev pub invariant-loop-slot : goal.invariant-loop-slot
-invariant-loop-slot g l =
+-- but for the heads that are left all are written; the same items stand all the while
+abbrev pub invariant-loop-place : goal.invariant-loop-place
+invariant-loop-place g l =
     let d = g.D.Disk in
     let old = l.fn.pages in
     record {
@@ -22,8 +22,8 @@ invariant-loop-slot g l =
       same : HasSameHeads old l.pages;
       standing : (let p = l.pages in p.standing) ≡ old.standing;
       planned : (other : Head) → IsPlanned old other → IsPlanned l.pages other;
-      written : d.honest → AllByRecursion (StandsWritten (d.state old.disk).bytes (aimed l.target)) l.slots → AllByRecursion (λ slot. IsWritten (d.state (let p = l.pages in p.disk)).bytes slot.head (value_at (aimed l.target) slot.head.key)) (take l.slot-index l.slots);
-      ahead : d.honest → AllByRecursion (StandsWritten (d.state old.disk).bytes (aimed l.target)) l.slots → AllByRecursion (StandsWritten (d.state (let p = l.pages in p.disk)).bytes (aimed l.target)) (drop l.slot-index l.slots);
+      stands : d.honest → AllByRecursion (StandsWritten (d.state old.disk).bytes (aimed l.target)) (slots_of l.layout)
+          → AllByRecursion (StandsWritten (d.state (let p = l.pages in p.disk)).bytes (aimed l.target)) (slots_from {A = g.row.A.Denot} 0 (let o = l.layout in o.heads.items) (drop l.place-index (let o = l.layout in o.unwritten.items)));
       shown : d.honest → items_in (let p = l.pages in p.root) (d.state (let p = l.pages in p.disk)).bytes ≡ items_in old.root (d.state old.disk).bytes;
       left : d.honest → (image : List ℕ) → Left (d.state (let p = l.pages in p.disk)) image → BearsOf old image;
       time : d.honest → d.tells → LeavesOnly d.moment d.left_since old.disk (let p = l.pages in p.disk) (BearsOf old);
