@@ -1,7 +1,7 @@
 -- The answers of a message in parts.
 use Rattle.std.proofs.Common.{◌≡◌, ℕ, Bool, true, List, [], ◌∷◌, ◌++◌, refl, sym, ap, ◌∙◌}
 use Rattle.std.proofs.lemmas.List.{append_assoc}
-use Rattle.psu_answers.specs.Gathered.{Makes, Text, addition, closed}
+use Rattle.psu_answers.specs.Gathered.{Makes, Text, addition}
 use Rattle.psu_answers.specs.Gathered.Makes.{Begin, Tell, Send}
 use Rattle.psu_answers.specs.Response.{are_some, end_of, joined, response}
 
@@ -30,7 +30,7 @@ makes answers sent text (Send {answers = all} {sent = before} {text = old} m) =
     let ih = makes all before old m in
     (nothing_more (before ++ old.rest) ∙ ih.0, ih.1)
 
-pub responds : (answers : List (List ℕ)) (sent : List ℕ) (text : Text) → Makes answers sent text → sent ++ (closed text).rest ≡ response answers
+pub responds : (answers : List (List ℕ)) (sent : List ℕ) (text : Text) → Makes answers sent text → sent ++ (text.rest ++ end_of text.answered) ≡ response answers
 responds answers sent text m =
     let whole = makes answers sent text m in
     sym (append_assoc sent text.rest (end_of text.answered)) ∙ ap (λ (l : List ℕ). l ++ end_of text.answered) whole.0 ∙ ap (λ (b : Bool). joined answers ++ end_of b) whole.1

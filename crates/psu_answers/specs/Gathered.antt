@@ -22,9 +22,9 @@ nothing = record { answered = false; rest = [] }
 abbrev pub emptied : Text → Text
 emptied text = record { answered = text.answered; rest = [] }
 
--- the message ends; the next one begins behind it
-abbrev pub closed : Text → Text
-closed text = record { answered = false; rest = text.rest ++ end_of text.answered }
+-- the message ends: NL is behind its text
+abbrev pub ended : Text → Text
+ended text = record { answered = text.answered; rest = text.rest ++ 10 ∷ [] }
 
 -- What the pieces of a message's text come to, where each answer is told and parts are sent between them: the answers so far, the text that was
 -- sent, and what is gathered behind it.
@@ -39,4 +39,4 @@ PartsAreTheAnswers = (answers : List (List ℕ)) (sent : List ℕ) (text : Text)
 
 -- And with its end they are the response.
 abbrev pub PartsAreTheResponse : Type 0
-PartsAreTheResponse = (answers : List (List ℕ)) (sent : List ℕ) (text : Text) → Makes answers sent text → sent ++ (closed text).rest ≡ response answers
+PartsAreTheResponse = (answers : List (List ℕ)) (sent : List ℕ) (text : Text) → Makes answers sent text → sent ++ (text.rest ++ end_of text.answered) ≡ response answers

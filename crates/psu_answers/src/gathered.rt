@@ -1,10 +1,9 @@
 // The text of a message's answers.
-ghost use Rattle.std.specs.Prelude.{◌≡◌, ◌<◌, ◌↔◌, ◌++◌, ◌∷◌, [], length, true, if◌then◌else◌, IsSome, IsTrue, IfOk, IfSome, OnOk, OnErr};
-ghost use Rattle.psu_answers.specs.Gathered.{closed, emptied, nothing, told};
+ghost use Rattle.std.specs.Prelude.{◌≡◌, ◌<◌, ◌↔◌, ◌++◌, ◌∷◌, length, IsTrue, OnOk, OnErr};
+ghost use Rattle.psu_answers.specs.Gathered.{Text, emptied, ended, nothing, told};
 
 use std::alloc::{AllocError, Allocator};
 use std::marker::Model;
-use std::mem;
 
 /// What is held of an answer before a part of it is sent.
 const ROOM: usize = 65_536;
@@ -12,7 +11,6 @@ const ROOM: usize = 65_536;
 /// What the units of a message have answered and is not sent.
 #[derive(Drop)]
 pub struct Gathered<A: Allocator + Copy> {
-    alloc: A,
     text: Vec<u8, A>,
     answered: bool,
 }
@@ -31,7 +29,6 @@ impl<A: Allocator + Copy> Gathered<A> {
         ensures { result ≡ nothing }
     {
         Gathered {
-            alloc,
             text: Vec::new(alloc),
             answered: false,
         }
@@ -71,39 +68,35 @@ impl<A: Allocator + Copy> Gathered<A> {
         self.text.clear();
     }
 
-    /// What is gathered, as a part of a text that goes on.
-    pub fn part(&mut self) -> Vec<u8, A>
-        ensures part { result.items ≡ self.old.rest }
-        ensures left { self.new ≡ emptied self.old }
+    /// Whether a unit of the message has answered.
+    pub fn has_answered(&self) -> bool
+        ensures { result ≡ self.now.answered }
     {
-        mem::replace(&mut self.text, Vec::new(self.alloc))
+        self.answered
     }
 
-    /// The message ends: NL ends its text, unless none of its units has answered. The next one is gathered behind it. Where memory is
-    /// refused nothing has changed.
-    pub fn close(&mut self) -> Result<(), AllocError>
-        ensures closed { OnOk result (self.new ≡ closed self.old) }
+    /// The message ends: NL is put behind its text, which is to be sent then. Where memory is refused nothing has changed.
+    pub fn end(&mut self) -> Result<(), AllocError>
+        ensures ended { OnOk result (self.new ≡ ended self.old) }
         ensures same { OnErr result (self.new ≡ self.old) }
     {
-        if self.answered {
-            self.text.push(b'\n')?;
-            self.answered = false;
-        }
+        self.text.push(b'\n')?;
         Ok(())
     }
 
-    /// The end of a message: the rest of its text with NL, unless none of its units has answered. Where memory is refused nothing has changed.
-    pub fn end(&mut self) -> Result<Option<Vec<u8, A>>, AllocError>
-        ensures text { IfOk result (λ end. IfSome end (λ text. text.items ≡ self.old.rest ++ 10 ∷ [])) }
-        ensures some { IfOk result (λ end. IsSome end ↔ (self.old.answered ≡ true)) }
-        ensures left { IfOk result (λ end. self.new ≡ (if self.old.answered then nothing else self.old)) }
-        ensures same { OnErr result (self.new ≡ self.old) }
+    /// The text with its end was not sent: the message goes on.
+    pub fn take_back(&mut self)
+        ensures { (text : Text) → self.old ≡ ended text → self.new ≡ text }
     {
-        if !self.answered {
-            return Ok(None);
-        }
-        self.close()?;
-        Ok(Some(mem::replace(&mut self.text, Vec::new(self.alloc))))
+        self.text.pop();
+    }
+
+    /// The text with its end was sent. The next message begins, in the same room.
+    pub fn restart(&mut self)
+        ensures { self.new ≡ nothing }
+    {
+        self.text.clear();
+        self.answered = false;
     }
 }
 

@@ -1,18 +1,11 @@
 -- The deeds of an execution, as calls of the seat that executes.
 use Rattle.std.proofs.Common.{◌≡◌, ◌∙◌, ℕ, ap, subst, List, [], ◌∷◌}
-use Rattle.psu_messages.specs.Deeds.{Deed, Halts, Runs}
-use Rattle.psu_messages.specs.Courses.{Course, Goes, Stops}
+use Rattle.psu_messages.specs.Deeds.{Deed, Runs}
+use Rattle.psu_messages.specs.Courses.{Course, Goes}
 use Rattle.psu_messages.specs.Units.{Source}
+use Rattle.psu_messages.proofs.Going.{kept_goes}
 
 module _ {X : Type 0} {does : X → Deed → X → Type 0} where
-  -- what each deed leaves as it is, all leave so
-  kept : {Y : Type 0} (part : X → Y) → ((x y : X) (deed : Deed) → does x deed y → part y ≡ part x) → (x : X) (deeds : List Deed) (y : X) → Runs does x deeds y → part y ≡ part x
-  kept part keeps x [] y same = ap part same
-  kept part keeps x (deed ∷ deeds) y runs = kept part keeps runs.0 deeds y runs.2 ∙ keeps x runs.0 deed runs.1
-
-  pub kept_goes : {Y : Type 0} {source : Source} {x y : X} {c d : Course} → Goes does source x c y d → (part : X → Y) → ((x y : X) (deed : Deed) → does x deed y → part y ≡ part x) → part y ≡ part x
-  kept_goes {Y} {source} {x} {y} goes part keeps = kept part keeps x goes.added y goes.runs
-
   -- where each deed is one of this kind on a part of what executes, all are
   on_part : {V : Type 0} (key : X → ℕ) (part : X → V) (made : ℕ → V → Deed → V → Type 0) → ((x y : X) (deed : Deed) → does x deed y → (key y ≡ key x) × made (key x) (part x) deed (part y))
       → (x : X) (deeds : List Deed) (y : X) → Runs does x deeds y → Runs (made (key x)) (part x) deeds (part y)
@@ -26,8 +19,8 @@ module _ {X : Type 0} {does : X → Deed → X → Type 0} where
 
   -- where it stopped behind them too
   pub stops_on_part : {V : Type 0} {source : Source} {x mid : X} {c new : Course} → Goes does source x c mid new → (key : X → ℕ) (part : X → V) (made : ℕ → V → Deed → V → Type 0)
-      → ((x y : X) (deed : Deed) → does x deed y → (key y ≡ key x) × made (key x) (part x) deed (part y)) → (broken : ℕ → V → V → Type 0) (now : V) → Halts (broken (key mid)) (part mid) now
-      → Stops (made (key x)) (broken (key x)) source (part x) c now
-  stops_on_part {V} {source} {x} {mid} {c} {new} goes key part made makes broken now halts =
+      → ((x y : X) (deed : Deed) → does x deed y → (key y ≡ key x) × made (key x) (part x) deed (part y)) → (broken : ℕ → V → V → Type 0) (now : V) → broken (key mid) (part mid) now
+      → (there : V) × (reached : Course) × Goes (made (key x)) source (part x) c there reached × broken (key x) there now
+  stops_on_part {V} {source} {x} {mid} {c} {new} goes key part made makes broken now cut =
       let same = kept_goes goes key (λ x y deed d. (makes x y deed d).0) in
-      (part mid, new, goes_on_part goes key part made makes, subst (λ (k : ℕ). Halts (broken k) (part mid) now) same halts)
+      (part mid, new, goes_on_part goes key part made makes, subst (λ (k : ℕ). broken k (part mid) now) same cut)

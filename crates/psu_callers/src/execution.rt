@@ -1,11 +1,11 @@
 // The units of a session on the shared device, and their answers on its connection.
 ghost use Rattle.std.specs.Prelude.{◌≡◌, IfOk, OnErr, None};
 ghost use Rattle.psu_exec.specs.Shown.{outcome_of};
-ghost use Rattle.psu_messages.specs.Courses.{Goes, IsOver, Stops};
+ghost use Rattle.psu_messages.specs.Courses.{Goes, IsOver};
 ghost use Rattle.psu_messages.specs.Shown.{course_of};
 ghost use Rattle.psu_messages.specs.Units.{source_of};
 ghost use Rattle.psu_callers.specs.Seen.{Makes};
-ghost use Rattle.psu_callers.specs.Served.{IsBrokenOff, IsMade};
+ghost use Rattle.psu_callers.specs.Served.{IsBrokenOff, IsMade, Stops};
 
 use crate::caller::Caller;
 use psu_bench::Gate;
@@ -50,8 +50,8 @@ impl<'a, 'c, 'r, R: Wait, D: Disk + Drop, G: Gate + Drop> Execution<'a, 'c, 'r, 
         ensures goes { IfOk result (λ _. Goes (IsMade D.honest self.old.member.now.session) (source_of begun.old.input) self.old.caller.now.seat (course_of begun.old.course)
             self.new.caller.now.seat (course_of begun.new.course)) }
         ensures over { IfOk result (λ need. need ≡ None → IsOver (source_of begun.old.input) (course_of begun.new.course)) }
-        ensures stops { OnErr result (Stops (IsMade D.honest self.old.member.now.session) (IsBrokenOff D.honest self.old.member.now.session) (source_of begun.old.input)
-            self.old.caller.now.seat (course_of begun.old.course) self.new.caller.now.seat) }
+        ensures stops { OnErr result (Stops D.honest self.old.member.now.session (source_of begun.old.input) self.old.caller.now.seat (course_of begun.old.course)
+            self.new.caller.now.seat) }
         ensures caller { self.new.caller.ghost_name ≡ self.old.caller.ghost_name }
         ensures input { begun.new.input ≡ begun.old.input }
     {
@@ -71,7 +71,9 @@ impl<'a, 'c, 'r, R: Wait, D: Disk + Drop, G: Gate + Drop> Front<Global>
 
     ghost does = { λ x deed y. (y.caller.ghost_name ≡ x.caller.ghost_name) × (y.member ≡ x.member) × IsMade D.honest x.member.now.session x.caller.now.seat deed y.caller.now.seat };
 
-    ghost stops = { λ x y. (y.caller.ghost_name ≡ x.caller.ghost_name) × (y.member ≡ x.member) × IsBrokenOff D.honest x.member.now.session x.caller.now.seat y.caller.now.seat };
+    ghost fails = { λ x request stop y. (y.caller.ghost_name ≡ x.caller.ghost_name) × (y.member ≡ x.member) × (y.caller.now.seat ≡ x.caller.now.seat) };
+
+    ghost stops = { λ x stop y. (y.caller.ghost_name ≡ x.caller.ghost_name) × (y.member ≡ x.member) × IsBrokenOff D.honest x.member.now.session x.caller.now.seat y.caller.now.seat };
 
     fn execute(&mut self, request: &Request<'_>) -> Result<Outcome<Global>, Stop> {
         let core = self.admitted()?;

@@ -1,19 +1,20 @@
 -- What is done, one after another.
-use Rattle.std.proofs.Common.{◌≡◌, ◌&&◌, not, if◌then◌else◌, ℕ, Bool, true, false, Option, Some, None, is_some, List, [], ◌∷◌, ◌++◌, refl, sym, ap, ◌∙◌, subst, append_assoc, inl, inr, Result, Ok, Err, OnErr}
+use Rattle.std.proofs.Common.{◌≡◌, ◌&&◌, not, if◌then◌else◌, ℕ, Bool, true, false, Option, Some, None, is_some, List, [], ◌∷◌, ◌++◌, refl, sym, ap, ◌∙◌, subst, append_assoc, ◌⊎◌, inl, inr, Result, Ok, Err, OnErr, IfErr, IsErrAnd}
 use Rattle.std.proofs.lemmas.List.{append-nil}
 use Rattle.psu_tree.specs.declared.unit_request.Request.{Request}
 use Rattle.psu_exec.specs.Device.{Reply, Done, Answer, Error, Expand, Parked, Held, Later}
 use Rattle.psu_answers.specs.Gathered.{Text, emptied}
 use Rattle.psu_messages.specs.Standing.{Standing, passed, expanded}
-use Rattle.psu_messages.specs.Deeds.{Deed, Halts, Runs, Sent, is_memory, needs}
-use Rattle.psu_messages.specs.Stepping.{IsTold, Stepped, expansion_by, replaces}
+use Rattle.psu_messages.specs.Deeds.{Deed, Runs, Sent, is_memory, needs}
+use Rattle.psu_messages.specs.Stepping.{IsBrokenOff, IsLeft, IsTold, Stepped, expansion_by, replaces}
 use Rattle.psu_messages.specs.declared.need.Need.{Need}
 use Rattle.psu_messages.specs.declared.need.Need.TheVariants.{Memory}
 use Rattle.psu_messages.specs.declared.steps.Step.{Step}
 use Rattle.psu_messages.specs.declared.steps.Step.TheVariants.{Done as StepDone, Expands, Waits}
 use Rattle.psu_messages.specs.Units.{Source}
-use Rattle.psu_messages.specs.Courses.{Course, Comes, Goes, Stops, Tells, Trial, IsNext, IsExpanded, tried, outside, sent, standing_after, expansion_after, text_after}
+use Rattle.psu_messages.specs.Courses.{Course, Comes, Cut, Goes, Halts, IsUnended, Stops, Tells, Trial, IsNext, IsExpanded, tried, outside, sent, standing_after, expansion_after, text_after}
 use Rattle.psu_messages.specs.Courses.Comes.{Tries, Leaves, Sends}
+use Rattle.psu_messages.specs.Courses.Cut.{Failed, Stopped, Untold}
 use Rattle.psu_messages.specs.Shown.{course}
 
 runs_on : {X : Type 0} (does : X → Deed → X → Type 0) (xs ys : List Deed) (was mid now : X) → Runs does was xs mid → Runs does mid ys now → Runs does was (xs ++ ys) now
@@ -53,11 +54,6 @@ leaves does source was c is = none does source was c (outside c) (λ before b. L
 pub tries : {X : Type 0} (does : X → Deed → X → Type 0) (source : Source) (was now : X) (c : Course) (request : Request) (reply : Reply) (new : Standing) → IsNext source c request → Trial does was c.standing request now new reply
     → Goes does source was c now (tried c reply)
 tries does source was now c request reply new next t = one does source was now c (tried c reply) t.deed t.done (λ before b. Tries b request next t.deed reply t.is)
-
--- a try whose answer is not told
-pub tries_some : {X : Type 0} (does : X → Deed → X → Type 0) (stops : X → X → Type 0) (source : Source) (was mid now : X) (c : Course) (request : Request) (reply : Reply) (new : Standing) → IsNext source c request
-    → Trial does was c.standing request mid new reply → Halts stops mid now → Stops does stops source was c now
-tries_some does stops source was mid now c request reply new next t halts = (mid, tried c reply, tries does source was mid c request reply new next t, halts)
 
 -- its answer told
 pub tells : {X : Type 0} (does : X → Deed → X → Type 0) (source : Source) (was mid now : X) (c : Course) (request : Request) (reply : Reply) (new : Standing) (text : Text) → IsNext source c request
@@ -172,9 +168,59 @@ pub on_err : {T E : Type 0} (r : Result T E) (P : Type 0) → P → OnErr r P
 on_err (Ok x) P p = tt
 on_err (Err e) P p = p
 
-pub stops_on : {X : Type 0} (does : X → Deed → X → Type 0) (stops : X → X → Type 0) (source : Source) (was mid now : X) (c d : Course) → Goes does source was c mid d → Stops does stops source mid d now → Stops does stops source was c now
-stops_on does stops source was mid now c d goes (last, e, more, halts) = (last, e, behind does source was mid last c d e goes more, halts)
+-- what stopped is passed on
+pub passed_on : {T E : Type 0} (r : Result T E) (e : E) (P : E → Type 0) → IsErrAnd r (λ told. told ≡ e) → P e → IfErr r P
+passed_on (Ok x) e P is p = tt
+passed_on (Err told) e P is p = subst P (sym is) p
 
--- it stops where it is
-pub some_stop : {X : Type 0} (does : X → Deed → X → Type 0) (stops : X → X → Type 0) (source : Source) (was now : X) (c : Course) → Halts stops was now → Stops does stops source was c now
-some_stop does stops source was now c halts = (was, c, stay does source was was c refl, halts)
+-- ---- where it stops
+
+module _ {X S : Type 0} {does : X → Deed → X → Type 0} {fails : X → Request → S → X → Type 0} {stops : X → S → X → Type 0} {source : Source} where
+  pub stops_on : {was mid now : X} {c d : Course} {stop : S} {left : Text} → Goes does source was c mid d → Stops does fails stops source mid d stop now left → Stops does fails stops source was c stop now left
+  stops_on {was} {mid} {now} {c} {d} goes s = record { mid = s.mid; new = s.new; goes = behind does source was mid s.mid c d s.new goes s.goes; cut = s.cut; text = s.text }
+
+  -- where it is, with something that is to be ended
+  pub some_stop : {was now : X} {c : Course} {stop : S} {left : Text} → IsUnended c → stops was stop now → left ≡ c.text → Stops does fails stops source was c stop now left
+  some_stop {was} {now} {c} begun s same = record { mid = was; new = c; goes = stay does source was was c refl; cut = Stopped begun s; text = same }
+
+  -- in the next unit
+  pub broken_off : {was now : X} {c : Course} (request : Request) {stop : S} {left : Text} → IsNext source c request → IsBrokenOff fails stops was c.standing.parked request stop now → left ≡ c.text
+      → Stops does fails stops source was c stop now left
+  broken_off {was} {now} {c} request next (inl (parked, failed)) same = record { mid = was; new = c; goes = stay does source was was c refl; cut = Failed request next parked failed; text = same }
+  broken_off {was} {now} {c} request next (inr (parked, s)) same = some_stop (inr (inl parked)) s same
+
+  -- behind the next unit, whose answer is told or is not
+  pub untold : {was mid now : X} {c : Course} {request : Request} {reply : Reply} {new : Standing} {stop : S} {left : Text} → IsNext source c request → Trial does was c.standing request mid new reply → stops mid stop now
+      → IsLeft c.text reply left → Stops does fails stops source was c stop now left
+  untold {was} {mid} {now} {c} {request} {reply} {new} next t s (inl same) =
+      record { mid = was; new = c; goes = stay does source was was c refl; cut = Untold mid request next t.deed reply t.is t.done s; text = same }
+  untold {was} {mid} {now} {c} {request} {reply} {new} next t s (inr (same, answered)) =
+      record { mid = mid; new = tried c reply; goes = tries does source was mid c request reply new next t; cut = Stopped (inl (ap (λ (x : Text). x.answered) (sym same) ∙ answered)) s; text = same }
+
+-- the place that it had reached
+pub reached : {X S : Type 0} {does : X → Deed → X → Type 0} {fails : X → Request → S → X → Type 0} {stops : X → S → X → Type 0} {source : Source} {was now : X} {c : Course} {stop : S} {left : Text} → Halts does fails stops source was c stop now left
+    → (mid : X) × (d : Course) × Goes does source was c mid d × (((request : Request) × fails mid request stop now) ⊎ stops mid stop now)
+reached {X} {S} {does} {fails} {stops} {source} {was} {now} {c} {stop} {left} (inl (s, same)) = (was, c, stay does source was was c refl, inr s)
+reached {X} {S} {does} {fails} {stops} {source} {was} {now} {c} {stop} {left} (inr h) = by h.cut where
+  by : Cut does fails stops source h.mid h.new stop now → (mid : X) × (d : Course) × Goes does source was c mid d × (((request : Request) × fails mid request stop now) ⊎ stops mid stop now)
+  by (Failed request next parked f) = (h.mid, h.new, h.goes, inl (request, f))
+  by (Stopped begun s) = (h.mid, h.new, h.goes, inr s)
+  by (Untold here request next deed reply try d s) =
+      (here, tried h.new reply, behind does source was h.mid here c h.new (tried h.new reply) h.goes (one does source h.mid here h.new (tried h.new reply) deed d (λ before b. Tries b request next deed reply try)), inr s)
+
+-- ---- what each deed leaves as it is
+
+kept : {X Y : Type 0} (does : X → Deed → X → Type 0) (part : X → Y) → ((x y : X) (deed : Deed) → does x deed y → part y ≡ part x) → (x : X) (deeds : List Deed) (y : X) → Runs does x deeds y → part y ≡ part x
+kept does part keeps x [] y same = ap part same
+kept does part keeps x (deed ∷ deeds) y runs = kept does part keeps runs.0 deeds y runs.2 ∙ keeps x runs.0 deed runs.1
+
+pub kept_goes : {X Y : Type 0} {does : X → Deed → X → Type 0} {source : Source} {x y : X} {c d : Course} → Goes does source x c y d → (part : X → Y) → ((x y : X) (deed : Deed) → does x deed y → part y ≡ part x) → part y ≡ part x
+kept_goes {X} {Y} {does} {source} {x} {y} goes part keeps = kept does part keeps x goes.added y goes.runs
+
+-- where it stopped too
+pub kept_halts : {X Y S : Type 0} {does : X → Deed → X → Type 0} {fails : X → Request → S → X → Type 0} {stops : X → S → X → Type 0} {source : Source} {was now : X} {c : Course} {stop : S} {left : Text} → Halts does fails stops source was c stop now left
+    → (part : X → Y) → ((x y : X) (deed : Deed) → does x deed y → part y ≡ part x) → ((x y : X) (request : Request) (stop : S) → fails x request stop y → part y ≡ part x) → ((x y : X) (stop : S) → stops x stop y → part y ≡ part x) → part now ≡ part was
+kept_halts {X} {Y} {S} {does} {fails} {stops} {source} {was} {now} {c} {stop} {left} halts part done failed stopped =
+    let r = reached halts in
+    let before = kept_goes r.2 part done in
+    elim (r.3) [ inl f ↦ failed r.0 now f.0 stop f.1 ∙ before | inr s ↦ stopped r.0 now stop s ∙ before ]

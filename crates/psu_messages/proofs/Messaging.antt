@@ -70,7 +70,7 @@ between_first inside (q ∷ qs) p after e between =
     let same : q ≡ p = cc (e) in (sym (ap (λ (x : Part). x.first) same) ∙ between.0, between.1)
 
 -- a unit at the end of a message is the first of another, and no expansion of it has begun
-end_first : OneList → (source : Source) (place : ℕ) (inside : Option ℕ) → EndsMessage source place inside → (request : Request) (first : Bool) → Asks source place request first → (first ≡ true) × (inside ≡ None)
+pub end_first : OneList → (source : Source) (place : ℕ) (inside : Option ℕ) → EndsMessage source place inside → (request : Request) (first : Bool) → Asks source place request first → (first ≡ true) × (inside ≡ None)
 end_first one (units.Text bytes) place inside (list, are, between) request first (p, u, e) =
     let b = between_first inside (drop place list) p u.after (subst (λ (z : List Part). drop place z ≡ p ∷ u.after) (one bytes u.units list u.are are) u.here) between in (sym e ∙ b.0, b.1)
 end_first one (Fault error) place inside ends request first (z, is, e) = (e, ends z)

@@ -1,12 +1,12 @@
 -- How a transmission is executed: what was done for it, and how far it has come with that.
-use Rattle.std.specs.Prelude.{◌≡◌, ◌⊎◌, ℕ, ◌&&◌, Bool, true, false, Option, Some, None, List, [], ◌∷◌, ◌++◌, if◌then◌else◌}
+use Rattle.std.specs.Prelude.{◌≡◌, ◌⊎◌, ℕ, ◌&&◌, Bool, true, false, Option, Some, None, is_some, List, [], ◌∷◌, ◌++◌, if◌then◌else◌}
 use Rattle.psu_tree.specs.declared.unit_request.Request.{Request}
 use Rattle.psu_lex.specs.Message.{Part}
 use Rattle.psu_exec.specs.Device.{Reply, Done, Answer, Error, Expand, Parked, Held, Later}
 use Rattle.psu_answers.specs.Gathered.{Text, emptied, nothing, told}
 use Rattle.psu_messages.specs.Standing as standing
 use Rattle.psu_messages.specs.Standing.{Standing, start}
-use Rattle.psu_messages.specs.Deeds.{Deed, Sent, IsTry, Runs, Halts, is_memory}
+use Rattle.psu_messages.specs.Deeds.{Deed, Sent, IsTry, Runs, is_memory}
 use Rattle.psu_messages.specs.Units.{Source, Asks, IsBehind, EndsMessage, HasNone, IsUnit}
 
 -- how far a transmission has come: which unit is next, the expansion that stands in a unit's place, and what is answered and not sent
@@ -97,9 +97,28 @@ pub record Goes {X : Type 0} (does : X → Deed → X → Type 0) (source : Sour
   pub runs : Runs does at added now
   pub comes : (before : List Deed) → Comes source before c → Comes source (before ++ added) new
 
--- the same up to some place, where it stopped
-abbrev pub Stops : {X : Type 0} → (X → Deed → X → Type 0) → (X → X → Type 0) → Source → X → Course → X → Type 0
-Stops {X} does stops source at c now = (mid : X) × (new : Course) × Goes does source at c mid new × Halts stops mid now
+-- something has begun that is to be ended: answers are to be sent, or a unit waits, or an expansion stands in its place
+abbrev pub IsUnended : Course → Type 0
+IsUnended c = (c.text.answered ≡ true) ⊎ (c.standing.parked ≡ true) ⊎ (is_some c.standing.inside ≡ true)
+
+-- Why it stopped for good at some place: the next unit was executed and not to its end; another deed was not done to its end, or memory was wanted; or the next
+-- unit came to its end, and its answer could not be told.
+pub data Cut {X S : Type 0} (does : X → Deed → X → Type 0) (fails : X → Request → S → X → Type 0) (stops : X → S → X → Type 0) (source : Source) (mid : X) (c : Course) (stop : S) (now : X) : Type 0 where
+  Failed : (request : Request) → IsNext source c request → c.standing.parked ≡ false → fails mid request stop now → Cut does fails stops source mid c stop now
+  Stopped : IsUnended c → stops mid stop now → Cut does fails stops source mid c stop now
+  Untold : (here : X) (request : Request) → IsNext source c request → (deed : Deed) (reply : Reply) → IsTry c.standing.parked request deed reply → does mid deed here → stops here stop now → Cut does fails stops source mid c stop now
+
+-- What was done between two moments brings a transmission to some place, where it stopped. What was answered there and is not sent is left.
+pub record Stops {X S : Type 0} (does : X → Deed → X → Type 0) (fails : X → Request → S → X → Type 0) (stops : X → S → X → Type 0) (source : Source) (at : X) (c : Course) (stop : S) (now : X) (left : Text) : Type 0 where
+  pub mid : X
+  pub new : Course
+  pub goes : Goes does source at c mid new
+  pub cut : Cut does fails stops source mid new stop now
+  pub text : left ≡ new.text
+
+-- It stopped for good: memory was wanted before anything was done, or at some place.
+abbrev pub Halts : {X S : Type 0} → (X → Deed → X → Type 0) → (X → Request → S → X → Type 0) → (X → S → X → Type 0) → Source → X → Course → S → X → Text → Type 0
+Halts does fails stops source at c stop now left = (stops at stop now × (left ≡ c.text)) ⊎ Stops does fails stops source at c stop now left
 
 -- ---- of one try
 

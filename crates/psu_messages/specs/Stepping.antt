@@ -1,10 +1,11 @@
 -- What a step leaves.
-use Rattle.std.specs.Prelude.{◌≡◌, not, Bool, false, Option, Some, None, List, ℕ}
+use Rattle.std.specs.Prelude.{◌≡◌, ◌⊎◌, not, Bool, true, false, Option, Some, None, List, ℕ}
+use Rattle.psu_tree.specs.declared.unit_request.Request.{Request}
 use Rattle.psu_exec.specs.Device.{Reply, Expand}
 use Rattle.psu_answers.specs.Gathered.{Text}
 use Rattle.psu_messages.specs.Standing.{Standing, passed, expanded}
 use Rattle.psu_messages.specs.Deeds.{Awaits, Deed}
-use Rattle.psu_messages.specs.Courses.{Tells}
+use Rattle.psu_messages.specs.Courses.{Tells, text_after}
 use Rattle.psu_messages.specs.declared.need.Need.{Need}
 use Rattle.psu_messages.specs.declared.steps.Step.{Step}
 use Rattle.psu_messages.specs.declared.steps.Step.TheVariants.{Done, Expands, Waits}
@@ -43,3 +44,11 @@ abbrev pub StepAwaits : {A X : Type 0} → (X → Deed → X → Type 0) → X �
 StepAwaits does now Done = Unit {0}
 StepAwaits does now (Expands body) = Unit {0}
 StepAwaits does now (Waits need) = Awaits does now need
+
+-- a unit that was not accepted yet was executed and not to its end; the wait of one that was accepted was not asked after to its end
+abbrev pub IsBrokenOff : {X S : Type 0} → (X → Request → S → X → Type 0) → (X → S → X → Type 0) → X → Bool → Request → S → X → Type 0
+IsBrokenOff fails stops at parked request stop now = ((parked ≡ false) × fails at request stop now) ⊎ ((parked ≡ true) × stops at stop now)
+
+-- where it stops, an answer is gathered, or is not for want of memory
+abbrev pub IsLeft : Text → Reply → Text → Type 0
+IsLeft text reply left = (left ≡ text) ⊎ ((left ≡ text_after text reply) × (left.answered ≡ true))

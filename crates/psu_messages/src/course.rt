@@ -30,4 +30,13 @@ impl<A: Allocator + Copy> Course<A> {
             gathered: Gathered::new(alloc),
         }
     }
+
+    /// Nothing is done of the next transmission. What it answers is gathered in the same room.
+    pub fn restart(&mut self)
+        ensures { course_of self.new ≡ beginning }
+    {
+        self.standing = Standing::start();
+        self.expansion = None;
+        self.gathered.restart();
+    }
 }

@@ -1,5 +1,5 @@
 // The units of an expansion, in the place of the unit that it replaces.
-ghost use Rattle.std.specs.Prelude.{◌≡◌, ◌+◌, ◌<◌, ◌^◌, min, true, Some, None, is_some, IfOk, IfSome, OnErr};
+ghost use Rattle.std.specs.Prelude.{◌≡◌, ◌+◌, ◌<◌, ◌^◌, min, true, Some, None, is_some, IfOk, IfErr, IfSome};
 ghost use Rattle.psu_messages.specs.Deeds.{Awaits};
 ghost use Rattle.psu_messages.specs.Courses.{Goes, Stops};
 ghost use Rattle.psu_messages.specs.Shown.{course};
@@ -33,7 +33,7 @@ pub(crate) fn expand<A: Allocator + Copy, F: Front<A>>(
         → Goes F.does source front.old (course standing.old (Some body.now) gathered.old) front.new (course standing.new (Some body.now) gathered.new)) }
     ensures units { IfOk result (λ need. need ≡ None → standing.new.units ≡ standing.old.units + 1) }
     ensures waits { IfOk result (λ some. IfSome some (Awaits F.does front.new)) }
-    ensures stops { OnErr result ((source : Source) → Stops F.does F.stops source front.old (course standing.old (Some body.now) gathered.old) front.new) }
+    ensures stops { IfErr result (λ stop. (source : Source) → Stops F.does F.fails F.stops source front.old (course standing.old (Some body.now) gathered.old) stop front.new gathered.new) }
 {
     let Ok(units) = split(alloc, body) else {
         return Err(front.short());

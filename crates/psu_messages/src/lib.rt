@@ -17,6 +17,6 @@ mod tries;
 pub use course::Course;
 pub use front::Front;
 pub use laws::{calls_are_one_course, over_is_done, over_is_messages, over_is_sent};
-pub use messages::proceed;
+pub use messages::{execute_fault, execute_text, proceed};
 pub use need::Need;
 pub use standing::Standing;

@@ -1,7 +1,7 @@
 // A transmission, executed unit by unit and answered message by message.
-ghost use Rattle.std.specs.Prelude.{◌≡◌, ◌+◌, ◌<◌, ◌^◌, true, false, None, is_some, IfOk, IfSome, OnOk, OnErr};
-ghost use Rattle.psu_messages.specs.Deeds.{Awaits, Halts};
-ghost use Rattle.psu_messages.specs.Courses.{Goes, IsOver, NextUnit, Stops};
+ghost use Rattle.std.specs.Prelude.{◌≡◌, ◌+◌, ◌<◌, ◌^◌, true, false, None, is_some, IfOk, IfErr, IfSome, OnOk, OnErr};
+ghost use Rattle.psu_messages.specs.Deeds.{Awaits};
+ghost use Rattle.psu_messages.specs.Courses.{Goes, Halts, IsOver, NextUnit, Stops};
 ghost use Rattle.psu_messages.specs.Shown.{course_of};
 ghost use Rattle.psu_messages.specs.Units.{Asks, EndsMessage, Fault, Source, Text, source_of};
 
@@ -26,7 +26,7 @@ fn resume<A: Allocator + Copy, F: Front<A>>(
     ensures goes { IfOk result (λ _. (source : Source) → Goes F.does source front.old (course_of course.old) front.new (course_of course.new)) }
     ensures units { IfOk result (λ need. need ≡ None → course.new.standing.units ≡ course.old.standing.units + 1) }
     ensures waits { IfOk result (λ some. IfSome some (Awaits F.does front.new)) }
-    ensures stops { OnErr result ((source : Source) → Stops F.does F.stops source front.old (course_of course.old) front.new) }
+    ensures stops { IfErr result (λ stop. (source : Source) → Stops F.does F.fails F.stops source front.old (course_of course.old) stop front.new course.new.gathered) }
 {
     let Some(body) = &course.expansion else {
         return Err(front.short());
@@ -42,6 +42,7 @@ fn resume<A: Allocator + Copy, F: Front<A>>(
 }
 
 // Executes a unit of a message, or goes on with the expansion in its place.
+#[inline(always)]
 fn perform<A: Allocator + Copy, F: Front<A>>(
     front: &mut F,
     alloc: A,
@@ -53,8 +54,8 @@ fn perform<A: Allocator + Copy, F: Front<A>>(
         → Goes F.does source front.old (course_of course.old) front.new (course_of course.new)) }
     ensures units { IfOk result (λ need. need ≡ None → course.new.standing.units ≡ course.old.standing.units + 1) }
     ensures waits { IfOk result (λ some. IfSome some (Awaits F.does front.new)) }
-    ensures stops { OnErr result ((source : Source) → NextUnit source (course_of course.old) request.now
-        → Stops F.does F.stops source front.old (course_of course.old) front.new) }
+    ensures stops { IfErr result (λ stop. (source : Source) → NextUnit source (course_of course.old) request.now
+        → Stops F.does F.fails F.stops source front.old (course_of course.old) stop front.new course.new.gathered) }
 {
     if course.standing.inside().is_some() {
         let need = resume(front, alloc, course)?;
@@ -73,6 +74,7 @@ fn perform<A: Allocator + Copy, F: Front<A>>(
 }
 
 // Sends what is left of a message's answers before the first unit of the next.
+#[inline(always)]
 fn close_before<A: Allocator + Copy, F: Front<A>>(
     front: &mut F,
     first: bool,
@@ -82,7 +84,9 @@ fn close_before<A: Allocator + Copy, F: Front<A>>(
         → Goes F.does source front.old (course_of course.old) front.new (course_of course.new)) }
     ensures clear { OnOk result (first ≡ true → course.new.standing.inside ≡ None → course.new.gathered.answered ≡ false) }
     ensures standing { course.new.standing ≡ course.old.standing }
-    ensures stopped { OnErr result (Halts F.stops front.old front.new) }
+    ensures stopped { IfErr result (λ stop. F.stops front.old stop front.new) }
+    ensures left { OnErr result (course.new.gathered ≡ course.old.gathered) }
+    ensures unsent { OnErr result (course.old.gathered.answered ≡ true) }
 {
     if !first || course.standing.inside().is_some() {
         return Ok(());
@@ -92,6 +96,7 @@ fn close_before<A: Allocator + Copy, F: Front<A>>(
 }
 
 // Takes the turn of a unit.
+#[inline(always)]
 fn take_turn<A: Allocator + Copy, F: Front<A>>(
     front: &mut F,
     alloc: A,
@@ -104,16 +109,17 @@ fn take_turn<A: Allocator + Copy, F: Front<A>>(
         → Goes F.does source front.old (course_of course.old) front.new (course_of course.new)) }
     ensures units { IfOk result (λ need. need ≡ None → course.new.standing.units ≡ course.old.standing.units + 1) }
     ensures waits { IfOk result (λ some. IfSome some (Awaits F.does front.new)) }
-    ensures stops { OnErr result ((source : Source) → Asks source course.old.standing.units request.now first
-        → Stops F.does F.stops source front.old (course_of course.old) front.new) }
+    ensures stops { IfErr result (λ stop. (source : Source) → Asks source course.old.standing.units request.now first
+        → Stops F.does F.fails F.stops source front.old (course_of course.old) stop front.new course.new.gathered) }
 {
     close_before(front, first, course)?;
     let need = perform(front, alloc, request, course)?;
     Ok(need)
 }
 
-// Executes what is left of a text; what has to be waited for, where it isn't done then.
-fn execute_text<A: Allocator + Copy, F: Front<A>>(
+/// Executes what is left of a text, up to a unit that has to wait: what that waits for, or none where the transmission is over. It is taken up by another call,
+/// here or elsewhere. Where the front stops, it stops for good; what is answered and not sent is gathered still, but for the answer of a unit that found no memory.
+pub fn execute_text<A: Allocator + Copy, F: Front<A>>(
     front: &mut F,
     alloc: A,
     bytes: &[u8],
@@ -122,7 +128,7 @@ fn execute_text<A: Allocator + Copy, F: Front<A>>(
     ensures goes { IfOk result (λ _. Goes F.does (Text bytes.now) front.old (course_of course.old) front.new (course_of course.new)) }
     ensures over { IfOk result (λ need. need ≡ None → IsOver (Text bytes.now) (course_of course.new)) }
     ensures waits { IfOk result (λ some. IfSome some (Awaits F.does front.new)) }
-    ensures stops { OnErr result (Stops F.does F.stops (Text bytes.now) front.old (course_of course.old) front.new) }
+    ensures stops { IfErr result (λ stop. Halts F.does F.fails F.stops (Text bytes.now) front.old (course_of course.old) stop front.new course.new.gathered) }
 {
     let Ok(units) = split(alloc, bytes) else {
         return Err(front.short());
@@ -143,8 +149,8 @@ fn execute_text<A: Allocator + Copy, F: Front<A>>(
     Ok(None)
 }
 
-// Executes what reports an error in place of a transmission.
-fn execute_fault<A: Allocator + Copy, F: Front<A>>(
+/// Executes what reports an error in place of a text, as a text is executed.
+pub fn execute_fault<A: Allocator + Copy, F: Front<A>>(
     front: &mut F,
     alloc: A,
     error: ScpiError,
@@ -153,7 +159,7 @@ fn execute_fault<A: Allocator + Copy, F: Front<A>>(
     ensures goes { IfOk result (λ _. Goes F.does (Fault error) front.old (course_of course.old) front.new (course_of course.new)) }
     ensures over { IfOk result (λ need. need ≡ None → IsOver (Fault error) (course_of course.new)) }
     ensures waits { IfOk result (λ some. IfSome some (Awaits F.does front.new)) }
-    ensures stops { OnErr result (Stops F.does F.stops (Fault error) front.old (course_of course.old) front.new) }
+    ensures stops { IfErr result (λ stop. Halts F.does F.fails F.stops (Fault error) front.old (course_of course.old) stop front.new course.new.gathered) }
 {
     if course.standing.units() > 0 {
         close(front, &mut course.gathered)?;
@@ -172,8 +178,7 @@ fn execute_fault<A: Allocator + Copy, F: Front<A>>(
     Ok(None)
 }
 
-/// Executes what is left of a transmission, up to a unit that has to wait: what that waits for, or none where the transmission is over. It is
-/// taken up by another call, here or elsewhere. Where the front stops, it stops for good.
+/// Executes what is left of a transmission, a text or what reports an error in place of one.
 pub fn proceed<A: Allocator + Copy, F: Front<A>>(
     front: &mut F,
     alloc: A,
@@ -183,7 +188,7 @@ pub fn proceed<A: Allocator + Copy, F: Front<A>>(
     ensures goes { IfOk result (λ _. Goes F.does (source_of input.now) front.old (course_of course.old) front.new (course_of course.new)) }
     ensures over { IfOk result (λ need. need ≡ None → IsOver (source_of input.now) (course_of course.new)) }
     ensures waits { IfOk result (λ some. IfSome some (Awaits F.does front.new)) }
-    ensures stops { OnErr result (Stops F.does F.stops (source_of input.now) front.old (course_of course.old) front.new) }
+    ensures stops { IfErr result (λ stop. Halts F.does F.fails F.stops (source_of input.now) front.old (course_of course.old) stop front.new course.new.gathered) }
 {
     match input {
         Input::Text(text) => {

@@ -58,6 +58,7 @@ impl Standing {
     }
 
     /// The next unit comes to an outcome: it waits, is tried again, is done, or an expansion stands in its place.
+    #[inline(always)]
     pub(crate) fn take<A: Allocator + Copy>(&mut self, outcome: &Outcome<A>)
         requires units { self.old.units + 1 < 2 ^ 64 }
         requires inside { IfSome self.old.inside (λ done. done + 1 < 2 ^ 64) }
@@ -71,6 +72,7 @@ impl Standing {
         }
     }
 
+    #[inline(always)]
     fn pass(&mut self)
         requires units { self.old.units + 1 < 2 ^ 64 }
         requires inside { IfSome self.old.inside (λ done. done + 1 < 2 ^ 64) }

@@ -1,10 +1,9 @@
 // A unit, tried and told.
-ghost use Rattle.std.specs.Prelude.{◌≡◌, ◌+◌, ◌<◌, ◌^◌, List, ℕ, Option, IfOk, IfSome, OnErr};
-ghost use Rattle.psu_messages.specs.Deeds.{Halts};
+ghost use Rattle.std.specs.Prelude.{◌≡◌, ◌+◌, ◌<◌, ◌^◌, List, ℕ, Option, IfOk, IfErr, IfSome, OnErr};
 ghost use Rattle.psu_exec.specs.Shown.{outcome_of};
 ghost use Rattle.psu_messages.specs.Courses.{Goes, IsNext, Stops};
 ghost use Rattle.psu_messages.specs.Shown.{course};
-ghost use Rattle.psu_messages.specs.Stepping.{IsTold, StepAwaits, Stepped, expansion_by};
+ghost use Rattle.psu_messages.specs.Stepping.{IsLeft, IsTold, StepAwaits, Stepped, expansion_by};
 ghost use Rattle.psu_messages.specs.Units.{Source};
 
 use crate::telling::tell;
@@ -41,6 +40,7 @@ impl<A: Allocator + Copy> Step<A> {
 }
 
 // Tells what a unit answered, or takes the expansion that replaces it.
+#[inline(always)]
 fn told<A: Allocator + Copy, F: Front<A>>(
     front: &mut F,
     gathered: &mut Gathered<A>,
@@ -48,7 +48,8 @@ fn told<A: Allocator + Copy, F: Front<A>>(
     outcome: Outcome<A>,
 ) -> Result<Step<A>, F::Stop>
     ensures told { IfOk result (IsTold F.does front.old gathered.old is_inside (outcome_of outcome) front.new gathered.new) }
-    ensures stopped { OnErr result (Halts F.stops front.old front.new) }
+    ensures stopped { IfErr result (λ stop. F.stops front.old stop front.new) }
+    ensures left { OnErr result (IsLeft gathered.old (outcome_of outcome) gathered.new) }
 {
     match outcome {
         Outcome::Expand(body) => {
@@ -65,6 +66,7 @@ fn told<A: Allocator + Copy, F: Front<A>>(
 }
 
 /// Tries the next unit, and tells what it answers.
+#[inline(always)]
 pub(crate) fn take_step<A: Allocator + Copy, F: Front<A>>(
     front: &mut F,
     request: &Request<'_>,
@@ -77,8 +79,8 @@ pub(crate) fn take_step<A: Allocator + Copy, F: Front<A>>(
         → Goes F.does source front.old (course standing.old expansion gathered.old) front.new (course standing.new (expansion_by expansion s) gathered.new)) }
     ensures stepped { IfOk result (Stepped standing.old standing.new) }
     ensures waits { IfOk result (StepAwaits F.does front.new) }
-    ensures stops { OnErr result ((source : Source) (expansion : Option (List ℕ)) → IsNext source (course standing.old expansion gathered.old) request.now
-        → Stops F.does F.stops source front.old (course standing.old expansion gathered.old) front.new) }
+    ensures stops { IfErr result (λ stop. (source : Source) (expansion : Option (List ℕ)) → IsNext source (course standing.old expansion gathered.old) request.now
+        → Stops F.does F.fails F.stops source front.old (course standing.old expansion gathered.old) stop front.new gathered.new) }
 {
     let is_inside = standing.inside().is_some();
     match attempt(front, standing, request)? {

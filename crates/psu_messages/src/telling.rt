@@ -1,22 +1,24 @@
 // What units answer, told and sent.
-ghost use Rattle.std.specs.Prelude.{OnOk, OnErr};
-ghost use Rattle.psu_messages.specs.Deeds.{Halts};
+ghost use Rattle.std.specs.Prelude.{◌≡◌, true, IfErr, OnOk, OnErr};
 ghost use Rattle.psu_exec.specs.Shown.{outcome_of};
 ghost use Rattle.psu_messages.specs.Courses.{Closes, Tells};
+ghost use Rattle.psu_messages.specs.Stepping.{IsLeft};
 
 use crate::Front;
 use psu_answers::Gathered;
 use psu_exec::Outcome;
 use std::alloc::Allocator;
 
-/// Tells what a unit answers; a part of a long text is sent.
+/// Tells what a unit answers; a part of a long text is sent. Where it stops, what is not sent is gathered still, with the answer or without it.
+#[inline(always)]
 pub(crate) fn tell<A: Allocator + Copy, F: Front<A>>(
     front: &mut F,
     gathered: &mut Gathered<A>,
     outcome: &Outcome<A>,
 ) -> Result<(), F::Stop>
     ensures tells { OnOk result (Tells F.does front.old gathered.old (outcome_of outcome.now) front.new gathered.new) }
-    ensures stopped { OnErr result (Halts F.stops front.old front.new) }
+    ensures stopped { IfErr result (λ stop. F.stops front.old stop front.new) }
+    ensures left { OnErr result (IsLeft gathered.old (outcome_of outcome.now) gathered.new) }
 {
     let Outcome::Answer(answer) = outcome else {
         return Ok(());
@@ -27,21 +29,31 @@ pub(crate) fn tell<A: Allocator + Copy, F: Front<A>>(
     if !gathered.is_long() {
         return Ok(());
     }
-    let part = gathered.part();
-    front.send(part.as_slice(), false)
+    front.send(gathered.text(), false)?;
+    gathered.clear();
+    Ok(())
 }
 
-/// Ends a message: the last of its text is sent, where it has one.
+/// Ends a message: the last of its text is sent, where it has one. Where it stops, that is gathered still.
 pub(crate) fn close<A: Allocator + Copy, F: Front<A>>(
     front: &mut F,
     gathered: &mut Gathered<A>,
 ) -> Result<(), F::Stop>
     ensures closes { OnOk result (Closes F.does front.old gathered.old front.new gathered.new) }
-    ensures stopped { OnErr result (Halts F.stops front.old front.new) }
+    ensures stopped { IfErr result (λ stop. F.stops front.old stop front.new) }
+    ensures left { OnErr result (gathered.new ≡ gathered.old) }
+    ensures unsent { OnErr result (gathered.old.answered ≡ true) }
 {
-    match gathered.end() {
-        Ok(Some(text)) => front.send(text.as_slice(), true),
-        Ok(None) => Ok(()),
-        Err(_) => Err(front.short()),
+    if !gathered.has_answered() {
+        return Ok(());
     }
+    if gathered.end().is_err() {
+        return Err(front.short());
+    }
+    if let Err(stop) = front.send(gathered.text(), true) {
+        gathered.take_back();
+        return Err(stop);
+    }
+    gathered.restart();
+    Ok(())
 }

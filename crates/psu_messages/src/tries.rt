@@ -1,8 +1,9 @@
 // One try of a unit.
-ghost use Rattle.std.specs.Prelude.{◌≡◌, ◌+◌, ◌<◌, ◌^◌, IfOk, IfSome, OnErr};
+ghost use Rattle.std.specs.Prelude.{◌≡◌, ◌+◌, ◌<◌, ◌^◌, IfOk, IfErr, IfSome};
 ghost use Rattle.psu_exec.specs.Shown.{outcome_of};
-ghost use Rattle.psu_messages.specs.Deeds.{Deed, Halts, IsTry, needs};
+ghost use Rattle.psu_messages.specs.Deeds.{Deed, IsTry, needs};
 ghost use Rattle.psu_messages.specs.Shown.{IsTried};
+ghost use Rattle.psu_messages.specs.Stepping.{IsBrokenOff};
 
 use crate::{Front, Need, Standing};
 use psu_exec::{Outcome, Request, ScpiError};
@@ -18,6 +19,7 @@ pub(crate) enum Tried<A: Allocator + Copy> {
 }
 
 // What a unit waits for, accepted or not, where it is to be tried again.
+#[inline(always)]
 fn need_of<A: Allocator + Copy>(parked: bool, outcome: &Outcome<A>) -> Option<Need>
     ensures { result ≡ needs parked (outcome_of outcome.now) }
 {
@@ -31,13 +33,14 @@ fn need_of<A: Allocator + Copy>(parked: bool, outcome: &Outcome<A>) -> Option<Ne
 }
 
 // Executes a unit, or settles one that was accepted.
+#[inline(always)]
 fn once<A: Allocator + Copy, F: Front<A>>(
     front: &mut F,
     parked: bool,
     request: &Request<'_>,
 ) -> Result<Outcome<A>, F::Stop>
     ensures done { IfOk result (λ o. (deed : Deed) × F.does front.old deed front.new × IsTry parked request.now deed (outcome_of o)) }
-    ensures stopped { OnErr result (Halts F.stops front.old front.new) }
+    ensures stopped { IfErr result (λ stop. IsBrokenOff F.fails F.stops front.old parked request.now stop front.new) }
 {
     if parked {
         front.settle()
@@ -47,6 +50,7 @@ fn once<A: Allocator + Copy, F: Front<A>>(
 }
 
 /// Tries a unit once.
+#[inline(always)]
 pub(crate) fn attempt<A: Allocator + Copy, F: Front<A>>(
     front: &mut F,
     standing: &mut Standing,
@@ -55,7 +59,7 @@ pub(crate) fn attempt<A: Allocator + Copy, F: Front<A>>(
     requires units { standing.old.units + 1 < 2 ^ 64 }
     requires inside { IfSome standing.old.inside (λ done. done + 1 < 2 ^ 64) }
     ensures tried { IfOk result (IsTried F.does front.old standing.old request.now front.new standing.new) }
-    ensures stopped { OnErr result (Halts F.stops front.old front.new) }
+    ensures stopped { IfErr result (λ stop. IsBrokenOff F.fails F.stops front.old standing.old.parked request.now stop front.new) }
 {
     let parked = standing.is_parked();
     let outcome = once(front, parked, request)?;

@@ -8,10 +8,10 @@ use Rattle.std.specs.Str.{bytes_eq}
 use Rattle.memchr.specs.Find.{IsFirstByte, is_byte}
 use Rattle.psu_server.specs.Lines.{first_onto, parts_of, first_part, after_part, has, Message, message_of, messages, coming, message_now, power_line, is_none_begun}
 
-no_head : (e x : ℕ) (p : List ℕ) → has e (x ∷ p) ≡ false → (x == e) ≡ false
+pub no_head : (e x : ℕ) (p : List ℕ) → has e (x ∷ p) ≡ false → (x == e) ≡ false
 no_head e x p h = grind (arith, common_steps, h)
 
-no_tail : (e x : ℕ) (p : List ℕ) → has e (x ∷ p) ≡ false → has e p ≡ false
+pub no_tail : (e x : ℕ) (p : List ℕ) → has e (x ∷ p) ≡ false → has e p ≡ false
 no_tail e x p h = grind (arith, common_steps, h)
 
 pub has_none_append : (e : ℕ) (a b : List ℕ) → has e a ≡ false → has e b ≡ false → has e (a ++ b) ≡ false

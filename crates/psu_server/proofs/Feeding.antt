@@ -1,6 +1,5 @@
 -- The lines of a piece, one after another.
 use Rattle.std.proofs.Common.{◌≡◌, ℕ, ◌+◌, ◌-◌, ◌≤◌, Bool, true, false, List, [], ◌∷◌, ◌++◌, length, take, drop, refl, sym, ap, ◌∙◌, subst, inl, inr, append_assoc, arith, Option, Some, None}
-use Rattle.std.proofs.lemmas.List.{append-nil}
 use Rattle.std.specs.Str.{bytes_eq}
 use Rattle.memchr.specs.Find.{IsFirstByte, is_byte}
 use Rattle.std.specs.Option.{ForSome}
@@ -11,8 +10,7 @@ use Rattle.psu_items.specs.Image.{EachStands}
 use Rattle.psu_items.proofs.Opening.{still_stands}
 use Rattle.psu_exec.specs.Jobs.{home_disk}
 use Rattle.psu_map.specs.Map.{Item}
-use Rattle.psu_answers.specs.Gathered.{Text, closed}
-use Rattle.psu_answers.specs.Response.{are_some, end_of, joined, response}
+use Rattle.psu_answers.specs.Response.{joined, response}
 use Rattle.psu_exec.specs.Consistent.{IsConsistent}
 use Rattle.psu_exec.specs.World.{World}
 use Rattle.psu_exec.specs.declared.condition.Condition.TheVariants.{Worn}
@@ -21,11 +19,11 @@ use Rattle.psu_tree.specs.declared.unit_request.Request.{Request}
 use Rattle.psu_server.specs.Causes.{IsWornOut, NotStarted}
 use Rattle.psu_server.specs.Failures.{extent_of, failures_of}
 use Rattle.psu_server.specs.Jobs.{IsWornAtLast}
-use Rattle.psu_server.specs.Lines.{Message, Asks, message_now, message_of, coming, too_much, has, is_power, power_line}
+use Rattle.psu_server.specs.Lines.{Message, Asks, message_now, message_of, coming, has, is_power, power_line}
 use Rattle.psu_server.specs.Lives.{Life, born, disk_at, world_of, IsLeftBy, PowersOn}
-use Rattle.psu_server.specs.Output.{Says, SaysUntil, Telling, telling}
+use Rattle.psu_server.specs.Output.{Says, SaysUntil, Telling}
 use Rattle.psu_server.specs.Moments.{IsBetween, IsWhile, Since, disk_in}
-use Rattle.psu_server.specs.Progress.{Breaks, BreaksOff, Continues, EachMoment, Fed, GoesOn, Halts, RunsOn, Spans, Stopped, Stops, StopsHere}
+use Rattle.psu_server.specs.Progress.{Breaks, EachMoment, Fed, GoesOn, Halts, RunsOn, Spans, Stopped, Stops, StopsHere}
 use Rattle.psu_server.specs.Reasons.{IsAtPower, IsHaltedBy, StopsFor}
 use Rattle.psu_server.specs.Runs.{Mishaps, any, none, Flushes, LineBegins, LineRuns, MessageBegins, MessageRuns, NextBegins, Reopens, Runs}
 use Rattle.psu_server.specs.declared.run_cause.RunCause.{RunCause}
@@ -33,8 +31,11 @@ use Rattle.psu_server.specs.declared.run_cause.RunCause.TheVariants.{Read, Write
 use Rattle.psu_server.specs.declared.run_fault.RunFault.{RunFault}
 use Rattle.psu_server.proofs.Calls.{Executes, begins_all, executes_none, flush_calls, job_calls, prefix_of_map, prefix_of_reached, reached_made}
 use Rattle.psu_server.proofs.Cuts.{plain_message, power_message, coming_end, found_parts, whole_tail}
-use Rattle.psu_server.proofs.MessageEnds.{line_over}
-use Rattle.psu_server.proofs.Telling.{says_gathered, says_join, says_none, says_still, until_after, until_said}
+use Rattle.psu_server.specs.Deeds.{line_source}
+use Rattle.psu_server.proofs.Asking.{AskedBy}
+use Rattle.psu_server.proofs.Coming.{IsLine}
+use Rattle.psu_server.proofs.OneMessage.{one_message}
+use Rattle.psu_server.proofs.Telling.{says_join, says_none, until_after}
 use Rattle.psu_server.proofs.UnitEnds.{goes_as}
 use Rattle.psu_server.proofs.Lasting.{hands_now, hands_then, lasts_none}
 use Rattle.psu_server.proofs.Moments.{leads_none, since_as, since_back, since_from, since_home, since_then, since_to}
@@ -47,54 +48,34 @@ use Rattle.psu_server.proofs.Within.{within_as, within_at, within_any, within_he
 abbrev pub ToldLine : {D A : Type 0} {G : Ghosts D} → Message → Exec D A G → Exec D A G → Telling → Telling → Type 0
 ToldLine m old new told now = (text : List ℕ) × Says told now text × RunsOn old new (m ∷ []) text
 
--- its units told these answers, and a line feed ends them
-pub told_line : {D A : Type 0} {G : Ghosts D} (m : Message) (requests : List Request) (old new : Exec D A G) (a : Telling) (was_written written : Option (List ℕ)) (before after : Text) → Asks m requests → is_power m ≡ false → a.begun ≡ false
-    → Continues old new a (telling was_written before) (λ answers all can w v. LineRuns can w answers requests all v) → written ≡ was_written → after ≡ closed before → ToldLine m old new a (telling written after)
-told_line m requests old new a was_written written before after asks plain none p same ended =
-    let f = p [] none in (
-      response f.0,
-      subst (λ (z : List ℕ). Says a (telling written after) z) (whole f.0 f.1.0 f.1.1) (says_join a (telling was_written before) (telling written after) f.1.0 (end_of (are_some f.0)) f.1.2
-          (says_gathered (telling was_written before) (telling written after) (end_of (are_some f.0)) same (ap (λ (t : Text). t.rest) ended ∙ ap (λ (z : Bool). before.rest ++ end_of z) f.1.3))),
-      run_one old new m (response f.0) plain
-          (goes_as old new (λ can w v. LineRuns can w [] requests f.0 v) (λ can w v. MessageRuns can w m (response f.0) v) f.2 (λ can w v u. by m plain asks f.0 can w v u)),
-    )
+-- its units told these answers
+pub told_line : {D A : Type 0} {G : Ghosts D} (m : Message) (requests : List Request) (answers : List (List ℕ)) (old new : Exec D A G) (a b : Telling) → Asks m requests → is_power m ≡ false → GoesOn old new (λ can w v. LineRuns can w [] requests answers v)
+    → Says a b (response answers) → ToldLine m old new a b
+told_line m requests answers old new a b asks plain runs says = (
+  response answers,
+  says,
+  run_one old new m (response answers) plain (goes_as old new (λ can w v. LineRuns can w [] requests answers v) (λ can w v. MessageRuns can w m (response answers) v) runs (λ can w v u. by m plain asks can w v u)),
+)
   where
-    whole : (all : List (List ℕ)) (more : List ℕ) → joined all ≡ more → more ++ end_of (are_some all) ≡ response all
-    whole all more is = ap (λ (z : List ℕ). z ++ end_of (are_some all)) (sym is)
-
-    by : (m : Message) → is_power m ≡ false → Asks m requests → (all : List (List ℕ)) (can : Mishaps) (w v : World) → LineRuns can w [] requests all v → MessageRuns can w m (response all) v
-    by Message.Power p asks all can w v u = cc
-    by Message.Overlong p asks all can w v u = (requests, asks, all, u, refl)
-    by (Message.Units bytes) p asks all can w v u = (requests, asks, all, u, refl)
+    by : (m : Message) → is_power m ≡ false → Asks m requests → (can : Mishaps) (w v : World) → LineRuns can w [] requests answers v → MessageRuns can w m (response answers) v
+    by Message.Power p asks can w v u = cc
+    by Message.Overlong p asks can w v u = (requests, asks, answers, u, refl)
+    by (Message.Units bytes) p asks can w v u = (requests, asks, answers, u, refl)
 
 abbrev pub BrokenLine : {D A : Type 0} {G : Ghosts D} → Message → Exec D A G → Exec D A G → Telling → Telling → RunCause → Type 0
 BrokenLine m old new told now cause = (part : List ℕ) × SaysUntil cause told now part × Breaks old new (λ can w v. MessageBegins can w m part v) cause
 
 -- a stop among its units
-pub broken_line : {D A : Type 0} {G : Ghosts D} (m : Message) (requests : List Request) (old new : Exec D A G) (a b : Telling) (cause : RunCause) → Asks m requests → a.begun ≡ false
-    → BreaksOff old new a b (λ answers all can w v. LineBegins can w answers requests all v) cause → BrokenLine m old new a b cause
-broken_line m requests old new a b cause asks none p =
-    let f = p [] none in (
-      f.1.0,
-      f.1.2,
-      record {
-        goes = goes_as old new (λ can w v. LineBegins can w [] requests f.0 v) (λ can w v. MessageBegins can w m f.1.0 v) f.2.goes (λ can w v u. (requests, asks, f.0, u, sym f.1.1));
-        why = f.2.why;
-      },
-    )
-
--- its line feed is refused memory
-pub line_unended : {D A : Type 0} {G : Ghosts D} (m : Message) (requests : List Request) (old new : Exec D A G) (a b c : Telling) → Asks m requests → a.begun ≡ false
-    → Continues old new a b (λ answers all can w v. LineRuns can w answers requests all v) → c.written ≡ b.written → c.gathered ≡ b.gathered → BrokenLine m old new a c RunMemory
-line_unended m requests old new a b c asks none p written same =
-    let f = p [] none in (
-      f.1.0,
-      until_said RunMemory a c f.1.0 (λ e. cc) (subst (λ (z : List ℕ). Says a c z) (append-nil f.1.0) (says_join a b c f.1.0 [] f.1.2 (says_still b c written same))),
-      record {
-        goes = goes_as old new (λ can w v. LineRuns can w [] requests f.0 v) (λ can w v. MessageBegins can w m f.1.0 v) f.2 (λ can w v u. (requests, asks, f.0, line_over can w v [] f.0 requests u, sym f.1.1));
-        why = λ h. tt;
-      },
-    )
+pub broken_line : {D A : Type 0} {G : Ghosts D} (m : Message) (requests : List Request) (answers : List (List ℕ)) (old new : Exec D A G) (a b : Telling) (cause : RunCause) → Asks m requests
+    → Breaks old new (λ can w v. LineBegins can w [] requests answers v) cause → SaysUntil cause a b (joined answers) → BrokenLine m old new a b cause
+broken_line m requests answers old new a b cause asks breaks until = (
+  joined answers,
+  until,
+  record {
+    goes = goes_as old new (λ can w v. LineBegins can w [] requests answers v) (λ can w v. MessageBegins can w m (joined answers) v) breaks.goes (λ can w v u. (requests, asks, answers, u, refl));
+    why = breaks.why;
+  },
+)
 
 -- a line that isn't over and isn't that of a power loss is a message of units
 plain_now : (over : Bool) (line : List ℕ) → over ≡ false → length line ≤ 65536 → is_power (message_now over line) ≡ false → message_now over line ≡ Message.Units line
@@ -105,14 +86,13 @@ plain_now false line o short p = by (bytes_eq line power_line) refl where
   by false e = plain_message line short e
 
 -- the requests of a line
-pub asks_over : (over : Bool) (line : List ℕ) → over ≡ true → Asks (message_now over line) (too_much ∷ [])
-asks_over true line o = refl
-asks_over false line o = cc
+pub asks_line : (over : Bool) (line : List ℕ) (requests : List Request) → length line ≤ 65536 → is_power (message_now over line) ≡ false → AskedBy (line_source over line) requests → Asks (message_now over line) requests
+asks_line true line requests short plain asks = asks
+asks_line false line requests short plain asks = subst (λ (m : Message). Asks m requests) (sym (plain_now false line refl short plain)) asks
 
-pub asks_units : (over : Bool) (line bytes : List ℕ) (requests : List Request) → over ≡ false → length line ≤ 65536 → is_power (message_now over line) ≡ false → bytes ≡ line
-    → Asks (Message.Units bytes) requests → Asks (message_now over line) requests
-asks_units over line bytes requests o short p same asks =
-    subst (λ (m : Message). Asks m requests) (sym (plain_now over line o short p)) (subst (λ (z : List ℕ). Asks (Message.Units z) requests) same asks)
+pub is_line : (over : Bool) (line : List ℕ) → has 10 line ≡ false → IsLine (line_source over line)
+is_line true line free = tt
+is_line false line free = one_message line free
 
 -- ---- a restart
 

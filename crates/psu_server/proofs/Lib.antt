@@ -12,6 +12,9 @@ pub mod SessionOne
 pub mod UnitEnds
 pub mod LateUnits
 pub mod MessageEnds
+pub mod OneMessage
+pub mod Coming
+pub mod Stopping
 pub mod Starting
 pub mod Passing
 pub mod Feeding

@@ -1,5 +1,5 @@
 -- Where nothing goes wrong, the messages of an input have one text.
-use Rattle.std.proofs.Common.{◌≡◌, ℕ, ◌-◌, true, List, [], ◌∷◌, ◌++◌, refl, sym, ap, ◌∙◌, subst, subst₂, inl, inr, Some}
+use Rattle.std.proofs.Common.{◌≡◌, ℕ, true, List, [], ◌∷◌, ◌++◌, refl, sym, ap, ◌∙◌, subst, subst₂, inl, inr, Some}
 use Rattle.psu_disk.specs.Disk.{DiskState}
 use Rattle.psu_disk.specs.Ranges.{reads_left}
 use Rattle.psu_items.specs.Image.{EachStands}
@@ -9,7 +9,7 @@ use Rattle.psu_nv.proofs.Telling.{same_contents}
 use Rattle.psu_tree.specs.declared.unit_request.Request.{Request}
 use Rattle.psu_answers.specs.Response.{response}
 use Rattle.psu_exec.specs.Device.{Reply, Done, Answer, Error, Expand, Parked, Held, Later, State, is_broken}
-use Rattle.psu_exec.specs.Calls.{opened, stored}
+use Rattle.psu_exec.specs.Calls.{opened}
 use Rattle.psu_exec.specs.World.{World}
 use Rattle.psu_server.specs.Lines.{Message, Asks, messages}
 use Rattle.psu_server.specs.Lives.{PowersOn}

@@ -1,18 +1,18 @@
 -- A run with its losses of power, and one behind another on the same disk, as one list of events of the theorem on power loss.
-use Rattle.std.proofs.Common.{◌≡◌, ◌⊎◌, ℕ, ◌+◌, ◌≤◌, ◌<◌, true, false, Option, Some, None, List, [], ◌∷◌, ◌++◌, length, refl, sym, ap, ◌∙◌, subst, inl, inr, arith, ⊎_elim, slice_index, slice_index_or}
+use Rattle.std.proofs.Common.{◌≡◌, ℕ, ◌+◌, false, Some, List, [], ◌∷◌, ◌++◌, length, refl, sym, ap, ◌∙◌, subst, inl, inr, arith, ⊎_elim}
 use Rattle.std.proofs.lemmas.List.{get_or_past}
-use Rattle.psu_disk.specs.Disk.{DiskState, Left, SameBut, Touches, is_unsynced}
+use Rattle.psu_disk.specs.Disk.{DiskState}
 use Rattle.psu_disk.specs.Ranges.{left_size, reads_left}
 use Rattle.psu_map.specs.Map.{Item}
 use Rattle.psu_items.specs.Image.{Stands, EachStands}
 use Rattle.psu_items.proofs.Standing.{one_stands}
-use Rattle.psu_nv.specs.Contents.{items_of, Contents}
+use Rattle.psu_nv.specs.Contents.{items_of}
 use Rattle.psu_exec.specs.Device.{State, power_on}
 use Rattle.psu_exec.specs.Calls.{Entry, Opened}
 use Rattle.psu_exec.specs.World.{World, Mode, Running, Stopped, Restarting, PastUnit, Event, Call, DiskCall, Loss, Stop, Restart, Moves, Writes, Syncs, KeepsMaps, Happens, IsStart, Run, without_power}
 use Rattle.psu_exec.proofs.Invariant.{only_left}
 use Rattle.psu_server.specs.Lines.{Message}
-use Rattle.psu_server.specs.Lives.{Calls, CallsAll, EventsLead, IsLeftBy, PowersOn, Reached}
+use Rattle.psu_server.specs.Lives.{CallsAll, EventsLead, IsLeftBy, PowersOn, Reached}
 use Rattle.psu_server.specs.Moments.{Leads}
 use Rattle.psu_server.specs.Runs.{Mishaps, Flushes, MessageRuns, NextBegins, Reopens, Runs}
 use Rattle.psu_server.proofs.Calls.{Executes, flush_calls, job_calls, line_made, next_begun}

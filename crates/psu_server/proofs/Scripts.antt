@@ -13,7 +13,8 @@ use Rattle.psu_tree.specs.declared.command.Command.{Command}
 use Rattle.psu_tree.specs.declared.macro_call.MacroCall.{MacroCall}
 use Rattle.psu_tree.specs.declared.unit_request.Request.{Request}
 use Rattle.psu_instrument.specs.Macros.{HoldsParameters, label_in}
-use Rattle.psu_server.specs.Lines.{Message, AreAsked, AreRequests, Asks, path_at, too_much}
+use Rattle.psu_messages.specs.Units.{path_at}
+use Rattle.psu_server.specs.Lines.{Message, AreAsked, AreRequests, Asks, too_much}
 use Rattle.psu_server.proofs.Readings.{OneReading, OneMove, OneSyntax, SomeReading, some_call, some_move}
 
 -- every list of bytes has one list of units

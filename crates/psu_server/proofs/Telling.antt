@@ -1,24 +1,22 @@
 -- What is told, one part after another.
-use Rattle.std.proofs.Common.{◌≡◌, ◌≢◌, ℕ, ◌<◌, Bool, List, [], ◌++◌, length, Option, refl, sym, ap, ◌∙◌, subst, append_assoc, append-nil, arith}
+use Rattle.std.proofs.Common.{◌≡◌, ◌≢◌, ℕ, ◌<◌, List, [], ◌++◌, length, length-append, Option, refl, sym, ap, ◌∙◌, subst, append_assoc, append-nil, arith}
 use Rattle.std.proofs.lemmas.Grind.{common_steps}
+use Rattle.std.proofs.lemmas.List.{take-append-le}
 use Rattle.std.proofs.KnownBytes.{Appends-trans, Appends-nil}
 use Rattle.std.specs.Io.KnownBytes.{Appends}
 use Rattle.std.specs.Io.{StartsWith}
-use Rattle.psu_lex.specs.declared.bytes.Bytes.{Bytes}
-use Rattle.psu_answers.specs.Gathered.{Text, addition, told}
-use Rattle.psu_answers.specs.Response.{are_some, joined}
-use Rattle.psu_answers.proofs.Joining.{joined_more, some_more}
-use Rattle.psu_exec.specs.Device.{Answer}
-use Rattle.psu_exec.specs.Shown.{outcome_of}
-use Rattle.psu_exec.specs.declared.outcome.Outcome.{Outcome}
-use Rattle.psu_exec.specs.declared.outcome.Outcome.TheVariants as outcome
-use Rattle.psu_server.specs.Output.{Says, SaysOn, SaysOnUntil, SaysReply, SaysUntil, Telling, WritesShort, telling}
+use Rattle.psu_messages.specs.Courses.{Course, beginning}
+use Rattle.psu_server.specs.Output.{Says, SaysUntil, Telling, WritesShort, held}
 use Rattle.psu_server.specs.declared.run_cause.RunCause.{RunCause}
 use Rattle.psu_server.specs.declared.run_cause.RunCause.TheVariants.{Memory, Write}
 use Rattle.psu_server.proofs.Fronts.{starts_after}
 
 pub longer : (text front more : List ℕ) → length front < length more → length (text ++ front) < length (text ++ more)
 longer text front more less = grind (arith, common_steps, less)
+
+-- a front of a text behind another
+pub short_behind : (old mid new : Option (List ℕ)) (first second : List ℕ) → Appends old mid first → WritesShort mid new second → WritesShort old new (first ++ second)
+short_behind old mid new first second grows (front, more, starts, less) = (first ++ front, Appends-trans old mid new first front grows more, starts_after first front second starts, longer first front second less)
 
 -- ---- parts of a text
 
@@ -64,47 +62,33 @@ until_none cause t own = until_said cause t t [] own (says_none t)
 pub until_for : (told cause : RunCause) (a b : Telling) (m : List ℕ) → told ≡ cause → SaysUntil cause a b m → SaysUntil told a b m
 until_for told cause a b m is p = subst (λ (z : RunCause). SaysUntil z a b m) (sym is) p
 
--- ---- answers of a line
+-- a fault that is none of the writer's, where nothing more is gathered or written
+pub until_still : (cause : RunCause) (a b : Telling) → cause ≢ Write → b.written ≡ a.written → b.gathered ≡ a.gathered → SaysUntil cause a b []
+until_still cause a b own written gathered = until_said cause a b [] own (says_still a b written gathered)
 
--- no answer more
-pub says_on_none : (t : Telling) (answers : List (List ℕ)) → t.begun ≡ are_some answers → SaysOn t t answers answers
-says_on_none t answers begun = ([], sym (append-nil (joined answers)), says_none t, begun)
+-- what is missing of a text is missing with more behind it
+pub short_more : (old new : Option (List ℕ)) (text more : List ℕ) → WritesShort old new text → WritesShort old new (text ++ more)
+short_more old new text more (front, grows, starts, less) =
+    (front, grows, take-append-le (length front) text more (omega (arith, less)) ∙ starts, subst (λ (n : ℕ). length front < n) (sym (length-append text more)) (omega (arith, less)))
 
--- an answer is told
-pub says_answer : (written was_written : Option (List ℕ)) (old mid new : Text) (answer : List ℕ) → Says (telling was_written old) (telling written mid) [] → mid.answered ≡ old.answered → new ≡ told mid answer
-    → SaysReply (telling was_written old) (telling written new) (Answer answer)
-says_answer written was_written old mid new answer says still is answers begun =
-    let before : mid.answered ≡ are_some answers = still ∙ begun in (
-      addition mid.answered answer,
-      sym (ap (λ (z : Bool). joined answers ++ addition z answer) before ∙ joined_more answers answer),
-      says_join (telling was_written old) (telling written mid) (telling written new) [] (addition mid.answered answer) says
-          (says_gathered (telling written mid) (telling written new) (addition mid.answered answer) refl (ap (λ (t : Text). t.rest) is)),
-      ap (λ (t : Text). t.answered) is ∙ some_more answers answer,
-    )
-
--- any other reply tells nothing
-pub says_nothing : {A : Type 0} (t : Telling) (o : Outcome A) → ((answer : Bytes A) → o ≡ outcome.Answer answer → ⊥) → SaysReply t t (outcome_of o)
-says_nothing t (outcome.Answer answer) other = absurd (other answer refl)
-says_nothing t outcome.Done other = says_on_none t
-says_nothing t (outcome.Error e) other = says_on_none t
-says_nothing t (outcome.Expand bytes) other = says_on_none t
-says_nothing t outcome.Parked other = says_on_none t
-says_nothing t outcome.Held other = says_on_none t
-says_nothing t outcome.Later other = says_on_none t
-
--- what came, one part after another
-grown : (answers some all : List (List ℕ)) (m n : List ℕ) → joined some ≡ joined answers ++ m → joined all ≡ joined some ++ n → joined all ≡ joined answers ++ (m ++ n)
-grown answers some all m n first second = second ∙ ap (λ (z : List ℕ). z ++ n) first ∙ append_assoc (joined answers) m n
-
-pub says_on_join : (a b c : Telling) (answers some all : List (List ℕ)) → SaysOn a b answers some → SaysOn b c some all → SaysOn a c answers all
-says_on_join a b c answers some all p q = (p.0 ++ q.0, grown answers some all p.0 q.0 p.1 q.1, says_join a b c p.0 q.0 p.2 q.2, q.3)
-
-pub until_on_join : (cause : RunCause) (a b c : Telling) (answers some all : List (List ℕ)) → SaysOn a b answers some → SaysOnUntil cause b c some all → SaysOnUntil cause a c answers all
-until_on_join cause a b c answers some all p q = (p.0 ++ q.0, grown answers some all p.0 q.0 p.1 q.1, until_after cause a b c p.0 q.0 p.2 q.2)
-
--- no answer more until a fault
-pub until_on_none : (cause : RunCause) (a b : Telling) (answers : List (List ℕ)) → SaysUntil cause a b [] → SaysOnUntil cause a b answers answers
-until_on_none cause a b answers until = ([], sym (append-nil (joined answers)), until)
+-- what is left of a text is gathered behind what was told until a fault
+pub until_rest : (cause : RunCause) (a b c : Telling) (m rest : List ℕ) → Says a b m → SaysUntil cause b c [] → SaysUntil cause a (held c.written (c.gathered ++ rest)) (m ++ rest)
+until_rest cause a b c m rest p q = record {
+  whole = λ e. says_join a b (held c.written (c.gathered ++ rest)) m rest p (says_join b c (held c.written (c.gathered ++ rest)) [] rest (q.whole e) (says_gathered c (held c.written (c.gathered ++ rest)) rest refl refl));
+  missing = λ e. short_after a b (held c.written (c.gathered ++ rest)) m rest p (short_more b.written c.written b.gathered rest (subst (WritesShort b.written c.written) (append-nil b.gathered) (q.missing e)));
+}
 
 pub not_write : (cause : RunCause) → cause ≡ Memory → cause ≢ Write
 not_write cause is e = let bad = sym is ∙ e in cc
+
+-- ---- what is not written
+
+-- no line has begun
+pub told_alone : (told : List ℕ) (c : Course) → c ≡ beginning → told ++ c.text.rest ≡ told
+told_alone told c fresh = ap (λ (d : Course). told ++ d.text.rest) fresh ∙ append-nil told
+
+pub none_told : (told : List ℕ) (c : Course) → told ≡ [] → c ≡ beginning → told ++ c.text.rest ≡ []
+none_told told c none fresh = told_alone told c fresh ∙ none
+
+pub held_fresh : (written : Option (List ℕ)) (told : List ℕ) (c : Course) → c ≡ beginning → held written (told ++ c.text.rest) ≡ held written told
+held_fresh written told c fresh = ap (held written) (told_alone told c fresh)

@@ -2,9 +2,9 @@
 use Rattle.std.specs.Prelude.{◌≡◌, ℕ, ◌==◌, ◌||◌, ◌&&◌, not, nat_lt, Bool, true, false, List, [], ◌∷◌, ◌++◌, length, Option, Some, None, Err, if◌then◌else◌, codes, map, ⊤}
 use Rattle.std.specs.Str.{bytes_eq}
 use Rattle.psu_lex.specs.Message.{Part, IsMessage}
-use Rattle.psu_tree.specs.Reading as tree
 use Rattle.psu_tree.specs.declared.unit_request.Request.{Request}
 use Rattle.psu_lex.specs.declared.scpi_error.ScpiError.TheVariants.{TooMuchData}
+use Rattle.psu_messages.specs.Units.{IsRequest, path_at}
 
 -- a byte goes onto the first part of the rest
 abbrev pub first_onto : ℕ → List (List ℕ) → List (List ℕ)
@@ -68,17 +68,6 @@ is_power m = false
 -- no line has begun
 abbrev pub is_none_begun : Bool → List ℕ → Bool
 is_none_begun over line = not over && (length line == 0)
-
--- a unit at a path, in an expansion or outside: as it reads, with the call that it may be and where the path stands behind it
-pub record IsRequest (inside : Bool) (path : List (List ℕ)) (part : Part) (request : Request) (next : List (List ℕ)) : Type 0 where
-  pub reading : tree.Reads path part request.reading
-  pub moves : tree.Moves path part request.reading next
-  pub call : tree.Calls part request.call
-  pub place : request.inside ≡ inside
-
--- a unit that comes first after a line feed is read from the root of the tree
-abbrev pub path_at : List (List ℕ) → Part → List (List ℕ)
-path_at path part = if part.first then [] else path
 
 -- the requests of units, read one after another from a path, in an expansion or outside
 abbrev pub AreRequests : Bool → List (List ℕ) → List Part → List Request → Type 0

@@ -4,7 +4,6 @@ use Rattle.std.specs.Io.KnownBytes.{Appends}
 use Rattle.std.specs.Io.{StartsWith}
 use Rattle.psu_disk.specs.declared.disk.Disk.{Ghosts}
 use Rattle.psu_tree.specs.declared.unit_request.Request.{Request}
-use Rattle.psu_answers.specs.Response.{are_some}
 use Rattle.psu_exec.specs.Device.{Reply, Later}
 use Rattle.psu_exec.specs.Calls.{Executed, Settled}
 use Rattle.psu_exec.specs.World.{World}
@@ -14,7 +13,7 @@ use Rattle.psu_server.specs.Jobs.{IsWornAtLast}
 use Rattle.psu_server.specs.Lines.{Message}
 use Rattle.psu_server.specs.Lives.{Life, world_of, Calls, IsLeftBy, Reached}
 use Rattle.psu_server.specs.Moments.{IsBetween, IsNow, IsWhile, Leads, Since, disk_in}
-use Rattle.psu_server.specs.Output.{Telling, Says, SaysOn, SaysOnUntil, SaysUntil}
+use Rattle.psu_server.specs.Output.{Telling, Says, SaysUntil}
 use Rattle.psu_server.specs.Reasons.{IsHaltedBy, StopsFor}
 use Rattle.psu_server.specs.Runs.{Mishaps, Acts, Begins, Flushes, NextBegins, Runs}
 use Rattle.psu_server.specs.Within.{Within}
@@ -64,26 +63,10 @@ WaitEnds reply can w new = (over : World) × Flushes can w over × Calls over (S
 abbrev pub Acted : Request → Reply → Mishaps → World → World → Type 0
 Acted request reply can w new = ((reply ≡ Later) × Calls w (Executed 1 request Later) new) ⊎ Acts can w request reply new
 
--- ---- what is told of a line
-
--- what may happen between some answers of a line and these and more
-abbrev pub Way : Type 1
-Way = List (List ℕ) → List (List ℕ) → Mishaps → World → World → Type 0
-
--- Behind the answers of its line so far, which are any that there may be, the device went on and told more.
-abbrev pub Continues : {D A : Type 0} {G : Ghosts D} → Exec D A G → Exec D A G → Telling → Telling → Way → Type 0
-Continues old new told now P = (answers : List (List ℕ)) → told.begun ≡ are_some answers
-    → (all : List (List ℕ)) × SaysOn told now answers all × GoesOn old new (P answers all)
-
 -- The device went on until a fault.
 pub record Breaks {D A : Type 0} {G : Ghosts D} (old new : Exec D A G) (P : Mishaps → World → World → Type 0) (cause : RunCause) : Type 0 where
   pub goes : GoesOn old new P
   pub why : Ghosts.honest G → IsHaltedBy old new cause
-
--- Behind the answers of its line so far the device went on, and more was to be told, until a fault.
-abbrev pub BreaksOff : {D A : Type 0} {G : Ghosts D} → Exec D A G → Exec D A G → Telling → Telling → Way → RunCause → Type 0
-BreaksOff old new told now P cause = (answers : List (List ℕ)) → told.begun ≡ are_some answers
-    → (all : List (List ℕ)) × SaysOnUntil cause told now answers all × Breaks old new (P answers all) cause
 
 -- ---- messages
 

@@ -1,25 +1,28 @@
 // The lines that end in a piece of the input.
 ghost use Rattle.std.specs.Prelude.{◌≡◌, ◌≢◌, ◌∷◌, [], List, ℕ, OnOk, IfOk, IfErr, true, false};
 ghost use Rattle.psu_tree.specs.declared.unit_request.Request.{Request as RequestData};
+ghost use Rattle.psu_answers.specs.Response.{joined, response};
+ghost use Rattle.psu_messages.specs.Courses.{beginning};
+ghost use Rattle.psu_messages.specs.Shown.{course_of};
 ghost use Rattle.psu_server.specs.Lines.{Asks, Message, coming, is_power, message_now};
-ghost use Rattle.psu_server.specs.Output.{Says, SaysUntil, telling};
-ghost use Rattle.psu_server.specs.Progress.{Breaks, BreaksOff, Continues, Fed, RunsOn, Stopped, StopsHere};
+ghost use Rattle.psu_server.specs.Output.{Says, SaysUntil, held, telling};
+ghost use Rattle.psu_server.specs.Progress.{Breaks, Fed, GoesOn, RunsOn, Stopped, StopsHere};
 ghost use Rattle.psu_server.specs.Runs.{LineBegins, LineRuns, MessageBegins};
 
+use crate::console::Console;
+use crate::desk::Desk;
+use crate::halted::Halted;
 use crate::jobs::reopen;
 use crate::lines::Lines;
 use crate::powered::Powered;
-use crate::units::{message, perform};
 use crate::{RunCause, RunFault};
 use memchr::memchr;
-use psu_answers::Gathered;
 use psu_disk::Disk;
-use psu_exec::{Request, ScpiError};
 use std::alloc::Allocator;
 use std::io::Write;
 
-/// A power loss at rest, and a restart: what is not flushed is lost. A broken store is opened again before it.
-pub fn restart<D: Disk, A: Allocator + Copy>(
+// A power loss at rest, and a restart: what is not flushed is lost. A broken store is opened again before it.
+fn restart_device<D: Disk, A: Allocator + Copy>(
     alloc: A,
     powered: Powered<D, A>,
 ) -> Result<Powered<D, A>, RunFault<D>>
@@ -37,95 +40,104 @@ pub fn restart<D: Disk, A: Allocator + Copy>(
     Ok(powered)
 }
 
+/// The same; what was told is told.
+pub fn restart<D: Disk, A: Allocator + Copy>(
+    alloc: A,
+    desk: Desk<D, A>,
+) -> Result<Desk<D, A>, Halted<D, A>>
+    ensures runs { IfOk result (λ d. RunsOn desk.powered.exec d.powered.exec (Message.Power ∷ []) []) }
+    ensures stops { IfErr result (λ h. (rest : List Message) → StopsHere ⊥ desk.powered.exec h.fault (Message.Power ∷ rest) []) }
+    ensures other { IfErr result (λ h. h.fault.cause ≢ RunCause.Write) }
+    ensures told { IfOk result (λ d. d.unwritten ≡ desk.unwritten) }
+    ensures told_then { IfErr result (λ h. h.unwritten ≡ desk.unwritten) }
+{
+    let Desk { powered, unwritten } = desk;
+    match restart_device(alloc, powered) {
+        Ok(powered) => Ok(Desk { powered, unwritten }),
+        Err(fault) => Err(Halted { fault, unwritten }),
+    }
+}
+
 /// Executes the message of a line that has ended and isn't the one of a power loss, and tells its text. The next line begins.
 pub fn answer_line<W: Write, D: Disk, A: Allocator + Copy>(
     alloc: A,
-    powered: &mut Powered<D, A>,
+    desk: &mut Desk<D, A>,
     lines: &mut Lines<A>,
-    gathered: &mut Gathered<A>,
     writer: &mut W,
 ) -> Result<(), RunCause>
     requires power { is_power (message_now lines.old.is_over lines.old.line.items) ≡ false }
-    requires answered { gathered.old.answered ≡ false }
-    ensures runs { OnOk result ((text : List ℕ) × Says (telling (W.contents writer.old) gathered.old) (telling (W.contents writer.new) gathered.new) text
-        × RunsOn powered.old.exec powered.new.exec (message_now lines.old.is_over lines.old.line.items ∷ []) text) }
-    ensures answered { OnOk result (gathered.new.answered ≡ false) }
+    requires fresh { course_of desk.old.unwritten.course ≡ beginning }
+    ensures runs { OnOk result ((text : List ℕ) × Says (telling (W.contents writer.old) desk.old.unwritten) (telling (W.contents writer.new) desk.new.unwritten) text
+        × RunsOn desk.old.powered.exec desk.new.powered.exec (message_now lines.old.is_over lines.old.line.items ∷ []) text) }
+    ensures fresh { OnOk result (course_of desk.new.unwritten.course ≡ beginning) }
     ensures over { OnOk result (lines.new.is_over ≡ false) }
     ensures empty { OnOk result (lines.new.line.items ≡ []) }
-    ensures breaks { IfErr result (λ cause. (part : List ℕ) × SaysUntil cause (telling (W.contents writer.old) gathered.old) (telling (W.contents writer.new) gathered.new) part
-        × Breaks powered.old.exec powered.new.exec (λ can w v. MessageBegins can w (message_now lines.old.is_over lines.old.line.items) part v) cause) }
+    ensures breaks { IfErr result (λ cause. (part : List ℕ) × SaysUntil cause (telling (W.contents writer.old) desk.old.unwritten) (telling (W.contents writer.new) desk.new.unwritten) part
+        × Breaks desk.old.powered.exec desk.new.powered.exec (λ can w v. MessageBegins can w (message_now lines.old.is_over lines.old.line.items) part v) cause) }
 {
-    execute_line(alloc, powered, lines, gathered, writer)?;
-    let Ok(()) = gathered.close() else {
-        return Err(RunCause::Memory);
-    };
+    execute_line(alloc, desk, lines, writer)?;
+    desk.unwritten.course.restart();
     lines.clear();
     Ok(())
 }
 
-// Executes the message of a line that has ended and isn't the one of a power loss, and tells its answers.
+// Executes the message of a line that has ended and isn't the one of a power loss, and tells its text.
 fn execute_line<W: Write, D: Disk, A: Allocator + Copy>(
     alloc: A,
-    powered: &mut Powered<D, A>,
+    desk: &mut Desk<D, A>,
     lines: &Lines<A>,
-    gathered: &mut Gathered<A>,
     writer: &mut W,
 ) -> Result<(), RunCause>
-    requires { is_power (message_now lines.now.is_over lines.now.line.items) ≡ false }
-    ensures runs { OnOk result ((requests : List RequestData) × Asks (message_now lines.now.is_over lines.now.line.items) requests
-        × Continues powered.old.exec powered.new.exec (telling (W.contents writer.old) gathered.old) (telling (W.contents writer.new) gathered.new)
-        (λ answers all can w v. LineRuns can w answers requests all v)) }
-    ensures breaks { IfErr result (λ cause. (requests : List RequestData) × Asks (message_now lines.now.is_over lines.now.line.items) requests
-        × BreaksOff powered.old.exec powered.new.exec (telling (W.contents writer.old) gathered.old) (telling (W.contents writer.new) gathered.new)
-        (λ answers all can w v. LineBegins can w answers requests all v) cause) }
+    requires power { is_power (message_now lines.now.is_over lines.now.line.items) ≡ false }
+    requires fresh { course_of desk.old.unwritten.course ≡ beginning }
+    ensures runs { OnOk result ((requests : List RequestData) × Asks (message_now lines.now.is_over lines.now.line.items) requests × (answers : List (List ℕ))
+        × GoesOn desk.old.powered.exec desk.new.powered.exec (λ can w v. LineRuns can w [] requests answers v)
+        × Says (held (W.contents writer.old) desk.old.unwritten.told.items) (held (W.contents writer.new) desk.new.unwritten.told.items) (response answers)) }
+    ensures breaks { IfErr result (λ cause. (requests : List RequestData) × Asks (message_now lines.now.is_over lines.now.line.items) requests × (answers : List (List ℕ))
+        × Breaks desk.old.powered.exec desk.new.powered.exec (λ can w v. LineBegins can w [] requests answers v) cause
+        × SaysUntil cause (held (W.contents writer.old) desk.old.unwritten.told.items) (telling (W.contents writer.new) desk.new.unwritten) (joined answers)) }
 {
-    if lines.is_over {
-        let too_much = Request {
-            call: None,
-            reading: Err(ScpiError::TooMuchData),
-            inside: false,
-        };
-        perform(alloc, powered, &too_much, gathered, writer)?;
-        return Ok(());
-    }
-    message(alloc, powered, &lines.line, gathered, writer)?;
-    Ok(())
+    let mut console = Console {
+        desk: &mut *desk,
+        writer: &mut *writer,
+    };
+    console.follow(alloc, lines)
 }
 
 /// Executes the lines that end in a piece of the input, and tells their text.
 pub fn feed<W: Write, D: Disk, A: Allocator + Copy>(
     alloc: A,
-    powered: Powered<D, A>,
+    desk: Desk<D, A>,
     lines: &mut Lines<A>,
     piece: &[u8],
-    gathered: &mut Gathered<A>,
     writer: &mut W,
-) -> Result<Powered<D, A>, RunFault<D>>
-    requires { gathered.old.answered ≡ false }
-    ensures fed { IfOk result (λ p. Fed (coming lines.old.is_over lines.old.line.items) piece.now (coming lines.new.is_over lines.new.line.items)
-        powered.exec p.exec (telling (W.contents writer.old) gathered.old) (telling (W.contents writer.new) gathered.new)) }
-    ensures stopped { IfErr result (λ f. Stopped (coming lines.old.is_over lines.old.line.items) piece.now
-        powered.exec f (telling (W.contents writer.old) gathered.old) (telling (W.contents writer.new) gathered.new)) }
+) -> Result<Desk<D, A>, Halted<D, A>>
+    requires { course_of desk.unwritten.course ≡ beginning }
+    ensures fed { IfOk result (λ d. Fed (coming lines.old.is_over lines.old.line.items) piece.now (coming lines.new.is_over lines.new.line.items)
+        desk.powered.exec d.powered.exec (telling (W.contents writer.old) desk.unwritten) (telling (W.contents writer.new) d.unwritten)) }
+    ensures fresh { IfOk result (λ d. course_of d.unwritten.course ≡ beginning) }
+    ensures stopped { IfErr result (λ h. Stopped (coming lines.old.is_over lines.old.line.items) piece.now
+        desk.powered.exec h.fault (telling (W.contents writer.old) desk.unwritten) (telling (W.contents writer.new) h.unwritten)) }
 {
-    let mut powered = powered;
+    let mut desk = desk;
     let mut rest = piece;
     while let Some(at) = memchr(b'\n', rest) {
         let Ok(()) = lines.extend(&rest[..at]) else {
-            return Err(powered.fault(RunCause::Memory));
+            return Err(desk.fault(RunCause::Memory));
         };
         rest = &rest[at + 1..];
         if lines.is_power() {
             lines.clear();
-            powered = restart(alloc, powered)?;
+            desk = restart(alloc, desk)?;
             continue;
         }
-        match answer_line(alloc, &mut powered, lines, gathered, writer) {
+        match answer_line(alloc, &mut desk, lines, writer) {
             Ok(()) => {}
-            Err(cause) => return Err(powered.fault(cause)),
+            Err(cause) => return Err(desk.fault(cause)),
         }
     }
     let Ok(()) = lines.extend(rest) else {
-        return Err(powered.fault(RunCause::Memory));
+        return Err(desk.fault(RunCause::Memory));
     };
-    Ok(powered)
+    Ok(desk)
 }

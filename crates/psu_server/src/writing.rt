@@ -1,31 +1,27 @@
 // What is told and not written yet.
 ghost use Rattle.std.specs.Prelude.{◌≡◌, ◌⊎◌, [], OnOk, IfErr};
-ghost use Rattle.psu_exec.specs.Shown.{outcome_of};
-ghost use Rattle.psu_server.specs.Output.{Says, SaysReply, SaysUntil, telling};
+ghost use Rattle.psu_server.specs.Output.{Says, SaysUntil, held};
 
 use crate::RunCause;
 use crate::output::put;
-use psu_answers::Gathered;
-use psu_exec::Outcome;
 use std::alloc::Allocator;
 use std::io::Write;
 
-/// Tells what a unit answers, behind the answers of its line so far. What has grown long is written before.
-#[inline(always)]
+/// What is held of a text before it is written.
+const ROOM: usize = 65_536;
+
+/// Tells a text behind what is told. What has grown long is written before.
 pub fn tell<W: Write, A: Allocator + Copy>(
-    gathered: &mut Gathered<A>,
-    outcome: &Outcome<A>,
+    told: &mut Vec<u8, A>,
+    text: &[u8],
     writer: &mut W,
 ) -> Result<(), RunCause>
-    ensures says { OnOk result (SaysReply (telling (W.contents writer.old) gathered.old) (telling (W.contents writer.new) gathered.new) (outcome_of outcome.now)) }
-    ensures until { IfErr result (λ cause. SaysUntil cause (telling (W.contents writer.old) gathered.old) (telling (W.contents writer.new) gathered.new) []) }
+    ensures says { OnOk result (Says (held (W.contents writer.old) told.old.items) (held (W.contents writer.new) told.new.items) text.now) }
+    ensures until { IfErr result (λ cause. SaysUntil cause (held (W.contents writer.old) told.old.items) (held (W.contents writer.new) told.new.items) []) }
     ensures own { IfErr result (λ cause. (cause ≡ RunCause.Memory) ⊎ (cause ≡ RunCause.Write)) }
 {
-    let Outcome::Answer(answer) = outcome else {
-        return Ok(());
-    };
-    write_on(gathered, writer)?;
-    let Ok(()) = gathered.tell(answer.as_slice()) else {
+    write_on(told, writer)?;
+    let Ok(()) = told.extend_from_slice(text) else {
         return Err(RunCause::Memory);
     };
     Ok(())
@@ -33,18 +29,17 @@ pub fn tell<W: Write, A: Allocator + Copy>(
 
 // Writes what has grown long, also in the midst of a line.
 fn write_on<W: Write, A: Allocator + Copy>(
-    gathered: &mut Gathered<A>,
+    told: &mut Vec<u8, A>,
     writer: &mut W,
 ) -> Result<(), RunCause>
-    ensures says { OnOk result (Says (telling (W.contents writer.old) gathered.old) (telling (W.contents writer.new) gathered.new) []) }
-    ensures answered { gathered.new.answered ≡ gathered.old.answered }
-    ensures until { IfErr result (λ cause. SaysUntil cause (telling (W.contents writer.old) gathered.old) (telling (W.contents writer.new) gathered.new) []) }
+    ensures says { OnOk result (Says (held (W.contents writer.old) told.old.items) (held (W.contents writer.new) told.new.items) []) }
+    ensures until { IfErr result (λ cause. SaysUntil cause (held (W.contents writer.old) told.old.items) (held (W.contents writer.new) told.new.items) []) }
     ensures own { IfErr result (λ cause. cause ≡ RunCause.Write) }
 {
-    if !gathered.is_long() {
+    if told.len() <= ROOM {
         return Ok(());
     }
-    put(writer, gathered.text())?;
-    gathered.clear();
+    put(writer, told.as_slice())?;
+    told.clear();
     Ok(())
 }

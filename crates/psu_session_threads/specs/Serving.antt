@@ -6,18 +6,18 @@ use Rattle.psu_locks.specs.declared.lock_refusal.LockRefusal.{LockRefusal}
 use Rattle.psu_exec.specs.Device.{State}
 use Rattle.psu_exec.specs.Calls.{Entry}
 use Rattle.psu_bench.specs.Calls.{AdmitsOn}
-use Rattle.psu_messages.specs.Courses.{Course, Goes, Stops, beginning}
+use Rattle.psu_messages.specs.Courses.{Course, Goes, beginning}
 use Rattle.psu_messages.specs.Units.{Source, Text, Fault}
 use Rattle.psu_sides.specs.Deeds.{Deed, Asked, Counted, Wrote, Executed, Reported, Delivered, Queried, Fetched, Locked, Informed, Awaited, Released, Late, Ends}
 use Rattle.psu_sides.specs.Messages.{clears}
 use Rattle.psu_sides.specs.Running.{Comes}
-use Rattle.psu_callers.specs.Served.{IsBrokenOff, IsMade}
+use Rattle.psu_callers.specs.Served.{IsMade, Stops}
 
 -- what is to be executed is left to others, or executed up to some place, each deed by a call of the session
 abbrev pub IsBegun : Type 0 → ℕ → Source → Sight State Entry → Sight State Entry → Type 0
 IsBegun honest session source old new = (new ≡ old)
     ⊎ ((course : Course) × Goes (IsMade honest session) source old beginning new course)
-    ⊎ Stops (IsMade honest session) (IsBrokenOff honest session) source old beginning new
+    ⊎ Stops honest session source old beginning new
 
 -- a device clear begins as the core is asked what its message asks for
 abbrev pub IsAsked : Type 0 → ℕ → Bool → Sight State Entry → Sight State Entry → Type 0

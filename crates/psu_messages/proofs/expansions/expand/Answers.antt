@@ -1,22 +1,22 @@
-use Rattle.std.proofs.Common.{◌≡◌, inl, ◌+◌, ◌<◌, ◌≤◌, true, Some, refl, sym, ap, subst, drop, ◌∙◌, arith, length, length-drop}
+use Rattle.std.proofs.Common.{◌≡◌, inr, ◌+◌, ◌<◌, ◌≤◌, true, Some, refl, sym, ap, subst, drop, ◌∙◌, arith, length, length-drop}
 use Rattle.psu_messages.specs.Courses.{Goes}
 use Rattle.psu_messages.specs.Standing.{Standing}
 use Rattle.psu_messages.specs.Shown.{course}
-use Rattle.psu_messages.proofs.Going.{behind, on_err, some_stop, stops_on}
+use Rattle.psu_messages.proofs.Going.{behind, passed_on, some_stop, stops_on}
 use Rattle.psu_messages.proofs.Inside.{begins_at, inside_at, leaves_all, next_inside, same_units, step_awaits, step_inside}
 use Rattle.psu_messages.proofs.Places.{from_more}
 use Rattle.psu_messages.proofs.expansions.expand.Goals as goal
 
 pub returns-in_default-clause-stops : goal.returns-in_default-clause-stops
-returns-in_default-clause-stops g c = λ source. some_stop g.F.Front.does g.F.Front.stops source c.args.front.now c.args.front.now (course c.args.standing.now (Some c.args.body.now) c.args.gathered.now) (inl refl)
+returns-in_default-clause-stops g c = λ source. some_stop (inr (inr c.requires.some)) c.short.ensures refl
 
 pub returns-in_err-step-clause-stops : goal.returns-in_err-step-clause-stops
 returns-in_err-step-clause-stops g c =
-    on_err c.from_residual.result _ (λ source.
+    passed_on c.from_residual.result c.in_err-step.field-0.0 _ c.from_residual.ensures.1 (λ source.
     let next = inside_at source c.loop-unit.standing c.args.body.now c.loop-unit.gathered _ c.as_slice-list.result.now c.split_at.result.0.now c.split_at.result.1.now c.place_of-at.result c.unwrap_or-done.result c.loop-unit.unit-index _
     c.path_behind-path.result c.loop-unit.path c.request_at-request.new.path c.request_at-request.result c.in-Ok.ensures c.as_slice-list.ensures c.split_at.ensures.front c.split_at.ensures.back (omega (arith, c.loop-unit-test.true))
     c.place_of-at.ensures c.loop-unit.invariant.inside c.path_behind-path.ensures c.loop-unit.invariant.path c.request_at-request.ensures in
-    stops_on g.F.Front.does g.F.Front.stops source c.args.front.now c.loop-unit.front c.take_step.new.front _ _ (c.loop-unit.invariant.goes source) (c.in_err-step.ensures.stops source (Some c.args.body.now) next))
+    stops_on (c.loop-unit.invariant.goes source) (c.in_err-step.ensures.stops source (Some c.args.body.now) next))
 
 pub returns-in-Some-clause-goes : goal.returns-in-Some-clause-goes
 returns-in-Some-clause-goes g c = λ source.

@@ -1,13 +1,13 @@
-use Rattle.std.proofs.Common.{◌≡◌, ℕ, ◌+◌, ◌<◌, refl, ap, ◌∙◌, arith}
+use Rattle.std.proofs.Common.{◌≡◌, inl, inr, ℕ, ◌+◌, ◌<◌, refl, ap, ◌∙◌, arith}
 use Rattle.psu_messages.specs.Units.{Fault}
 use Rattle.psu_messages.specs.Shown.{course_of}
-use Rattle.psu_messages.proofs.Going.{behind, on_err, some_stop, stops_on}
+use Rattle.psu_messages.proofs.Going.{behind, passed_on, some_stop, stops_on}
 use Rattle.psu_messages.proofs.Outside.{closes}
 use Rattle.psu_messages.proofs.messages.execute_fault.Goals as goal
 
 pub returns-in_err-close-clause-stops : goal.returns-in_err-close-clause-stops
 returns-in_err-close-clause-stops g c =
-    on_err c.from_residual.result _ (some_stop g.F.Front.does g.F.Front.stops (Fault c.args.error) c.args.front.now c.close.new.front (course_of c.args.course.now) c.in_err-close.ensures.stopped)
+    passed_on c.from_residual.result c.in_err-close.field-0.0 _ c.from_residual.ensures.1 (inr (some_stop (inl c.in_err-close.ensures.unsent) c.in_err-close.ensures.stopped c.in_err-close.ensures.left))
 
 pub returns-then-units-gt0-clause-goes : goal.returns-then-units-gt0-clause-goes
 returns-then-units-gt0-clause-goes g c =
@@ -17,9 +17,8 @@ returns-then-units-gt0-clause-goes g c =
 pub returns-in_err-close-2-clause-stops : goal.returns-in_err-close-2-clause-stops
 returns-in_err-close-2-clause-stops g c =
     let first : c.args.course.now.standing.units ≡ 0 = omega (arith, c.if-units-gt0.false, c.units.ensures) in
-    on_err c.from_residual-in_err-close-2.result _
-    (stops_on g.F.Front.does g.F.Front.stops (Fault c.args.error) c.args.front.now c.take_turn.new.front c.close-2.new.front _ (course_of c.take_turn.new.course) (c.in_ok-turn.ensures.goes (Fault c.args.error) (first, refl, refl))
-    (some_stop g.F.Front.does g.F.Front.stops (Fault c.args.error) c.take_turn.new.front c.close-2.new.front (course_of c.take_turn.new.course) c.in_err-close-2.ensures.stopped))
+    passed_on c.from_residual-in_err-close-2.result c.in_err-close-2.field-0.0 _ c.from_residual-in_err-close-2.ensures.1
+    (inr (stops_on (c.in_ok-turn.ensures.goes (Fault c.args.error) (first, refl, refl)) (some_stop (inl c.in_err-close-2.ensures.unsent) c.in_err-close-2.ensures.stopped c.in_err-close-2.ensures.left)))
 
 pub returns-clause-goes : goal.returns-clause-goes
 returns-clause-goes g c =

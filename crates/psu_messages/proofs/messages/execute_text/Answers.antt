@@ -1,14 +1,14 @@
-use Rattle.std.proofs.Common.{◌≡◌, inl, ℕ, ◌+◌, ◌<◌, ◌≤◌, false, refl, ap, drop, ◌∙◌, arith, length, length-drop}
+use Rattle.std.proofs.Common.{◌≡◌, inl, inr, ℕ, ◌+◌, ◌<◌, ◌≤◌, false, refl, ap, drop, ◌∙◌, arith, length, length-drop}
 use Rattle.psu_messages.specs.Shown.{course_of}
 use Rattle.psu_messages.specs.Units.{Text}
-use Rattle.psu_messages.proofs.Going.{behind, on_err, stops_on, some_stop}
+use Rattle.psu_messages.proofs.Going.{behind, passed_on, stops_on}
 use Rattle.psu_messages.proofs.Inside.{begins_at}
 use Rattle.psu_messages.proofs.Outside.{asks_at, closed, closes, ends_all}
 use Rattle.psu_messages.proofs.Places.{behind_all, from_more}
 use Rattle.psu_messages.proofs.messages.execute_text.Goals as goal
 
 pub returns-in_default-clause-stops : goal.returns-in_default-clause-stops
-returns-in_default-clause-stops g c = some_stop g.F.Front.does g.F.Front.stops (Text c.args.bytes.now) c.args.front.now c.args.front.now (course_of c.args.course.now) (inl refl)
+returns-in_default-clause-stops g c = inl (c.short.ensures, refl)
 
 pub returns-in_err-turn-clause-stops : goal.returns-in_err-turn-clause-stops
 returns-in_err-turn-clause-stops g c =
@@ -16,7 +16,7 @@ returns-in_err-turn-clause-stops g c =
     let asks = asks_at c.args.bytes.now _ c.as_slice-list.result.now c.split_at.result.0.now c.split_at.result.1.now c.place_of-at.result c.units-done.result c.loop-unit.unit-index _ c.path_behind-path.result c.loop-unit.path
     c.request_at-request.new.path c.request_at-request.result c.in-Ok.ensures c.as_slice-list.ensures c.split_at.ensures.front c.split_at.ensures.back within c.place_of-at.ensures c.path_behind-path.ensures c.loop-unit.invariant.path
     c.request_at-request.ensures c.loop-unit.course.standing.units c.loop-unit.invariant.units in
-    on_err c.from_residual.result _ (stops_on g.F.Front.does g.F.Front.stops (Text c.args.bytes.now) c.args.front.now c.loop-unit.front c.take_turn.new.front _ _ c.loop-unit.invariant.goes (c.in_err-turn.ensures.stops (Text c.args.bytes.now) asks))
+    passed_on c.from_residual.result c.in_err-turn.field-0.0 _ c.from_residual.ensures.1 (inr (stops_on c.loop-unit.invariant.goes (c.in_err-turn.ensures.stops (Text c.args.bytes.now) asks)))
 
 pub returns-in-Some-clause-goes : goal.returns-in-Some-clause-goes
 returns-in-Some-clause-goes g c =

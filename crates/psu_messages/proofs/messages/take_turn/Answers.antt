@@ -1,16 +1,17 @@
+use Rattle.std.proofs.Common.{inl}
 use Rattle.psu_messages.specs.Shown.{course_of}
-use Rattle.psu_messages.proofs.Going.{behind, on_err, some_stop, stops_on}
+use Rattle.psu_messages.proofs.Going.{behind, passed_on, some_stop, stops_on}
 use Rattle.psu_messages.proofs.Outside.{turn_ends, turn_next}
 use Rattle.psu_messages.proofs.messages.take_turn.Goals as goal
 
 pub returns-in_err-close_before-clause-stops : goal.returns-in_err-close_before-clause-stops
 returns-in_err-close_before-clause-stops g c =
-    on_err c.from_residual.result _ (λ source asks. some_stop g.F.Front.does g.F.Front.stops source c.args.front.now c.close_before.new.front (course_of c.args.course.now) c.in_err-close_before.ensures.stopped)
+    passed_on c.from_residual.result c.in_err-close_before.field-0.0 _ c.from_residual.ensures.1 (λ source asks. some_stop (inl c.in_err-close_before.ensures.unsent) c.in_err-close_before.ensures.stopped c.in_err-close_before.ensures.left)
 
 pub returns-in_err-need-clause-stops : goal.returns-in_err-need-clause-stops
 returns-in_err-need-clause-stops g c =
-    on_err c.from_residual-in_err-need.result _ (λ source asks.
-    stops_on g.F.Front.does g.F.Front.stops source c.args.front.now c.close_before.new.front c.perform.new.front _ _
+    passed_on c.from_residual-in_err-need.result c.in_err-need.field-0.0 _ c.from_residual-in_err-need.ensures.1 (λ source asks.
+    stops_on
     (c.in_ok-close_before.ensures.goes source (turn_ends source (course_of c.args.course.now) c.args.request.now c.args.first asks))
     (c.in_err-need.ensures.stops source
     (turn_next source (course_of c.args.course.now) (course_of c.close_before.new.course) c.args.request.now c.args.first c.in_ok-close_before.ensures.standing asks c.in_ok-close_before.ensures.clear)))

@@ -1,13 +1,11 @@
-use Rattle.std.proofs.Common.{◌≡◌, is_some, ap, ◌∙◌}
+use Rattle.std.proofs.Common.{◌≡◌, is_some, refl, ap, ◌∙◌}
 use Rattle.psu_exec.specs.Shown.{outcome_of}
-use Rattle.psu_messages.specs.Courses.{Course}
-use Rattle.psu_messages.specs.Shown.{course}
-use Rattle.psu_messages.proofs.Going.{on_err, some_stop, waits, told_goes, tries_some}
+use Rattle.psu_messages.proofs.Going.{passed_on, broken_off, untold, waits, told_goes}
 use Rattle.psu_messages.proofs.steps.take_step.Goals as goal
 
 pub returns-in_err-need-clause-stops : goal.returns-in_err-need-clause-stops
 returns-in_err-need-clause-stops g c =
-    on_err c.from_residual.result _ (λ source expansion next. some_stop g.F.Front.does g.F.Front.stops source c.args.front.now c.attempt.new.front (course c.args.standing.now expansion c.args.gathered.now) c.in_err-need.ensures.stopped)
+    passed_on c.from_residual.result c.in_err-need.field-0.0 _ c.from_residual.ensures.1 (λ source expansion next. broken_off c.args.request.now next c.in_err-need.ensures.stopped refl)
 
 pub returns-in-Waits-clause-goes : goal.returns-in-Waits-clause-goes
 returns-in-Waits-clause-goes g c = λ source expansion next.
@@ -16,10 +14,9 @@ returns-in-Waits-clause-goes g c = λ source expansion next.
 
 pub returns-in_err-step-in-Ended-clause-stops : goal.returns-in_err-step-in-Ended-clause-stops
 returns-in_err-step-in-Ended-clause-stops g c =
-    on_err c.from_residual-in_err-step-in-Ended.result _ (λ source expansion next.
     let t = rw c.in-Ended.is at c.in_ok-need.ensures.tried in
-    let from : Course = course c.args.standing.now expansion c.args.gathered.now in
-    tries_some g.F.Front.does g.F.Front.stops source c.args.front.now c.attempt.new.front c.told.new.front from c.args.request.now (outcome_of c.in-Ended.outcome) c.attempt.new.standing next t.0 c.in_err-step-in-Ended.ensures.stopped)
+    passed_on c.from_residual-in_err-step-in-Ended.result c.in_err-step-in-Ended.field-0.0 _ c.from_residual-in_err-step-in-Ended.ensures.1
+    (λ source expansion next. untold next t.0 c.in_err-step-in-Ended.ensures.stopped c.in_err-step-in-Ended.ensures.left)
 
 pub returns-in_ok-step-in-Ended-clause-goes : goal.returns-in_ok-step-in-Ended-clause-goes
 returns-in_ok-step-in-Ended-clause-goes g c = λ source expansion next.

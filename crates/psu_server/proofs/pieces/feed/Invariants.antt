@@ -1,4 +1,6 @@
-use Rattle.std.proofs.Common.{◌≡◌, ◌≤◌, false, length}
+use Rattle.std.proofs.Common.{◌≡◌, ◌≤◌, length}
+use Rattle.psu_messages.specs.Courses.{beginning}
+use Rattle.psu_messages.specs.Shown.{course_of}
 use Rattle.psu_server.specs.Lines.{coming}
 use Rattle.psu_server.specs.Output.{telling}
 use Rattle.psu_server.proofs.Feeding.{FedSo}
@@ -7,9 +9,9 @@ use Rattle.psu_server.proofs.pieces.feed.Given as goal
 abbrev pub invariant-loop-at : goal.invariant-loop-at
 invariant-loop-at g l = record {
   within : length l.rest ≤ length l.piece;
-  answered : l.gathered.answered ≡ false;
+  fresh : course_of l.desk.unwritten.course ≡ beginning;
   fed : FedSo (coming l.initial.lines.is_over l.initial.lines.line.items) l.piece l.rest (coming l.lines.is_over l.lines.line.items)
-      l.initial.powered.exec l.powered.exec (telling (g.W.Write.contents l.initial.writer) l.initial.gathered) (telling (g.W.Write.contents l.writer) l.gathered);
+      l.initial.desk.powered.exec l.desk.powered.exec (telling (g.W.Write.contents l.initial.writer) l.initial.desk.unwritten) (telling (g.W.Write.contents l.writer) l.desk.unwritten);
 }
 
 abbrev pub decreases-loop-at : goal.decreases-loop-at

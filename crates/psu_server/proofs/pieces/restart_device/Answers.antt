@@ -2,7 +2,7 @@ use Rattle.std.proofs.Common.{◌∙◌, ap, is_none, sym}
 use Rattle.psu_server.proofs.Feeding.{reopen_stops, restart_runs, restart_stops_here}
 use Rattle.psu_server.proofs.Fronts.{passed}
 use Rattle.psu_server.proofs.SessionOne.{still_allowed}
-use Rattle.psu_server.proofs.pieces.restart.Goals as goal
+use Rattle.psu_server.proofs.pieces.restart_device.Goals as goal
 
 pub returns-in-Err-clause-stops : goal.returns-in-Err-clause-stops
 returns-in-Err-clause-stops g c = λ rest.

@@ -1,0 +1,55 @@
+// A device that is powered on, with what it has answered.
+ghost use Rattle.std.specs.Prelude.{◌≡◌, [], ◌≤◌};
+ghost use Rattle.std.specs.Option.{ForSome};
+ghost use Rattle.psu_exec.specs.Jobs.{home_disk};
+ghost use Rattle.psu_exec.specs.declared.condition.Condition.TheVariants.{Worn};
+ghost use Rattle.psu_messages.specs.Courses.{beginning};
+ghost use Rattle.psu_messages.specs.Shown.{course_of};
+ghost use Rattle.psu_server.specs.Causes.{IsWornOut};
+ghost use Rattle.psu_server.specs.Failures.{extent_of, failures_of};
+ghost use Rattle.psu_server.specs.Jobs.{IsWornAtLast};
+ghost use Rattle.psu_server.specs.Lives.{disk_at};
+
+use crate::RunCause;
+use crate::halted::Halted;
+use crate::powered::Powered;
+use crate::unwritten::Unwritten;
+use psu_disk::Disk;
+use std::alloc::Allocator;
+
+/// A device that is powered on, with what it has answered and is not written.
+#[derive(Drop)]
+pub struct Desk<D: Disk, A: Allocator + Copy> {
+    pub powered: Powered<D, A>,
+    pub unwritten: Unwritten<A>,
+}
+
+impl<D: Disk, A: Allocator + Copy> Desk<D, A> {
+    /// Before the first line of a piece.
+    pub fn new(alloc: A, powered: Powered<D, A>) -> Desk<D, A>
+        ensures powered { result.powered ≡ powered }
+        ensures none { result.unwritten.told.items ≡ [] }
+        ensures fresh { course_of result.unwritten.course ≡ beginning }
+    {
+        Desk {
+            powered,
+            unwritten: Unwritten::new(alloc),
+        }
+    }
+
+    /// The early end of a run.
+    pub fn fault(self, cause: RunCause) -> Halted<D, A>
+        ensures unwritten { result.unwritten ≡ self.unwritten }
+        ensures cause { result.fault.cause ≡ cause }
+        ensures same { ForSome self.powered.exec.home (λ h. result.fault.disk ≡ home_disk h) }
+        ensures failures { D.failures result.fault.disk ≡ failures_of self.powered.exec }
+        ensures extent { D.extent result.fault.disk ≡ extent_of self.powered.exec }
+        ensures state { D.state result.fault.disk ≡ disk_at self.powered.exec.home }
+        ensures reason { D.honest → IsWornAtLast self.powered.exec → self.powered.exec.device.flush.store ≡ Worn → IsWornOut (D.state result.fault.disk).bytes }
+    {
+        Halted {
+            fault: self.powered.fault(cause),
+            unwritten: self.unwritten,
+        }
+    }
+}
