@@ -42,4 +42,9 @@ pub use message::Message;
 pub use message_type::MessageType;
 pub use origin::Origin;
 pub use session_core::SessionCore;
+pub use session_laws::{
+    a_session_with_a_clear, closed_after_a_fatal_error, each_transmission_once,
+    each_transmission_once_between_clears, no_answer_of_before_a_clear,
+    nothing_executed_in_a_clear, one_answer_for_each_message,
+};
 pub use side::Side;

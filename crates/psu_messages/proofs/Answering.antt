@@ -26,7 +26,7 @@ answers_append (Executed request reply ∷ xs) ys = ap (λ (l : List (List ℕ))
 answers_append (Settled reply ∷ xs) ys = ap (λ (l : List (List ℕ)). answer_in reply ++ l) (answers_append xs ys) ∙ sym (append_assoc (answer_in reply) (answers xs) (answers ys))
 answers_append (Sent text last ∷ xs) ys = answers_append xs ys
 
-text_append : (xs ys : List Deed) → text_sent (xs ++ ys) ≡ text_sent xs ++ text_sent ys
+pub text_append : (xs ys : List Deed) → text_sent (xs ++ ys) ≡ text_sent xs ++ text_sent ys
 text_append [] ys = refl
 text_append (Executed request reply ∷ xs) ys = text_append xs ys
 text_append (Settled reply ∷ xs) ys = text_append xs ys

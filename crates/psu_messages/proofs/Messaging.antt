@@ -17,7 +17,7 @@ use Rattle.psu_messages.specs.Units as units
 use Rattle.psu_messages.specs.Units.{Asks, EndsMessage, Fault, IsBetween, IsUnit, Source}
 use Rattle.psu_messages.specs.Courses.{Comes, Course, IsOver, NextAt, expansion_after, standing_after, text_after}
 use Rattle.psu_messages.specs.Courses.Comes.{Begins, Tries, Leaves, Sends, Ends}
-use Rattle.psu_messages.specs.Messages.{AreMessages, IsAskedIn}
+use Rattle.psu_messages.specs.Messages.{AreMessages, AreSomeMessages, IsAskedIn}
 use Rattle.psu_messages.specs.Messages.AreMessages.{NoMessage, OneMore}
 use Rattle.psu_messages.specs.Turns.{Tried, UnitsDone, acts}
 use Rattle.psu_messages.specs.Turns.Tried.{Untried, Again}
@@ -346,3 +346,8 @@ all_messages one parts source deeds c m over =
           subst (λ (l : List Deed). AreMessages source c.standing.units l) (sym n.is)
           (OneMore n.whole c.standing.units n.now (record { some = omega (arith, below, later); units = done; text = inr (silent n.now c.text n.unended n.makes over.sent) }))
     ]
+
+pub some_messages : OneList → PartsAreTheAnswers → (source : Source) (deeds : List Deed) (c : Course) → Comes source deeds c → AreSomeMessages source deeds c.text
+some_messages one parts source deeds c m =
+    let n = messaging one parts source deeds c m in
+    record { units = n.from; whole = n.before; begun = n.now; is = n.is; messages = n.whole; unended = n.unended; text = parts (answers n.now) (text_sent n.now) c.text n.makes }

@@ -1,10 +1,12 @@
 -- The messages of a transmission, one after another. Source: IEEE 488.2, 8.4: the answers of a message's units are sent as one text.
-use Rattle.std.specs.Prelude.{◌⊎◌, ℕ, ◌<◌, ◌==◌, List, [], ◌++◌}
+use Rattle.std.specs.Prelude.{◌≡◌, ◌⊎◌, ℕ, ◌<◌, ◌==◌, false, List, [], ◌++◌}
 use Rattle.psu_tree.specs.declared.unit_request.Request.{Request}
+use Rattle.psu_answers.specs.Gathered.{Text}
+use Rattle.psu_answers.specs.Response.{joined}
 use Rattle.psu_messages.specs.Deeds.{Deed}
 use Rattle.psu_messages.specs.Units.{Asks, Source}
 use Rattle.psu_messages.specs.Courses.{Comes, Course, IsOver}
-use Rattle.psu_messages.specs.Answers.{IsAnswered, IsSilent}
+use Rattle.psu_messages.specs.Answers.{IsAnswered, IsSilent, answers, ends_text, text_sent}
 use Rattle.psu_messages.specs.Turns.{UnitsDone, acts}
 
 -- how a unit of the message that begins at a place reads: the one there is the first of a message, and no other is
@@ -26,3 +28,18 @@ pub data AreMessages (source : Source) : ℕ → List Deed → Type 0 where
 -- Once nothing is left to do, what was done are the messages of the transmission: each text that was sent are the answers of the units of one message.
 abbrev pub OverIsMessages : Type 0
 OverIsMessages = (source : Source) (deeds : List Deed) (c : Course) → Comes source deeds c → IsOver source c → AreMessages source c.standing.units deeds
+
+-- The first messages of a transmission, each whole, and perhaps a part of the next one: what was sent of that and what is gathered are the answers of its units so
+-- far, and the last piece of its text was not sent.
+pub record AreSomeMessages (source : Source) (deeds : List Deed) (gathered : Text) : Type 0 where
+  pub units : ℕ
+  pub whole : List Deed
+  pub begun : List Deed
+  pub is : deeds ≡ whole ++ begun
+  pub messages : AreMessages source units whole
+  pub unended : ends_text begun ≡ false
+  pub text : text_sent begun ++ gathered.rest ≡ joined (answers begun)
+
+-- However far a transmission has come, what was done are some of its messages.
+abbrev pub SoFarIsMessages : Type 0
+SoFarIsMessages = (source : Source) (deeds : List Deed) (c : Course) → Comes source deeds c → AreSomeMessages source deeds c.text

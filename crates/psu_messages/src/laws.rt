@@ -1,6 +1,6 @@
 // Laws of the course of a transmission.
 ghost use Rattle.psu_messages.specs.Answers.{CallsAreOneCourse, OverIsSent};
-ghost use Rattle.psu_messages.specs.Messages.{OverIsMessages};
+ghost use Rattle.psu_messages.specs.Messages.{OverIsMessages, SoFarIsMessages};
 ghost use Rattle.psu_messages.specs.Turns.{OverIsDone};
 
 use psu_answers::parts_are_the_answers;
@@ -29,6 +29,15 @@ pub fn over_is_done()
 /// in their order.
 pub fn over_is_messages()
     ensures { OverIsMessages }
+{
+    one_list_of_units();
+    parts_are_the_answers();
+}
+
+/// However far a transmission has come, what was done for it are its first messages, each whole, and perhaps a part of the next: what was sent of its text and what
+/// is gathered are the answers of its units so far.
+pub fn so_far_is_messages()
+    ensures { SoFarIsMessages }
 {
     one_list_of_units();
     parts_are_the_answers();

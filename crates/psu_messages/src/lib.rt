@@ -16,7 +16,9 @@ mod tries;
 
 pub use course::Course;
 pub use front::Front;
-pub use laws::{calls_are_one_course, over_is_done, over_is_messages, over_is_sent};
+pub use laws::{
+    calls_are_one_course, over_is_done, over_is_messages, over_is_sent, so_far_is_messages,
+};
 pub use messages::{execute_fault, execute_text, proceed};
 pub use need::Need;
 pub use standing::Standing;

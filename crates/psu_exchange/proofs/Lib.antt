@@ -1,0 +1,6 @@
+pub mod Splitting
+pub mod Framing
+pub mod Telling
+pub mod Living
+pub mod Ordering
+pub mod SomeExchange

@@ -1,0 +1,110 @@
+-- What happens in a session, looked at turn by turn.
+use Rattle.std.proofs.Common.{◌≡◌, ◌⊎◌, ℕ, suc, zero, ◌<◌, ◌≤◌, true, false, All, Option, Some, None, List, [], ◌∷◌, ◌++◌, length, refl, sym, ap, ◌∙◌, subst, append_assoc, inl, inr, arith}
+use Rattle.std.specs.Prelude.{flat_map, map, max, min}
+use Rattle.std.proofs.lemmas.List.{append-nil}
+use Rattle.std.proofs.lemmas.List.Concat.{flat_map-append}
+use Rattle.std.proofs.lemmas.List.Elements.{All-cons, All-nil}
+use Rattle.psu_hislip.specs.Answer.{answer_size}
+use Rattle.psu_hislip.specs.Core.{Core, IsCurrent}
+use Rattle.psu_hislip.specs.Stream.{Received}
+use Rattle.psu_hislip.specs.declared.origin.Origin.{Origin}
+use Rattle.psu_messages.specs.Courses.{Comes}
+use Rattle.psu_messages.specs.Deeds.{Deed}
+use Rattle.psu_messages.specs.Messages.{OverIsMessages, SoFarIsMessages}
+use Rattle.psu_exchange.specs.Answered as told
+use Rattle.psu_exchange.specs.Answered.{EachIsTold, IsAnswered, TakesAtMost, Weaves, pieces}
+use Rattle.psu_exchange.specs.Answered.Weaves.{Nothing, Reply, Piece}
+use Rattle.psu_exchange.specs.Exchange.{Done, EachEnds, EachIsDone, IsExchange, IsFramed, Turn, core_at, deeds, frames, happened}
+use Rattle.psu_exchange.specs.Life.{Happening, Came, Replied, Did, bytes_in, deed_in, done_in, replied, reply_in, written}
+use Rattle.psu_exchange.proofs.Framing.{EachFits, Fits, PartsAreAnAnswer}
+use Rattle.psu_exchange.proofs.Telling.{answered_turn}
+
+-- ---- frames of what was done
+
+-- what was done goes out in payloads of at most some size
+AllFit : ℕ → List Happening → Type 0
+AllFit greatest [] = Unit {0}
+AllFit greatest (Came side message ∷ life) = AllFit greatest life
+AllFit greatest (Replied out ∷ life) = AllFit greatest life
+AllFit greatest (Did origin deed out ∷ life) = Fits greatest origin.id deed out × AllFit greatest life
+
+some_size : (size : Option ℕ) → 0 < answer_size size
+some_size None = omega arith
+some_size (Some size) = omega arith
+
+all_fit : (session greatest : ℕ) (life : List Happening) → EachIsDone session life → TakesAtMost greatest session life → (before after : List Happening) → life ≡ before ++ after → AllFit greatest (done_in after)
+all_fit session greatest life each most before [] is = tt
+all_fit session greatest life each most before (Came side message ∷ after) is =
+    all_fit session greatest life each most (before ++ Came side message ∷ []) after (is ∙ sym (append_assoc before (Came side message ∷ []) after))
+all_fit session greatest life each most before (Replied out ∷ after) is =
+    all_fit session greatest life each most (before ++ Replied out ∷ []) after (is ∙ sym (append_assoc before (Replied out ∷ []) after))
+all_fit session greatest life each most before (Did origin deed out ∷ after) is =
+    let size = (core_at session before).size in (
+      record { size = answer_size size; some = some_size size; small = most before after origin deed out is; framed = (each before after origin deed out is).1 },
+      all_fit session greatest life each most (before ++ Did origin deed out ∷ []) after (is ∙ sym (append_assoc before (Did origin deed out ∷ []) after)),
+    )
+
+-- ---- turns
+
+turn_fits : (greatest : ℕ) (origin : Origin) (done : List Done) (later : List Happening) → AllFit greatest (map (λ (d : Done). Did origin d.deed d.frames) done ++ later)
+    → EachFits greatest origin.id done × AllFit greatest later
+turn_fits greatest origin [] later f = (tt, f)
+turn_fits greatest origin (d ∷ done) later f = let rest = turn_fits greatest origin done later f.1 in ((f.0, rest.0), rest.1)
+
+pub each_answered : PartsAreAnAnswer → OverIsMessages → SoFarIsMessages → (greatest : ℕ) (turns : List Turn) → AllFit greatest (flat_map happened turns)
+    → All (λ (turn : Turn). Comes turn.order.source (deeds turn.done) turn.course) turns → All (IsAnswered greatest) turns
+each_answered law over so_far greatest [] f comes = All-nil (IsAnswered greatest)
+each_answered law over so_far greatest (turn ∷ turns) f comes =
+    let fit = turn_fits greatest turn.order.origin turn.done (flat_map happened turns) f in
+    All-cons (IsAnswered greatest) turn turns (answered_turn law over so_far greatest turn (comes 0 turn (omega arith)) fit.0)
+    (each_answered law over so_far greatest turns fit.1 (λ k d h. comes (suc k) d (omega (arith, h))))
+
+told_or_ended : (greatest : ℕ) (core : Core) (turns : List Turn) → EachEnds core turns → All (IsAnswered greatest) turns → EachIsTold greatest core turns
+told_or_ended greatest core [] ends a = tt
+told_or_ended greatest core (turn ∷ []) ends a = tt
+told_or_ended greatest core (turn ∷ next ∷ later) (ended, ends) a = (
+  elim ended [ inl over ↦ inl ((a 0 turn (omega arith)).whole over) | inr gone ↦ inr gone ],
+  told_or_ended greatest core (next ∷ later) ends (λ k d h. a (suc k) d (omega (arith, h))),
+)
+
+pub each_is_answered : PartsAreAnAnswer → OverIsMessages → SoFarIsMessages → (session greatest : ℕ) (sync async : List ℕ) (life : List Happening) (turns : List Turn) → IsExchange session sync async life turns
+    → TakesAtMost greatest session life → All (IsAnswered greatest) turns × EachIsTold greatest (core_at session life) turns
+each_is_answered law over so_far session greatest sync async life turns x most =
+    let fit : AllFit greatest (flat_map happened turns) = subst (λ (z : List Happening). AllFit greatest z) x.turns_done (all_fit session greatest life x.done most [] life refl) in
+    let all = each_answered law over so_far greatest turns fit x.courses in
+    (all, told_or_ended greatest (core_at session life) turns x.ends all)
+
+-- ---- what goes out
+
+piece_in : Happening → List (List ℕ)
+piece_in (Came side message) = []
+piece_in (Replied out) = []
+piece_in (Did origin deed out) = out ∷ []
+
+woven : (life : List Happening) → Weaves (replied life) (flat_map piece_in life) (written life)
+woven [] = Nothing
+woven (Came side message ∷ life) = woven life
+woven (Replied out ∷ life) = Reply out (woven life)
+woven (Did origin deed out ∷ life) = Piece out (woven life)
+
+of_deeds : (life : List Happening) → flat_map piece_in (done_in life) ≡ flat_map piece_in life
+of_deeds [] = refl
+of_deeds (Came side message ∷ life) = of_deeds life
+of_deeds (Replied out ∷ life) = of_deeds life
+of_deeds (Did origin deed out ∷ life) = ap (λ (z : List (List ℕ)). out ∷ z) (of_deeds life)
+
+of_turn : (origin : Origin) (done : List Done) → flat_map piece_in (map (λ (d : Done). Did origin d.deed d.frames) done) ≡ map (λ (d : Done). d.frames) done
+of_turn origin [] = refl
+of_turn origin (d ∷ done) = ap (λ (z : List (List ℕ)). d.frames ∷ z) (of_turn origin done)
+
+of_turns : (turns : List Turn) → flat_map piece_in (flat_map happened turns) ≡ pieces turns
+of_turns [] = refl
+of_turns (turn ∷ turns) =
+    flat_map-append piece_in (happened turn) (flat_map happened turns)
+    ∙ ap (λ (z : List (List ℕ)). z ++ flat_map piece_in (flat_map happened turns)) (of_turn turn.order.origin turn.done)
+    ∙ ap (λ (z : List (List ℕ)). map (λ (d : Done). d.frames) turn.done ++ z) (of_turns turns)
+
+pub nothing_else : (session : ℕ) (sync async : List ℕ) (life : List Happening) (turns : List Turn) → IsExchange session sync async life turns → Weaves (replied life) (pieces turns) (written life)
+nothing_else session sync async life turns x =
+    let same : flat_map piece_in life ≡ pieces turns = sym (of_deeds life) ∙ ap (λ (z : List Happening). flat_map piece_in z) x.turns_done ∙ of_turns turns in
+    subst (λ (z : List (List ℕ)). Weaves (replied life) z (written life)) same (woven life)

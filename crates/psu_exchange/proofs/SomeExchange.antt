@@ -1,0 +1,59 @@
+-- The session of the example.
+use Rattle.std.proofs.Common.{◌≡◌, ℕ, ◌<◌, true, false, All, Option, Some, None, List, [], ◌∷◌, ◌++◌, length, refl, sym, ap, ◌∙◌, subst, inl, arith}
+use Rattle.std.proofs.lemmas.List.Elements.{All-cons, All-nil}
+use Rattle.psu_lex.specs.declared.scpi_error.ScpiError.TheVariants.{TriggerIgnored}
+use Rattle.psu_hislip.specs.Answer.{IsAnswer, IsCut, answer_size}
+use Rattle.psu_hislip.specs.Stream.{IsStream}
+use Rattle.psu_hislip.specs.declared.message_type.MessageType.TheVariants.{AsyncInitialize, Initialize, Trigger}
+use Rattle.psu_hislip.specs.declared.origin.Origin.{Origin}
+use Rattle.psu_hislip.specs.declared.side.Side.TheVariants.{Sync, Async}
+use Rattle.psu_hislip.proofs.Channels.{none_short}
+use Rattle.psu_messages.specs.Courses.{Comes, IsOver, beginning}
+use Rattle.psu_messages.specs.Courses.Comes.{Begins, Ends, Tries}
+use Rattle.psu_messages.specs.Deeds.{Deed, Executed, Sent}
+use Rattle.psu_messages.specs.Units.{Fault, faulty}
+use Rattle.psu_exchange.specs.Exchange.{EachIsDone, IsDone, IsExchange, Turn, core_at, deeds}
+use Rattle.psu_exchange.specs.Life.{Happening, Came, Did, came_on}
+use Rattle.psu_exchange.specs.SomeExchange.{answer, async_stream, bare_message, its_deeds, its_order, its_origin, its_reply, some_life, some_turn, sync_stream, text}
+
+nothing_left : IsStream [] []
+nothing_left = none_short [] (omega arith)
+
+on_sync : IsStream sync_stream (bare_message Initialize 0 ∷ came_on Sync some_life)
+on_sync = (_, ((omega arith, omega arith, omega arith, omega arith), refl, refl, omega arith), ([], ((omega arith, omega arith, omega arith, omega arith), refl, refl, omega arith), nothing_left))
+
+on_async : IsStream async_stream (came_on Async some_life)
+on_async = ([], ((omega arith, omega arith, omega arith, omega arith), refl, refl, omega arith), nothing_left)
+
+comes : Comes its_order.source (deeds its_deeds) some_turn.course
+comes = Ends (Tries Begins (faulty TriggerIgnored) (true, (refl, refl, refl), λ e. refl) (Executed (faulty TriggerIgnored) its_reply) its_reply (refl, refl)) (record { ends = λ e. refl; answered = refl })
+
+framed : IsAnswer (answer_size None) 2 text answer
+framed = ([], text, record { whole = refl; filled = All-nil (λ (piece : List ℕ). length piece ≡ answer_size None); within = omega arith; some = λ e. e }, refl)
+
+-- where the deeds stand
+done : (before after : List Happening) (origin : Origin) (deed : Deed) (frames : List ℕ) → some_life ≡ before ++ Did origin deed frames ∷ after → IsDone (core_at 1 before) origin deed frames
+done [] after origin deed frames e = absurd (cc (e))
+done (a ∷ []) after origin deed frames e = absurd (cc (e))
+done (a ∷ b ∷ []) after origin deed frames e = cc
+done (a ∷ b ∷ c ∷ []) after origin deed frames e = cc
+done (a ∷ b ∷ c ∷ d ∷ []) after origin deed frames e = absurd (cc (e))
+done (a ∷ b ∷ c ∷ d ∷ f ∷ before) after origin deed frames e = absurd (cc (e))
+
+pub some_exchange : IsExchange 1 sync_stream async_stream some_life (some_turn ∷ [])
+some_exchange = record {
+  first = bare_message Initialize 0;
+  sync_messages = on_sync;
+  async_messages = on_async;
+  waiting = [];
+  in_order = refl;
+  turns_done = refl;
+  courses = All-cons (λ (turn : Turn). Comes turn.order.source (deeds turn.done) turn.course) some_turn [] comes (All-nil (λ (turn : Turn). Comes turn.order.source (deeds turn.done) turn.course));
+  ends = tt;
+  done = done;
+  owed = [];
+  replies_sent = refl;
+}
+
+pub its_end : IsOver its_order.source some_turn.course
+its_end = record { units = omega arith; sent = refl }

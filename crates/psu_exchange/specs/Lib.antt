@@ -1,0 +1,4 @@
+pub mod Life
+pub mod Exchange
+pub mod Answered
+pub mod SomeExchange
