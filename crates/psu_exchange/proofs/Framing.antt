@@ -24,7 +24,7 @@ pub record Fits (greatest id : ℕ) (deed : Deed) (out : List ℕ) : Type 0 wher
   pub small : size ≤ greatest
   pub framed : IsFramed size id deed out
 
-pub EachFits : ℕ → ℕ → List Done → Type 0
+abbrev pub EachFits : ℕ → ℕ → List Done → Type 0
 EachFits greatest id [] = Unit {0}
 EachFits greatest id (d ∷ done) = Fits greatest id d.deed d.frames × EachFits greatest id done
 
@@ -50,15 +50,15 @@ part_more greatest id first second out more (one, is, within, framed) (two, are,
 
 part_of : (greatest id : ℕ) (deed : Deed) (out : List ℕ) (rest : List Done) → Fits greatest id deed out → ends_text (deed ∷ deeds rest) ≡ false
     → (ends_text (deeds rest) ≡ false → IsPart greatest id (text_sent (deeds rest)) (frames rest)) → IsPart greatest id (text_sent (deed ∷ deeds rest)) (out ++ frames rest)
-part_of greatest id (Executed request reply) out rest f open more = subst (λ (z : List ℕ). IsPart greatest id (text_sent (deeds rest)) (z ++ frames rest)) (sym f.framed) (more open)
-part_of greatest id (Settled reply) out rest f open more = subst (λ (z : List ℕ). IsPart greatest id (text_sent (deeds rest)) (z ++ frames rest)) (sym f.framed) (more open)
-part_of greatest id (Sent text false) out rest f open more = part_more greatest id text (text_sent (deeds rest)) out (frames rest) (wider f.size greatest id text out f.small f.framed) (more open)
-part_of greatest id (Sent text true) out rest f open more = absurd (cc (open))
+part_of greatest id (Executed request reply) out rest f still more = subst (λ (z : List ℕ). IsPart greatest id (text_sent (deeds rest)) (z ++ frames rest)) (sym f.framed) (more still)
+part_of greatest id (Settled reply) out rest f still more = subst (λ (z : List ℕ). IsPart greatest id (text_sent (deeds rest)) (z ++ frames rest)) (sym f.framed) (more still)
+part_of greatest id (Sent text false) out rest f still more = part_more greatest id text (text_sent (deeds rest)) out (frames rest) (wider f.size greatest id text out f.small f.framed) (more still)
+part_of greatest id (Sent text true) out rest f still more = absurd (cc (still))
 
 -- what is sent of a text that goes on is a part of it
 pub parts : (greatest id : ℕ) (done : List Done) → EachFits greatest id done → ends_text (deeds done) ≡ false → IsPart greatest id (text_sent (deeds done)) (frames done)
-parts greatest id [] f open = no_part greatest id
-parts greatest id (d ∷ done) f open = part_of greatest id d.deed d.frames done f.0 open (λ still. parts greatest id done f.1 still)
+parts greatest id [] f still = no_part greatest id
+parts greatest id (d ∷ done) f still = part_of greatest id d.deed d.frames done f.0 still (λ goes_on. parts greatest id done f.1 goes_on)
 
 -- nothing goes out of no text
 pub silent : (greatest id : ℕ) (out : List ℕ) → IsPart greatest id [] out → out ≡ []
@@ -79,13 +79,13 @@ ended law greatest id bytes out piece end part f =
 -- a text with its last piece goes out as an answer
 pub whole : PartsAreAnAnswer → (greatest id : ℕ) (done : List Done) (before : List Deed) (piece : List ℕ) → EachFits greatest id done → deeds done ≡ before ++ Sent piece true ∷ [] → ends_text before ≡ false
     → IsAnswerCutAnywhere greatest id (text_sent before ++ piece) (frames done)
-whole law greatest id done before piece f e open =
+whole law greatest id done before piece f e still =
     let s = split (λ (d : Done). d.deed) done before (Sent piece true ∷ []) e in
     let last = single (λ (d : Done). d.deed) s.back (Sent piece true) s.of_right in
     let is : done ≡ s.front ++ last.one ∷ [] = s.is ∙ ap (λ (z : List Done). s.front ++ z) last.is in
     let fit = both_fit greatest id s.front (last.one ∷ []) (subst (λ (z : List Done). EachFits greatest id z) is f) in
     let part : IsPart greatest id (text_sent before) (frames s.front)
-    = subst (λ (z : List Deed). IsPart greatest id (text_sent z) (frames s.front)) s.of_left (parts greatest id s.front fit.0 (ap ends_text s.of_left ∙ open)) in
+    = subst (λ (z : List Deed). IsPart greatest id (text_sent z) (frames s.front)) s.of_left (parts greatest id s.front fit.0 (ap ends_text s.of_left ∙ still)) in
     let end : Fits greatest id (Sent piece true) last.one.frames = subst (λ (z : Deed). Fits greatest id z last.one.frames) last.same fit.1.0 in
     let all : frames done ≡ frames s.front ++ last.one.frames
     = ap frames is ∙ flat_map-append (λ (d : Done). d.frames) s.front (last.one ∷ []) ∙ ap (λ (z : List ℕ). frames s.front ++ z) (append-nil last.one.frames) in

@@ -22,7 +22,7 @@ use Rattle.psu_exchange.proofs.Telling.{answered_turn}
 -- ---- frames of what was done
 
 -- what was done goes out in payloads of at most some size
-AllFit : ℕ → List Happening → Type 0
+abbrev pub AllFit : ℕ → List Happening → Type 0
 AllFit greatest [] = Unit {0}
 AllFit greatest (Came side message ∷ life) = AllFit greatest life
 AllFit greatest (Replied out ∷ life) = AllFit greatest life
@@ -76,7 +76,7 @@ each_is_answered law over so_far session greatest sync async life turns x most =
 
 -- ---- what goes out
 
-piece_in : Happening → List (List ℕ)
+abbrev piece_in : Happening → List (List ℕ)
 piece_in (Came side message) = []
 piece_in (Replied out) = []
 piece_in (Did origin deed out) = out ∷ []

@@ -18,7 +18,7 @@ use Rattle.psu_exchange.specs.Life.{Happening, Came, Replied, Did, came, came_on
 
 -- ---- the client's transmissions
 
-pub text_of : Order → List (Option (List ℕ))
+abbrev pub text_of : Order → List (Option (List ℕ))
 text_of order = text_in order.source
 
 texts : (acts : List Act) → flat_map text_of (flat_map order_in acts) ≡ map text_asked (transmissions acts)

@@ -1,5 +1,6 @@
 -- The session of the example.
 use Rattle.std.proofs.Common.{◌≡◌, ℕ, ◌<◌, true, false, All, Option, Some, None, List, [], ◌∷◌, ◌++◌, length, refl, sym, ap, ◌∙◌, subst, inl, arith}
+use Rattle.std.proofs.lemmas.List.{append-nil}
 use Rattle.std.proofs.lemmas.List.Elements.{All-cons, All-nil}
 use Rattle.psu_lex.specs.declared.scpi_error.ScpiError.TheVariants.{TriggerIgnored}
 use Rattle.psu_hislip.specs.Answer.{IsAnswer, IsCut, answer_size}
@@ -14,16 +15,20 @@ use Rattle.psu_messages.specs.Deeds.{Deed, Executed, Sent}
 use Rattle.psu_messages.specs.Units.{Fault, faulty}
 use Rattle.psu_exchange.specs.Exchange.{EachIsDone, IsDone, IsExchange, Turn, core_at, deeds}
 use Rattle.psu_exchange.specs.Life.{Happening, Came, Did, came_on}
-use Rattle.psu_exchange.specs.SomeExchange.{answer, async_stream, bare_message, its_deeds, its_order, its_origin, its_reply, some_life, some_turn, sync_stream, text}
+use Rattle.psu_exchange.specs.SomeExchange.{answer, async_stream, bare, bare_message, its_deeds, its_order, its_origin, its_reply, some_life, some_turn, sync_stream, text}
 
 nothing_left : IsStream [] []
 nothing_left = none_short [] (omega arith)
 
 on_sync : IsStream sync_stream (bare_message Initialize 0 ∷ came_on Sync some_life)
-on_sync = (_, ((omega arith, omega arith, omega arith, omega arith), refl, refl, omega arith), ([], ((omega arith, omega arith, omega arith, omega arith), refl, refl, omega arith), nothing_left))
+on_sync = (
+  bare Trigger 2,
+  ((omega arith, omega arith, omega arith, omega arith), refl, refl, omega arith),
+  ([], ((omega arith, omega arith, omega arith, omega arith), sym (append-nil (bare Trigger 2)), refl, omega arith), nothing_left),
+)
 
 on_async : IsStream async_stream (came_on Async some_life)
-on_async = ([], ((omega arith, omega arith, omega arith, omega arith), refl, refl, omega arith), nothing_left)
+on_async = ([], ((omega arith, omega arith, omega arith, omega arith), sym (append-nil async_stream), refl, omega arith), nothing_left)
 
 comes : Comes its_order.source (deeds its_deeds) some_turn.course
 comes = Ends (Tries Begins (faulty TriggerIgnored) (true, (refl, refl, refl), λ e. refl) (Executed (faulty TriggerIgnored) its_reply) its_reply (refl, refl)) (record { ends = λ e. refl; answered = refl })
@@ -31,12 +36,26 @@ comes = Ends (Tries Begins (faulty TriggerIgnored) (true, (refl, refl, refl), λ
 framed : IsAnswer (answer_size None) 2 text answer
 framed = ([], text, record { whole = refl; filled = All-nil (λ (piece : List ℕ). length piece ≡ answer_size None); within = omega arith; some = λ e. e }, refl)
 
+same_done : (known before : List Happening) (its origin : Origin) (one deed : Deed) (out frames : List ℕ) → before ≡ known → origin ≡ its → deed ≡ one → frames ≡ out → IsDone (core_at 1 known) its one out
+    → IsDone (core_at 1 before) origin deed frames
+same_done known before its origin one deed out frames h o d f is =
+    subst (λ (z : List Happening). IsDone (core_at 1 z) origin deed frames) (sym h)
+    (subst (λ (z : Origin). IsDone (core_at 1 known) z deed frames) (sym o)
+    (subst (λ (z : Deed). IsDone (core_at 1 known) its z frames) (sym d) (subst (λ (z : List ℕ). IsDone (core_at 1 known) its one z) (sym f) is)))
+
+abbrev heard : List Happening
+heard = Came Async (bare_message AsyncInitialize 1) ∷ Came Sync (bare_message Trigger 2) ∷ []
+
+abbrev executed : Deed
+executed = Executed (faulty TriggerIgnored) its_reply
+
 -- where the deeds stand
 done : (before after : List Happening) (origin : Origin) (deed : Deed) (frames : List ℕ) → some_life ≡ before ++ Did origin deed frames ∷ after → IsDone (core_at 1 before) origin deed frames
 done [] after origin deed frames e = absurd (cc (e))
 done (a ∷ []) after origin deed frames e = absurd (cc (e))
-done (a ∷ b ∷ []) after origin deed frames e = cc
-done (a ∷ b ∷ c ∷ []) after origin deed frames e = cc
+done (a ∷ b ∷ []) after origin deed frames e = same_done heard (a ∷ b ∷ []) its_origin origin executed deed [] frames (cc (e)) (cc (e)) (cc (e)) (cc (e)) ((refl, refl), refl)
+done (a ∷ b ∷ c ∷ []) after origin deed frames e =
+    same_done (heard ++ Did its_origin executed [] ∷ []) (a ∷ b ∷ c ∷ []) its_origin origin (Sent text true) deed answer frames (cc (e)) (cc (e)) (cc (e)) (cc (e)) ((refl, refl), framed)
 done (a ∷ b ∷ c ∷ d ∷ []) after origin deed frames e = absurd (cc (e))
 done (a ∷ b ∷ c ∷ d ∷ f ∷ before) after origin deed frames e = absurd (cc (e))
 

@@ -1,6 +1,6 @@
 -- What the client of a session is told. Source: IVI-6.1 (an answer is Data messages and a DataEnd, under the MessageID of what is answered) and IEEE 488.2, 8.4 (the
 -- answers of a message's units are one text, joined by `;` and ended by NL).
-use Rattle.std.specs.Prelude.{◌≡◌, ◌⊎◌, ℕ, ◌^◌, ◌<◌, ◌≤◌, true, All, Option, Some, None, List, [], ◌∷◌, ◌++◌, length, map, flat_map}
+use Rattle.std.specs.Prelude.{◌≡◌, ◌⊎◌, ℕ, ◌^◌, ◌<◌, ◌≤◌, true, false, All, Option, Some, None, List, [], ◌∷◌, ◌++◌, length, map, flat_map}
 use Rattle.std.specs.List.{list_any}
 use Rattle.psu_lex.specs.declared.scpi_error.ScpiError.{ScpiError}
 use Rattle.psu_lex.specs.declared.scpi_error.ScpiError.TheVariants.{TooMuchData}
@@ -8,7 +8,8 @@ use Rattle.psu_hislip.specs.Answer.{IsAnswerCutAnywhere, IsPart, answer_size}
 use Rattle.psu_hislip.specs.Core.{Core, IsCurrent}
 use Rattle.psu_hislip.specs.Runs.{Told, begins_clear, core_after, origins, started}
 use Rattle.psu_hislip.specs.Stream.{IsStream, Received}
-use Rattle.psu_hislip.specs.Transmitted.{IsStretch, Piece, Stretch, Transmission, piece_in, pieces_of, run_of, text_kept}
+use Rattle.psu_hislip.specs.Transmitted.{IsStretch, Stretch, Transmission, piece_in, pieces_of, run_of, text_kept}
+use Rattle.psu_hislip.specs.Transmitted.Piece.{More}
 use Rattle.psu_hislip.specs.declared.origin.Origin.{Origin}
 use Rattle.psu_hislip.specs.declared.side.Side.TheVariants.{Sync, Async}
 use Rattle.psu_answers.specs.Response.{are_some, joined, response}
@@ -103,7 +104,7 @@ text_in (Fault error) = []
 abbrev pub TransmissionsAreTheClients : Type 0
 TransmissionsAreTheClients = (session : ℕ) (sync async : List ℕ) (life : List Happening) (turns : List Turn) → IsExchange session sync async life turns
     → (stretches : List Stretch) (last : List Told) (whole : List Transmission) (rest : List (List ℕ)) → came life ≡ flat_map run_of stretches ++ last → All IsStretch stretches
-    → list_any begins_clear last ≡ false → flat_map piece_in last ≡ flat_map pieces_of whole ++ map Piece.More rest → (core_at session life).failed ≡ false
+    → list_any begins_clear last ≡ false → flat_map piece_in last ≡ flat_map pieces_of whole ++ map More rest → (core_at session life).failed ≡ false
     → (waiting : List (Option (List ℕ))) × (map text_kept (flat_map (λ (s : Stretch). s.whole) stretches ++ whole) ≡ flat_map (λ turn. text_in turn.order.source) turns ++ waiting)
 
 -- ---- the client's bytes
