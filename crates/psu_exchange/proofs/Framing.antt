@@ -1,16 +1,15 @@
 -- The frames of pieces of text.
-use Rattle.std.proofs.Common.{◌≡◌, ℕ, suc, zero, ◌<◌, ◌≤◌, true, false, All, List, [], ◌∷◌, ◌++◌, length, refl, sym, ap, ◌∙◌, subst, append_assoc, arith}
-use Rattle.std.specs.Prelude.{flat_map, map}
+use Rattle.std.proofs.Common.{◌≡◌, ℕ, ◌<◌, ◌≤◌, true, false, List, [], ◌∷◌, ◌++◌, length, refl, sym, ap, ◌∙◌, subst, arith}
 use Rattle.std.proofs.lemmas.List.{append-nil}
 use Rattle.std.proofs.lemmas.List.Concat.{flat_map-append}
 use Rattle.std.proofs.lemmas.List.Elements.{All-append, All-cons, All-nil}
-use Rattle.psu_hislip.specs.Answer.{AreParts, AreWithin, IsAnswer, IsAnswerCutAnywhere, IsPart, Part, all_frames, bytes_of, data_of, joined}
+use Rattle.psu_hislip.specs.Answer.{AreParts, IsAnswer, IsAnswerCutAnywhere, IsPart, Part, all_frames, bytes_of, data_of, joined}
 use Rattle.psu_hislip.specs.Frame.{frame_bytes}
 use Rattle.psu_hislip.specs.declared.message_type.MessageType.TheVariants.{Data}
 use Rattle.psu_messages.specs.Answers.{ends_text, text_sent}
 use Rattle.psu_messages.specs.Deeds.{Deed, Executed, Settled, Sent}
 use Rattle.psu_exchange.specs.Exchange.{Done, IsFramed, deeds, frames}
-use Rattle.psu_exchange.proofs.Splitting.{Single, Split, single, split}
+use Rattle.psu_exchange.proofs.Splitting.{single, split}
 
 -- parts and then an end are an answer, as a law of frames says
 abbrev pub PartsAreAnAnswer : Type 0

@@ -4,3 +4,4 @@ pub mod Telling
 pub mod Living
 pub mod Ordering
 pub mod SomeExchange
+pub mod Giving

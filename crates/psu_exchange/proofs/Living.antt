@@ -1,21 +1,17 @@
 -- What happens in a session, looked at turn by turn.
-use Rattle.std.proofs.Common.{◌≡◌, ◌⊎◌, ℕ, suc, zero, ◌<◌, ◌≤◌, true, false, All, Option, Some, None, List, [], ◌∷◌, ◌++◌, length, refl, sym, ap, ◌∙◌, subst, append_assoc, inl, inr, arith}
-use Rattle.std.specs.Prelude.{flat_map, map, max, min}
-use Rattle.std.proofs.lemmas.List.{append-nil}
+use Rattle.std.proofs.Common.{◌≡◌, ℕ, suc, ◌<◌, All, Option, Some, None, List, [], ◌∷◌, ◌++◌, refl, sym, ap, ◌∙◌, subst, append_assoc, inl, inr, arith}
+use Rattle.std.specs.Prelude.{flat_map, map}
 use Rattle.std.proofs.lemmas.List.Concat.{flat_map-append}
 use Rattle.std.proofs.lemmas.List.Elements.{All-cons, All-nil}
 use Rattle.psu_hislip.specs.Answer.{answer_size}
-use Rattle.psu_hislip.specs.Core.{Core, IsCurrent}
-use Rattle.psu_hislip.specs.Stream.{Received}
+use Rattle.psu_hislip.specs.Core.{Core}
 use Rattle.psu_hislip.specs.declared.origin.Origin.{Origin}
 use Rattle.psu_messages.specs.Courses.{Comes}
-use Rattle.psu_messages.specs.Deeds.{Deed}
 use Rattle.psu_messages.specs.Messages.{OverIsMessages, SoFarIsMessages}
-use Rattle.psu_exchange.specs.Answered as told
 use Rattle.psu_exchange.specs.Answered.{EachIsTold, IsAnswered, TakesAtMost, Weaves, pieces}
 use Rattle.psu_exchange.specs.Answered.Weaves.{Nothing, Reply, Piece}
-use Rattle.psu_exchange.specs.Exchange.{Done, EachEnds, EachIsDone, IsExchange, IsFramed, Turn, core_at, deeds, frames, happened}
-use Rattle.psu_exchange.specs.Life.{Happening, Came, Replied, Did, bytes_in, deed_in, done_in, replied, reply_in, written}
+use Rattle.psu_exchange.specs.Exchange.{Done, EachEnds, EachIsDone, IsExchange, Turn, core_at, deeds, happened}
+use Rattle.psu_exchange.specs.Life.{Happening, Came, Replied, Did, done_in, replied, written}
 use Rattle.psu_exchange.proofs.Framing.{EachFits, Fits, PartsAreAnAnswer}
 use Rattle.psu_exchange.proofs.Telling.{answered_turn}
 
@@ -40,7 +36,7 @@ all_fit session greatest life each most before (Replied out ∷ after) is =
     all_fit session greatest life each most (before ++ Replied out ∷ []) after (is ∙ sym (append_assoc before (Replied out ∷ []) after))
 all_fit session greatest life each most before (Did origin deed out ∷ after) is =
     let size = (core_at session before).size in (
-      record { size = answer_size size; some = some_size size; small = most before after origin deed out is; framed = (each before after origin deed out is).1 },
+      record { size = answer_size size; some = some_size size; small = most before after origin deed out is; framed = (each before after origin deed out is).framed },
       all_fit session greatest life each most (before ++ Did origin deed out ∷ []) after (is ∙ sym (append_assoc before (Did origin deed out ∷ []) after)),
     )
 

@@ -1,11 +1,10 @@
 -- Which transmissions are executed, and which are not any more.
-use Rattle.std.proofs.Common.{◌≡◌, ℕ, suc, ◌<◌, ◌^◌, Bool, true, false, All, Option, Some, None, List, [], ◌∷◌, ◌++◌, length, refl, sym, ap, ◌∙◌, subst, append_assoc, length-append, arith}
-use Rattle.std.specs.Prelude.{filter, flat_map, map}
+use Rattle.std.proofs.Common.{◌≡◌, ℕ, ◌<◌, ◌^◌, true, All, Option, Some, None, List, [], ◌∷◌, ◌++◌, length, refl, sym, ap, ◌∙◌, subst, append_assoc, length-append, arith}
+use Rattle.std.specs.Prelude.{flat_map, map}
 use Rattle.std.proofs.lemmas.List.Concat.{flat_map-append}
 use Rattle.std.proofs.lemmas.List.Folds.{flat_map-map}
-use Rattle.psu_lex.specs.declared.scpi_error.ScpiError.TheVariants.{TooMuchData, TriggerIgnored}
 use Rattle.psu_hislip.specs.Action.{Act}
-use Rattle.psu_hislip.specs.Core.{Core, IsCurrent}
+use Rattle.psu_hislip.specs.Core.{IsCurrent}
 use Rattle.psu_hislip.specs.Runs.{Told, actions_of, begins_clear, clears_in, core_after, origins, started}
 use Rattle.psu_hislip.specs.Stream.{IsStream, Received}
 use Rattle.psu_hislip.specs.Transmitted.{text_asked, transmissions}
@@ -13,8 +12,8 @@ use Rattle.psu_hislip.specs.declared.origin.Origin.{Origin}
 use Rattle.psu_hislip.specs.declared.side.Side.TheVariants.{Sync, Async}
 use Rattle.psu_messages.specs.Deeds.{Deed}
 use Rattle.psu_exchange.specs.Answered.{AreTheStreams, text_in}
-use Rattle.psu_exchange.specs.Exchange.{IsExchange, Order, Turn, asked, core_at, order_in, orders}
-use Rattle.psu_exchange.specs.Life.{Happening, Came, Replied, Did, came, came_on, told_by}
+use Rattle.psu_exchange.specs.Exchange.{IsExchange, Order, Turn, asked, order_in}
+use Rattle.psu_exchange.specs.Life.{Happening, Came, Did, came, came_on, told_by}
 
 -- ---- the client's transmissions
 
@@ -65,7 +64,7 @@ none_of_before law session sync async life turns x few before between after clea
     let short : length (came before ++ t ∷ came between) < 2 ^ 64
     = subst (λ (z : List Told). length z < 2 ^ 64) heard (omega (arith, few, ap length long, length-append (came start) (came (Did origin deed frames ∷ after)))) in
     let current : IsCurrent (core_after (started session) (came before ++ t ∷ came between)) origin
-    = subst (λ (z : List Told). IsCurrent (core_after (started session) z) origin) heard (x.done start after origin deed frames split).0 in
+    = subst (λ (z : List Told). IsCurrent (core_after (started session) z) origin) heard (x.done start after origin deed frames split).current in
     λ k d h same. law session (came before) (t ∷ came between) (some_clear t (came between) begins) short k d h
     (subst (λ (o : Origin). IsCurrent (core_after (started session) (came before ++ t ∷ came between)) o) (sym same) current)
 

@@ -1,20 +1,20 @@
 -- The session of the example.
-use Rattle.std.proofs.Common.{◌≡◌, ℕ, ◌<◌, true, false, All, Option, Some, None, List, [], ◌∷◌, ◌++◌, length, refl, sym, ap, ◌∙◌, subst, inl, arith}
+use Rattle.std.proofs.Common.{◌≡◌, ℕ, true, None, List, [], ◌∷◌, ◌++◌, length, refl, sym, subst, arith}
 use Rattle.std.proofs.lemmas.List.{append-nil}
 use Rattle.std.proofs.lemmas.List.Elements.{All-cons, All-nil}
 use Rattle.psu_lex.specs.declared.scpi_error.ScpiError.TheVariants.{TriggerIgnored}
-use Rattle.psu_hislip.specs.Answer.{IsAnswer, IsCut, answer_size}
+use Rattle.psu_hislip.specs.Answer.{IsAnswer, answer_size}
 use Rattle.psu_hislip.specs.Stream.{IsStream}
 use Rattle.psu_hislip.specs.declared.message_type.MessageType.TheVariants.{AsyncInitialize, Initialize, Trigger}
 use Rattle.psu_hislip.specs.declared.origin.Origin.{Origin}
 use Rattle.psu_hislip.specs.declared.side.Side.TheVariants.{Sync, Async}
 use Rattle.psu_hislip.proofs.Channels.{none_short}
-use Rattle.psu_messages.specs.Courses.{Comes, IsOver, beginning}
+use Rattle.psu_messages.specs.Courses.{Comes, IsOver}
 use Rattle.psu_messages.specs.Courses.Comes.{Begins, Ends, Tries}
 use Rattle.psu_messages.specs.Deeds.{Deed, Executed, Sent}
-use Rattle.psu_messages.specs.Units.{Fault, faulty}
-use Rattle.psu_exchange.specs.Exchange.{EachIsDone, IsDone, IsExchange, Turn, core_at, deeds}
-use Rattle.psu_exchange.specs.Life.{Happening, Came, Did, came_on}
+use Rattle.psu_messages.specs.Units.{faulty}
+use Rattle.psu_exchange.specs.Exchange.{EachIsReplied, IsDone, IsExchange, Turn, deeds, replies}
+use Rattle.psu_exchange.specs.Life.{Happening, Came, Did, came_on, replied}
 use Rattle.psu_exchange.specs.SomeExchange.{answer, async_stream, bare, bare_message, its_deeds, its_order, its_origin, its_reply, some_life, some_turn, sync_stream, text}
 
 nothing_left : IsStream [] []
@@ -36,12 +36,14 @@ comes = Ends (Tries Begins (faulty TriggerIgnored) (true, (refl, refl, refl), λ
 framed : IsAnswer (answer_size None) 2 text answer
 framed = ([], text, record { whole = refl; filled = All-nil (λ (piece : List ℕ). length piece ≡ answer_size None); within = omega arith; some = λ e. e }, refl)
 
-same_done : (known before : List Happening) (its origin : Origin) (one deed : Deed) (out frames : List ℕ) → before ≡ known → origin ≡ its → deed ≡ one → frames ≡ out → IsDone (core_at 1 known) its one out
-    → IsDone (core_at 1 before) origin deed frames
+same_done : (known before : List Happening) (its origin : Origin) (one deed : Deed) (out frames : List ℕ) → before ≡ known → origin ≡ its → deed ≡ one → frames ≡ out → IsDone 1 known its one out
+    → IsDone 1 before origin deed frames
 same_done known before its origin one deed out frames h o d f is =
-    subst (λ (z : List Happening). IsDone (core_at 1 z) origin deed frames) (sym h)
-    (subst (λ (z : Origin). IsDone (core_at 1 known) z deed frames) (sym o)
-    (subst (λ (z : Deed). IsDone (core_at 1 known) its z frames) (sym d) (subst (λ (z : List ℕ). IsDone (core_at 1 known) its one z) (sym f) is)))
+    subst (λ (z : List Happening). IsDone 1 z origin deed frames) (sym h)
+    (subst (λ (z : Origin). IsDone 1 known z deed frames) (sym o) (subst (λ (z : Deed). IsDone 1 known its z frames) (sym d) (subst (λ (z : List ℕ). IsDone 1 known its one z) (sym f) is)))
+
+none_yet : (known before : List Happening) → before ≡ known → (owed : List (List ℕ)) × (replies 1 known ≡ replied known ++ owed) → (owed : List (List ℕ)) × (replies 1 before ≡ replied before ++ owed)
+none_yet known before h is = subst (λ (z : List Happening). (owed : List (List ℕ)) × (replies 1 z ≡ replied z ++ owed)) (sym h) is
 
 abbrev heard : List Happening
 heard = Came Async (bare_message AsyncInitialize 1) ∷ Came Sync (bare_message Trigger 2) ∷ []
@@ -50,14 +52,23 @@ abbrev executed : Deed
 executed = Executed (faulty TriggerIgnored) its_reply
 
 -- where the deeds stand
-done : (before after : List Happening) (origin : Origin) (deed : Deed) (frames : List ℕ) → some_life ≡ before ++ Did origin deed frames ∷ after → IsDone (core_at 1 before) origin deed frames
+done : (before after : List Happening) (origin : Origin) (deed : Deed) (frames : List ℕ) → some_life ≡ before ++ Did origin deed frames ∷ after → IsDone 1 before origin deed frames
 done [] after origin deed frames e = absurd (cc (e))
 done (a ∷ []) after origin deed frames e = absurd (cc (e))
-done (a ∷ b ∷ []) after origin deed frames e = same_done heard (a ∷ b ∷ []) its_origin origin executed deed [] frames (cc (e)) (cc (e)) (cc (e)) (cc (e)) ((refl, refl), refl)
+done (a ∷ b ∷ []) after origin deed frames e = same_done heard (a ∷ b ∷ []) its_origin origin executed deed [] frames (cc (e)) (cc (e)) (cc (e)) (cc (e)) (record { has_come = ([], [], refl); current = (refl, refl); framed = refl })
 done (a ∷ b ∷ c ∷ []) after origin deed frames e =
-    same_done (heard ++ Did its_origin executed [] ∷ []) (a ∷ b ∷ c ∷ []) its_origin origin (Sent text true) deed answer frames (cc (e)) (cc (e)) (cc (e)) (cc (e)) ((refl, refl), framed)
+    same_done (heard ++ Did its_origin executed [] ∷ []) (a ∷ b ∷ c ∷ []) its_origin origin (Sent text true) deed answer frames (cc (e)) (cc (e)) (cc (e)) (cc (e)) (record { has_come = ([], [], refl); current = (refl, refl); framed = framed })
 done (a ∷ b ∷ c ∷ d ∷ []) after origin deed frames e = absurd (cc (e))
 done (a ∷ b ∷ c ∷ d ∷ f ∷ before) after origin deed frames e = absurd (cc (e))
+
+-- the core gives nothing for the synchronous channel
+replied_then : EachIsReplied 1 some_life
+replied_then [] after e = ([], refl)
+replied_then (a ∷ []) after e = none_yet (Came Async (bare_message AsyncInitialize 1) ∷ []) (a ∷ []) (cc (e)) ([], refl)
+replied_then (a ∷ b ∷ []) after e = none_yet heard (a ∷ b ∷ []) (cc (e)) ([], refl)
+replied_then (a ∷ b ∷ c ∷ []) after e = none_yet (heard ++ Did its_origin executed [] ∷ []) (a ∷ b ∷ c ∷ []) (cc (e)) ([], refl)
+replied_then (a ∷ b ∷ c ∷ d ∷ []) after e = none_yet some_life (a ∷ b ∷ c ∷ d ∷ []) (cc (e)) ([], refl)
+replied_then (a ∷ b ∷ c ∷ d ∷ f ∷ before) after e = absurd (cc (e))
 
 pub some_exchange : IsExchange 1 sync_stream async_stream some_life (some_turn ∷ [])
 some_exchange = record {
@@ -70,8 +81,7 @@ some_exchange = record {
   courses = All-cons (λ (turn : Turn). Comes turn.order.source (deeds turn.done) turn.course) some_turn [] comes (All-nil (λ (turn : Turn). Comes turn.order.source (deeds turn.done) turn.course));
   ends = tt;
   done = done;
-  owed = [];
-  replies_sent = refl;
+  replies_sent = replied_then;
 }
 
 pub its_end : IsOver its_order.source some_turn.course

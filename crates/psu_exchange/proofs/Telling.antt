@@ -1,11 +1,10 @@
 -- What goes out for messages.
-use Rattle.std.proofs.Common.{◌≡◌, ℕ, true, false, List, [], ◌∷◌, ◌++◌, refl, sym, ap, ◌∙◌, subst, append_assoc, inl, inr}
-use Rattle.std.specs.Prelude.{map}
+use Rattle.std.proofs.Common.{◌≡◌, ℕ, true, List, [], ◌∷◌, ◌++◌, refl, sym, ap, ◌∙◌, subst, inl, inr}
 use Rattle.std.proofs.lemmas.List.{append-nil}
 use Rattle.psu_hislip.specs.Answer.{IsAnswerCutAnywhere, IsPart}
 use Rattle.psu_answers.specs.Response.{are_some, end_of, joined, response}
-use Rattle.psu_messages.specs.Answers.{IsAnswered, IsSilent, answers, ends_text, text_sent}
-use Rattle.psu_messages.specs.Courses.{Comes, Course, IsOver}
+use Rattle.psu_messages.specs.Answers.{IsAnswered, answers, ends_text, text_sent}
+use Rattle.psu_messages.specs.Courses.{Comes, Course}
 use Rattle.psu_messages.specs.Deeds.{Deed, Sent}
 use Rattle.psu_messages.specs.Messages.{AreMessages, AreSomeMessages, IsMessage, OverIsMessages, SoFarIsMessages}
 use Rattle.psu_messages.specs.Messages.AreMessages.{NoMessage, OneMore}

@@ -2,11 +2,10 @@
 -- answers of a message's units are one text, joined by `;` and ended by NL).
 use Rattle.std.specs.Prelude.{◌≡◌, ◌⊎◌, ℕ, ◌^◌, ◌<◌, ◌≤◌, true, false, All, Option, Some, None, List, [], ◌∷◌, ◌++◌, length, map, flat_map}
 use Rattle.std.specs.List.{list_any}
-use Rattle.psu_lex.specs.declared.scpi_error.ScpiError.{ScpiError}
 use Rattle.psu_lex.specs.declared.scpi_error.ScpiError.TheVariants.{TooMuchData}
 use Rattle.psu_hislip.specs.Answer.{IsAnswerCutAnywhere, IsPart, answer_size}
 use Rattle.psu_hislip.specs.Core.{Core, IsCurrent}
-use Rattle.psu_hislip.specs.Runs.{Told, begins_clear, core_after, origins, started}
+use Rattle.psu_hislip.specs.Runs.{Told, begins_clear, origins}
 use Rattle.psu_hislip.specs.Stream.{IsStream, Received}
 use Rattle.psu_hislip.specs.Transmitted.{IsStretch, Stretch, Transmission, piece_in, pieces_of, run_of, text_kept}
 use Rattle.psu_hislip.specs.Transmitted.Piece.{More}
@@ -18,7 +17,7 @@ use Rattle.psu_messages.specs.Courses.{IsOver}
 use Rattle.psu_messages.specs.Deeds.{Deed}
 use Rattle.psu_messages.specs.Messages.{IsMessage}
 use Rattle.psu_messages.specs.Units.{Fault, Source, Text}
-use Rattle.psu_exchange.specs.Exchange.{Done, IsExchange, Order, Turn, asked, core_at, deeds, frames}
+use Rattle.psu_exchange.specs.Exchange.{Done, IsExchange, Turn, asked, core_at, deeds, frames}
 use Rattle.psu_exchange.specs.Life.{Happening, Came, Did, came, came_on, replied, written}
 
 -- ---- answers

@@ -1,19 +1,18 @@
 -- How a session goes: what it is told, what it executes for that, and what goes out. Source: IVI-6.1 (messages of two streams; MessageIDs; device clear) and
 -- IEEE 488.2, 6 (messages are executed in the order in which they come).
-use Rattle.std.specs.Prelude.{◌≡◌, ◌⊎◌, ℕ, ◌≤◌, true, false, All, List, [], ◌∷◌, ◌++◌, map, flat_map}
+use Rattle.std.specs.Prelude.{◌≡◌, ◌⊎◌, ℕ, true, false, All, List, [], ◌∷◌, ◌++◌, map, flat_map}
 use Rattle.psu_lex.specs.declared.scpi_error.ScpiError.TheVariants.{TooMuchData, TriggerIgnored}
 use Rattle.psu_hislip.specs.Action.{Act}
 use Rattle.psu_hislip.specs.Answer.{IsAnswer, IsPart, answer_size}
 use Rattle.psu_hislip.specs.Core.{Core, IsCurrent}
-use Rattle.psu_hislip.specs.Runs.{actions_of, core_after, started}
+use Rattle.psu_hislip.specs.Runs.{actions_of, core_after, origins, started}
 use Rattle.psu_hislip.specs.Stream.{IsStream, Received}
 use Rattle.psu_hislip.specs.declared.origin.Origin.{Origin}
-use Rattle.psu_hislip.specs.declared.side.Side.{Side}
 use Rattle.psu_hislip.specs.declared.side.Side.TheVariants.{Sync, Async}
 use Rattle.psu_messages.specs.Courses.{Comes, Course, IsOver}
 use Rattle.psu_messages.specs.Deeds.{Deed, Executed, Settled, Sent}
 use Rattle.psu_messages.specs.Units.{Fault, Source, Text}
-use Rattle.psu_exchange.specs.Life.{Happening, Came, Replied, Did, came, came_on, done_in, replied}
+use Rattle.psu_exchange.specs.Life.{Happening, Did, came, came_on, done_in, replied}
 
 -- the session's core once all this has happened
 abbrev pub core_at : ℕ → List Happening → Core
@@ -78,13 +77,16 @@ IsFramed size id (Settled reply) frames = frames ≡ []
 IsFramed size id (Sent text false) frames = IsPart size id text frames
 IsFramed size id (Sent text true) frames = IsAnswer size id text frames
 
--- Nothing is done for a transmission that a device clear or a FatalError has ended. Payloads are as long as the client takes them then.
-abbrev pub IsDone : Core → Origin → Deed → List ℕ → Type 0
-IsDone core origin deed frames = IsCurrent core origin × IsFramed (answer_size core.size) origin.id deed frames
+-- What is done for an order is done behind the message that asked for it, and not behind a device clear or a FatalError that has ended it. Payloads are as long as the
+-- client takes them then.
+pub record IsDone (session : ℕ) (before : List Happening) (origin : Origin) (deed : Deed) (frames : List ℕ) : Type 0 where
+  pub has_come : (first : List Origin) × (others : List Origin) × (origins (asked session before) ≡ first ++ origin ∷ others)
+  pub current : IsCurrent (core_at session before) origin
+  pub framed : IsFramed (answer_size (core_at session before).size) origin.id deed frames
 
 abbrev pub EachIsDone : ℕ → List Happening → Type 0
 EachIsDone session life =
-    (before after : List Happening) (origin : Origin) (deed : Deed) (frames : List ℕ) → life ≡ before ++ Did origin deed frames ∷ after → IsDone (core_at session before) origin deed frames
+    (before after : List Happening) (origin : Origin) (deed : Deed) (frames : List ℕ) → life ≡ before ++ Did origin deed frames ∷ after → IsDone session before origin deed frames
 
 -- what the core gives to be sent on the synchronous channel as messages come
 abbrev pub reply_of : Act → List (List ℕ)
@@ -93,6 +95,10 @@ reply_of act = []
 
 abbrev pub replies : ℕ → List Happening → List (List ℕ)
 replies session life = flat_map reply_of (asked session life)
+
+-- at each moment the first of those that were asked for by then have gone out
+abbrev pub EachIsReplied : ℕ → List Happening → Type 0
+EachIsReplied session life = (before after : List Happening) → life ≡ before ++ after → (owed : List (List ℕ)) × (replies session before ≡ replied before ++ owed)
 
 -- ---- a session
 
@@ -109,5 +115,4 @@ pub record IsExchange (session : ℕ) (sync async : List ℕ) (life : List Happe
   pub ends : EachEnds (core_at session life) turns
   -- and what goes out are their answers and the core's replies
   pub done : EachIsDone session life
-  pub owed : List (List ℕ)
-  pub replies_sent : replies session life ≡ replied life ++ owed
+  pub replies_sent : EachIsReplied session life

@@ -1,5 +1,5 @@
 -- A session, happening by happening: that what the laws ask for can be. The instrument here answers a trigger; what an instrument answers is no matter of the laws.
-use Rattle.std.specs.Prelude.{ℕ, true, List, [], ◌∷◌, ◌++◌, length}
+use Rattle.std.specs.Prelude.{ℕ, true, List, [], ◌∷◌, ◌++◌}
 use Rattle.psu_lex.specs.declared.scpi_error.ScpiError.TheVariants.{TriggerIgnored}
 use Rattle.psu_hislip.specs.Frame.{frame_bytes, header_of}
 use Rattle.psu_hislip.specs.Header.{header_bytes}
@@ -10,7 +10,7 @@ use Rattle.psu_hislip.specs.declared.message_type.MessageType.TheVariants.{Async
 use Rattle.psu_hislip.specs.declared.origin.Origin.{Origin}
 use Rattle.psu_hislip.specs.declared.side.Side.TheVariants.{Sync, Async}
 use Rattle.psu_exec.specs.Device.{Reply, Answer}
-use Rattle.psu_messages.specs.Courses.{Course, beginning, ended, tried}
+use Rattle.psu_messages.specs.Courses.{beginning, ended, tried}
 use Rattle.psu_messages.specs.Deeds.{Executed, Sent}
 use Rattle.psu_messages.specs.Units.{Fault, faulty}
 use Rattle.psu_exchange.specs.Exchange.{Done, Order, Turn}

@@ -3,10 +3,12 @@ ghost use Rattle.std.specs.Prelude.{[], ◌∷◌};
 ghost use Rattle.psu_messages.specs.Courses.{IsOver};
 ghost use Rattle.psu_exchange.specs.Answered.{EachIsAnswered, MessagesAreTheStreams, NothingElseGoesOut, NothingOfBeforeAClear, TransmissionsAreTheClients};
 ghost use Rattle.psu_exchange.specs.Exchange.{IsExchange};
+ghost use Rattle.psu_exchange.specs.Readers.{ReadersGiveTheOrders};
 ghost use Rattle.psu_exchange.specs.SomeExchange.{async_stream, some_life, some_turn, sync_stream};
 
 use psu_hislip::{
-    each_transmission_once_between_clears, no_answer_of_before_a_clear, one_division, parts_are_an_answer,
+    each_transmission_once_between_clears, no_answer_of_before_a_clear, one_division,
+    parts_are_an_answer,
 };
 use psu_messages::{over_is_messages, so_far_is_messages};
 
@@ -33,4 +35,9 @@ pub fn from_bytes_to_bytes()
 pub fn a_session_that_is_answered()
     ensures is { IsExchange 1 sync_stream async_stream some_life (some_turn ∷ []) }
     ensures over { IsOver some_turn.order.source some_turn.course }
+{}
+
+/// What a reader of psu_sides gives to be executed, as it does what its messages ask for, are the orders of what the core said, in their order and each once.
+pub fn readers_give_the_orders()
+    ensures { ReadersGiveTheOrders }
 {}

@@ -4,4 +4,4 @@
 
 mod laws;
 
-pub use laws::{a_session_that_is_answered, from_bytes_to_bytes};
+pub use laws::{a_session_that_is_answered, from_bytes_to_bytes, readers_give_the_orders};

@@ -1,4 +1,4 @@
-use Rattle.std.proofs.Common.{◌≡◌, ◌++◌, List, sym, ap, ◌∙◌}
+use Rattle.std.proofs.Common.{List, sym, ap, ◌∙◌}
 use Rattle.std.specs.Prelude.{flat_map, map}
 use Rattle.psu_hislip.specs.Runs.{Told, actions_of, core_after, started}
 use Rattle.psu_hislip.specs.Transmitted.{text_asked, transmissions}
