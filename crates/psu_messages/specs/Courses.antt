@@ -20,12 +20,13 @@ beginning = record { standing = start; expansion = None; text = nothing }
 
 -- ---- what a try makes of it
 
+-- Parked: the unit was accepted, and waits; Held and Later: nothing was executed, and it is tried again; so is the end of a wait for which there was no memory
 abbrev pub standing_after : Standing → Reply → Standing
 standing_after s (Error error) = if s.parked && is_memory error then s else standing.passed s
 standing_after s Done = standing.passed s
 standing_after s (Answer text) = standing.passed s
 standing_after s (Expand text) = standing.expanded s
-standing_after s Parked = standing.after s Parked
+standing_after s Parked = standing.accepted s
 standing_after s Held = s
 standing_after s Later = s
 
