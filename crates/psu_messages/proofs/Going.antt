@@ -1,21 +1,20 @@
 -- What is done, one after another.
-use Rattle.std.proofs.Common.{◌≡◌, ◌&&◌, not, if◌then◌else◌, ℕ, Bool, true, false, Option, Some, None, is_some, List, [], ◌∷◌, ◌++◌, refl, sym, ap, ◌∙◌, subst, append_assoc, ◌⊎◌, inl, inr, Result, Ok, Err, OnErr, IfErr, IsErrAnd}
+use Rattle.std.proofs.Common.{◌≡◌, ◌&&◌, if◌then◌else◌, ℕ, ◌+◌, Bool, true, false, Option, Some, None, List, [], ◌∷◌, ◌++◌, refl, sym, ap, ◌∙◌, subst, append_assoc, ◌⊎◌, inl, inr, Result, Ok, Err, OnErr, IfErr, IsErrAnd}
 use Rattle.std.proofs.lemmas.List.{append-nil}
 use Rattle.psu_tree.specs.declared.unit_request.Request.{Request}
 use Rattle.psu_exec.specs.Device.{Reply, Done, Answer, Error, Expand, Parked, Held, Later}
-use Rattle.psu_answers.specs.Gathered.{Text, emptied}
-use Rattle.psu_messages.specs.Standing.{Standing, passed, expanded}
+use Rattle.psu_answers.specs.Gathered.{Text}
+use Rattle.psu_messages.specs.Standing.{Standing, passed}
 use Rattle.psu_messages.specs.Deeds.{Deed, Runs, Sent, is_memory, needs}
-use Rattle.psu_messages.specs.Stepping.{IsBrokenOff, IsLeft, IsTold, Stepped, expansion_by, replaces}
+use Rattle.psu_messages.specs.Stepping.{IsBrokenOff, IsLeft, parked_by, plain, within}
 use Rattle.psu_messages.specs.declared.need.Need.{Need}
-use Rattle.psu_messages.specs.declared.need.Need.TheVariants.{Memory}
-use Rattle.psu_messages.specs.declared.steps.Step.{Step}
-use Rattle.psu_messages.specs.declared.steps.Step.TheVariants.{Done as StepDone, Expands, Waits}
+use Rattle.psu_messages.specs.declared.need.Need.TheVariants.{Flush, Lock, Room, Memory}
 use Rattle.psu_messages.specs.Units.{Source}
 use Rattle.psu_messages.specs.Courses.{Course, Comes, Cut, Goes, Halts, IsUnended, Stops, Tells, Trial, IsNext, IsExpanded, tried, outside, sent, standing_after, expansion_after, text_after}
 use Rattle.psu_messages.specs.Courses.Comes.{Tries, Leaves, Sends}
 use Rattle.psu_messages.specs.Courses.Cut.{Failed, Stopped, Untold}
 use Rattle.psu_messages.specs.Shown.{course}
+use Rattle.psu_messages.specs.Turns.{IsInside, is_expansion}
 
 runs_on : {X : Type 0} (does : X → Deed → X → Type 0) (xs ys : List Deed) (was mid now : X) → Runs does was xs mid → Runs does mid ys now → Runs does was (xs ++ ys) now
 runs_on does [] ys was mid now p q = subst (λ z. Runs does z ys now) p q
@@ -51,23 +50,20 @@ pub leaves : {X : Type 0} (does : X → Deed → X → Type 0) (source : Source)
 leaves does source was c is = none does source was c (outside c) (λ before b. Leaves b is)
 
 -- a try
-pub tries : {X : Type 0} (does : X → Deed → X → Type 0) (source : Source) (was now : X) (c : Course) (request : Request) (reply : Reply) (new : Standing) → IsNext source c request → Trial does was c.standing request now new reply
-    → Goes does source was c now (tried c reply)
-tries does source was now c request reply new next t = one does source was now c (tried c reply) t.deed t.done (λ before b. Tries b request next t.deed reply t.is)
+pub tries : {X : Type 0} (does : X → Deed → X → Type 0) (source : Source) (was now : X) (c : Course) (request : Request) (reply : Reply) → IsNext source c request → Trial does was c.standing.parked request now reply → Goes does source was c now (tried c reply)
+tries does source was now c request reply next t = one does source was now c (tried c reply) t.deed t.done (λ before b. Tries b request next t.deed reply t.is)
 
 -- its answer told
-pub tells : {X : Type 0} (does : X → Deed → X → Type 0) (source : Source) (was mid now : X) (c : Course) (request : Request) (reply : Reply) (new : Standing) (text : Text) → IsNext source c request
-    → Trial does was c.standing request mid new reply → Tells does mid c.text reply now text → Goes does source was c now (course new (expansion_after c.standing.inside c.expansion reply) text)
-tells {X} does source was mid now c request reply new text next t (inl (same, is)) =
-    subst (λ (z : X). Goes does source was c z (course new (expansion_after c.standing.inside c.expansion reply) text)) (sym same)
-    (subst (λ (z : Text). Goes does source was c mid (course new (expansion_after c.standing.inside c.expansion reply) z)) (sym is)
-    (subst (λ (z : Standing). Goes does source was c mid (course z (expansion_after c.standing.inside c.expansion reply) (text_after c.text reply))) (sym t.stands)
-    (tries does source was mid c request reply new next t)))
-tells {X} does source was mid now c request reply new text next t (inr (answered, sends, is)) =
+pub tells : {X : Type 0} (does : X → Deed → X → Type 0) (source : Source) (was mid now : X) (c : Course) (request : Request) (reply : Reply) (text : Text) → IsNext source c request → Trial does was c.standing.parked request mid reply
+    → Tells does mid c.text reply now text → Goes does source was c now (course (standing_after c.standing reply) (expansion_after c.standing.inside c.expansion reply) text)
+tells {X} does source was mid now c request reply text next t (inl (same, is)) =
+    subst (λ (z : X). Goes does source was c z (course (standing_after c.standing reply) (expansion_after c.standing.inside c.expansion reply) text)) (sym same)
+    (subst (λ (z : Text). Goes does source was c mid (course (standing_after c.standing reply) (expansion_after c.standing.inside c.expansion reply) z)) (sym is)
+    (tries does source was mid c request reply next t))
+tells {X} does source was mid now c request reply text next t (inr (answered, sends, is)) =
     let d : Course = tried c reply in
-    subst (λ (z : Text). Goes does source was c now (course new (expansion_after c.standing.inside c.expansion reply) z)) (sym is)
-    (subst (λ (z : Standing). Goes does source was c now (course z (expansion_after c.standing.inside c.expansion reply) (emptied (text_after c.text reply)))) (sym t.stands)
-    (behind does source was mid now c d (sent d) (tries does source was mid c request reply new next t) (one does source mid now d (sent d) (Sent d.text.rest false) sends (λ before b. Sends b answered))))
+    subst (λ (z : Text). Goes does source was c now (course (standing_after c.standing reply) (expansion_after c.standing.inside c.expansion reply) z)) (sym is)
+    (behind does source was mid now c d (sent d) (tries does source was mid c request reply next t) (one does source mid now d (sent d) (Sent d.text.rest false) sends (λ before b. Sends b answered)))
 
 -- ---- a step
 
@@ -90,79 +86,92 @@ waiting_text parked text Parked need e = refl
 waiting_text parked text Held need e = refl
 waiting_text parked text Later need e = refl
 
-pub waits : {X : Type 0} (does : X → Deed → X → Type 0) (source : Source) (was now : X) (s new : Standing) (expansion : Option (List ℕ)) (text : Text) (request : Request) (reply : Reply) (need : Need) → IsNext source (course s expansion text) request
-    → Trial does was s request now new reply → needs s.parked reply ≡ Some need → Goes does source was (course s expansion text) now (course new expansion text)
-waits does source was now s new expansion text request reply need next t e =
-    subst (λ (z : Text). Goes does source was (course s expansion text) now (course new expansion z)) (waiting_text s.parked text reply need e)
-    (subst (λ (z : Option (List ℕ)). Goes does source was (course s expansion text) now (course new z (text_after text reply))) (waiting_expansion s.parked s.inside expansion reply need e)
-    (subst (λ (z : Standing). Goes does source was (course s expansion text) now (course z (expansion_after s.inside expansion reply) (text_after text reply))) (sym t.stands)
-    (tries does source was now (course s expansion text) request reply new next t)))
+waiting_error : (s : Standing) (short : Bool) (need : Need) → (if short then Some Memory else None) ≡ Some need → (if short then s else passed s) ≡ record { units = s.units; inside = s.inside; parked = parked_by need s.parked }
+waiting_error s true need e =
+    let same : Memory ≡ need = cc (e) in subst (λ (z : Need). s ≡ record { units = s.units; inside = s.inside; parked = parked_by z s.parked }) same refl
+waiting_error s false need e = absurd (cc (e))
 
-plain_expansion : (inside : Option ℕ) (expansion : Option (List ℕ)) (reply : Reply) → replaces (is_some inside) reply ≡ false → expansion_after inside expansion reply ≡ expansion
-plain_expansion (Some n) expansion reply e = refl
-plain_expansion None expansion Done e = refl
-plain_expansion None expansion (Answer text) e = refl
-plain_expansion None expansion (Error error) e = refl
-plain_expansion None expansion (Expand text) e = absurd (cc (e))
-plain_expansion None expansion Parked e = refl
-plain_expansion None expansion Held e = refl
-plain_expansion None expansion Later e = refl
+waiting_standing : (s : Standing) (reply : Reply) (need : Need) → needs s.parked reply ≡ Some need → standing_after s reply ≡ record { units = s.units; inside = s.inside; parked = parked_by need s.parked }
+waiting_standing s Done need e = absurd (cc (e))
+waiting_standing s (Answer text) need e = absurd (cc (e))
+waiting_standing s (Error error) need e = waiting_error s (s.parked && is_memory error) need e
+waiting_standing s (Expand text) need e = absurd (cc (e))
+waiting_standing s Parked need e =
+    let same : Flush ≡ need = cc (e) in subst (λ (z : Need). standing_after s Parked ≡ record { units = s.units; inside = s.inside; parked = parked_by z s.parked }) same refl
+waiting_standing s Held need e =
+    let same : Lock ≡ need = cc (e) in subst (λ (z : Need). standing_after s Held ≡ record { units = s.units; inside = s.inside; parked = parked_by z s.parked }) same refl
+waiting_standing s Later need e =
+    let same : Room ≡ need = cc (e) in subst (λ (z : Need). standing_after s Later ≡ record { units = s.units; inside = s.inside; parked = parked_by z s.parked }) same refl
 
--- an expansion that replaces its unit
-replaced_expansion : (inside : Option ℕ) (expansion : Option (List ℕ)) (body : List ℕ) → is_some inside ≡ false → expansion_after inside expansion (Expand body) ≡ Some body
-replaced_expansion None expansion body e = refl
-replaced_expansion (Some n) expansion body e = absurd (cc (e))
+-- a unit that waits
+pub waits : {X : Type 0} (does : X → Deed → X → Type 0) (source : Source) (was now : X) (s : Standing) (later : Bool) (expansion : Option (List ℕ)) (text : Text) (request : Request) (reply : Reply) (need : Need) → IsNext source (course s expansion text) request
+    → Trial does was s.parked request now reply → needs s.parked reply ≡ Some need → later ≡ parked_by need s.parked
+    → Goes does source was (course s expansion text) now (course (record { units = s.units; inside = s.inside; parked = later }) expansion text)
+waits does source was now s later expansion text request reply need next t e is =
+    subst (λ (z : Bool). Goes does source was (course s expansion text) now (course (record { units = s.units; inside = s.inside; parked = z }) expansion text)) (sym is)
+    (subst (λ (z : Text). Goes does source was (course s expansion text) now (course (record { units = s.units; inside = s.inside; parked = parked_by need s.parked }) expansion z)) (waiting_text s.parked text reply need e)
+    (subst (λ (z : Option (List ℕ)). Goes does source was (course s expansion text) now (course (record { units = s.units; inside = s.inside; parked = parked_by need s.parked }) z (text_after text reply)))
+    (waiting_expansion s.parked s.inside expansion reply need e)
+    (subst (λ (z : Standing). Goes does source was (course s expansion text) now (course z (expansion_after s.inside expansion reply) (text_after text reply))) (waiting_standing s reply need e)
+    (tries does source was now (course s expansion text) request reply next t))))
 
-replaced_body : {X : Type 0} (does : X → Deed → X → Type 0) (source : Source) (was mid : X) (s new : Standing) (expansion : Option (List ℕ)) (text : Text) (request : Request) (reply : Reply) (body : List ℕ) → is_some s.inside ≡ false → reply ≡ Expand body
-    → IsNext source (course s expansion text) request → Trial does was s request mid new reply → Goes does source was (course s expansion text) mid (course new (Some body) text)
-replaced_body does source was mid s new expansion text request reply body out is next t =
-    let u : Trial does was s request mid new (Expand body) = subst (λ (z : Reply). Trial does was s request mid new z) is t in
-    subst (λ (z : Option (List ℕ)). Goes does source was (course s expansion text) mid (course new z text)) (replaced_expansion s.inside expansion body out)
-    (subst (λ (z : Standing). Goes does source was (course s expansion text) mid (course z (expansion_after s.inside expansion (Expand body)) text)) (sym u.stands)
-    (tries does source was mid (course s expansion text) request (Expand body) new next u))
+ending_error : (s : Standing) (short : Bool) → (if short then Some Memory else None) ≡ None → (if short then s else passed s) ≡ passed s
+ending_error s false e = refl
+ending_error s true e = absurd (cc (e))
 
-pub told_goes : {A X : Type 0} (does : X → Deed → X → Type 0) (source : Source) (was mid now : X) (s new : Standing) (expansion : Option (List ℕ)) (text after : Text) (request : Request) (reply : Reply) (is_inside : Bool) (step : Step A)
-    → is_inside ≡ is_some s.inside → IsNext source (course s expansion text) request → Trial does was s request mid new reply → IsTold does mid text is_inside reply now after step
-    → Goes does source was (course s expansion text) now (course new (expansion_by expansion step) after)
-told_goes {A} {X} does source was mid now s new expansion text after request reply is_inside StepDone at next t (tells_it, plain) =
-    subst (λ (z : Option (List ℕ)). Goes does source was (course s expansion text) now (course new z after))
-    (plain_expansion s.inside expansion reply (ap (λ (b : Bool). replaces b reply) (sym at) ∙ plain))
-    (tells does source was mid now (course s expansion text) request reply new after next t tells_it)
-told_goes {A} {X} does source was mid now s new expansion text after request reply is_inside (Expands body) at next t (is, outside, grows, same) =
-    subst (λ (z : X). Goes does source was (course s expansion text) z (course new (Some body) after)) (sym grows)
-    (subst (λ (z : Text). Goes does source was (course s expansion text) mid (course new (Some body) z)) (sym same)
-    (replaced_body does source was mid s new expansion text request reply body (sym at ∙ outside) is next t))
-told_goes {A} {X} does source was mid now s new expansion text after request reply is_inside (Waits need) at next t none = absurd none
+-- a unit of the transmission that has come to its end
+plain_standing : (units : ℕ) (parked : Bool) (reply : Reply) → needs parked reply ≡ None → is_expansion reply ≡ false → standing_after (record { units = units; inside = None; parked = parked }) reply ≡ record { units = units + 1; inside = None; parked = false }
+plain_standing units parked Done e is = refl
+plain_standing units parked (Answer text) e is = refl
+plain_standing units parked (Error error) e is = ending_error (record { units = units; inside = None; parked = parked }) (parked && is_memory error) e
+plain_standing units parked (Expand text) e is = absurd (cc (is))
+plain_standing units parked Parked e is = absurd (cc (e))
+plain_standing units parked Held e is = absurd (cc (e))
+plain_standing units parked Later e is = absurd (cc (e))
 
--- where it leaves the transmission
-pub none_of : (inside : Option ℕ) → is_some inside ≡ false → inside ≡ None
-none_of None e = refl
-none_of (Some n) e = absurd (cc (e))
+plain_expansion : (reply : Reply) → is_expansion reply ≡ false → expansion_after None None reply ≡ None
+plain_expansion Done is = refl
+plain_expansion (Answer text) is = refl
+plain_expansion (Error error) is = refl
+plain_expansion (Expand text) is = absurd (cc (is))
+plain_expansion Parked is = refl
+plain_expansion Held is = refl
+plain_expansion Later is = refl
 
-fails : (s : Standing) (short : Bool) → (if short then Some Memory else None) ≡ None → (if short then s else passed s) ≡ passed s
-fails s false e = refl
-fails s true e = absurd (cc (e))
+pub told_plain : {X : Type 0} (does : X → Deed → X → Type 0) (source : Source) (was mid now : X) (units : ℕ) (parked later : Bool) (text after : Text) (request : Request) (reply : Reply) → IsNext source (plain units parked text) request
+    → Trial does was parked request mid reply → needs parked reply ≡ None → later ≡ false → is_expansion reply ≡ false → Tells does mid text reply now after → Goes does source was (plain units parked text) now (plain (units + 1) later after)
+told_plain does source was mid now units parked later text after request reply next t e over is tells_it =
+    subst (λ (z : Bool). Goes does source was (plain units parked text) now (plain (units + 1) z after)) (sym over)
+    (subst (λ (z : Option (List ℕ)). Goes does source was (plain units parked text) now (course (record { units = units + 1; inside = None; parked = false }) z after)) (plain_expansion reply is)
+    (subst (λ (z : Standing). Goes does source was (plain units parked text) now (course z (expansion_after None None reply) after)) (plain_standing units parked reply e is)
+    (tells does source was mid now (plain units parked text) request reply after next t tells_it)))
 
-opens : (s : Standing) (inside : Option ℕ) → s.inside ≡ inside → not (is_some inside) ≡ false → expanded s ≡ passed s
-opens s None e plain = absurd (cc (plain))
-opens s (Some n) e plain = rw e refl
+-- one that is replaced
+pub replaced : {X : Type 0} (does : X → Deed → X → Type 0) (source : Source) (was now : X) (units : ℕ) (parked later : Bool) (text : Text) (request : Request) (body : List ℕ) → IsNext source (plain units parked text) request
+    → Trial does was parked request now (Expand body) → later ≡ false → Goes does source was (plain units parked text) now (within units body 0 later text)
+replaced does source was now units parked later text request body next t over =
+    subst (λ (z : Bool). Goes does source was (plain units parked text) now (within units body 0 z text)) (sym over) (tries does source was now (plain units parked text) request (Expand body) next t)
 
-passes : (s : Standing) (reply : Reply) → needs s.parked reply ≡ None → replaces (is_some s.inside) reply ≡ false → standing_after s reply ≡ passed s
-passes s Done e plain = refl
-passes s (Answer text) e plain = refl
-passes s (Error error) e plain = fails s (s.parked && is_memory error) e
-passes s (Expand text) e plain = opens s s.inside refl plain
-passes s Parked e plain = absurd (cc (e))
-passes s Held e plain = absurd (cc (e))
-passes s Later e plain = absurd (cc (e))
+-- a unit of an expansion that has
+within_standing : (units done : ℕ) (parked : Bool) (reply : Reply) → needs parked reply ≡ None → standing_after (record { units = units; inside = Some done; parked = parked }) reply ≡ record { units = units; inside = Some (done + 1); parked = false }
+within_standing units done parked Done e = refl
+within_standing units done parked (Answer text) e = refl
+within_standing units done parked (Error error) e = ending_error (record { units = units; inside = Some done; parked = parked }) (parked && is_memory error) e
+within_standing units done parked (Expand text) e = refl
+within_standing units done parked Parked e = absurd (cc (e))
+within_standing units done parked Held e = absurd (cc (e))
+within_standing units done parked Later e = absurd (cc (e))
 
-pub told_stepped : {A X : Type 0} (does : X → Deed → X → Type 0) (was mid now : X) (s new : Standing) (text after : Text) (request : Request) (reply : Reply) (is_inside : Bool) (step : Step A) → is_inside ≡ is_some s.inside
-    → needs s.parked reply ≡ None → Trial does was s request mid new reply → IsTold does mid text is_inside reply now after step → Stepped s new step
-told_stepped does was mid now s new text after request reply is_inside StepDone at ends t (tells_it, plain) =
-    t.stands ∙ passes s reply ends (ap (λ (b : Bool). replaces b reply) (sym at) ∙ plain)
-told_stepped does was mid now s new text after request reply is_inside (Expands body) at ends t (is, outside, grows, same) =
-    (t.stands ∙ ap (standing_after s) is, none_of s.inside (sym at ∙ outside))
-told_stepped does was mid now s new text after request reply is_inside (Waits need) at ends t none = absurd none
+-- a unit of an expansion is next
+pub next_within : (source : Source) (units : ℕ) (body : List ℕ) (done : ℕ) (parked : Bool) (text : Text) (request : Request) → IsInside body done request → IsNext source (within units body done parked text) request
+next_within source units body done parked text request (part, unit) = (body, part, refl, unit)
+
+pub told_within : {X : Type 0} (does : X → Deed → X → Type 0) (source : Source) (was mid now : X) (units : ℕ) (body : List ℕ) (done : ℕ) (parked later : Bool) (text after : Text) (request : Request) (reply : Reply) → IsInside body done request
+    → Trial does was parked request mid reply → needs parked reply ≡ None → later ≡ false → Tells does mid text reply now after → Goes does source was (within units body done parked text) now (within units body (done + 1) later after)
+told_within does source was mid now units body done parked later text after request reply unit t e over tells_it =
+    subst (λ (z : Bool). Goes does source was (within units body done parked text) now (within units body (done + 1) z after)) (sym over)
+    (subst (λ (z : Standing). Goes does source was (within units body done parked text) now (course z (Some body) after)) (within_standing units done parked reply e)
+    (tells does source was mid now (within units body done parked text) request reply after (next_within source units body done parked text request unit) t tells_it))
 
 pub on_err : {T E : Type 0} (r : Result T E) (P : Type 0) → P → OnErr r P
 on_err (Ok x) P p = tt
@@ -190,12 +199,12 @@ module _ {X S : Type 0} {does : X → Deed → X → Type 0} {fails : X → Requ
   broken_off {was} {now} {c} request next (inr (parked, s)) same = some_stop (inr (inl parked)) s same
 
   -- behind the next unit, whose answer is told or is not
-  pub untold : {was mid now : X} {c : Course} {request : Request} {reply : Reply} {new : Standing} {stop : S} {left : Text} → IsNext source c request → Trial does was c.standing request mid new reply → stops mid stop now
-      → IsLeft c.text reply left → Stops does fails stops source was c stop now left
-  untold {was} {mid} {now} {c} {request} {reply} {new} next t s (inl same) =
+  pub untold : {was mid now : X} {c : Course} {request : Request} {reply : Reply} {stop : S} {left : Text} → IsNext source c request → Trial does was c.standing.parked request mid reply → stops mid stop now → IsLeft c.text reply left
+      → Stops does fails stops source was c stop now left
+  untold {was} {mid} {now} {c} {request} {reply} next t s (inl same) =
       record { mid = was; new = c; goes = stay does source was was c refl; cut = Untold mid request next t.deed reply t.is t.done s; text = same }
-  untold {was} {mid} {now} {c} {request} {reply} {new} next t s (inr (same, answered)) =
-      record { mid = mid; new = tried c reply; goes = tries does source was mid c request reply new next t; cut = Stopped (inl (ap (λ (x : Text). x.answered) (sym same) ∙ answered)) s; text = same }
+  untold {was} {mid} {now} {c} {request} {reply} next t s (inr (same, answered)) =
+      record { mid = mid; new = tried c reply; goes = tries does source was mid c request reply next t; cut = Stopped (inl (ap (λ (x : Text). x.answered) (sym same) ∙ answered)) s; text = same }
 
 -- the place that it had reached
 pub reached : {X S : Type 0} {does : X → Deed → X → Type 0} {fails : X → Request → S → X → Type 0} {stops : X → S → X → Type 0} {source : Source} {was now : X} {c : Course} {stop : S} {left : Text} → Halts does fails stops source was c stop now left

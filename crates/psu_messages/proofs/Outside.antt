@@ -1,30 +1,35 @@
 -- The units of a transmission, outside expansions.
-use Rattle.std.proofs.Common.{◌≡◌, not, ℕ, min, ◌+◌, ◌<◌, Bool, true, false, Option, None, List, [], ◌∷◌, ◌++◌, length, take, drop, slice_index_or, refl, sym, ap, ◌∙◌, subst, arith, inl, inr}
+use Rattle.std.proofs.Common.{◌≡◌, not, ℕ, min, ◌+◌, ◌<◌, Bool, true, false, Option, Some, None, is_some, List, [], ◌∷◌, ◌++◌, length, take, drop, slice_index_or, refl, sym, ap, ◌∙◌, subst, arith, inl, inr}
 use Rattle.std.proofs.lemmas.Grind.{common_steps}
 use Rattle.psu_lex.specs.Message.{Part, IsMessage, parts, part}
 use Rattle.psu_lex.specs.declared.unit.Unit as rust
 use Rattle.psu_tree.specs.declared.unit_request.Request.{Request}
+use Rattle.psu_exec.specs.Shown.{outcome_of}
+use Rattle.psu_exec.specs.declared.outcome.Outcome.{Outcome}
+use Rattle.psu_exec.specs.declared.outcome.Outcome.TheVariants as outcome
 use Rattle.psu_answers.specs.Gathered.{Text}
-use Rattle.psu_messages.specs.Standing.{Standing}
 use Rattle.psu_messages.specs.Deeds.{Deed, Sent}
 use Rattle.psu_messages.specs.Units as units
 use Rattle.psu_messages.specs.Units.{Source, Fault, Asks, EndsMessage, HasNone, IsBetween, IsBehind, IsRequest, IsUnit, Leads, path_at}
-use Rattle.psu_messages.specs.Courses.{Closes, Course, Goes, IsNext, NextAt, NextUnit, ended}
+use Rattle.psu_messages.specs.Courses.{Closes, Course, Goes, IsNext, NextUnit, ended}
 use Rattle.psu_messages.specs.Courses.Comes.{Ends}
-use Rattle.psu_messages.specs.Shown.{course}
+use Rattle.psu_messages.specs.Shown.{body_of, course, course_of, inside_of}
+use Rattle.psu_messages.specs.Turns.{is_expansion}
+use Rattle.psu_messages.specs.Stepping.{plain, within}
+use Rattle.psu_messages.specs.declared.course.Course.{Course as Rust}
+use Rattle.psu_messages.specs.declared.expansion.Expansion.{Expansion}
 use Rattle.psu_messages.proofs.Going.{one, stay}
 use Rattle.psu_messages.proofs.Inside.{begins_at}
 use Rattle.psu_messages.proofs.Places.{LeadsFrom, unit_at}
 
-pub next_outside : (source : Source) (c : Course) (request : Request) → c.standing.inside ≡ None → NextUnit source c request → IsNext source c request
-next_outside source c request e (first, asks, clear) =
-    subst (λ (z : Option ℕ). NextAt source c z request) (sym e) (first, asks, λ f. clear f e)
+pub next_plain : (source : Source) (units : ℕ) (parked : Bool) (text : Text) (request : Request) → NextUnit source (plain units parked text) request → IsNext source (plain units parked text) request
+next_plain source units parked text request (first, asks, clear) = (first, asks, λ f. clear f refl)
 
 -- a message ends before the first unit of the next
-pub ends_before : (source : Source) (place : ℕ) (inside : Option ℕ) (request : Request) → inside ≡ None → Asks source place request true → EndsMessage source place inside
-ends_before (units.Text bytes) place inside request out (p, unit, first) =
-    (unit.units, unit.are, subst (λ (z : List Part). IsBetween inside z) (sym unit.here) (first, out))
-ends_before (Fault error) place inside request out asks = λ _. out
+ends_before : (source : Source) (place : ℕ) (request : Request) → Asks source place request true → EndsMessage source place None
+ends_before (units.Text bytes) place request (p, unit, first) =
+    (unit.units, unit.are, subst (λ (z : List Part). IsBetween None z) (sym unit.here) (first, refl))
+ends_before (Fault error) place request asks = λ _. refl
 
 -- behind the last unit
 pub ends_all : (bytes : List ℕ) (place : ℕ) (inside : Option ℕ) → IsBehind bytes place → EndsMessage (units.Text bytes) place inside
@@ -52,15 +57,46 @@ asks_at bytes all list before rest at done i filler from path next request are s
     subst (λ (z : ℕ). Asks (units.Text bytes) z request (slice_index_or rest i filler).first) (sym (e ∙ begins_at list rest at done i back within there))
     (part (slice_index_or rest i filler), unit_at false bytes all list rest at i (at + i) filler path next request are same back within refl leads reads, refl)
 
+-- ---- what stands in the next unit's place
+
+-- no expansion stands there
+pub without : {T : Type 0} (x : Option T) → is_some x ≡ false → x ≡ None
+without None e = refl
+without (Some y) e = absurd (cc (e))
+
+pub to_plain : {A X : Type 0} (does : X → Deed → X → Type 0) (source : Source) (was now : X) (c : Course) (units : ℕ) (expansion : Option (Expansion A)) (parked : Bool) (text : Text) → expansion ≡ None → Goes does source was c now (plain units parked text)
+    → Goes does source was c now (course (record { units = units; inside = inside_of expansion; parked = parked }) (body_of expansion) text)
+to_plain {A} does source was now c units expansion parked text none goes =
+    subst (λ (z : Option (Expansion A)). Goes does source was c now (course (record { units = units; inside = inside_of z; parked = parked }) (body_of z) text)) (sym none) goes
+
+-- one does
+pub from_within : {A X : Type 0} (does : X → Deed → X → Type 0) (source : Source) (was now : X) (d : Course) (units : ℕ) (expansion : Option (Expansion A)) (some : Expansion A) (parked : Bool) (text : Text) → expansion ≡ Some some
+    → Goes does source was (within units some.body some.done parked text) now d → Goes does source was (course (record { units = units; inside = inside_of expansion; parked = parked }) (body_of expansion) text) now d
+from_within {A} does source was now d units expansion some parked text is goes =
+    subst (λ (z : Option (Expansion A)). Goes does source was (course (record { units = units; inside = inside_of z; parked = parked }) (body_of z) text) now d) (sym is) goes
+
+-- an outcome that is no expansion
+pub tells_plain : {A : Type 0} (o : Outcome A) → ((body : List ℕ) → o ≡ outcome.Expand body → ⊥) → is_expansion (outcome_of o) ≡ false
+tells_plain outcome.Done none = refl
+tells_plain (outcome.Answer text) none = refl
+tells_plain (outcome.Error error) none = refl
+tells_plain (outcome.Expand body) none = absurd (none body refl)
+tells_plain outcome.Parked none = refl
+tells_plain outcome.Held none = refl
+tells_plain outcome.Later none = refl
+
 -- ---- a turn
 
-pub turn_ends : (source : Source) (c : Course) (request : Request) (first : Bool) → Asks source c.standing.units request first → first ≡ true → c.standing.inside ≡ None → EndsMessage source c.standing.units c.standing.inside
-turn_ends source c request first asks e out =
-    ends_before source c.standing.units c.standing.inside request out (subst (λ (z : Bool). Asks source c.standing.units request z) e asks)
+pub turn_ends : (source : Source) (place : ℕ) (request : Request) (first : Bool) → Asks source place request first → first ≡ true → EndsMessage source place None
+turn_ends source place request first asks e = ends_before source place request (subst (λ (z : Bool). Asks source place request z) e asks)
 
-pub turn_next : (source : Source) (c d : Course) (request : Request) (first : Bool) → d.standing ≡ c.standing → Asks source c.standing.units request first → (first ≡ true → d.standing.inside ≡ None → d.text.answered ≡ false)
-    → NextUnit source d request
-turn_next source c d request first same asks clear = (first, subst (λ (z : Standing). Asks source z.units request first) (sym same) asks, clear)
+no_expansion : {A : Type 0} (expansion : Option (Expansion A)) → inside_of expansion ≡ None → expansion ≡ None
+no_expansion None e = refl
+no_expansion (Some some) e = absurd (cc (e))
+
+pub turn_next : {A : Type 0} (source : Source) (c : Rust A) (units : ℕ) (request : Request) (first : Bool) → c.units ≡ units → Asks source units request first → (first ≡ true → c.expansion ≡ None → c.gathered.answered ≡ false) → NextUnit source (course_of c) request
+turn_next source c units request first same asks clear =
+    (first, subst (λ (z : ℕ). Asks source z request first) (sym same) asks, λ f none. clear f (no_expansion c.expansion none))
 
 pub not_false : (b : Bool) → not b ≡ false → b ≡ true
 not_false true e = refl

@@ -20,12 +20,13 @@ beginning = record { standing = start; expansion = None; text = nothing }
 
 -- ---- what a try makes of it
 
+-- Parked: the unit was accepted, and waits; Held and Later: nothing was executed, and it is tried again; so is the end of a wait for which there was no memory
 abbrev pub standing_after : Standing → Reply → Standing
 standing_after s (Error error) = if s.parked && is_memory error then s else standing.passed s
 standing_after s Done = standing.passed s
 standing_after s (Answer text) = standing.passed s
 standing_after s (Expand text) = standing.expanded s
-standing_after s Parked = standing.after s Parked
+standing_after s Parked = standing.accepted s
 standing_after s Held = s
 standing_after s Later = s
 
@@ -46,7 +47,7 @@ tried c reply = record {
 
 -- the expansion is done, and with it the unit that it stood for
 abbrev pub outside : Course → Course
-outside c = record { standing = standing.left c.standing; expansion = c.expansion; text = c.text }
+outside c = record { standing = standing.left c.standing; expansion = None; text = c.text }
 
 -- what is gathered was sent, and its message goes on
 abbrev pub sent : Course → Course
@@ -122,12 +123,11 @@ Halts does fails stops source at c stop now left = (stops at stop now × (left �
 
 -- ---- of one try
 
--- a unit was tried once, and this is where it stands
-pub record Trial {X : Type 0} (does : X → Deed → X → Type 0) (at : X) (s : Standing) (request : Request) (now : X) (new : Standing) (reply : Reply) : Type 0 where
+-- a unit was tried once, which was accepted or not
+pub record Trial {X : Type 0} (does : X → Deed → X → Type 0) (at : X) (parked : Bool) (request : Request) (now : X) (reply : Reply) : Type 0 where
   pub deed : Deed
   pub done : does at deed now
-  pub is : IsTry s.parked request deed reply
-  pub stands : new ≡ standing_after s reply
+  pub is : IsTry parked request deed reply
 
 -- what a reply tells is gathered, and a part may have been sent
 abbrev pub Tells : {X : Type 0} → (X → Deed → X → Type 0) → X → Text → Reply → X → Text → Type 0

@@ -1,6 +1,5 @@
--- How far a transmission has come, and what an outcome of its next unit makes of that.
+-- How far a transmission has come, and what its next unit makes of that.
 use Rattle.std.specs.Prelude.{ℕ, ◌+◌, Bool, true, false, Option, Some, None}
-use Rattle.psu_exec.specs.Device.{Reply, Done, Answer, Error, Expand, Parked, Held, Later}
 
 -- How many of its units are done; how many of the expansion in the next one's place, where there is one; whether the next was accepted and waits.
 pub record Standing : Type 0 where
@@ -25,15 +24,9 @@ expanded s = next s s.inside where
   next s None = record { units = s.units; inside = Some 0; parked = false }
   next s (Some n) = record { units = s.units; inside = Some (n + 1); parked = false }
 
--- Parked: the unit was accepted, and waits; Held and Later: nothing was executed, and it is tried again
-abbrev pub after : Standing → Reply → Standing
-after s Parked = record { units = s.units; inside = s.inside; parked = true }
-after s Held = s
-after s Later = s
-after s (Expand text) = expanded s
-after s Done = passed s
-after s (Answer text) = passed s
-after s (Error error) = passed s
+-- the next unit was accepted, and waits
+abbrev pub accepted : Standing → Standing
+accepted s = record { units = s.units; inside = s.inside; parked = true }
 
 -- the expansion is done, and with it the unit that it stood for
 abbrev pub left : Standing → Standing

@@ -3,18 +3,19 @@ ghost use Rattle.std.specs.Prelude.{◌≡◌};
 ghost use Rattle.psu_messages.specs.Courses.{beginning};
 ghost use Rattle.psu_messages.specs.Shown.{course_of};
 
-use crate::Standing;
+use crate::Expansion;
 use psu_answers::Gathered;
-use psu_lex::Bytes;
 use std::alloc::Allocator;
 
 /// How far a transmission has come, between two tries of its units.
 #[derive(Drop)]
 pub struct Course<A: Allocator + Copy> {
-    /// Which of its units is next.
-    pub standing: Standing,
-    /// The expansion that stands in a unit's place.
-    pub expansion: Option<Bytes<A>>,
+    /// How many of its units are done.
+    pub units: u64,
+    /// The expansion that stands in the next one's place.
+    pub expansion: Option<Expansion<A>>,
+    /// Whether the next unit, of the expansion where one stands, was accepted and waits.
+    pub parked: bool,
     /// What is answered and not sent.
     pub gathered: Gathered<A>,
 }
@@ -25,8 +26,9 @@ impl<A: Allocator + Copy> Course<A> {
         ensures { course_of result ≡ beginning }
     {
         Course {
-            standing: Standing::start(),
+            units: 0,
             expansion: None,
+            parked: false,
             gathered: Gathered::new(alloc),
         }
     }
@@ -35,8 +37,9 @@ impl<A: Allocator + Copy> Course<A> {
     pub fn restart(&mut self)
         ensures { course_of self.new ≡ beginning }
     {
-        self.standing = Standing::start();
+        self.units = 0;
         self.expansion = None;
+        self.parked = false;
         self.gathered.restart();
     }
 }

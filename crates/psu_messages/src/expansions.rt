@@ -1,13 +1,13 @@
 // The units of an expansion, in the place of the unit that it replaces.
-ghost use Rattle.std.specs.Prelude.{◌≡◌, ◌+◌, ◌<◌, ◌^◌, min, true, Some, None, is_some, IfOk, IfErr, IfSome};
+ghost use Rattle.std.specs.Prelude.{◌≡◌, ℕ, min, IfOk, IfErr, IfSome};
 ghost use Rattle.psu_messages.specs.Deeds.{Awaits};
 ghost use Rattle.psu_messages.specs.Courses.{Goes, Stops};
-ghost use Rattle.psu_messages.specs.Shown.{course};
+ghost use Rattle.psu_messages.specs.Stepping.{expanded_by, within};
 ghost use Rattle.psu_messages.specs.Units.{Source};
 
 use crate::reading::{path_behind, request_at};
 use crate::steps::take_step;
-use crate::{Front, Need, Standing};
+use crate::{Front, Need};
 use psu_answers::Gathered;
 use psu_lex::split;
 use std::alloc::Allocator;
@@ -24,32 +24,31 @@ pub(crate) fn expand<A: Allocator + Copy, F: Front<A>>(
     front: &mut F,
     alloc: A,
     body: &[u8],
-    standing: &mut Standing,
+    done: &mut u64,
+    parked: &mut bool,
     gathered: &mut Gathered<A>,
 ) -> Result<Option<Need>, F::Stop>
-    requires some { is_some standing.old.inside ≡ true }
-    requires units { standing.old.units + 1 < 2 ^ 64 }
-    ensures goes { IfOk result (λ _. (source : Source)
-        → Goes F.does source front.old (course standing.old (Some body.now) gathered.old) front.new (course standing.new (Some body.now) gathered.new)) }
-    ensures units { IfOk result (λ need. need ≡ None → standing.new.units ≡ standing.old.units + 1) }
+    ensures goes { IfOk result (λ need. (source : Source) (units : ℕ) → Goes F.does source front.old (within units body.now done.old parked.old gathered.old)
+        front.new (expanded_by need units body.now done.new parked.new gathered.new)) }
     ensures waits { IfOk result (λ some. IfSome some (Awaits F.does front.new)) }
-    ensures stops { IfErr result (λ stop. (source : Source) → Stops F.does F.fails F.stops source front.old (course standing.old (Some body.now) gathered.old) stop front.new gathered.new) }
+    ensures stops { IfErr result (λ stop. (source : Source) (units : ℕ)
+        → Stops F.does F.fails F.stops source front.old (within units body.now done.old parked.old gathered.old) stop front.new gathered.new) }
 {
     let Ok(units) = split(alloc, body) else {
         return Err(front.short());
     };
     let list = units.as_slice();
-    let done = standing.inside().unwrap_or(0);
-    let at = place_of(done, list.len());
+    let at = place_of(*done, list.len());
     let (before, rest) = list.split_at(at);
     let mut path = path_behind(before, true);
     for unit in rest {
         let request = request_at(&mut path, unit, true);
-        let step = take_step(front, &request, standing, gathered)?;
-        if let Some(need) = step.need() {
+        let step = take_step(front, &request, parked, gathered)?;
+        if let Some(need) = step {
             return Ok(Some(need));
         }
+        *done += 1;
     }
-    standing.leave();
+    *parked = false;
     Ok(None)
 }

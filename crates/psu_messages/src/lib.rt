@@ -3,22 +3,22 @@
 #![tactic(auto)]
 
 mod course;
+mod expansion;
 mod expansions;
 mod front;
 mod laws;
 mod messages;
 mod need;
 mod reading;
-mod standing;
 mod steps;
 mod telling;
 mod tries;
 
 pub use course::Course;
+pub use expansion::Expansion;
 pub use front::Front;
 pub use laws::{
     calls_are_one_course, over_is_done, over_is_messages, over_is_sent, so_far_is_messages,
 };
 pub use messages::{execute_fault, execute_text, proceed};
 pub use need::Need;
-pub use standing::Standing;

@@ -1,44 +1,85 @@
 // A transmission, executed unit by unit and answered message by message.
-ghost use Rattle.std.specs.Prelude.{◌≡◌, ◌+◌, ◌<◌, ◌^◌, true, false, None, is_some, IfOk, IfErr, IfSome, OnOk, OnErr};
+ghost use Rattle.std.specs.Prelude.{◌≡◌, ◌+◌, ◌<◌, ◌^◌, true, false, None, IfOk, IfErr, IfSome, OnOk, OnErr};
 ghost use Rattle.psu_messages.specs.Deeds.{Awaits};
-ghost use Rattle.psu_messages.specs.Courses.{Goes, Halts, IsOver, NextUnit, Stops};
+ghost use Rattle.psu_messages.specs.Courses.{Goes, Halts, IsNext, IsOver, NextUnit, Stops};
 ghost use Rattle.psu_messages.specs.Shown.{course_of};
+ghost use Rattle.psu_messages.specs.Stepping.{plain, within};
 ghost use Rattle.psu_messages.specs.Units.{Asks, EndsMessage, Fault, Source, Text, source_of};
 
 use crate::expansions::{expand, place_of};
 use crate::reading::{path_behind, request_at};
-use crate::steps::{Step, take_step};
-use crate::telling::close;
-use crate::{Course, Front, Need};
-use psu_exec::{Request, ScpiError};
-use psu_lex::split;
+use crate::telling::{close, tell};
+use crate::tries::{Tried, attempt};
+use crate::{Course, Expansion, Front, Need};
+use psu_exec::{Outcome, Request, ScpiError};
+use psu_lex::{Bytes, split};
 use psu_sessions::Input;
 use std::alloc::Allocator;
 
-// Goes on with the expansion that stands in a unit's place.
-fn resume<A: Allocator + Copy, F: Front<A>>(
+// Executes an expansion in the place of the unit that it replaces.
+fn replace<A: Allocator + Copy, F: Front<A>>(
     front: &mut F,
     alloc: A,
+    body: Bytes<A>,
     course: &mut Course<A>,
 ) -> Result<Option<Need>, F::Stop>
-    requires some { is_some course.old.standing.inside ≡ true }
-    requires units { course.old.standing.units + 1 < 2 ^ 64 }
-    ensures goes { IfOk result (λ _. (source : Source) → Goes F.does source front.old (course_of course.old) front.new (course_of course.new)) }
-    ensures units { IfOk result (λ need. need ≡ None → course.new.standing.units ≡ course.old.standing.units + 1) }
+    requires none { course.old.expansion ≡ None }
+    requires units { course.old.units + 1 < 2 ^ 64 }
+    ensures goes { IfOk result (λ _. (source : Source) → Goes F.does source front.old (within course.old.units body 0 course.old.parked course.old.gathered) front.new (course_of course.new)) }
+    ensures units { IfOk result (λ need. need ≡ None → course.new.units ≡ course.old.units + 1) }
     ensures waits { IfOk result (λ some. IfSome some (Awaits F.does front.new)) }
-    ensures stops { IfErr result (λ stop. (source : Source) → Stops F.does F.fails F.stops source front.old (course_of course.old) stop front.new course.new.gathered) }
+    ensures stops { IfErr result (λ stop. (source : Source)
+        → Stops F.does F.fails F.stops source front.old (within course.old.units body 0 course.old.parked course.old.gathered) stop front.new course.new.gathered) }
 {
-    let Some(body) = &course.expansion else {
-        return Err(front.short());
-    };
+    let mut expansion = Expansion { body, done: 0 };
     let need = expand(
         front,
         alloc,
-        body.as_slice(),
-        &mut course.standing,
+        expansion.body.as_slice(),
+        &mut expansion.done,
+        &mut course.parked,
         &mut course.gathered,
     )?;
-    Ok(need)
+    match need {
+        None => {
+            course.units += 1;
+            Ok(None)
+        }
+        Some(need) => {
+            course.expansion = Some(expansion);
+            Ok(Some(need))
+        }
+    }
+}
+
+// Executes a unit of a message, and an expansion that replaces it.
+#[inline(always)]
+fn begin<A: Allocator + Copy, F: Front<A>>(
+    front: &mut F,
+    alloc: A,
+    request: &Request<'_>,
+    course: &mut Course<A>,
+) -> Result<Option<Need>, F::Stop>
+    requires none { course.old.expansion ≡ None }
+    requires units { course.old.units + 1 < 2 ^ 64 }
+    ensures goes { IfOk result (λ _. (source : Source) → IsNext source (plain course.old.units course.old.parked course.old.gathered) request.now
+        → Goes F.does source front.old (plain course.old.units course.old.parked course.old.gathered) front.new (course_of course.new)) }
+    ensures units { IfOk result (λ need. need ≡ None → course.new.units ≡ course.old.units + 1) }
+    ensures waits { IfOk result (λ some. IfSome some (Awaits F.does front.new)) }
+    ensures stops { IfErr result (λ stop. (source : Source) → IsNext source (plain course.old.units course.old.parked course.old.gathered) request.now
+        → Stops F.does F.fails F.stops source front.old (plain course.old.units course.old.parked course.old.gathered) stop front.new course.new.gathered) }
+{
+    match attempt(front, &mut course.parked, request)? {
+        Tried::Waits(need) => Ok(Some(need)),
+        Tried::Ended(outcome) => match outcome {
+            Outcome::Expand(body) => replace(front, alloc, body, course),
+            outcome => {
+                tell(front, &mut course.gathered, &outcome)?;
+                course.units += 1;
+                Ok(None)
+            }
+        },
+    }
 }
 
 // Executes a unit of a message, or goes on with the expansion in its place.
@@ -49,27 +90,32 @@ fn perform<A: Allocator + Copy, F: Front<A>>(
     request: &Request<'_>,
     course: &mut Course<A>,
 ) -> Result<Option<Need>, F::Stop>
-    requires { course.old.standing.units + 1 < 2 ^ 64 }
+    requires { course.old.units + 1 < 2 ^ 64 }
     ensures goes { IfOk result (λ _. (source : Source) → NextUnit source (course_of course.old) request.now
         → Goes F.does source front.old (course_of course.old) front.new (course_of course.new)) }
-    ensures units { IfOk result (λ need. need ≡ None → course.new.standing.units ≡ course.old.standing.units + 1) }
+    ensures units { IfOk result (λ need. need ≡ None → course.new.units ≡ course.old.units + 1) }
     ensures waits { IfOk result (λ some. IfSome some (Awaits F.does front.new)) }
     ensures stops { IfErr result (λ stop. (source : Source) → NextUnit source (course_of course.old) request.now
         → Stops F.does F.fails F.stops source front.old (course_of course.old) stop front.new course.new.gathered) }
 {
-    if course.standing.inside().is_some() {
-        let need = resume(front, alloc, course)?;
-        return Ok(need);
-    }
-    let step = take_step(front, request, &mut course.standing, &mut course.gathered)?;
-    match step {
-        Step::Done => Ok(None),
-        Step::Waits(need) => Ok(Some(need)),
-        Step::Expands(body) => {
-            course.expansion = Some(body);
-            let need = resume(front, alloc, course)?;
-            Ok(need)
+    let Some(expansion) = &mut course.expansion else {
+        return begin(front, alloc, request, course);
+    };
+    let need = expand(
+        front,
+        alloc,
+        expansion.body.as_slice(),
+        &mut expansion.done,
+        &mut course.parked,
+        &mut course.gathered,
+    )?;
+    match need {
+        None => {
+            course.expansion = None;
+            course.units += 1;
+            Ok(None)
         }
+        Some(need) => Ok(Some(need)),
     }
 }
 
@@ -80,15 +126,15 @@ fn close_before<A: Allocator + Copy, F: Front<A>>(
     first: bool,
     course: &mut Course<A>,
 ) -> Result<(), F::Stop>
-    ensures goes { OnOk result ((source : Source) → (first ≡ true → course.old.standing.inside ≡ None → EndsMessage source course.old.standing.units course.old.standing.inside)
+    ensures goes { OnOk result ((source : Source) → (first ≡ true → course.old.expansion ≡ None → EndsMessage source course.old.units None)
         → Goes F.does source front.old (course_of course.old) front.new (course_of course.new)) }
-    ensures clear { OnOk result (first ≡ true → course.new.standing.inside ≡ None → course.new.gathered.answered ≡ false) }
-    ensures standing { course.new.standing ≡ course.old.standing }
+    ensures clear { OnOk result (first ≡ true → course.new.expansion ≡ None → course.new.gathered.answered ≡ false) }
+    ensures units { course.new.units ≡ course.old.units }
     ensures stopped { IfErr result (λ stop. F.stops front.old stop front.new) }
     ensures left { OnErr result (course.new.gathered ≡ course.old.gathered) }
     ensures unsent { OnErr result (course.old.gathered.answered ≡ true) }
 {
-    if !first || course.standing.inside().is_some() {
+    if !first || course.expansion.is_some() {
         return Ok(());
     }
     close(front, &mut course.gathered)?;
@@ -104,12 +150,12 @@ fn take_turn<A: Allocator + Copy, F: Front<A>>(
     request: &Request<'_>,
     course: &mut Course<A>,
 ) -> Result<Option<Need>, F::Stop>
-    requires { course.old.standing.units + 1 < 2 ^ 64 }
-    ensures goes { IfOk result (λ _. (source : Source) → Asks source course.old.standing.units request.now first
+    requires { course.old.units + 1 < 2 ^ 64 }
+    ensures goes { IfOk result (λ _. (source : Source) → Asks source course.old.units request.now first
         → Goes F.does source front.old (course_of course.old) front.new (course_of course.new)) }
-    ensures units { IfOk result (λ need. need ≡ None → course.new.standing.units ≡ course.old.standing.units + 1) }
+    ensures units { IfOk result (λ need. need ≡ None → course.new.units ≡ course.old.units + 1) }
     ensures waits { IfOk result (λ some. IfSome some (Awaits F.does front.new)) }
-    ensures stops { IfErr result (λ stop. (source : Source) → Asks source course.old.standing.units request.now first
+    ensures stops { IfErr result (λ stop. (source : Source) → Asks source course.old.units request.now first
         → Stops F.does F.fails F.stops source front.old (course_of course.old) stop front.new course.new.gathered) }
 {
     close_before(front, first, course)?;
@@ -134,8 +180,7 @@ pub fn execute_text<A: Allocator + Copy, F: Front<A>>(
         return Err(front.short());
     };
     let list = units.as_slice();
-    let done = course.standing.units();
-    let at = place_of(done, list.len());
+    let at = place_of(course.units, list.len());
     let (before, rest) = list.split_at(at);
     let mut path = path_behind(before, false);
     for unit in rest {
@@ -161,7 +206,7 @@ pub fn execute_fault<A: Allocator + Copy, F: Front<A>>(
     ensures waits { IfOk result (λ some. IfSome some (Awaits F.does front.new)) }
     ensures stops { IfErr result (λ stop. Halts F.does F.fails F.stops (Fault error) front.old (course_of course.old) stop front.new course.new.gathered) }
 {
-    if course.standing.units() > 0 {
+    if course.units > 0 {
         close(front, &mut course.gathered)?;
         return Ok(None);
     }

@@ -1,93 +1,38 @@
-// A unit, tried and told.
-ghost use Rattle.std.specs.Prelude.{◌≡◌, ◌+◌, ◌<◌, ◌^◌, List, ℕ, Option, IfOk, IfErr, IfSome, OnErr};
-ghost use Rattle.psu_exec.specs.Shown.{outcome_of};
-ghost use Rattle.psu_messages.specs.Courses.{Goes, IsNext, Stops};
-ghost use Rattle.psu_messages.specs.Shown.{course};
-ghost use Rattle.psu_messages.specs.Stepping.{IsLeft, IsTold, StepAwaits, Stepped, expansion_by};
+// A unit of an expansion, tried and told.
+ghost use Rattle.std.specs.Prelude.{◌≡◌, List, ℕ, IfOk, IfErr, IfSome};
+ghost use Rattle.psu_messages.specs.Courses.{Goes, Stops};
+ghost use Rattle.psu_messages.specs.Deeds.{Awaits};
+ghost use Rattle.psu_messages.specs.Stepping.{done_by, within};
+ghost use Rattle.psu_messages.specs.Turns.{IsInside};
 ghost use Rattle.psu_messages.specs.Units.{Source};
 
 use crate::telling::tell;
 use crate::tries::{Tried, attempt};
-use crate::{Front, Need, Standing};
+use crate::{Front, Need};
 use psu_answers::Gathered;
-use psu_exec::{Outcome, Request};
-use psu_lex::Bytes;
+use psu_exec::Request;
 use std::alloc::Allocator;
 
-/// What comes of a unit that is tried.
-#[derive(Drop)]
-pub(crate) enum Step<A: Allocator + Copy> {
-    /// It is done, and its answer told.
-    Done,
-    /// These bytes are to be executed in its place.
-    Expands(Bytes<A>),
-    /// It is to be tried again once this has come.
-    Waits(Need),
-}
-
-impl<A: Allocator + Copy> Step<A> {
-    ghost use Rattle.psu_messages.specs.Stepping.{need_in};
-
-    /// What the unit waits for.
-    pub(crate) fn need(&self) -> Option<Need>
-        ensures { result ≡ need_in self.now }
-    {
-        match self {
-            Step::Waits(need) => Some(*need),
-            Step::Done | Step::Expands(_) => None,
-        }
-    }
-}
-
-// Tells what a unit answered, or takes the expansion that replaces it.
-#[inline(always)]
-fn told<A: Allocator + Copy, F: Front<A>>(
-    front: &mut F,
-    gathered: &mut Gathered<A>,
-    is_inside: bool,
-    outcome: Outcome<A>,
-) -> Result<Step<A>, F::Stop>
-    ensures told { IfOk result (IsTold F.does front.old gathered.old is_inside (outcome_of outcome) front.new gathered.new) }
-    ensures stopped { IfErr result (λ stop. F.stops front.old stop front.new) }
-    ensures left { OnErr result (IsLeft gathered.old (outcome_of outcome) gathered.new) }
-{
-    match outcome {
-        Outcome::Expand(body) => {
-            if is_inside {
-                return Ok(Step::Done);
-            }
-            Ok(Step::Expands(body))
-        }
-        outcome => {
-            tell(front, gathered, &outcome)?;
-            Ok(Step::Done)
-        }
-    }
-}
-
-/// Tries the next unit, and tells what it answers.
+/// Tries a unit of an expansion, and tells what it answers; what it waits for, where it isn't done then. An expansion in its place is left out: there is
+/// none in another.
 #[inline(always)]
 pub(crate) fn take_step<A: Allocator + Copy, F: Front<A>>(
     front: &mut F,
     request: &Request<'_>,
-    standing: &mut Standing,
+    parked: &mut bool,
     gathered: &mut Gathered<A>,
-) -> Result<Step<A>, F::Stop>
-    requires units { standing.old.units + 1 < 2 ^ 64 }
-    requires inside { IfSome standing.old.inside (λ done. done + 1 < 2 ^ 64) }
-    ensures goes { IfOk result (λ s. (source : Source) (expansion : Option (List ℕ)) → IsNext source (course standing.old expansion gathered.old) request.now
-        → Goes F.does source front.old (course standing.old expansion gathered.old) front.new (course standing.new (expansion_by expansion s) gathered.new)) }
-    ensures stepped { IfOk result (Stepped standing.old standing.new) }
-    ensures waits { IfOk result (StepAwaits F.does front.new) }
-    ensures stops { IfErr result (λ stop. (source : Source) (expansion : Option (List ℕ)) → IsNext source (course standing.old expansion gathered.old) request.now
-        → Stops F.does F.fails F.stops source front.old (course standing.old expansion gathered.old) stop front.new gathered.new) }
+) -> Result<Option<Need>, F::Stop>
+    ensures goes { IfOk result (λ need. (source : Source) (units : ℕ) (body : List ℕ) (done : ℕ) → IsInside body done request.now
+        → Goes F.does source front.old (within units body done parked.old gathered.old) front.new (within units body (done_by need done) parked.new gathered.new)) }
+    ensures waits { IfOk result (λ some. IfSome some (Awaits F.does front.new)) }
+    ensures stops { IfErr result (λ stop. (source : Source) (units : ℕ) (body : List ℕ) (done : ℕ) → IsInside body done request.now
+        → Stops F.does F.fails F.stops source front.old (within units body done parked.old gathered.old) stop front.new gathered.new) }
 {
-    let is_inside = standing.inside().is_some();
-    match attempt(front, standing, request)? {
-        Tried::Waits(need) => Ok(Step::Waits(need)),
+    match attempt(front, parked, request)? {
+        Tried::Waits(need) => Ok(Some(need)),
         Tried::Ended(outcome) => {
-            let step = told(front, gathered, is_inside, outcome)?;
-            Ok(step)
+            tell(front, gathered, &outcome)?;
+            Ok(None)
         }
     }
 }

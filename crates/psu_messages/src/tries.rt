@@ -1,11 +1,11 @@
 // One try of a unit.
-ghost use Rattle.std.specs.Prelude.{◌≡◌, ◌+◌, ◌<◌, ◌^◌, IfOk, IfErr, IfSome};
+ghost use Rattle.std.specs.Prelude.{◌≡◌, IfOk, IfErr};
 ghost use Rattle.psu_exec.specs.Shown.{outcome_of};
 ghost use Rattle.psu_messages.specs.Deeds.{Deed, IsTry, needs};
 ghost use Rattle.psu_messages.specs.Shown.{IsTried};
 ghost use Rattle.psu_messages.specs.Stepping.{IsBrokenOff};
 
-use crate::{Front, Need, Standing};
+use crate::{Front, Need};
 use psu_exec::{Outcome, Request, ScpiError};
 use std::alloc::Allocator;
 
@@ -49,28 +49,25 @@ fn once<A: Allocator + Copy, F: Front<A>>(
     }
 }
 
-/// Tries a unit once.
+/// Tries a unit once, which was accepted or not.
 #[inline(always)]
 pub(crate) fn attempt<A: Allocator + Copy, F: Front<A>>(
     front: &mut F,
-    standing: &mut Standing,
+    parked: &mut bool,
     request: &Request<'_>,
 ) -> Result<Tried<A>, F::Stop>
-    requires units { standing.old.units + 1 < 2 ^ 64 }
-    requires inside { IfSome standing.old.inside (λ done. done + 1 < 2 ^ 64) }
-    ensures tried { IfOk result (IsTried F.does front.old standing.old request.now front.new standing.new) }
-    ensures stopped { IfErr result (λ stop. IsBrokenOff F.fails F.stops front.old standing.old.parked request.now stop front.new) }
+    ensures tried { IfOk result (IsTried F.does front.old parked.old request.now front.new parked.new) }
+    ensures stopped { IfErr result (λ stop. IsBrokenOff F.fails F.stops front.old parked.old request.now stop front.new) }
 {
-    let parked = standing.is_parked();
-    let outcome = once(front, parked, request)?;
-    match need_of(parked, &outcome) {
-        Some(Need::Memory) => Ok(Tried::Waits(Need::Memory)),
-        Some(need) => {
-            standing.take(&outcome);
-            Ok(Tried::Waits(need))
+    let outcome = once(front, *parked, request)?;
+    match need_of(*parked, &outcome) {
+        Some(Need::Flush) => {
+            *parked = true;
+            Ok(Tried::Waits(Need::Flush))
         }
+        Some(need) => Ok(Tried::Waits(need)),
         None => {
-            standing.take(&outcome);
+            *parked = false;
             Ok(Tried::Ended(outcome))
         }
     }

@@ -1,5 +1,5 @@
 use Rattle.std.proofs.Common.{◌≡◌, inl, inr, ℕ, ◌+◌, ◌<◌, ◌≤◌, false, refl, ap, drop, ◌∙◌, arith, length, length-drop}
-use Rattle.psu_messages.specs.Shown.{course_of}
+use Rattle.psu_messages.specs.Shown.{course_of, inside_of}
 use Rattle.psu_messages.specs.Units.{Text}
 use Rattle.psu_messages.proofs.Going.{behind, passed_on, stops_on}
 use Rattle.psu_messages.proofs.Inside.{begins_at}
@@ -13,29 +13,29 @@ returns-in_default-clause-stops g c = inl (c.short.ensures, refl)
 pub returns-in_err-turn-clause-stops : goal.returns-in_err-turn-clause-stops
 returns-in_err-turn-clause-stops g c =
     let within : c.loop-unit.unit-index < length c.split_at.result.1.now = omega (arith, c.loop-unit-test.true) in
-    let asks = asks_at c.args.bytes.now _ c.as_slice-list.result.now c.split_at.result.0.now c.split_at.result.1.now c.place_of-at.result c.units-done.result c.loop-unit.unit-index _ c.path_behind-path.result c.loop-unit.path
+    let asks = asks_at c.args.bytes.now _ c.as_slice-list.result.now c.split_at.result.0.now c.split_at.result.1.now c.place_of-at.result c.args.course.now.units c.loop-unit.unit-index _ c.path_behind-path.result c.loop-unit.path
     c.request_at-request.new.path c.request_at-request.result c.in-Ok.ensures c.as_slice-list.ensures c.split_at.ensures.front c.split_at.ensures.back within c.place_of-at.ensures c.path_behind-path.ensures c.loop-unit.invariant.path
-    c.request_at-request.ensures c.loop-unit.course.standing.units c.loop-unit.invariant.units in
+    c.request_at-request.ensures c.loop-unit.course.units c.loop-unit.invariant.units in
     passed_on c.from_residual.result c.in_err-turn.field-0.0 _ c.from_residual.ensures.1 (inr (stops_on c.loop-unit.invariant.goes (c.in_err-turn.ensures.stops (Text c.args.bytes.now) asks)))
 
 pub returns-in-Some-clause-goes : goal.returns-in-Some-clause-goes
 returns-in-Some-clause-goes g c =
     let within : c.loop-unit.unit-index < length c.split_at.result.1.now = omega (arith, c.loop-unit-test.true) in
-    let asks = asks_at c.args.bytes.now _ c.as_slice-list.result.now c.split_at.result.0.now c.split_at.result.1.now c.place_of-at.result c.units-done.result c.loop-unit.unit-index _ c.path_behind-path.result c.loop-unit.path
+    let asks = asks_at c.args.bytes.now _ c.as_slice-list.result.now c.split_at.result.0.now c.split_at.result.1.now c.place_of-at.result c.args.course.now.units c.loop-unit.unit-index _ c.path_behind-path.result c.loop-unit.path
     c.request_at-request.new.path c.request_at-request.result c.in-Ok.ensures c.as_slice-list.ensures c.split_at.ensures.front c.split_at.ensures.back within c.place_of-at.ensures c.path_behind-path.ensures c.loop-unit.invariant.path
-    c.request_at-request.ensures c.loop-unit.course.standing.units c.loop-unit.invariant.units in
+    c.request_at-request.ensures c.loop-unit.course.units c.loop-unit.invariant.units in
     behind g.F.Front.does (Text c.args.bytes.now) c.args.front.now c.loop-unit.front c.take_turn.new.front _ _ _ c.loop-unit.invariant.goes (c.in_ok-turn.ensures.goes (Text c.args.bytes.now) asks)
 
 pub loop-unit-preserved : goal.loop-unit-preserved
 loop-unit-preserved g c =
     let more : length c.split_at.result.1.now ≡ length (drop c.place_of-at.result c.as_slice-list.result.now) = ap length c.split_at.ensures.back in
     let within : c.loop-unit.unit-index < length c.split_at.result.1.now = omega (arith, c.loop-unit-test.true) in
-    let there : c.units-done.result + c.loop-unit.unit-index ≡ c.place_of-at.result + c.loop-unit.unit-index
-    = begins_at c.as_slice-list.result.now c.split_at.result.1.now c.place_of-at.result c.units-done.result c.loop-unit.unit-index c.split_at.ensures.back within c.place_of-at.ensures in
-    let asks = asks_at c.args.bytes.now _ c.as_slice-list.result.now c.split_at.result.0.now c.split_at.result.1.now c.place_of-at.result c.units-done.result c.loop-unit.unit-index _ c.path_behind-path.result c.loop-unit.path
+    let there : c.args.course.now.units + c.loop-unit.unit-index ≡ c.place_of-at.result + c.loop-unit.unit-index
+    = begins_at c.as_slice-list.result.now c.split_at.result.1.now c.place_of-at.result c.args.course.now.units c.loop-unit.unit-index c.split_at.ensures.back within c.place_of-at.ensures in
+    let asks = asks_at c.args.bytes.now _ c.as_slice-list.result.now c.split_at.result.0.now c.split_at.result.1.now c.place_of-at.result c.args.course.now.units c.loop-unit.unit-index _ c.path_behind-path.result c.loop-unit.path
     c.request_at-request.new.path c.request_at-request.result c.in-Ok.ensures c.as_slice-list.ensures c.split_at.ensures.front c.split_at.ensures.back within c.place_of-at.ensures c.path_behind-path.ensures c.loop-unit.invariant.path
-    c.request_at-request.ensures c.loop-unit.course.standing.units c.loop-unit.invariant.units in
-    let next : (c.units-done.result + c.loop-unit.unit-index) + 1 ≡ c.units-done.result + (c.loop-unit.unit-index + 1) = omega arith in
+    c.request_at-request.ensures c.loop-unit.course.units c.loop-unit.invariant.units in
+    let next : (c.args.course.now.units + c.loop-unit.unit-index) + 1 ≡ c.args.course.now.units + (c.loop-unit.unit-index + 1) = omega arith in
     record {
       path = from_more false c.split_at.result.1.now c.place_of-at.result c.loop-unit.unit-index _ c.path_behind-path.result c.loop-unit.path c.request_at-request.new.path c.request_at-request.result within c.loop-unit.invariant.path c.request_at-request.ensures;
       units = c.in_ok-turn.ensures.units c.in_default-turn.is ∙ ap (λ (n : ℕ). n + 1) c.loop-unit.invariant.units ∙ next;
@@ -45,16 +45,16 @@ loop-unit-preserved g c =
 pub returns-clause-goes : goal.returns-clause-goes
 returns-clause-goes g c =
     let more : length c.split_at.result.1.now ≡ length (drop c.place_of-at.result c.as_slice-list.result.now) = ap length c.split_at.ensures.back in
-    let all : length c.as_slice-list.result.now ≤ c.loop-unit.course.standing.units = omega (arith, c.loop-unit-test.false, c.place_of-at.ensures, c.loop-unit.invariant.units, length-drop c.place_of-at.result c.as_slice-list.result.now) in
-    let ends = ends_all c.args.bytes.now c.loop-unit.course.standing.units c.loop-unit.course.standing.inside (behind_all c.args.bytes.now _ c.as_slice-list.result.now c.loop-unit.course.standing.units c.in-Ok.ensures c.as_slice-list.ensures all) in
+    let all : length c.as_slice-list.result.now ≤ c.loop-unit.course.units = omega (arith, c.loop-unit-test.false, c.place_of-at.ensures, c.loop-unit.invariant.units, length-drop c.place_of-at.result c.as_slice-list.result.now) in
+    let ends = ends_all c.args.bytes.now c.loop-unit.course.units (inside_of c.loop-unit.course.expansion) (behind_all c.args.bytes.now _ c.as_slice-list.result.now c.loop-unit.course.units c.in-Ok.ensures c.as_slice-list.ensures all) in
     behind g.F.Front.does (Text c.args.bytes.now) c.args.front.now c.loop-unit.front c.close.new.front _ _ _ c.loop-unit.invariant.goes
     (closes g.F.Front.does (Text c.args.bytes.now) c.loop-unit.front c.close.new.front (course_of c.loop-unit.course) c.close.new.gathered ends c.in_ok-close.ensures.closes)
 
 pub returns-clause-over : goal.returns-clause-over
 returns-clause-over g c = λ none.
     let more : length c.split_at.result.1.now ≡ length (drop c.place_of-at.result c.as_slice-list.result.now) = ap length c.split_at.ensures.back in
-    let all : length c.as_slice-list.result.now ≤ c.loop-unit.course.standing.units = omega (arith, c.loop-unit-test.false, c.place_of-at.ensures, c.loop-unit.invariant.units, length-drop c.place_of-at.result c.as_slice-list.result.now) in
+    let all : length c.as_slice-list.result.now ≤ c.loop-unit.course.units = omega (arith, c.loop-unit-test.false, c.place_of-at.ensures, c.loop-unit.invariant.units, length-drop c.place_of-at.result c.as_slice-list.result.now) in
     record {
-      units = behind_all c.args.bytes.now _ c.as_slice-list.result.now c.loop-unit.course.standing.units c.in-Ok.ensures c.as_slice-list.ensures all;
+      units = behind_all c.args.bytes.now _ c.as_slice-list.result.now c.loop-unit.course.units c.in-Ok.ensures c.as_slice-list.ensures all;
       sent = closed g.F.Front.does c.loop-unit.front c.close.new.front c.loop-unit.course.gathered c.close.new.gathered c.in_ok-close.ensures.closes;
     }

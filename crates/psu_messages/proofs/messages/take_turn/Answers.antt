@@ -1,5 +1,4 @@
 use Rattle.std.proofs.Common.{inl}
-use Rattle.psu_messages.specs.Shown.{course_of}
 use Rattle.psu_messages.proofs.Going.{behind, passed_on, some_stop, stops_on}
 use Rattle.psu_messages.proofs.Outside.{turn_ends, turn_next}
 use Rattle.psu_messages.proofs.messages.take_turn.Goals as goal
@@ -12,13 +11,13 @@ pub returns-in_err-need-clause-stops : goal.returns-in_err-need-clause-stops
 returns-in_err-need-clause-stops g c =
     passed_on c.from_residual-in_err-need.result c.in_err-need.field-0.0 _ c.from_residual-in_err-need.ensures.1 (λ source asks.
     stops_on
-    (c.in_ok-close_before.ensures.goes source (turn_ends source (course_of c.args.course.now) c.args.request.now c.args.first asks))
+    (c.in_ok-close_before.ensures.goes source (λ first out. turn_ends source c.args.course.now.units c.args.request.now c.args.first asks first))
     (c.in_err-need.ensures.stops source
-    (turn_next source (course_of c.args.course.now) (course_of c.close_before.new.course) c.args.request.now c.args.first c.in_ok-close_before.ensures.standing asks c.in_ok-close_before.ensures.clear)))
+    (turn_next source c.close_before.new.course c.args.course.now.units c.args.request.now c.args.first c.in_ok-close_before.ensures.units asks c.in_ok-close_before.ensures.clear)))
 
 pub returns-clause-goes : goal.returns-clause-goes
 returns-clause-goes g c = λ source asks.
     behind g.F.Front.does source c.args.front.now c.close_before.new.front c.perform.new.front _ _ _
-    (c.in_ok-close_before.ensures.goes source (turn_ends source (course_of c.args.course.now) c.args.request.now c.args.first asks))
+    (c.in_ok-close_before.ensures.goes source (λ first out. turn_ends source c.args.course.now.units c.args.request.now c.args.first asks first))
     (c.in_ok-need.ensures.goes source
-    (turn_next source (course_of c.args.course.now) (course_of c.close_before.new.course) c.args.request.now c.args.first c.in_ok-close_before.ensures.standing asks c.in_ok-close_before.ensures.clear))
+    (turn_next source c.close_before.new.course c.args.course.now.units c.args.request.now c.args.first c.in_ok-close_before.ensures.units asks c.in_ok-close_before.ensures.clear))
