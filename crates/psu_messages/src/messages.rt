@@ -6,13 +6,14 @@ ghost use Rattle.psu_messages.specs.Shown.{course_of};
 ghost use Rattle.psu_messages.specs.Units.{Asks, EndsMessage, Fault, Source, Text, source_of};
 
 use crate::expansions::{expand, place_of};
-use crate::reading::{path_behind, request_at};
+use crate::reading::{pass_over, request_at};
 use crate::steps::{Step, take_step};
 use crate::telling::close;
 use crate::{Course, Front, Need};
 use psu_exec::{Request, ScpiError};
 use psu_lex::split;
 use psu_sessions::Input;
+use psu_tree::Path;
 use std::alloc::Allocator;
 
 // Goes on with the expansion that stands in a unit's place.
@@ -137,7 +138,8 @@ pub fn execute_text<A: Allocator + Copy, F: Front<A>>(
     let done = course.standing.units();
     let at = place_of(done, list.len());
     let (before, rest) = list.split_at(at);
-    let mut path = path_behind(before, false);
+    let mut path = Path::root();
+    pass_over(&mut path, before, false);
     for unit in rest {
         let request = request_at(&mut path, unit, false);
         let turn = take_turn(front, alloc, unit.first, &request, course)?;

@@ -14,15 +14,15 @@ pub returns-in_err-step-clause-stops : goal.returns-in_err-step-clause-stops
 returns-in_err-step-clause-stops g c =
     passed_on c.from_residual.result c.in_err-step.field-0.0 _ c.from_residual.ensures.1 (λ source.
     let next = inside_at source c.loop-unit.standing c.args.body.now c.loop-unit.gathered _ c.as_slice-list.result.now c.split_at.result.0.now c.split_at.result.1.now c.place_of-at.result c.unwrap_or-done.result c.loop-unit.unit-index _
-    c.path_behind-path.result c.loop-unit.path c.request_at-request.new.path c.request_at-request.result c.in-Ok.ensures c.as_slice-list.ensures c.split_at.ensures.front c.split_at.ensures.back (omega (arith, c.loop-unit-test.true))
-    c.place_of-at.ensures c.loop-unit.invariant.inside c.path_behind-path.ensures c.loop-unit.invariant.path c.request_at-request.ensures in
+    c.pass_over.new.path c.loop-unit.path c.request_at-request.new.path c.request_at-request.result c.in-Ok.ensures c.as_slice-list.ensures c.split_at.ensures.front c.split_at.ensures.back (omega (arith, c.loop-unit-test.true))
+    c.place_of-at.ensures c.loop-unit.invariant.inside c.pass_over.ensures c.loop-unit.invariant.path c.request_at-request.ensures in
     stops_on (c.loop-unit.invariant.goes source) (c.in_err-step.ensures.stops source (Some c.args.body.now) next))
 
 pub returns-in-Some-clause-goes : goal.returns-in-Some-clause-goes
 returns-in-Some-clause-goes g c = λ source.
     let next = inside_at source c.loop-unit.standing c.args.body.now c.loop-unit.gathered _ c.as_slice-list.result.now c.split_at.result.0.now c.split_at.result.1.now c.place_of-at.result c.unwrap_or-done.result c.loop-unit.unit-index _
-    c.path_behind-path.result c.loop-unit.path c.request_at-request.new.path c.request_at-request.result c.in-Ok.ensures c.as_slice-list.ensures c.split_at.ensures.front c.split_at.ensures.back (omega (arith, c.loop-unit-test.true))
-    c.place_of-at.ensures c.loop-unit.invariant.inside c.path_behind-path.ensures c.loop-unit.invariant.path c.request_at-request.ensures in
+    c.pass_over.new.path c.loop-unit.path c.request_at-request.new.path c.request_at-request.result c.in-Ok.ensures c.as_slice-list.ensures c.split_at.ensures.front c.split_at.ensures.back (omega (arith, c.loop-unit-test.true))
+    c.place_of-at.ensures c.loop-unit.invariant.inside c.pass_over.ensures c.loop-unit.invariant.path c.request_at-request.ensures in
     behind g.F.Front.does source c.args.front.now c.loop-unit.front c.take_step.new.front _ _ _ (c.loop-unit.invariant.goes source)
     (step_inside g.F.Front.does source c.loop-unit.front c.take_step.new.front c.loop-unit.standing c.take_step.new.standing c.args.body.now c.loop-unit.gathered c.take_step.new.gathered
     (c.unwrap_or-done.result + c.loop-unit.unit-index) c.in_ok-step.step c.loop-unit.invariant.inside c.in_ok-step.ensures.stepped (c.in_ok-step.ensures.goes source (Some c.args.body.now) next))
@@ -34,14 +34,14 @@ loop-unit-preserved g c =
     let there : c.unwrap_or-done.result + c.loop-unit.unit-index ≡ c.place_of-at.result + c.loop-unit.unit-index
     = begins_at c.as_slice-list.result.now c.split_at.result.1.now c.place_of-at.result c.unwrap_or-done.result c.loop-unit.unit-index c.split_at.ensures.back within c.place_of-at.ensures in
     record {
-      path = from_more true c.split_at.result.1.now c.place_of-at.result c.loop-unit.unit-index _ c.path_behind-path.result c.loop-unit.path c.request_at-request.new.path c.request_at-request.result within c.loop-unit.invariant.path c.request_at-request.ensures;
+      path = from_more true c.split_at.result.1.now c.place_of-at.result c.loop-unit.unit-index _ c.pass_over.new.path c.loop-unit.path c.request_at-request.new.path c.request_at-request.result within c.loop-unit.invariant.path c.request_at-request.ensures;
       inside = next_inside c.loop-unit.standing c.take_step.new.standing c.unwrap_or-done.result c.loop-unit.unit-index c.in_ok-step.step c.loop-unit.invariant.inside c.in_ok-step.ensures.stepped (sym c.need.ensures ∙ c.in_default-need.is);
       units = same_units c.loop-unit.standing c.take_step.new.standing (c.unwrap_or-done.result + c.loop-unit.unit-index) c.in_ok-step.step c.loop-unit.invariant.inside c.in_ok-step.ensures.stepped (sym c.need.ensures ∙ c.in_default-need.is)
           ∙ c.loop-unit.invariant.units;
       goes = λ source.
           let next = inside_at source c.loop-unit.standing c.args.body.now c.loop-unit.gathered _ c.as_slice-list.result.now c.split_at.result.0.now c.split_at.result.1.now c.place_of-at.result c.unwrap_or-done.result c.loop-unit.unit-index _
-          c.path_behind-path.result c.loop-unit.path c.request_at-request.new.path c.request_at-request.result c.in-Ok.ensures c.as_slice-list.ensures c.split_at.ensures.front c.split_at.ensures.back within
-          c.place_of-at.ensures c.loop-unit.invariant.inside c.path_behind-path.ensures c.loop-unit.invariant.path c.request_at-request.ensures in
+          c.pass_over.new.path c.loop-unit.path c.request_at-request.new.path c.request_at-request.result c.in-Ok.ensures c.as_slice-list.ensures c.split_at.ensures.front c.split_at.ensures.back within
+          c.place_of-at.ensures c.loop-unit.invariant.inside c.pass_over.ensures c.loop-unit.invariant.path c.request_at-request.ensures in
           behind g.F.Front.does source c.args.front.now c.loop-unit.front c.take_step.new.front _ _ _ (c.loop-unit.invariant.goes source)
           (step_inside g.F.Front.does source c.loop-unit.front c.take_step.new.front c.loop-unit.standing c.take_step.new.standing c.args.body.now c.loop-unit.gathered c.take_step.new.gathered
           (c.unwrap_or-done.result + c.loop-unit.unit-index) c.in_ok-step.step c.loop-unit.invariant.inside c.in_ok-step.ensures.stepped (c.in_ok-step.ensures.goes source (Some c.args.body.now) next));
