@@ -35,6 +35,7 @@ impl<A: Allocator + Copy> Gathered<A> {
     }
 
     /// The next unit of the message answers this; `;` joins it to the answers before it. Where memory is refused nothing has changed.
+    #[inline(always)]
     pub fn tell(&mut self, answer: &[u8]) -> Result<(), AllocError>
         ensures ok { OnOk result (self.new ≡ told self.old answer.now) }
         ensures same { OnErr result (self.new ≡ self.old) }

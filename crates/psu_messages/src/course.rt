@@ -1,5 +1,6 @@
 // How far a transmission has come.
 ghost use Rattle.std.specs.Prelude.{◌≡◌};
+ghost use Rattle.psu_answers.specs.Gathered.{nothing};
 ghost use Rattle.psu_messages.specs.Courses.{beginning};
 ghost use Rattle.psu_messages.specs.Shown.{course_of};
 
@@ -25,21 +26,19 @@ impl<A: Allocator + Copy> Course<A> {
     pub fn new(alloc: A) -> Course<A>
         ensures { course_of result ≡ beginning }
     {
+        Course::begin(Gathered::new(alloc))
+    }
+
+    /// Nothing is done. What is answered is gathered in a room that was used before.
+    pub fn begin(gathered: Gathered<A>) -> Course<A>
+        requires { gathered ≡ nothing }
+        ensures { course_of result ≡ beginning }
+    {
         Course {
             units: 0,
             expansion: None,
             parked: false,
-            gathered: Gathered::new(alloc),
+            gathered,
         }
-    }
-
-    /// Nothing is done of the next transmission. What it answers is gathered in the same room.
-    pub fn restart(&mut self)
-        ensures { course_of self.new ≡ beginning }
-    {
-        self.units = 0;
-        self.expansion = None;
-        self.parked = false;
-        self.gathered.restart();
     }
 }

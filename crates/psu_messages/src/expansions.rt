@@ -5,11 +5,12 @@ ghost use Rattle.psu_messages.specs.Courses.{Goes, Stops};
 ghost use Rattle.psu_messages.specs.Stepping.{expanded_by, within};
 ghost use Rattle.psu_messages.specs.Units.{Source};
 
-use crate::reading::{path_behind, request_at};
+use crate::reading::{pass_over, request_at};
 use crate::steps::take_step;
 use crate::{Front, Need};
 use psu_answers::Gathered;
 use psu_lex::split;
+use psu_tree::Path;
 use std::alloc::Allocator;
 
 /// Where the next unit stands among so many, or their end where all are done.
@@ -40,7 +41,8 @@ pub(crate) fn expand<A: Allocator + Copy, F: Front<A>>(
     let list = units.as_slice();
     let at = place_of(*done, list.len());
     let (before, rest) = list.split_at(at);
-    let mut path = path_behind(before, true);
+    let mut path = Path::root();
+    pass_over(&mut path, before, true);
     for unit in rest {
         let request = request_at(&mut path, unit, true);
         let step = take_step(front, &request, parked, gathered)?;

@@ -7,13 +7,14 @@ ghost use Rattle.psu_messages.specs.Stepping.{plain, within};
 ghost use Rattle.psu_messages.specs.Units.{Asks, EndsMessage, Fault, Source, Text, source_of};
 
 use crate::expansions::{expand, place_of};
-use crate::reading::{path_behind, request_at};
+use crate::reading::{pass_over, request_at};
 use crate::telling::{close, tell};
 use crate::tries::{Tried, attempt};
 use crate::{Course, Expansion, Front, Need};
 use psu_exec::{Outcome, Request, ScpiError};
 use psu_lex::{Bytes, split};
 use psu_sessions::Input;
+use psu_tree::Path;
 use std::alloc::Allocator;
 
 // Executes an expansion in the place of the unit that it replaces.
@@ -182,7 +183,8 @@ pub fn execute_text<A: Allocator + Copy, F: Front<A>>(
     let list = units.as_slice();
     let at = place_of(course.units, list.len());
     let (before, rest) = list.split_at(at);
-    let mut path = path_behind(before, false);
+    let mut path = Path::root();
+    pass_over(&mut path, before, false);
     for unit in rest {
         let request = request_at(&mut path, unit, false);
         let turn = take_turn(front, alloc, unit.first, &request, course)?;

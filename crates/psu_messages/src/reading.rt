@@ -1,4 +1,5 @@
 // Units as they read, one after another.
+ghost use Rattle.std.specs.Prelude.{◌≡◌, []};
 ghost use Rattle.psu_lex.specs.Message.{part, parts};
 ghost use Rattle.psu_messages.specs.Units.{IsRequest, Leads, path_at};
 
@@ -15,13 +16,12 @@ pub(crate) fn request_at<'a>(path: &mut Path<'a>, unit: &Unit<'a>, inside: bool)
     request(path, unit, inside)
 }
 
-/// Where the path stands behind units that are not executed again.
-pub(crate) fn path_behind<'a>(units: &[Unit<'a>], inside: bool) -> Path<'a>
-    ensures { Leads inside (parts units.now) result }
+/// Moves a path from the root behind units that are not executed again.
+pub(crate) fn pass_over<'a>(path: &mut Path<'a>, units: &[Unit<'a>], inside: bool)
+    requires { path.old ≡ [] }
+    ensures { Leads inside (parts units.now) path.new }
 {
-    let mut path = Path::root();
     for unit in units {
-        request_at(&mut path, unit, inside);
+        request_at(path, unit, inside);
     }
-    path
 }

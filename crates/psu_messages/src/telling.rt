@@ -35,6 +35,7 @@ pub(crate) fn tell<A: Allocator + Copy, F: Front<A>>(
 }
 
 /// Ends a message: the last of its text is sent, where it has one. Where it stops, that is gathered still.
+#[inline(always)]
 pub(crate) fn close<A: Allocator + Copy, F: Front<A>>(
     front: &mut F,
     gathered: &mut Gathered<A>,

@@ -53,32 +53,35 @@ struct Acceptor<D: Disk, G: Gate> {
 }
 
 impl<D: Disk + Drop + Send + 'static, G: Gate + Drop + Send + Sync + 'static> Acceptor<D, G> {
-    // Gives a connection a thread of its own.
-    fn accept<R>(&mut self, rt: R, stream: TcpStream) -> io::Result<()>
-    where
-        R: Threads + Wait + Clock + Copy + Send + 'static,
-    {
+    // A connection over a stream, which counts as silent until its first message.
+    fn connection<R: Wait>(&mut self, rt: &R, stream: TcpStream) -> io::Result<Connection<D, G>> {
         stream.set_nodelay(true)?;
-        let alloc = self.server.alloc;
-        let link = Arc::new(alloc, Link::new(stream))?;
+        let link = Arc::new(self.server.alloc, Link::new(stream))?;
         let server = Arc::try_clone(&self.server)?;
         let silent = Arc::try_clone(&self.silent)?;
         let caller = self.caller.split()?;
-        let number = self.silent.lock(&rt).add(Arc::try_clone(&link)?);
-        let mut connection = Connection {
+        let number = self.silent.lock(rt).add(Arc::try_clone(&link)?);
+        Ok(Connection {
             server,
             silent,
             number,
             link,
             caller,
-        };
-        match thread::spawn(&rt, move || connection.run(rt)) {
-            Ok(_) => Ok(()),
-            Err(error) => {
-                self.silent.lock(&rt).remove(number);
-                Err(io::Error::from(error))
-            }
+        })
+    }
+
+    // Gives a connection a thread of its own.
+    fn accept<R>(&mut self, rt: R, stream: TcpStream) -> io::Result<()>
+    where
+        R: Threads + Wait + Clock + Copy + Send + 'static,
+    {
+        let mut connection = self.connection(&rt, stream)?;
+        let number = connection.number;
+        if let Err(error) = thread::spawn(&rt, move || connection.run(rt)) {
+            self.silent.lock(&rt).remove(number);
+            return Err(io::Error::from(error));
         }
+        Ok(())
     }
 
     // The flusher, in a thread of its own.

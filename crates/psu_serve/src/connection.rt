@@ -37,22 +37,12 @@ fn piece(alloc: Global, size: usize) -> io::Result<Vec<u8>> {
     Ok(piece)
 }
 
-// The messages after the first.
-fn behind_first(alloc: Global, messages: Vec<Message<Global>>) -> io::Result<Vec<Message<Global>>> {
-    let mut rest = Vec::new(alloc);
-    let mut all = messages.into_iter();
-    let _ = all.next();
-    for message in all {
-        rest.push(message)?;
-    }
-    Ok(rest)
-}
-
+// The worker of a session, in a thread of its own.
 fn start_worker<R, D, G>(
     rt: R,
     server: &Arc<Server>,
     member: &Arc<Member>,
-    caller: Caller<D, G>,
+    caller: &mut Caller<D, G>,
 ) -> Option<JoinHandle<()>>
 where
     R: Threads + Wait + Clock + Copy + Send + 'static,
@@ -61,6 +51,7 @@ where
 {
     let server = Arc::try_clone(server).ok()?;
     let member = Arc::try_clone(member).ok()?;
+    let caller = caller.split().ok()?;
     thread::spawn(&rt, move || {
         let mut worker = Worker {
             server: &server,
@@ -72,12 +63,13 @@ where
     .ok()
 }
 
+// Its notifier, in another.
 fn start_notifier<R, D, G>(
     rt: R,
     server: &Arc<Server>,
     member: &Arc<Member>,
     link: &Arc<Link>,
-    mut caller: Caller<D, G>,
+    caller: &mut Caller<D, G>,
 ) -> Option<JoinHandle<()>>
 where
     R: Threads + Wait + Clock + Copy + Send + 'static,
@@ -87,6 +79,7 @@ where
     let server = Arc::try_clone(server).ok()?;
     let member = Arc::try_clone(member).ok()?;
     let link = Arc::try_clone(link).ok()?;
+    let mut caller = caller.split().ok()?;
     thread::spawn(&rt, move || {
         let mut serving = Serving {
             rt: &rt,
@@ -106,37 +99,49 @@ impl<D: Disk + Drop, G: Gate + Drop> Connection<D, G> {
         &mut self,
         rt: &R,
         channel: &mut Channel<Global>,
-        rest: Vec<Message<Global>>,
+        rest: &[Message<Global>],
     ) -> io::Result<()> {
-        let mut piece = piece(self.server.alloc, PIECE)?;
         let opened = Instant::now(rt)?;
         let Some(member) = open(rt, &self.server, &mut self.caller, &self.link)? else {
             return self.link.send(rt, &fatal(FatalCode::TooManyClients));
         };
-        let response = member.core.lock(rt).response().bytes();
-        let begins = self.link.send(rt, &response).is_ok();
-        let mut serving = Serving {
-            rt,
-            server: &self.server,
-            member: &member,
-            link: &self.link,
-            caller: &mut self.caller,
-        };
-        if begins && serve_messages(&mut serving, Side::Sync, rest.as_slice()).is_ok() {
-            read_sync(&mut serving, opened, channel, piece.as_mut_slice());
-        }
+        let held = self.hold_open(rt, &member, opened, channel, rest);
         member.end(rt);
         member.wait_for_end(rt);
         close(rt, &self.server, &mut self.caller, member.session);
+        held
+    }
+
+    // Does what the messages of an open session ask for, until it ends.
+    fn hold_open<R: Wait + Clock>(
+        &mut self,
+        rt: &R,
+        member: &Member,
+        opened: Instant,
+        channel: &mut Channel<Global>,
+        rest: &[Message<Global>],
+    ) -> io::Result<()> {
+        let mut piece = piece(self.server.alloc, PIECE)?;
+        let response = member.core.lock(rt).response().bytes();
+        self.link.send(rt, &response)?;
+        let mut serving = Serving {
+            rt,
+            server: &self.server,
+            member,
+            link: &self.link,
+            caller: &mut self.caller,
+        };
+        if serve_messages(&mut serving, Side::Sync, rest).is_ok() {
+            read_sync(&mut serving, opened, channel, piece.as_mut_slice());
+        }
         Ok(())
     }
 
     // Does what the first messages of a session's second connection ask for. Whether the session goes on.
-    fn answer_first<'a, R: Wait + Clock>(
-        &'a self,
+    fn answer_first<R: Wait + Clock>(
+        &mut self,
         rt: &R,
-        member: &'a Member,
-        caller: &mut Caller<D, G>,
+        member: &Member,
         messages: &[Message<Global>],
     ) -> bool {
         let mut serving = Serving {
@@ -144,28 +149,29 @@ impl<D: Disk + Drop, G: Gate + Drop> Connection<D, G> {
             server: &self.server,
             member,
             link: &self.link,
-            caller,
+            caller: &mut self.caller,
         };
         serve_messages(&mut serving, Side::Async, messages).is_ok()
     }
 
     // Reads it until the session ends.
-    fn hear<'a, R: Wait + Clock>(
-        &'a self,
+    fn hear<R: Wait + Clock>(
+        &mut self,
         rt: &R,
-        member: &'a Member,
-        caller: &mut Caller<D, G>,
+        member: &Member,
         channel: &mut Channel<Global>,
-        piece: &mut [u8],
-    ) {
+    ) -> io::Result<()> {
+        let mut piece = piece(self.server.alloc, PIECE)?;
+        self.link.wait_at_most(None)?;
         let mut serving = Serving {
             rt,
             server: &self.server,
             member,
             link: &self.link,
-            caller,
+            caller: &mut self.caller,
         };
-        read_async(&mut serving, channel, piece);
+        read_async(&mut serving, channel, piece.as_mut_slice());
+        Ok(())
     }
 
     // The session that waits for this connection, where there is one of this number.
@@ -176,47 +182,89 @@ impl<D: Disk + Drop, G: Gate + Drop> Connection<D, G> {
 }
 
 impl<D: Disk + Drop + Send + 'static, G: Gate + Drop + Send + Sync + 'static> Connection<D, G> {
+    // Hears the client of a session, beside its notifier.
+    fn listen<R>(&mut self, rt: R, member: &Arc<Member>, channel: &mut Channel<Global>)
+    where
+        R: Threads + Wait + Clock + Copy + Send + 'static,
+    {
+        let Some(notifier) = start_notifier(rt, &self.server, member, &self.link, &mut self.caller)
+        else {
+            return;
+        };
+        member.notices.look(&rt);
+        // Where no memory is left to hear it, the session ends.
+        let _ = self.hear(&rt, member, channel);
+        member.end(&rt);
+        notifier.join(&rt);
+    }
+
+    // Serves a session over its second connection, beside its worker, until it ends.
+    fn attend<R>(
+        &mut self,
+        rt: R,
+        member: &Arc<Member>,
+        channel: &mut Channel<Global>,
+        messages: &[Message<Global>],
+    )
+    where
+        R: Threads + Wait + Clock + Copy + Send + 'static,
+    {
+        let Some(worker) = start_worker(rt, &self.server, member, &mut self.caller) else {
+            return;
+        };
+        if self.answer_first(&rt, member, messages) {
+            self.listen(rt, member, channel);
+        }
+        member.end(&rt);
+        worker.join(&rt);
+    }
+
     // The second connection of a session: its worker and its notifier live as long as this.
     fn join<R>(
         &mut self,
         rt: R,
-        member: Arc<Member>,
+        member: &Arc<Member>,
         channel: &mut Channel<Global>,
-        messages: Vec<Message<Global>>,
+        messages: &[Message<Global>],
     ) -> io::Result<()>
     where
         R: Threads + Wait + Clock + Copy + Send + 'static,
     {
-        let mut piece = piece(self.server.alloc, PIECE)?;
-        let (working, noting, mut caller) = (
-            self.caller.split()?,
-            self.caller.split()?,
-            self.caller.split()?,
-        );
         let theirs = Arc::try_clone(&self.link)?;
         if !member.join(&rt, theirs) {
             return self
                 .link
                 .send(&rt, &fatal(FatalCode::InvalidInitialization));
         }
-        let worker = start_worker(rt, &self.server, &member, working);
-        let goes_on = worker.is_some()
-            && self.answer_first(&rt, &member, &mut caller, messages.as_slice());
-        let notifier = start_notifier(rt, &self.server, &member, &self.link, noting);
-        let is_set = self.link.wait_at_most(None).is_ok();
-        member.notices.look(&rt);
-        if goes_on && notifier.is_some() && is_set {
-            self.hear(&rt, &member, &mut caller, channel, piece.as_mut_slice());
-        }
+        self.attend(rt, member, channel, messages);
         member.end(&rt);
-        if let Some(worker) = worker {
-            worker.join(&rt);
-        }
-        if let Some(notifier) = notifier {
-            notifier.join(&rt);
-        }
         member.is_over(&rt);
         Ok(())
+    }
+
+    // What a connection's first message asks for, up to its end.
+    fn begin<R>(
+        &mut self,
+        rt: R,
+        channel: &mut Channel<Global>,
+        messages: &[Message<Global>],
+    ) -> io::Result<()>
+    where
+        R: Threads + Wait + Clock + Copy + Send + 'static,
+    {
+        let [first, rest @ ..] = messages else {
+            return Ok(());
+        };
+        match First::of(first) {
+            First::Refused(code) => self.link.send(&rt, &fatal(code)),
+            First::Start => self.hold(&rt, channel, rest),
+            First::Join(number) => match self.member(&rt, number) {
+                None => self
+                    .link
+                    .send(&rt, &fatal(FatalCode::InvalidInitialization)),
+                Some(member) => self.join(rt, &member, channel, messages),
+            },
+        }
     }
 
     // A connection up to its end.
@@ -226,27 +274,12 @@ impl<D: Disk + Drop + Send + 'static, G: Gate + Drop + Send + Sync + 'static> Co
     {
         let alloc = self.server.alloc;
         let mut channel = Channel::new(alloc);
-        let mut first = piece(alloc, FIRST)?;
-        let messages = first_messages(&rt, &self.link, &mut channel, first.as_mut_slice());
+        let mut piece = piece(alloc, FIRST)?;
+        let messages = first_messages(&rt, &self.link, &mut channel, piece.as_mut_slice());
         self.silent.lock(&rt).remove(self.number);
-        let Some(messages) = messages? else {
-            return Ok(());
-        };
-        let Some(message) = messages.first() else {
-            return Ok(());
-        };
-        match First::of(message) {
-            First::Refused(code) => self.link.send(&rt, &fatal(code)),
-            First::Start => {
-                let rest = behind_first(alloc, messages)?;
-                self.hold(&rt, &mut channel, rest)
-            }
-            First::Join(number) => match self.member(&rt, number) {
-                None => self
-                    .link
-                    .send(&rt, &fatal(FatalCode::InvalidInitialization)),
-                Some(member) => self.join(rt, member, &mut channel, messages),
-            },
+        match messages? {
+            Some(messages) => self.begin(rt, &mut channel, messages.as_slice()),
+            None => Ok(()),
         }
     }
 

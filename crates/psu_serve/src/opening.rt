@@ -45,6 +45,13 @@ pub fn first_messages<R: Clock>(
     Ok(None)
 }
 
+// A session that the registry and its connection know.
+fn shared(alloc: Global, member: Member) -> io::Result<(Arc<Member>, Arc<Member>)> {
+    let member = Arc::new(alloc, member)?;
+    let known = Arc::try_clone(&member)?;
+    Ok((known, member))
+}
+
 /// Opens a session over its synchronous connection; none where there are too many. Its number is given back where memory for it is refused.
 pub fn open<R: Wait, D: Disk + Drop, G: Gate + Drop>(
     rt: &R,
@@ -59,10 +66,7 @@ pub fn open<R: Wait, D: Disk + Drop, G: Gate + Drop>(
         return Ok(None);
     };
     let member = Member::new(server.alloc, session, sync, work);
-    let shared = Arc::new(server.alloc, member)
-        .ok()
-        .and_then(|member| Some((Arc::try_clone(&member).ok()?, member)));
-    let Some((known, member)) = shared else {
+    let Ok((known, member)) = shared(server.alloc, member) else {
         drop(caller.close_session(rt, session));
         return Err(io::Error::from(io::ErrorKind::OutOfMemory));
     };

@@ -5,7 +5,7 @@ use Rattle.std.proofs.lemmas.List.{take-append-le}
 use Rattle.std.proofs.KnownBytes.{Appends-trans, Appends-nil}
 use Rattle.std.specs.Io.KnownBytes.{Appends}
 use Rattle.std.specs.Io.{StartsWith}
-use Rattle.psu_messages.specs.Courses.{Course, beginning}
+use Rattle.psu_answers.specs.Gathered.{Text, nothing}
 use Rattle.psu_server.specs.Output.{Says, SaysUntil, Telling, WritesShort, held}
 use Rattle.psu_server.specs.declared.run_cause.RunCause.{RunCause}
 use Rattle.psu_server.specs.declared.run_cause.RunCause.TheVariants.{Memory, Write}
@@ -84,11 +84,11 @@ not_write cause is e = let bad = sym is ∙ e in cc
 -- ---- what is not written
 
 -- no line has begun
-pub told_alone : (told : List ℕ) (c : Course) → c ≡ beginning → told ++ c.text.rest ≡ told
-told_alone told c fresh = ap (λ (d : Course). told ++ d.text.rest) fresh ∙ append-nil told
+pub told_alone : (told : List ℕ) (t : Text) → t ≡ nothing → told ++ t.rest ≡ told
+told_alone told t fresh = ap (λ (z : Text). told ++ z.rest) fresh ∙ append-nil told
 
-pub none_told : (told : List ℕ) (c : Course) → told ≡ [] → c ≡ beginning → told ++ c.text.rest ≡ []
-none_told told c none fresh = told_alone told c fresh ∙ none
+pub none_told : (told : List ℕ) (t : Text) → told ≡ [] → t ≡ nothing → told ++ t.rest ≡ []
+none_told told t none fresh = told_alone told t fresh ∙ none
 
-pub held_fresh : (written : Option (List ℕ)) (told : List ℕ) (c : Course) → c ≡ beginning → held written (told ++ c.text.rest) ≡ held written told
-held_fresh written told c fresh = ap (held written) (told_alone told c fresh)
+pub held_fresh : (written : Option (List ℕ)) (told : List ℕ) (t : Text) → t ≡ nothing → held written (told ++ t.rest) ≡ held written told
+held_fresh written told t fresh = ap (held written) (told_alone told t fresh)

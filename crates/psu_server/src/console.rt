@@ -1,7 +1,8 @@
 // What the units of a run are executed on.
 ghost use Rattle.std.specs.Prelude.{◌≡◌, [], List, ℕ, IfErr, IfOk, IfSome, OnOk, None, false};
+ghost use Rattle.psu_answers.specs.Gathered.{nothing};
 ghost use Rattle.psu_answers.specs.Response.{joined, response};
-ghost use Rattle.psu_messages.specs.Courses.{beginning, Goes, Halts, IsOver};
+ghost use Rattle.psu_messages.specs.Courses.{Goes, Halts, IsOver};
 ghost use Rattle.psu_messages.specs.Deeds.{Awaits};
 ghost use Rattle.psu_messages.specs.Shown.{course_of};
 ghost use Rattle.psu_tree.specs.declared.unit_request.Request.{Request as RequestData};
@@ -16,6 +17,7 @@ use crate::desk::Desk;
 use crate::lines::Lines;
 use crate::units::unit;
 use crate::writing::tell;
+use psu_answers::Gathered;
 use psu_disk::Disk;
 use psu_exec::{Outcome, Request, ScpiError};
 use psu_lex::laws::{
@@ -68,6 +70,7 @@ impl<'p, 'w, W: Write, D: Disk, A: Allocator + Copy> Front<A> for Console<'p, 'w
     ghost stops = { λ x cause y. (y.desk.ghost_name ≡ x.desk.ghost_name) × (y.writer.ghost_name ≡ x.writer.ghost_name)
         × IsStopped x.desk.now.powered.exec (held (W.contents x.writer.now) x.desk.now.unwritten.told.items) cause y.desk.now.powered.exec (held (W.contents y.writer.now) y.desk.now.unwritten.told.items) };
 
+    #[inline(always)]
     fn execute(&mut self, request: &Request<'_>) -> Result<Outcome<A>, RunCause> {
         unit(&mut self.desk.powered, request)
     }
@@ -77,6 +80,7 @@ impl<'p, 'w, W: Write, D: Disk, A: Allocator + Copy> Front<A> for Console<'p, 'w
         Err(self.short())
     }
 
+    #[inline(always)]
     fn send(&mut self, text: &[u8], _: bool) -> Result<(), RunCause> {
         tell(&mut self.desk.unwritten.told, text, self.writer)
     }
@@ -88,10 +92,10 @@ impl<'p, 'w, W: Write, D: Disk, A: Allocator + Copy> Front<A> for Console<'p, 'w
 
 impl<'p, 'w, W: Write, D: Disk, A: Allocator + Copy> Console<'p, 'w, W, D, A> {
     /// Executes the message of a line that has ended and isn't the one of a power loss, and tells its text. Where it stops, what it has answered and not told is
-    /// gathered in the course.
+    /// gathered.
     pub fn follow(&mut self, alloc: A, lines: &Lines<A>) -> Result<(), RunCause>
         requires power { is_power (message_now lines.now.is_over lines.now.line.items) ≡ false }
-        requires fresh { course_of self.old.desk.now.unwritten.course ≡ beginning }
+        requires fresh { self.old.desk.now.unwritten.gathered ≡ nothing }
         ensures runs { OnOk result ((requests : List RequestData) × Asks (message_now lines.now.is_over lines.now.line.items) requests × (answers : List (List ℕ))
             × GoesOn self.old.desk.now.powered.exec self.new.desk.now.powered.exec (λ can w v. LineRuns can w [] requests answers v)
             × Says (held (W.contents self.old.writer.now) self.old.desk.now.unwritten.told.items) (held (W.contents self.new.writer.now) self.new.desk.now.unwritten.told.items) (response answers)) }
@@ -108,9 +112,10 @@ impl<'p, 'w, W: Write, D: Disk, A: Allocator + Copy> Console<'p, 'w, W, D, A> {
         one_reading_of_a_unit();
         one_syntax_of_a_unit();
         one_header_of_a_text();
-        let mut course = mem::replace(&mut self.desk.unwritten.course, Course::new(alloc));
+        let gathered = mem::replace(&mut self.desk.unwritten.gathered, Gathered::new(alloc));
+        let mut course = Course::begin(gathered);
         let done = proceed(self, alloc, lines, &mut course);
-        self.desk.unwritten.course = course;
+        self.desk.unwritten.gathered = course.gathered;
         match done {
             Ok(need) => match need {
                 None => Ok(()),

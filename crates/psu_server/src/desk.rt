@@ -1,10 +1,9 @@
 // A device that is powered on, with what it has answered.
 ghost use Rattle.std.specs.Prelude.{◌≡◌, [], ◌≤◌};
 ghost use Rattle.std.specs.Option.{ForSome};
+ghost use Rattle.psu_answers.specs.Gathered.{nothing};
 ghost use Rattle.psu_exec.specs.Jobs.{home_disk};
 ghost use Rattle.psu_exec.specs.declared.condition.Condition.TheVariants.{Worn};
-ghost use Rattle.psu_messages.specs.Courses.{beginning};
-ghost use Rattle.psu_messages.specs.Shown.{course_of};
 ghost use Rattle.psu_server.specs.Causes.{IsWornOut};
 ghost use Rattle.psu_server.specs.Failures.{extent_of, failures_of};
 ghost use Rattle.psu_server.specs.Jobs.{IsWornAtLast};
@@ -29,7 +28,7 @@ impl<D: Disk, A: Allocator + Copy> Desk<D, A> {
     pub fn new(alloc: A, powered: Powered<D, A>) -> Desk<D, A>
         ensures powered { result.powered ≡ powered }
         ensures none { result.unwritten.told.items ≡ [] }
-        ensures fresh { course_of result.unwritten.course ≡ beginning }
+        ensures fresh { result.unwritten.gathered ≡ nothing }
     {
         Desk {
             powered,

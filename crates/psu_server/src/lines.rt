@@ -29,6 +29,7 @@ impl<A: Allocator> Lines<A> {
 
     /// Takes bytes of a line that goes on.
     #[tactic(auto, using(crate::proofs::Cuts::has_none_append, crate::proofs::Cuts::extend_over, crate::proofs::Cuts::after_begun))]
+    #[inline(always)]
     pub fn extend(&mut self, part: &[u8]) -> Result<(), AllocError>
         requires { has 10 part.now ≡ false }
         ensures { OnOk result ((input : List ℕ) →

@@ -1,9 +1,8 @@
 // The lines that end in a piece of the input.
 ghost use Rattle.std.specs.Prelude.{◌≡◌, ◌≢◌, ◌∷◌, [], List, ℕ, OnOk, IfOk, IfErr, true, false};
 ghost use Rattle.psu_tree.specs.declared.unit_request.Request.{Request as RequestData};
+ghost use Rattle.psu_answers.specs.Gathered.{nothing};
 ghost use Rattle.psu_answers.specs.Response.{joined, response};
-ghost use Rattle.psu_messages.specs.Courses.{beginning};
-ghost use Rattle.psu_messages.specs.Shown.{course_of};
 ghost use Rattle.psu_server.specs.Lines.{Asks, Message, coming, is_power, message_now};
 ghost use Rattle.psu_server.specs.Output.{Says, SaysUntil, held, telling};
 ghost use Rattle.psu_server.specs.Progress.{Breaks, Fed, GoesOn, RunsOn, Stopped, StopsHere};
@@ -66,17 +65,17 @@ pub fn answer_line<W: Write, D: Disk, A: Allocator + Copy>(
     writer: &mut W,
 ) -> Result<(), RunCause>
     requires power { is_power (message_now lines.old.is_over lines.old.line.items) ≡ false }
-    requires fresh { course_of desk.old.unwritten.course ≡ beginning }
+    requires fresh { desk.old.unwritten.gathered ≡ nothing }
     ensures runs { OnOk result ((text : List ℕ) × Says (telling (W.contents writer.old) desk.old.unwritten) (telling (W.contents writer.new) desk.new.unwritten) text
         × RunsOn desk.old.powered.exec desk.new.powered.exec (message_now lines.old.is_over lines.old.line.items ∷ []) text) }
-    ensures fresh { OnOk result (course_of desk.new.unwritten.course ≡ beginning) }
+    ensures fresh { OnOk result (desk.new.unwritten.gathered ≡ nothing) }
     ensures over { OnOk result (lines.new.is_over ≡ false) }
     ensures empty { OnOk result (lines.new.line.items ≡ []) }
     ensures breaks { IfErr result (λ cause. (part : List ℕ) × SaysUntil cause (telling (W.contents writer.old) desk.old.unwritten) (telling (W.contents writer.new) desk.new.unwritten) part
         × Breaks desk.old.powered.exec desk.new.powered.exec (λ can w v. MessageBegins can w (message_now lines.old.is_over lines.old.line.items) part v) cause) }
 {
     execute_line(alloc, desk, lines, writer)?;
-    desk.unwritten.course.restart();
+    desk.unwritten.gathered.restart();
     lines.clear();
     Ok(())
 }
@@ -89,7 +88,7 @@ fn execute_line<W: Write, D: Disk, A: Allocator + Copy>(
     writer: &mut W,
 ) -> Result<(), RunCause>
     requires power { is_power (message_now lines.now.is_over lines.now.line.items) ≡ false }
-    requires fresh { course_of desk.old.unwritten.course ≡ beginning }
+    requires fresh { desk.old.unwritten.gathered ≡ nothing }
     ensures runs { OnOk result ((requests : List RequestData) × Asks (message_now lines.now.is_over lines.now.line.items) requests × (answers : List (List ℕ))
         × GoesOn desk.old.powered.exec desk.new.powered.exec (λ can w v. LineRuns can w [] requests answers v)
         × Says (held (W.contents writer.old) desk.old.unwritten.told.items) (held (W.contents writer.new) desk.new.unwritten.told.items) (response answers)) }
@@ -112,10 +111,10 @@ pub fn feed<W: Write, D: Disk, A: Allocator + Copy>(
     piece: &[u8],
     writer: &mut W,
 ) -> Result<Desk<D, A>, Halted<D, A>>
-    requires { course_of desk.unwritten.course ≡ beginning }
+    requires { desk.unwritten.gathered ≡ nothing }
     ensures fed { IfOk result (λ d. Fed (coming lines.old.is_over lines.old.line.items) piece.now (coming lines.new.is_over lines.new.line.items)
         desk.powered.exec d.powered.exec (telling (W.contents writer.old) desk.unwritten) (telling (W.contents writer.new) d.unwritten)) }
-    ensures fresh { IfOk result (λ d. course_of d.unwritten.course ≡ beginning) }
+    ensures fresh { IfOk result (λ d. d.unwritten.gathered ≡ nothing) }
     ensures stopped { IfErr result (λ h. Stopped (coming lines.old.is_over lines.old.line.items) piece.now
         desk.powered.exec h.fault (telling (W.contents writer.old) desk.unwritten) (telling (W.contents writer.new) h.unwritten)) }
 {

@@ -1,9 +1,8 @@
 // What the lines of a piece answer.
 ghost use Rattle.std.specs.Prelude.{◌≡◌, []};
-ghost use Rattle.psu_messages.specs.Courses.{beginning};
-ghost use Rattle.psu_messages.specs.Shown.{course_of};
+ghost use Rattle.psu_answers.specs.Gathered.{nothing};
 
-use psu_messages::Course;
+use psu_answers::Gathered;
 use std::alloc::Allocator;
 
 /// What the lines of a piece answer.
@@ -11,19 +10,19 @@ use std::alloc::Allocator;
 pub struct Unwritten<A: Allocator + Copy> {
     /// What is told and not written.
     pub told: Vec<u8, A>,
-    /// How far the line that has begun has come, with what it has answered and not told.
-    pub course: Course<A>,
+    /// What the line that has begun has answered, and is not told.
+    pub gathered: Gathered<A>,
 }
 
 impl<A: Allocator + Copy> Unwritten<A> {
     /// Before the first line of a piece.
     pub fn new(alloc: A) -> Unwritten<A>
         ensures none { result.told.items ≡ [] }
-        ensures fresh { course_of result.course ≡ beginning }
+        ensures fresh { result.gathered ≡ nothing }
     {
         Unwritten {
             told: Vec::new(alloc),
-            course: Course::new(alloc),
+            gathered: Gathered::new(alloc),
         }
     }
 }

@@ -11,6 +11,7 @@ use std::io::Write;
 const ROOM: usize = 65_536;
 
 /// Tells a text behind what is told. What has grown long is written before.
+#[inline(always)]
 pub fn tell<W: Write, A: Allocator + Copy>(
     told: &mut Vec<u8, A>,
     text: &[u8],

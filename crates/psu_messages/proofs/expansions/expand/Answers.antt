@@ -9,28 +9,28 @@ returns-in_default-clause-stops g c = λ source units. some_stop (inr (inr refl)
 
 pub returns-in_err-step-clause-stops : goal.returns-in_err-step-clause-stops
 returns-in_err-step-clause-stops g c =
-    let next = inside_at c.args.body.now _ c.as_slice-list.result.now c.split_at.result.0.now c.split_at.result.1.now c.place_of-at.result c.args.done.now c.loop-unit.unit-index _ c.path_behind-path.result c.loop-unit.path
+    let next = inside_at c.args.body.now _ c.as_slice-list.result.now c.split_at.result.0.now c.split_at.result.1.now c.place_of-at.result c.args.done.now c.loop-unit.unit-index _ c.pass_over.new.path c.loop-unit.path
     c.request_at-request.new.path c.request_at-request.result c.in-Ok.ensures c.as_slice-list.ensures c.split_at.ensures.front c.split_at.ensures.back (omega (arith, c.loop-unit-test.true)) c.place_of-at.ensures
-    c.path_behind-path.ensures c.loop-unit.invariant.path c.request_at-request.ensures c.loop-unit.done c.loop-unit.invariant.done in
+    c.pass_over.ensures c.loop-unit.invariant.path c.request_at-request.ensures c.loop-unit.done c.loop-unit.invariant.done in
     passed_on c.from_residual.result c.in_err-step.field-0.0 _ c.from_residual.ensures.1 (λ source units. stops_on (c.loop-unit.invariant.goes source units) (c.in_err-step.ensures.stops source units c.args.body.now c.loop-unit.done next))
 
 pub returns-in-Some-clause-goes : goal.returns-in-Some-clause-goes
 returns-in-Some-clause-goes g c = λ source units.
-    let next = inside_at c.args.body.now _ c.as_slice-list.result.now c.split_at.result.0.now c.split_at.result.1.now c.place_of-at.result c.args.done.now c.loop-unit.unit-index _ c.path_behind-path.result c.loop-unit.path
+    let next = inside_at c.args.body.now _ c.as_slice-list.result.now c.split_at.result.0.now c.split_at.result.1.now c.place_of-at.result c.args.done.now c.loop-unit.unit-index _ c.pass_over.new.path c.loop-unit.path
     c.request_at-request.new.path c.request_at-request.result c.in-Ok.ensures c.as_slice-list.ensures c.split_at.ensures.front c.split_at.ensures.back (omega (arith, c.loop-unit-test.true)) c.place_of-at.ensures
-    c.path_behind-path.ensures c.loop-unit.invariant.path c.request_at-request.ensures c.loop-unit.done c.loop-unit.invariant.done in
+    c.pass_over.ensures c.loop-unit.invariant.path c.request_at-request.ensures c.loop-unit.done c.loop-unit.invariant.done in
     let went = rw c.in-Some.is at c.in_ok-step.ensures.goes in
     behind g.F.Front.does source c.args.front.now c.loop-unit.front c.take_step.new.front _ _ _ (c.loop-unit.invariant.goes source units) (went source units c.args.body.now c.loop-unit.done next)
 
 pub loop-unit-preserved : goal.loop-unit-preserved
 loop-unit-preserved g c =
     let within : c.loop-unit.unit-index < length c.split_at.result.1.now = omega (arith, c.loop-unit-test.true) in
-    let next = inside_at c.args.body.now _ c.as_slice-list.result.now c.split_at.result.0.now c.split_at.result.1.now c.place_of-at.result c.args.done.now c.loop-unit.unit-index _ c.path_behind-path.result c.loop-unit.path
+    let next = inside_at c.args.body.now _ c.as_slice-list.result.now c.split_at.result.0.now c.split_at.result.1.now c.place_of-at.result c.args.done.now c.loop-unit.unit-index _ c.pass_over.new.path c.loop-unit.path
     c.request_at-request.new.path c.request_at-request.result c.in-Ok.ensures c.as_slice-list.ensures c.split_at.ensures.front c.split_at.ensures.back within c.place_of-at.ensures
-    c.path_behind-path.ensures c.loop-unit.invariant.path c.request_at-request.ensures c.loop-unit.done c.loop-unit.invariant.done in
+    c.pass_over.ensures c.loop-unit.invariant.path c.request_at-request.ensures c.loop-unit.done c.loop-unit.invariant.done in
     let went = rw c.in_default-step.is at c.in_ok-step.ensures.goes in
     record {
-      path = from_more true c.split_at.result.1.now c.place_of-at.result c.loop-unit.unit-index _ c.path_behind-path.result c.loop-unit.path c.request_at-request.new.path c.request_at-request.result within c.loop-unit.invariant.path c.request_at-request.ensures;
+      path = from_more true c.split_at.result.1.now c.place_of-at.result c.loop-unit.unit-index _ c.pass_over.new.path c.loop-unit.path c.request_at-request.new.path c.request_at-request.result within c.loop-unit.invariant.path c.request_at-request.ensures;
       done = omega (arith, c.loop-unit.invariant.done);
       goes = λ source units. behind g.F.Front.does source c.args.front.now c.loop-unit.front c.take_step.new.front _ _ _ (c.loop-unit.invariant.goes source units) (went source units c.args.body.now c.loop-unit.done next);
     }

@@ -1,6 +1,5 @@
 use Rattle.std.proofs.Common.{◌≡◌, ◌≤◌, length}
-use Rattle.psu_messages.specs.Courses.{beginning}
-use Rattle.psu_messages.specs.Shown.{course_of}
+use Rattle.psu_answers.specs.Gathered.{nothing}
 use Rattle.psu_server.specs.Lines.{coming}
 use Rattle.psu_server.specs.Output.{telling}
 use Rattle.psu_server.proofs.Feeding.{FedSo}
@@ -9,7 +8,7 @@ use Rattle.psu_server.proofs.pieces.feed.Given as goal
 abbrev pub invariant-loop-at : goal.invariant-loop-at
 invariant-loop-at g l = record {
   within : length l.rest ≤ length l.piece;
-  fresh : course_of l.desk.unwritten.course ≡ beginning;
+  fresh : l.desk.unwritten.gathered ≡ nothing;
   fed : FedSo (coming l.initial.lines.is_over l.initial.lines.line.items) l.piece l.rest (coming l.lines.is_over l.lines.line.items)
       l.initial.desk.powered.exec l.desk.powered.exec (telling (g.W.Write.contents l.initial.writer) l.initial.desk.unwritten) (telling (g.W.Write.contents l.writer) l.desk.unwritten);
 }

@@ -1,4 +1,3 @@
-use Rattle.std.proofs.Common.{◌∙◌, ap}
 use Rattle.psu_messages.proofs.Going.{kept_goes, kept_halts}
 use Rattle.psu_messages.specs.Shown.{course_of}
 use Rattle.psu_server.specs.Deeds.{line_source}
@@ -9,8 +8,8 @@ use Rattle.psu_server.proofs.Scripts.{Ones}
 use Rattle.psu_server.proofs.Stopping.{broken, whole}
 use Rattle.psu_server.proofs.console.Console.follow.Goals as goal
 
-pub returns-in-Err-clause-breaks : goal.returns-in-Err-clause-breaks
-returns-in-Err-clause-breaks g c =
+pub returns-clause-breaks : goal.returns-clause-breaks
+returns-clause-breaks g c =
     let ones : Ones = record {
       units = c.one_list_of_units.ensures;
       reading = c.one_reading_of_a_unit.ensures;
@@ -19,14 +18,14 @@ returns-in-Err-clause-breaks g c =
     } in
     let lines = c.args.lines.now in
     let b = broken (λ x. x.desk.now.powered.exec) (λ x. held (g.W.Write.contents x.writer.now) x.desk.now.unwritten.told.items) _ _ _ (λ x y deed d. d.2) (λ x y request cause f. f.2) (λ x y cause s. s.2) ones c.every_list_has_units.ensures c.every_unit_reads.ensures
-    (line_source lines.is_over lines.line.items) (is_line lines.is_over lines.line.items lines.free) _ c.proceed-done.new.front c.in-Err.cause c.proceed-done.new.course.gathered (course_of c.replace-course.result) (ap course_of c.replace-course.ensures.value ∙ c.requires.fresh) c.in-Err.ensures.stops in
+    (line_source lines.is_over lines.line.items) (is_line lines.is_over lines.line.items lines.free) _ c.proceed-done.new.front c.in-Err.cause c.proceed-done.new.course.gathered (course_of c.begin-course.result) c.begin-course.ensures c.in-Err.ensures.stops in
     (b.0, asks_line lines.is_over lines.line.items b.0 lines.short c.requires.power b.1, b.2, b.3, b.4)
 
-pub returns-in-Err-clause-desk : goal.returns-in-Err-clause-desk
-returns-in-Err-clause-desk g c = kept_halts c.in-Err.ensures.stops (λ x. x.desk.ghost_name) (λ x y deed d. d.0) (λ x y request stop d. d.0) (λ x y stop d. d.0)
+pub returns-clause-desk : goal.returns-clause-desk
+returns-clause-desk g c = kept_halts c.in-Err.ensures.stops (λ x. x.desk.ghost_name) (λ x y deed d. d.0) (λ x y request stop d. d.0) (λ x y stop d. d.0)
 
-pub returns-in-Err-clause-writer : goal.returns-in-Err-clause-writer
-returns-in-Err-clause-writer g c = kept_halts c.in-Err.ensures.stops (λ x. x.writer.ghost_name) (λ x y deed d. d.1) (λ x y request stop d. d.1) (λ x y stop d. d.1)
+pub returns-clause-writer : goal.returns-clause-writer
+returns-clause-writer g c = kept_halts c.in-Err.ensures.stops (λ x. x.writer.ghost_name) (λ x y deed d. d.1) (λ x y request stop d. d.1) (λ x y stop d. d.1)
 
 pub returns-in-None-clause-runs : goal.returns-in-None-clause-runs
 returns-in-None-clause-runs g c =
@@ -38,8 +37,8 @@ returns-in-None-clause-runs g c =
     } in
     let lines = c.args.lines.now in
     let w = whole (λ x. x.desk.now.powered.exec) (λ x. held (g.W.Write.contents x.writer.now) x.desk.now.unwritten.told.items) _ (λ x y deed d. d.2) ones c.every_list_has_units.ensures
-    (line_source lines.is_over lines.line.items) (is_line lines.is_over lines.line.items lines.free) _ c.proceed-done.new.front (course_of c.replace-course.result) (course_of c.proceed-done.new.course)
-    (ap course_of c.replace-course.ensures.value ∙ c.requires.fresh) c.in-Ok.ensures.goes (c.in-Ok.ensures.over c.in-None.is) in
+    (line_source lines.is_over lines.line.items) (is_line lines.is_over lines.line.items lines.free) _ c.proceed-done.new.front (course_of c.begin-course.result) (course_of c.proceed-done.new.course)
+    c.begin-course.ensures c.in-Ok.ensures.goes (c.in-Ok.ensures.over c.in-None.is) in
     (w.0, asks_line lines.is_over lines.line.items w.0 lines.short c.requires.power w.1, w.2, w.3, w.4)
 
 pub returns-in-None-clause-desk : goal.returns-in-None-clause-desk
