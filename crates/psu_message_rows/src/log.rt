@@ -1,8 +1,9 @@
 // What is asked of a front, and what was sent: where it breaks off, and how.
+use psu_messages::Need;
 use std::alloc::Global;
 
 /// What a front does at the call that it breaks off at.
-#[derive(Clone, Copy, Debug, PartialEq, Eq)]
+#[derive(Clone, Copy, PartialEq)]
 pub enum Turn {
     /// It does what is asked.
     Goes,
@@ -21,6 +22,8 @@ pub struct Log {
     sent: Vec<u8, Global>,
     /// How many calls there were.
     pub calls: u32,
+    /// What the unit of the last call waits for, where it waits.
+    pub need: Need,
     at: u32,
     turn: Turn,
 }
@@ -31,6 +34,7 @@ impl Log {
         Log {
             sent: Vec::new(alloc),
             calls: 0,
+            need: Need::Flush,
             at,
             turn,
         }
@@ -39,6 +43,7 @@ impl Log {
     /// What the front does at this call.
     pub fn turn(&mut self) -> Turn {
         self.calls = self.calls.saturating_add(1);
+        self.need = Need::Flush;
         if self.calls == self.at {
             self.turn
         } else {
@@ -52,6 +57,7 @@ impl Log {
         self.sent.extend_from_slice(text).ok()?;
         self.sent.push(mark).ok()
     }
+
     /// Whether these texts were sent, and no others.
     pub fn has_sent(&self, wanted: &[u8]) -> bool {
         self.sent.as_slice() == wanted

@@ -27,9 +27,9 @@ fn goes(
     proceed(&mut probe, alloc, input, course)
 }
 
-// Whether what is waited for comes: where it is a flush, that goes well.
-fn comes(exec: &mut Power, need: Need) -> bool {
-    need != Need::Flush || is_flushed(exec)
+// Whether a unit waits for what it is to wait for, and that comes: where it is a flush, it goes well.
+fn comes(exec: &mut Power, log: &Log, need: Need) -> bool {
+    need == log.need && (need != Need::Flush || is_flushed(exec))
 }
 
 // Executes a transmission, each time by another front: whether it is over. It is not where a front stopped for good.
@@ -44,7 +44,7 @@ fn is_over(
     for _ in 0..WAITS {
         match goes(alloc, exec, session, log, input, &mut course) {
             Ok(None) => return true,
-            Ok(Some(need)) if comes(exec, need) => {}
+            Ok(Some(need)) if comes(exec, log, need) => {}
             _ => return false,
         }
     }

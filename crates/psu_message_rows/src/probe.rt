@@ -1,10 +1,8 @@
 // What the units of the rows are executed on.
-ghost use Rattle.std.specs.Prelude.{Unit};
-
 use crate::devices::Power;
 use crate::log::{Log, Turn};
 use psu_exec::{Outcome, Request, ScpiError, Session};
-use psu_messages::Front;
+use psu_messages::{Front, Need};
 use std::alloc::Global;
 
 /// It has stopped for good.
@@ -32,8 +30,8 @@ impl<'a> Front<Global> for Probe<'a> {
         match self.log.turn() {
             Turn::Goes => self.executed(request),
             Turn::Stops => Err(Stopped),
-            Turn::Held => Ok(Outcome::Held),
-            Turn::Later => Ok(Outcome::Later),
+            Turn::Held => self.put_off(Need::Lock, Outcome::Held),
+            Turn::Later => self.put_off(Need::Room, Outcome::Later),
         }
     }
 
@@ -41,8 +39,8 @@ impl<'a> Front<Global> for Probe<'a> {
         match self.log.turn() {
             Turn::Goes => self.settled(),
             Turn::Stops => Err(Stopped),
-            Turn::Held => Ok(Outcome::Parked),
-            Turn::Later => Ok(Outcome::Error(ScpiError::OutOfMemory)),
+            Turn::Held => self.put_off(Need::Flush, Outcome::Parked),
+            Turn::Later => self.put_off(Need::Memory, Outcome::Error(ScpiError::OutOfMemory)),
         }
     }
 
@@ -59,6 +57,16 @@ impl<'a> Front<Global> for Probe<'a> {
 }
 
 impl<'a> Probe<'a> {
+    // The unit is put off, and has to wait for this.
+    fn put_off(
+        &mut self,
+        need: Need,
+        outcome: Outcome<Global>,
+    ) -> Result<Outcome<Global>, Stopped> {
+        self.log.need = need;
+        Ok(outcome)
+    }
+
     // What the device does with a unit.
     fn executed(&mut self, request: &Request<'_>) -> Result<Outcome<Global>, Stopped> {
         if self.exec.is_open(self.session) {
