@@ -63,11 +63,11 @@ fn are_over(alloc: Global, exec: &mut Power, log: &mut Log, given: &str) -> Opti
     Some(true)
 }
 
-/// Transmissions, and what is sent for them.
+// Transmissions, and what is sent for them.
 #[derive(Drop)]
 struct Row<'r> {
     alloc: Global,
-    /// How many pages the image of their device has.
+    // How many pages the image of their device has.
     pages: u16,
     given: &'r str,
     wanted: Vec<u8, Global>,
