@@ -1,0 +1,87 @@
+// What the units of the rows are executed on.
+use crate::devices::Power;
+use crate::log::{Log, Turn};
+use psu_exec::{Outcome, Request, ScpiError, Session};
+use psu_messages::{Front, Need};
+use std::alloc::Global;
+
+/// It has stopped for good.
+#[derive(Drop)]
+pub struct Stopped;
+
+/// A device with its session, and what is noted of what was asked.
+#[derive(Drop)]
+pub struct Probe<'a> {
+    pub exec: &'a mut Power,
+    pub session: Session,
+    pub log: &'a mut Log,
+}
+
+impl<'a> Front<Global> for Probe<'a> {
+    type Stop = Stopped;
+
+    ghost does = { λ _ _ _. Unit {0} };
+
+    ghost fails = { λ _ _ _ _. Unit {0} };
+
+    ghost stops = { λ _ _ _. Unit {0} };
+
+    fn execute(&mut self, request: &Request<'_>) -> Result<Outcome<Global>, Stopped> {
+        match self.log.turn() {
+            Turn::Goes => self.executed(request),
+            Turn::Stops => Err(Stopped),
+            Turn::Held => self.put_off(Need::Lock, Outcome::Held),
+            Turn::Later => self.put_off(Need::Room, Outcome::Later),
+        }
+    }
+
+    fn settle(&mut self) -> Result<Outcome<Global>, Stopped> {
+        match self.log.turn() {
+            Turn::Goes => self.settled(),
+            Turn::Stops => Err(Stopped),
+            Turn::Held => self.put_off(Need::Flush, Outcome::Parked),
+            Turn::Later => self.put_off(Need::Memory, Outcome::Error(ScpiError::OutOfMemory)),
+        }
+    }
+
+    fn send(&mut self, text: &[u8], is_last: bool) -> Result<(), Stopped> {
+        if self.log.turn() == Turn::Stops {
+            return Err(Stopped);
+        }
+        self.log.send(text, is_last).ok_or(Stopped)
+    }
+
+    fn short(&self) -> Stopped {
+        Stopped
+    }
+}
+
+impl<'a> Probe<'a> {
+    // The unit is put off, and has to wait for this.
+    fn put_off(
+        &mut self,
+        need: Need,
+        outcome: Outcome<Global>,
+    ) -> Result<Outcome<Global>, Stopped> {
+        self.log.need = need;
+        Ok(outcome)
+    }
+
+    // What the device does with a unit.
+    fn executed(&mut self, request: &Request<'_>) -> Result<Outcome<Global>, Stopped> {
+        if self.exec.is_open(self.session) {
+            Ok(self.exec.execute(self.session, request))
+        } else {
+            Err(Stopped)
+        }
+    }
+
+    // What it says of a wait.
+    fn settled(&mut self) -> Result<Outcome<Global>, Stopped> {
+        if self.exec.is_open(self.session) {
+            Ok(self.exec.settle(self.session))
+        } else {
+            Err(Stopped)
+        }
+    }
+}
