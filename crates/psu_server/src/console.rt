@@ -13,9 +13,9 @@ ghost use Rattle.psu_server.specs.Progress.{Breaks, GoesOn};
 ghost use Rattle.psu_server.specs.Runs.{LineBegins, LineRuns};
 
 use crate::RunCause;
+use crate::acting::unit;
 use crate::desk::Desk;
 use crate::lines::Lines;
-use crate::units::unit;
 use crate::writing::tell;
 use psu_answers::Gathered;
 use psu_disk::Disk;

@@ -4,7 +4,7 @@ use Rattle.psu_server.specs.declared.run_cause.RunCause.TheVariants.{Device}
 use Rattle.psu_server.proofs.UnitEnds.{flush_settles, halts_for_memory, halts_here, wait_ends, waiting_halted}
 use Rattle.psu_server.proofs.LateUnits.{parked_of}
 use Rattle.psu_server.proofs.SessionOne.{settle_free, settled_one}
-use Rattle.psu_server.proofs.units.wait_end.Goals as goal
+use Rattle.psu_server.proofs.acting.wait_end.Goals as goal
 
 pub returns-then-not-is_final-clause-halts : goal.returns-then-not-is_final-clause-halts
 returns-then-not-is_final-clause-halts g c =

@@ -3,7 +3,7 @@ use Rattle.psu_exec.specs.Shown.{outcome_of}
 use Rattle.psu_server.proofs.Fronts.{passed}
 use Rattle.psu_server.proofs.UnitEnds.{late_halts, later_halts, unit_later, unit_now}
 use Rattle.psu_server.proofs.LateUnits.{still_late_halts}
-use Rattle.psu_server.proofs.units.unit.Goals as goal
+use Rattle.psu_server.proofs.acting.unit.Goals as goal
 
 pub returns-then-not-is_later-clause-runs : goal.returns-then-not-is_later-clause-runs
 returns-then-not-is_later-clause-runs g c =

@@ -4,7 +4,7 @@ use Rattle.psu_exec.specs.Shown.{outcome_of}
 use Rattle.psu_server.proofs.Fronts.{passed}
 use Rattle.psu_server.proofs.UnitEnds.{acted_now, acted_waited, parked_halts}
 use Rattle.psu_server.proofs.SessionOne.{executed_one}
-use Rattle.psu_server.proofs.units.act.Goals as goal
+use Rattle.psu_server.proofs.acting.act.Goals as goal
 
 pub returns-then-not-is_parked-clause-acted : goal.returns-then-not-is_parked-clause-acted
 returns-then-not-is_parked-clause-acted g c =

@@ -1,6 +1,6 @@
 use Rattle.psu_server.proofs.UnitEnds.{halts_cleared}
 use Rattle.psu_server.proofs.SessionOne.{clear_free, cleared_one}
-use Rattle.psu_server.proofs.units.wait.Goals as goal
+use Rattle.psu_server.proofs.acting.wait.Goals as goal
 
 pub returns-in-Err-clause-halts : goal.returns-in-Err-clause-halts
 returns-in-Err-clause-halts g c =
