@@ -91,6 +91,7 @@ fn wait<D: Disk, A: Allocator + Copy>(
 }
 
 /// Executes a unit; parked, it waits for a flush. It may still come later.
+#[inline(always)]
 pub fn act<D: Disk, A: Allocator + Copy>(
     powered: &mut Powered<D, A>,
     request: &Request<'_>,
