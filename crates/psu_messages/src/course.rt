@@ -1,6 +1,5 @@
 // How far a transmission has come.
 ghost use Rattle.std.specs.Prelude.{◌≡◌};
-ghost use Rattle.psu_answers.specs.Gathered.{nothing};
 ghost use Rattle.psu_messages.specs.Courses.{beginning};
 ghost use Rattle.psu_messages.specs.Shown.{course_of};
 
@@ -26,19 +25,11 @@ impl<A: Allocator + Copy> Course<A> {
     pub fn new(alloc: A) -> Course<A>
         ensures { course_of result ≡ beginning }
     {
-        Course::begin(Gathered::new(alloc))
-    }
-
-    /// Nothing is done. What is answered is gathered in a room that was used before.
-    pub fn begin(gathered: Gathered<A>) -> Course<A>
-        requires { gathered ≡ nothing }
-        ensures { course_of result ≡ beginning }
-    {
         Course {
             units: 0,
             expansion: None,
             parked: false,
-            gathered,
+            gathered: Gathered::new(alloc),
         }
     }
 }

@@ -1,10 +1,12 @@
 // A transmission, executed unit by unit and answered message by message.
 ghost use Rattle.std.specs.Prelude.{◌≡◌, ◌+◌, ◌<◌, ◌^◌, true, false, None, IfOk, IfErr, IfSome, OnOk, OnErr};
+ghost use Rattle.psu_lex.specs.Message.{part};
+ghost use Rattle.psu_tree.specs.declared.unit_request.Request.{Request as RequestData};
 ghost use Rattle.psu_messages.specs.Deeds.{Awaits};
 ghost use Rattle.psu_messages.specs.Courses.{Goes, Halts, IsNext, IsOver, NextUnit, Stops};
 ghost use Rattle.psu_messages.specs.Shown.{course_of};
 ghost use Rattle.psu_messages.specs.Stepping.{plain, within};
-ghost use Rattle.psu_messages.specs.Units.{Asks, EndsMessage, Fault, Source, Text, source_of};
+ghost use Rattle.psu_messages.specs.Units.{Asks, EndsMessage, Fault, IsRequest, Source, Text, path_at, source_of};
 
 use crate::expansions::{expand, place_of};
 use crate::reading::{pass_over, request_at};
@@ -12,7 +14,7 @@ use crate::telling::{close, tell};
 use crate::tries::{Tried, attempt};
 use crate::{Course, Expansion, Front, Need};
 use psu_exec::{Outcome, Request, ScpiError};
-use psu_lex::{Bytes, split};
+use psu_lex::{Bytes, Unit, split};
 use psu_sessions::Input;
 use psu_tree::Path;
 use std::alloc::Allocator;
@@ -164,6 +166,28 @@ fn take_turn<A: Allocator + Copy, F: Front<A>>(
     Ok(need)
 }
 
+// Takes the turn of a unit, as it reads.
+fn take_unit<'a, A: Allocator + Copy, F: Front<A>>(
+    front: &mut F,
+    alloc: A,
+    path: &mut Path<'a>,
+    unit: &Unit<'a>,
+    course: &mut Course<A>,
+) -> Result<Option<Need>, F::Stop>
+    requires { course.old.units + 1 < 2 ^ 64 }
+    ensures goes { IfOk result (λ _. (request : RequestData) × IsRequest false (path_at path.old (part unit.now)) (part unit.now) request path.new
+        × ((source : Source) → Asks source course.old.units request unit.now.first → Goes F.does source front.old (course_of course.old) front.new (course_of course.new))) }
+    ensures units { IfOk result (λ need. need ≡ None → course.new.units ≡ course.old.units + 1) }
+    ensures waits { IfOk result (λ some. IfSome some (Awaits F.does front.new)) }
+    ensures stops { IfErr result (λ stop. (request : RequestData) × IsRequest false (path_at path.old (part unit.now)) (part unit.now) request path.new
+        × ((source : Source) → Asks source course.old.units request unit.now.first
+        → Stops F.does F.fails F.stops source front.old (course_of course.old) stop front.new course.new.gathered)) }
+{
+    let request = request_at(path, unit, false);
+    let need = take_turn(front, alloc, unit.first, &request, course)?;
+    Ok(need)
+}
+
 /// Executes what is left of a text, up to a unit that has to wait: what that waits for, or none where the transmission is over. It is taken up by another call,
 /// here or elsewhere. Where the front stops, it stops for good; what is answered and not sent is gathered still, but for the answer of a unit that found no memory.
 pub fn execute_text<A: Allocator + Copy, F: Front<A>>(
@@ -186,8 +210,7 @@ pub fn execute_text<A: Allocator + Copy, F: Front<A>>(
     let mut path = Path::root();
     pass_over(&mut path, before, false);
     for unit in rest {
-        let request = request_at(&mut path, unit, false);
-        let turn = take_turn(front, alloc, unit.first, &request, course)?;
+        let turn = take_unit(front, alloc, &mut path, unit, course)?;
         if let Some(need) = turn {
             return Ok(Some(need));
         }
@@ -197,6 +220,7 @@ pub fn execute_text<A: Allocator + Copy, F: Front<A>>(
 }
 
 /// Executes what reports an error in place of a text, as a text is executed.
+#[inline(never)]
 pub fn execute_fault<A: Allocator + Copy, F: Front<A>>(
     front: &mut F,
     alloc: A,

@@ -53,6 +53,20 @@ struct Acceptor<D: Disk, G: Gate> {
 }
 
 impl<D: Disk + Drop + Send + 'static, G: Gate + Drop + Send + Sync + 'static> Acceptor<D, G> {
+    // Accepts the next connection. Where none can be accepted, it sleeps for a moment.
+    fn accept_next<R>(&mut self, rt: R, listener: &TcpListener)
+    where
+        R: Threads + Wait + Clock + Copy + Send + 'static,
+    {
+        let accepted = match listener.accept() {
+            Ok((stream, _)) => self.accept(rt, stream),
+            Err(error) => Err(error),
+        };
+        if accepted.is_err() {
+            thread::sleep(&rt, Duration::from_millis(PAUSE));
+        }
+    }
+
     // A connection over a stream, which counts as silent until its first message.
     fn connection<R: Wait>(&mut self, rt: &R, stream: TcpStream) -> io::Result<Connection<D, G>> {
         stream.set_nodelay(true)?;
@@ -161,6 +175,21 @@ where
     }
 }
 
+// What accepts the connections of a server that has begun.
+fn acceptor_of<R: Clock, D: Disk + Drop, G: Gate + Drop>(
+    rt: &R,
+    alloc: Global,
+    caller: Caller<D, G>,
+) -> io::Result<Acceptor<D, G>> {
+    let server = Arc::new(alloc, Server::new(alloc, Instant::now(rt)?))?;
+    let silent = Arc::new(alloc, Mutex::new(Silent::new(alloc)))?;
+    Ok(Acceptor {
+        server,
+        silent,
+        caller,
+    })
+}
+
 // Accepts connections for ever.
 fn accept_all<R, D, G, E>(
     rt: R,
@@ -183,24 +212,12 @@ where
     E: Eprint + Drop + Send + 'static,
 {
     let listener = TcpListener::bind(&rt, ("127.0.0.1", port))?;
-    let server = Arc::new(alloc, Server::new(alloc, Instant::now(&rt)?))?;
-    let silent = Arc::new(alloc, Mutex::new(Silent::new(alloc)))?;
-    let mut acceptor = Acceptor {
-        server,
-        silent,
-        caller,
-    };
+    let mut acceptor = acceptor_of(&rt, alloc, caller)?;
     acceptor.start_flusher(rt, errors)?;
     // Who started the server without an output to read is served all the same.
     let _ = println!(rt; "listening on 127.0.0.1:{port}");
     for _ in rt.forever() {
-        let accepted = match listener.accept() {
-            Ok((stream, _)) => acceptor.accept(rt, stream),
-            Err(error) => Err(error),
-        };
-        if accepted.is_err() {
-            thread::sleep(&rt, Duration::from_millis(PAUSE));
-        }
+        acceptor.accept_next(rt, &listener);
     }
     unreachable!()
 }

@@ -113,7 +113,12 @@ impl<'p, 'w, W: Write, D: Disk, A: Allocator + Copy> Console<'p, 'w, W, D, A> {
         one_syntax_of_a_unit();
         one_header_of_a_text();
         let gathered = mem::replace(&mut self.desk.unwritten.gathered, Gathered::new(alloc));
-        let mut course = Course::begin(gathered);
+        let mut course = Course {
+            units: 0,
+            expansion: None,
+            parked: false,
+            gathered,
+        };
         let done = proceed(self, alloc, lines, &mut course);
         self.desk.unwritten.gathered = course.gathered;
         match done {

@@ -1,5 +1,7 @@
 use Rattle.psu_messages.proofs.Going.{kept_goes, kept_halts}
-use Rattle.psu_messages.specs.Shown.{course_of}
+use Rattle.std.proofs.Common.{None, ap, ◌∙◌}
+use Rattle.psu_messages.specs.Shown.{course, course_of}
+use Rattle.psu_messages.specs.Standing.{start}
 use Rattle.psu_server.specs.Deeds.{line_source}
 use Rattle.psu_server.specs.Output.{held}
 use Rattle.psu_server.proofs.Feeding.{asks_line, is_line}
@@ -18,7 +20,7 @@ returns-clause-breaks g c =
     } in
     let lines = c.args.lines.now in
     let b = broken (λ x. x.desk.now.powered.exec) (λ x. held (g.W.Write.contents x.writer.now) x.desk.now.unwritten.told.items) _ _ _ (λ x y deed d. d.2) (λ x y request cause f. f.2) (λ x y cause s. s.2) ones c.every_list_has_units.ensures c.every_unit_reads.ensures
-    (line_source lines.is_over lines.line.items) (is_line lines.is_over lines.line.items lines.free) _ c.proceed-done.new.front c.in-Err.cause c.proceed-done.new.course.gathered (course_of c.begin-course.result) c.begin-course.ensures c.in-Err.ensures.stops in
+    (line_source lines.is_over lines.line.items) (is_line lines.is_over lines.line.items lines.free) _ c.proceed-done.new.front c.in-Err.cause c.proceed-done.new.course.gathered _ (ap (course start None) (c.replace-gathered.ensures.value ∙ c.requires.fresh)) c.in-Err.ensures.stops in
     (b.0, asks_line lines.is_over lines.line.items b.0 lines.short c.requires.power b.1, b.2, b.3, b.4)
 
 pub returns-clause-desk : goal.returns-clause-desk
@@ -37,8 +39,8 @@ returns-in-None-clause-runs g c =
     } in
     let lines = c.args.lines.now in
     let w = whole (λ x. x.desk.now.powered.exec) (λ x. held (g.W.Write.contents x.writer.now) x.desk.now.unwritten.told.items) _ (λ x y deed d. d.2) ones c.every_list_has_units.ensures
-    (line_source lines.is_over lines.line.items) (is_line lines.is_over lines.line.items lines.free) _ c.proceed-done.new.front (course_of c.begin-course.result) (course_of c.proceed-done.new.course)
-    c.begin-course.ensures c.in-Ok.ensures.goes (c.in-Ok.ensures.over c.in-None.is) in
+    (line_source lines.is_over lines.line.items) (is_line lines.is_over lines.line.items lines.free) _ c.proceed-done.new.front _ (course_of c.proceed-done.new.course)
+    (ap (course start None) (c.replace-gathered.ensures.value ∙ c.requires.fresh)) c.in-Ok.ensures.goes (c.in-Ok.ensures.over c.in-None.is) in
     (w.0, asks_line lines.is_over lines.line.items w.0 lines.short c.requires.power w.1, w.2, w.3, w.4)
 
 pub returns-in-None-clause-desk : goal.returns-in-None-clause-desk
