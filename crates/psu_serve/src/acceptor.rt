@@ -1,8 +1,8 @@
 // The server: it powers on, and gives each connection a thread.
-use crate::connection::Connection;
 use crate::serve_fault::ServeFault;
 use psu_bench::{Gate, Gated};
 use psu_callers::{Caller, Condition, Flusher, SharedGate};
+use psu_connections::Connection;
 use psu_disk::{Disk, FileDisk};
 use psu_exec::Exec;
 use psu_items::Store;

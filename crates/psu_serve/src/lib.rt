@@ -1,10 +1,7 @@
-//! The server over loopback: it powers on, accepts connections, and starts and ends the threads of their sessions. What these do is done by the
-//! crates below.
+//! The server over loopback: it powers on, accepts connections, and gives each a thread.
 #![tactic(auto)]
 
 mod acceptor;
-mod connection;
-mod opening;
 mod serve_fault;
 
 pub use acceptor::{serve, serve_disk};
