@@ -1,8 +1,8 @@
 """Fixtures of pytest: a server of its own for each test, over a temporary image and a free port.
 
-Needs pytest, Python 3.8 or later and the program `psu`, which is found by the variable PSU, else in ../crates/psu/out, else on
-the PATH. Copy it to a driver's tests with server.py and hislip.py; a driver is then given `server.port`:
-    python3 -m pytest examples
+Needs pytest, Python 3.8 or later and the program `psu`, which is found by the variable PSU, else in ../crates/psu/out,
+else on the PATH: python3 -m pytest examples
+Copy it to a driver's tests with server.py and hislip.py; a driver connects to 127.0.0.1 at `server.port`.
 """
 import pytest
 

@@ -1,14 +1,14 @@
 """Saves a state and confirms it, kills the server while it saves more states, starts it again, and shows what is there.
 
 Needs the program `psu` and Python 3.8 or later; no package: python3 save_and_cut.py [PROGRAM]
-It uses a temporary image and a free port. PROGRAM is by default the one that the variable PSU names, else the one built here,
-else that of the PATH.
-Prints what `*OPC?` confirmed, what was sent after it, and what register 1 holds after the restart: the confirmed state, or one
-of the states that were saved later. The exit status is 0 where that is so.
+It uses a temporary image and a free port. PROGRAM is by default the one that the variable PSU names, else the one built
+here, else that of the PATH.
+Prints what `*OPC?` confirmed, what was sent after it, and what register 1 holds after the restart: the confirmed state,
+or one of the states that were saved later. The exit status is 0 where that is so.
 
-It kills a process, and the kernel keeps what a killed process wrote. So this shows the order of the server's writes and
-nothing of a disk that loses its cache or tears a write: the tests of the storage code on simulated disks do that
-(docs/TESTED.md), and its proofs.
+It kills a process, and the kernel's cache survives that: whatever the process wrote is there. So this shows what a kill
+of the server leaves, and nothing of a disk that loses its cache or tears a write. Those are in the gate's tests of the
+store on simulated disks (docs/TESTED.md), and in its proofs.
 """
 import argparse
 import os

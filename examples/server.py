@@ -1,4 +1,4 @@
-"""Starts and stops a server for a test: conftest.py and save_and_cut.py use it. Copy it with hislip.py into a driver's tests.
+"""Starts and stops a server for a test: conftest.py and save_and_cut.py use it.
 
 Needs the program `psu` and Python 3.8 or later; no package.
 As a program it prints which `psu` it finds, or one line why there is none: python3 server.py
@@ -17,7 +17,7 @@ BUILT = os.path.join(os.path.dirname(os.path.abspath(__file__)), "..", "crates",
 
 
 def find_program():
-    """Returns the path of `psu`: the environment variable PSU, else the one built in this repository, else that of the PATH."""
+    """Returns the path of `psu`: the variable PSU, else the one built in this repository, else that of the PATH."""
     named = os.environ.get("PSU")
     for path in [named] if named else [os.path.normpath(BUILT), shutil.which("psu")]:
         if path and os.path.isfile(path) and os.access(path, os.X_OK):

@@ -1,7 +1,7 @@
-"""Tests of the instrument over HiSLIP, each with a server of its own: recipes of the programmer's guide with several clients too.
+"""Tests of the instrument over HiSLIP: the recipes of the programmer's guide, what survives a kill, and the protocol.
 
 Needs pytest and the program `psu` (conftest.py says where it is looked for): python3 -m pytest test_supply.py
-Prints what pytest prints: one dot a test.
+Prints what pytest prints: one dot a test. Each test has a server of its own.
 """
 import threading
 import time

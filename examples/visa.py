@@ -1,11 +1,11 @@
-"""A session over VISA: sets and measures, saves and confirms, a block, a device clear, status byte, service request, lock.
+"""A session over VISA: measures, saves and confirms, a block, a device clear, status byte, service request, lock.
 
 Needs PyVISA, a VISA library that has HiSLIP, and a server on 127.0.0.1 (psu serve IMAGE):
     python3 visa.py [--library LIBRARY] [RESOURCE]
 RESOURCE is TCPIP::127.0.0.1::hislip0::INSTR; at another port for example TCPIP::127.0.0.1::hislip0,4881::INSTR.
 LIBRARY is what pyvisa.ResourceManager takes, as @py for PyVISA-py.
-Prints a line for each step: what it read, or `not in this VISA library`, after which the next step follows. The exit status is 0
-where every step that the library has gave what the instrument should.
+Prints a line for each step: what it read, or `not in this VISA library`, after which the next step follows. The exit
+status is 0 where every step that the library has gave what the instrument should.
 PyVISA-py 0.7.2 has HiSLIP without service requests, status byte (read_stb) and locks. It sets output 1 and register 1.
 """
 import argparse
