@@ -2,8 +2,8 @@
 
 Needs a server on 127.0.0.1 (psu serve IMAGE) and Python 3.8 or later; no package:
     python3 confirm.py [--port N] [--timeout SECONDS]
-Prints nothing where it is confirmed, else one line on standard error. Made for ExecStop= of a unit (psu.service) and for
-health checks; it changes nothing.
+Prints nothing where it is confirmed, else one line on standard error. Made for ExecStop= of a unit (psu.service) and
+for health checks; it changes nothing.
 Not confirmed: nothing listens, sixteen sessions are open, another session holds a lock, or the disk fails (then -320 is
 in the error queue).
 """

@@ -153,7 +153,7 @@ class Channel:
 
 
 class Instrument:
-    """A session with an instrument. `timeout`, the longest wait for a response in seconds, may be changed at any time."""
+    """A session with an instrument. `timeout`, the longest wait for a response in seconds, may be changed."""
 
     def __init__(self, host="127.0.0.1", port=4880, timeout=5.0, sub_address="hislip0"):
         self.timeout = timeout
@@ -395,7 +395,7 @@ def parser(description):
 
 
 def run(main, made):
-    """Calls `main` with the arguments, and returns what `sys.exit` takes: one line where the instrument can't be used."""
+    """Calls `main` with the arguments; returns what `sys.exit` takes, a line where the instrument can't be used."""
     arguments = made.parse_args()
     try:
         return main(arguments)
