@@ -119,7 +119,7 @@ class Channel:
         self._socket.close()
 
     def send(self, timeout, kind, control=0, parameter=0, payload=b""):
-        self._socket.settimeout(timeout)
+        self._wait_at_most(timeout)
         try:
             self._socket.sendall(HEADER.pack(b"HS", kind, control, parameter, len(payload)) + payload)
         except socket.timeout:
@@ -141,8 +141,7 @@ class Channel:
 
     def _fill(self, count, deadline):
         while len(self._received) < count:
-            # A timeout of 0 would mean a socket that never waits.
-            self._socket.settimeout(max(deadline - time.monotonic(), 0.001))
+            self._wait_at_most(deadline - time.monotonic())
             try:
                 piece = self._socket.recv(65536)
             except socket.timeout:
@@ -150,6 +149,12 @@ class Channel:
             if not piece:
                 raise ConnectionError("the server closed the connection")
             self._received += piece
+
+    def _wait_at_most(self, timeout):
+        if self._socket.fileno() < 0:
+            raise ConnectionError("the session is closed")
+        # With a timeout of 0 the socket would not wait, and would not raise the exception of a timeout.
+        self._socket.settimeout(max(timeout, 0.001))
 
 
 class Instrument:

@@ -7,6 +7,7 @@ Prints the address of the page and serves it until it is interrupted.
 It is one session of the sixteen, and reads nothing that clears: no *ESR?, no EVENt?, no SYST:ERR?. While another
 session holds a lock its queries would wait, so it asks for the lock first, shows the last values and says so.
 """
+import argparse
 import collections
 import http.server
 import json
@@ -15,7 +16,7 @@ import threading
 import time
 import urllib.parse
 
-from hislip import HislipError, Instrument, Timeout, parser, run
+from hislip import HislipError, Instrument, ProtocolError, Timeout, parser, run
 
 OUTPUT_QUERIES = {
     "set_volts": ":SOUR{}:VOLT?",
@@ -39,9 +40,7 @@ STATUS_QUERIES = {
     "errors": ":SYST:ERR:COUN?",
 }
 OUTPUTS = (1, 2, 3, 4)
-QUERY = ";".join(
-    ["*IDN?", *STATUS_QUERIES.values(), *(it.format(n) for n in OUTPUTS for it in OUTPUT_QUERIES.values())]
-)
+QUERIES = ["*IDN?", *STATUS_QUERIES.values(), *(it.format(n) for n in OUTPUTS for it in OUTPUT_QUERIES.values())]
 # Names of the bits that can be 1. MSS is bit 6 of *STB?: a service request is due by *SRE.
 STATUS_BITS = {7: "OPER", 6: "MSS", 5: "ESB", 4: "MAV", 3: "QUES", 2: "ERR"}
 EVENT_BITS = {7: "PON", 5: "CME", 4: "EXE", 3: "DDE", 0: "OPC"}
@@ -70,16 +69,18 @@ def look(supply):
     if lock.holders:
         raise Locked(f"a lock is shared by other sessions ({lock.holders})")
     try:
-        return values_of(supply.query(QUERY))
+        return values_of(supply.query(";".join(QUERIES)).split(";"))
     except Timeout:
         # A lock was taken after the look at it: the query must not wait for that lock's end.
         supply.clear()
         raise Locked("another session took a lock") from None
 
 
-def values_of(response):
-    """Returns what the response to QUERY says."""
-    fields = iter(response.split(";"))
+def values_of(responses):
+    """Returns the values by their names, of one response for each query."""
+    if len(responses) != len(QUERIES):
+        raise ProtocolError(f"{len(responses)} responses to {len(QUERIES)} queries")
+    fields = iter(responses)
     values = {"name": next(fields)}
     values.update((key, int(next(fields))) for key in STATUS_QUERIES)
     values["outputs"] = [output_of(number, fields) for number in OUTPUTS]
@@ -257,11 +258,18 @@ def main(arguments):
     return print_once(arguments) if arguments.once else serve(arguments)
 
 
+def positive(text):
+    number = float(text)
+    if not 0 < number < 10000:
+        raise argparse.ArgumentTypeError("a number above 0 and below 10000 is wanted")
+    return number
+
+
 def made_parser():
     made = parser(__doc__)
     made.add_argument("--listen-port", type=int, default=8080, help="the page's port on 127.0.0.1 (8080)")
-    made.add_argument("--interval", type=float, default=0.5, help="seconds between two readings (0.5)")
-    made.add_argument("--minutes", type=float, default=5, help="the length of the plot (5)")
+    made.add_argument("--interval", type=positive, default=0.5, help="seconds between two readings (0.5)")
+    made.add_argument("--minutes", type=positive, default=5, help="the length of the plot (5)")
     made.add_argument("--once", action="store_true", help="print the values once, as text")
     return made
 
