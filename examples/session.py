@@ -2,14 +2,14 @@
 
 Needs a server on 127.0.0.1 (psu serve IMAGE) and Python 3.8 or later; no package: python3 session.py [--port N]
 Prints each message and its response: 5.000;0.500 for the measurement, 1 once register 1 is on the disk, and the error.
-It sets output 1 and register 1.
+It sets output 1, its load and register 1.
 """
 import sys
 
 from hislip import Instrument, parser, run
 
 MESSAGES = [
-    "*RST;*CLS",
+    "*RST;*CLS;:SIM:LOAD 10000",
     "VOLT 5.25;:CURR 0.5;:OUTP ON",
     "MEAS:VOLT?;:MEAS:CURR?",
     "*SAV 1;*OPC?",

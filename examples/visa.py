@@ -6,7 +6,9 @@ RESOURCE is TCPIP::127.0.0.1::hislip0::INSTR; at another port for example TCPIP:
 LIBRARY is what pyvisa.ResourceManager takes, as @py for PyVISA-py.
 Prints a line for each step: what it read, or `not in this VISA library`, after which the next step follows. The exit
 status is 0 where every step that the library has gave what the instrument should.
-PyVISA-py 0.7.2 has HiSLIP without service requests, status byte (read_stb) and locks. It sets output 1 and register 1.
+PyVISA-py 0.7.2 has HiSLIP without service requests, status byte (read_stb) and locks. Its next open or clear raises a
+RuntimeError where a service request arrived, so keep *SRE 0 with it, in every session.
+The steps set output 1, its load and register 1.
 """
 import argparse
 import sys
@@ -45,7 +47,7 @@ def name(instrument):
 
 
 def measure(instrument):
-    instrument.write("*RST;*CLS;VOLT 5.25;:CURR 0.5;:OUTP ON")
+    instrument.write("*RST;*CLS;:SIM:LOAD 10000;:VOLT 5.25;:CURR 0.5;:OUTP ON")
     return expect(instrument.query("MEAS:VOLT?;:MEAS:CURR?"), "5.000;0.500")
 
 
@@ -137,7 +139,7 @@ def main():
         return "visa.py: PyVISA is not installed (on Debian: apt-get install python3-pyvisa-py)"
     try:
         return take_steps(words)
-    except (pyvisa.Error, OSError, ValueError, Unexpected) as fault:
+    except (pyvisa.Error, OSError, ValueError, RuntimeError, Unexpected) as fault:
         return f"visa.py: {words.resource}: {fault}"
 
 
