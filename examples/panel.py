@@ -67,7 +67,7 @@ def look(supply):
     if lock.is_exclusive:
         raise Locked("another session holds the exclusive lock")
     if lock.holders:
-        raise Locked(f"a lock is shared by other sessions ({lock.holders})")
+        raise Locked(f"other sessions share a lock ({lock.holders})")
     try:
         return values_of(supply.query(";".join(QUERIES)).split(";"))
     except Timeout:

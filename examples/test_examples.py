@@ -10,6 +10,8 @@ import urllib.request
 
 import pytest
 
+from hislip import LockInfo
+from panel import Locked, look
 from server import free_port
 
 FOLDER = os.path.dirname(os.path.abspath(__file__))
@@ -97,6 +99,23 @@ def test_panel_under_a_lock(server, supply):
     ended = run("panel.py", "--port", server.port, "--once")
     assert ended.returncode == 1
     assert ended.stderr == "panel.py: another session holds the exclusive lock; no values were read\n"
+
+
+def test_panel_and_a_shared_lock(supply, connect):
+    supply.lock(1, "bench")
+    with pytest.raises(Locked, match="share a lock"):
+        look(connect())
+
+
+def test_panel_and_a_lock_that_is_taken_after_the_look(supply, connect):
+    watcher = connect(0.3)
+    watcher.lock_info = lambda: LockInfo(False, 0)
+    supply.lock(1)
+    with pytest.raises(Locked, match="took a lock"):
+        look(watcher)
+    supply.unlock()
+    # The query that waited was discarded, and the next one is answered.
+    assert look(watcher)["errors"] == 0
 
 
 def test_panel_as_a_page(server):
