@@ -1,6 +1,6 @@
 """A live front panel: a read-only page at http://127.0.0.1:8080 with the four outputs, a plot and the status registers.
 
-Needs a server on 127.0.0.1 (psu serve IMAGE) and Python 3.8 or later; no package, and no other page of a network:
+Needs a server on 127.0.0.1 (psu serve IMAGE) and Python 3.8 or later; no package, and nothing from the Internet:
     python3 panel.py [--port N] [--listen-port N] [--interval SECONDS] [--minutes N]
     python3 panel.py [--port N] --once      prints the values once, as text
 Prints the address of the page and serves it until it is interrupted.
@@ -42,15 +42,18 @@ STATUS_QUERIES = {
 OUTPUTS = (1, 2, 3, 4)
 QUERIES = ["*IDN?", *STATUS_QUERIES.values(), *(it.format(n) for n in OUTPUTS for it in OUTPUT_QUERIES.values())]
 # Names of the bits that can be 1. MSS is bit 6 of *STB?: a service request is due by *SRE.
-STATUS_BITS = {7: "OPER", 6: "MSS", 5: "ESB", 4: "MAV", 3: "QUES", 2: "ERR"}
-EVENT_BITS = {7: "PON", 5: "CME", 4: "EXE", 3: "DDE", 0: "OPC"}
-QUESTIONABLE_BITS = {1: "LIMIT", 0: "TRIP"}
+STATUS_BITS = ((7, "OPER"), (6, "MSS"), (5, "ESB"), (4, "MAV"), (3, "QUES"), (2, "ERR"))
+EVENT_BITS = ((7, "PON"), (5, "CME"), (4, "EXE"), (3, "DDE"), (0, "OPC"))
+QUESTIONABLE_BITS = ((1, "LIMIT"), (0, "TRIP"))
+# Title, name of the value, and bits of each register.
 REGISTERS = (
-    ("status byte", "status_byte", STATUS_BITS),
-    ("*SRE", "service_request_enable", STATUS_BITS),
-    ("*ESE", "event_status_enable", EVENT_BITS),
+    ("Status byte *STB?", "status_byte", STATUS_BITS),
+    ("enabled by *SRE", "service_request_enable", STATUS_BITS),
+    ("enabled by *ESE", "event_status_enable", EVENT_BITS),
     ("QUES condition", "questionable_condition", QUESTIONABLE_BITS),
     ("QUES enable", "questionable_enable", QUESTIONABLE_BITS),
+    ("OPER condition", "operation_condition", ()),
+    ("OPER enable", "operation_enable", ()),
 )
 
 
@@ -106,7 +109,7 @@ def mode_of(output):
 
 
 def names_of(value, bits):
-    return [name for bit, name in bits.items() if value >> bit & 1]
+    return [name for bit, name in bits if value >> bit & 1]
 
 
 # As text
@@ -121,8 +124,8 @@ def text_of(values):
             f" {it['set_amperes']:8.3f}  {level:<14} {it['load']:10.3f}"
         )
     for title, key, bits in REGISTERS:
-        lines.append(f"{title:<15} {values[key]:5}  {' '.join(names_of(values[key], bits))}".rstrip())
-    lines.append(f"errors in queue {values['errors']:5}")
+        lines.append(f"{title:<17} {values[key]:5}  {' '.join(names_of(values[key], bits))}".rstrip())
+    lines.append(f"{'Errors in queue':<17} {values['errors']:5}")
     return "\n".join(lines)
 
 
@@ -219,7 +222,7 @@ class Handler(http.server.BaseHTTPRequestHandler):
     def do_GET(self):
         url = urllib.parse.urlsplit(self.path)
         if url.path == "/":
-            self._answer("text/html; charset=utf-8", PAGE.encode())
+            self._answer("text/html; charset=utf-8", PAGE.replace("REGISTERS_JSON", json.dumps(REGISTERS)).encode())
         elif url.path == "/values":
             self._answer("application/json", json.dumps(self.watch.report(last_of(url.query))).encode())
         else:
@@ -377,18 +380,7 @@ dd.off { color: var(--quiet); }
 "use strict";
 const COLOURS = ["#ffd54a", "#4be38d", "#5bb8ff", "#ff7ab8"];
 const MODES = ["CV", "CC", "OFF", "TRIP"];
-const STATUS = [[7, "OPER"], [6, "MSS"], [5, "ESB"], [4, "MAV"], [3, "QUES"], [2, "ERR"]];
-const EVENTS = [[7, "PON"], [5, "CME"], [4, "EXE"], [3, "DDE"], [0, "OPC"]];
-const QUESTIONABLE = [[1, "LIMIT"], [0, "TRIP"]];
-const REGISTERS = [
-  ["status", "Status byte *STB?", "status_byte", STATUS, false],
-  ["status", "enabled by *SRE", "service_request_enable", STATUS, true],
-  ["status", "enabled by *ESE", "event_status_enable", EVENTS, true],
-  ["questionable", "QUES condition", "questionable_condition", QUESTIONABLE, false],
-  ["questionable", "QUES enable", "questionable_enable", QUESTIONABLE, true],
-  ["questionable", "OPER condition", "operation_condition", [], false],
-  ["questionable", "OPER enable", "operation_enable", [], true],
-];
+const REGISTERS = REGISTERS_JSON;
 const TITLES = {
   OPER: "OPERation summary", MSS: "a service request is due", ESB: "event status summary", QUES: "QUEStionable summary",
   MAV: "message available, of this page's own session", ERR: "the error queue is not empty", PON: "power-on",
@@ -468,8 +460,9 @@ function makeOutput(index) {
   return { card, modes, volts, amperes, rows };
 }
 
-function makeRegister([place, title, key, bits, isEnable]) {
-  const row = made(find(place), "div", "register" + (isEnable ? " enable" : ""));
+function makeRegister([title, key, bits]) {
+  const place = /questionable|operation/.test(key) ? "questionable" : "status";
+  const row = made(find(place), "div", "register" + (key.endsWith("enable") ? " enable" : ""));
   made(row, "span", "quiet", title);
   const value = made(row, "span", "value"), lamps = made(row, "span", "lamps");
   return { key, value, bits: bits.map(([bit, name]) => [bit, lamp(lamps, name)]) };
