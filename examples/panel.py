@@ -103,7 +103,7 @@ def mode_of(output):
         return "TRIP"
     if not output["is_on"]:
         return "OFF"
-    # In whole millivolts and microvolts, as the instrument computes it.
+    # In whole microvolts, as the instrument computes it.
     is_in_limit = round(output["set_volts"] * 1e6) > round(output["set_amperes"] * 1e3) * round(output["load"] * 1e3)
     return "CC" if is_in_limit else "CV"
 
