@@ -188,7 +188,7 @@ class Instrument:
 
     def write(self, text):
         """Sends a program message; the line feed at its end is added."""
-        self.write_bytes(text.encode("latin-1") + b"\n")
+        self.write_bytes(encoded(text) + b"\n")
 
     def write_bytes(self, message):
         """Sends the bytes of a message in as many parts as the server's largest message asks for."""
@@ -199,11 +199,11 @@ class Instrument:
 
     def write_block(self, header, data):
         """Sends a header (and parameters, as in 'MMEM:DATA "name",') and bytes of any value as a block."""
-        self.write_bytes(header.encode("latin-1") + definite_block(data) + b"\n")
+        self.write_bytes(encoded(header) + definite_block(data) + b"\n")
 
     def read(self):
         """Returns the text of the response to the message that was sent last, without the line feed at its end."""
-        return self.read_bytes().decode("latin-1").rstrip("\n")
+        return self.read_bytes().decode("utf-8", "replace").rstrip("\n")
 
     def read_bytes(self):
         """Returns a response as it was sent. After a Timeout the next read continues with it."""
@@ -355,7 +355,7 @@ class Instrument:
 
     def _receive(self, channel, timeout):
         message = channel.receive(timeout)
-        text = message.payload.decode("latin-1")
+        text = message.payload.decode("utf-8", "replace")
         if message.kind == Kind.FATAL_ERROR:
             self.close()
             raise FatalError(message.control, text)
@@ -370,6 +370,11 @@ def after(message_id):
 
 def before(message_id):
     return (message_id - 2) % (1 << 32)
+
+
+def encoded(text):
+    # Bytes of a command line that are not UTF-8 are sent as they were typed.
+    return text.encode("utf-8", "surrogateescape")
 
 
 def definite_block(data):
