@@ -14,27 +14,32 @@ import argparse
 import os
 import sys
 import tempfile
-import time
+import threading
 
 from server import Server, find_program
 
 CONFIRMED = 5000  # millivolts
-MORE = 500
+MOST = 60000  # what an output can be set to
 
 
 def volts(millivolts):
     return f"{millivolts // 1000}.{millivolts % 1000:03}"
 
 
-def save(server):
-    """Saves and confirms a state, then sends more saves. Returns the session, which must stay open until the kill."""
-    supply = server.connect()
+def save(supply):
     message = f"VOLT {volts(CONFIRMED)};*SAV 1;*OPC?"
     print("sent     ", message)
     print("response ", supply.query(message), "- register 1 is on the disk now")
-    for more in range(1, MORE + 1):
-        supply.write(f"VOLT {volts(CONFIRMED + more)};*SAV 1")
-    return supply
+
+
+def save_more(supply):
+    """Sends saves of ever higher voltages until the server ends, and returns the last voltage."""
+    for millivolts in range(CONFIRMED + 1, MOST + 1):
+        try:
+            supply.write(f"VOLT {volts(millivolts)};*SAV 1")
+        except OSError:
+            return millivolts
+    return MOST
 
 
 def saved_volts(server):
@@ -42,15 +47,18 @@ def saved_volts(server):
         return supply.query("*RCL 1;VOLT?")
 
 
-def value_after_a_kill(server):
+def cut(server):
+    """Kills the server in its work. Returns the last voltage that was sent, and the one that register 1 then holds."""
     server.start()
-    supply = save(server)
-    time.sleep(0.02)
-    server.kill()
-    supply.close()
-    print("killed    while", MORE, "further saves, none of them confirmed, were on their way")
+    with server.connect() as supply:
+        save(supply)
+        killer = threading.Timer(0.05, server.kill)
+        killer.start()
+        last = save_more(supply)
+        killer.join()
+    print("killed    while further saves were sent, none of them confirmed: the last one", volts(last))
     server.start()
-    return saved_volts(server)
+    return last, saved_volts(server)
 
 
 def main():
@@ -61,10 +69,10 @@ def main():
     with tempfile.TemporaryDirectory() as folder:
         server = Server(os.path.join(folder, "bench.psu"), program or find_program())
         try:
-            value = value_after_a_kill(server)
+            last, value = cut(server)
         finally:
             server.stop()
-    is_kept = value in {volts(CONFIRMED + more) for more in range(MORE + 1)}
+    is_kept = value in {volts(it) for it in range(CONFIRMED, last + 1)}
     print("found    ", value, "volts in register 1:", "as promised" if is_kept else "the promise is broken")
     return 0 if is_kept else 1
 
