@@ -1,75 +1,84 @@
-"""Saves and confirms, kills the server while it saves more, starts it again, and shows what is there.
+"""Saves a state and confirms it, kills the server while it saves more states, starts it again, and shows what is there.
 
-Needs Python 3, no package, and the program: python3 examples/save_and_cut.py [PROGRAM [PORT]], by default ./psu and 4899.
-Prints what `*OPC?` confirmed, what was sent behind it, and what the register holds after the restart: what was confirmed, or what one of
-the later commands saved, and never anything else. The exit status is 0 where that is so.
+Needs the program `psu` and Python 3.8 or later; no package: python3 save_and_cut.py [PROGRAM]
+It uses a temporary image and a free port. PROGRAM is by default the one that the variable PSU names, else the one built
+here, else that of the PATH.
+Prints what `*OPC?` confirmed, what was sent after it, and what register 1 holds after the restart: the confirmed state,
+or one of the states that were saved later. The exit status is 0 where that is so.
+
+It kills a process, and the kernel's cache survives that: whatever the process wrote is there. So this shows what a kill
+of the server leaves, and nothing of a disk that loses its cache or tears a write. Those are in the gate's tests of the
+store on simulated disks (docs/TESTED.md), and in its proofs.
 """
+import argparse
 import os
-import signal
-import subprocess
 import sys
 import tempfile
-import time
+import threading
 
-from idn import ask, connect, tell
+from server import Server, find_program
 
-HERE = os.path.dirname(os.path.abspath(__file__))
-CONFIRMED = 5000
-MORE = 500
-
-
-def start(program, image, port):
-    server = subprocess.Popen([program, "serve", image, "--port", str(port)], stdout=subprocess.PIPE, text=True)
-    line = server.stdout.readline()
-    if not line.startswith("listening"):
-        raise SystemExit("no server: the line on standard error says why")
-    return server
-
-
-def kill(server):
-    server.send_signal(signal.SIGKILL)
-    server.wait()
+CONFIRMED = 5000  # millivolts
+MOST = 60000  # what an output can be set to
 
 
 def volts(millivolts):
     return f"{millivolts // 1000}.{millivolts % 1000:03}"
 
 
-def save(port):
-    sync, other = connect(port)
-    print("sent     VOLT", volts(CONFIRMED) + ";*SAV 1;*OPC?")
-    answer = ask(sync, f"VOLT {volts(CONFIRMED)};*SAV 1;*OPC?\n".encode())
-    print("answered", answer.decode().strip(), "- register 1 is on the disk now")
-    for more in range(1, MORE + 1):
-        tell(sync, f"VOLT {volts(CONFIRMED + more)};*SAV 1\n".encode())
-    return sync, other
+def save(supply):
+    message = f"VOLT {volts(CONFIRMED)};*SAV 1;*OPC?"
+    print("sent     ", message)
+    print("response ", supply.query(message), "- register 1 is on the disk now")
 
 
-def found(port):
-    sync, other = connect(port)
-    return ask(sync, b"*RCL 1;VOLT?\n").decode().strip()
+def save_more(supply):
+    """Sends saves of ever higher voltages until the server ends, and returns the last voltage."""
+    for millivolts in range(CONFIRMED + 1, MOST + 1):
+        try:
+            supply.write(f"VOLT {volts(millivolts)};*SAV 1")
+        except OSError:
+            return millivolts
+    return MOST
+
+
+def saved_volts(server):
+    with server.connect() as supply:
+        return supply.query("*RCL 1;VOLT?")
+
+
+def cut(server):
+    """Kills the server in its work. Returns the last voltage that was sent, and the one that register 1 then holds."""
+    server.start()
+    with server.connect() as supply:
+        save(supply)
+        killer = threading.Timer(0.05, server.kill)
+        killer.start()
+        last = save_more(supply)
+        killer.join()
+    print("killed    while further saves were sent, none of them confirmed: the last one", volts(last))
+    server.start()
+    return last, saved_volts(server)
 
 
 def main():
-    program = sys.argv[1] if len(sys.argv) > 1 else os.path.join(HERE, "..", "psu")
-    port = int(sys.argv[2]) if len(sys.argv) > 2 else 4899
+    form = argparse.RawDescriptionHelpFormatter
+    parser = argparse.ArgumentParser(description=__doc__, formatter_class=form)
+    parser.add_argument("program", nargs="?", metavar="PROGRAM", help="the path of psu")
+    program = parser.parse_args().program
     with tempfile.TemporaryDirectory() as folder:
-        image = os.path.join(folder, "bench.psu")
-        subprocess.run([program, "make", image], check=True)
-        server = start(program, image, port)
-        connections = save(port)
-        time.sleep(0.02)
-        kill(server)
-        print("killed   while", MORE, "further saves, none of them confirmed, were on their way")
-        for connection in connections:
-            connection.close()
-        server = start(program, image, port)
-        value = found(port)
-        kill(server)
-    kept = value in {volts(CONFIRMED + more) for more in range(MORE + 1)}
-    print("found   ", value, "volts in register 1:", "as promised" if kept else "the promise is broken")
-    return 0 if kept else 1
+        server = Server(os.path.join(folder, "bench.psu"), program or find_program())
+        try:
+            last, value = cut(server)
+        finally:
+            server.stop()
+    is_kept = value in {volts(it) for it in range(CONFIRMED, last + 1)}
+    print("found    ", value, "volts in register 1:", "as promised" if is_kept else "the promise is broken")
+    return 0 if is_kept else 1
 
 
 if __name__ == "__main__":
-    sys.exit(main())
+    try:
+        sys.exit(main())
+    except (OSError, RuntimeError) as fault:
+        sys.exit(f"save_and_cut.py: {fault}")
