@@ -8,7 +8,8 @@ ghost use Rattle.std.proofs.Props.{props};
 use psu_disk::{Choice, DiskFault, Medium};
 use std::alloc::{AllocError, Allocator};
 
-/// A medium in memory. Its syncs of two numbers fail. One that fails forgets all that it was to make safe.
+/// A medium in memory. Its syncs of two numbers fail. One that fails forgets all that it was to make safe; once both have failed, or the
+/// power was lost, it works.
 #[derive(Drop)]
 pub struct ForgettingMedium<A: Allocator + Copy> {
     bytes: Vec<u8, A>,
@@ -147,6 +148,8 @@ impl<A: Allocator + Copy> Medium for ForgettingMedium<A> {
     ghost state = { λ m. memory m.bytes.items m.at_risk.items };
 
     ghost forgotten = { λ m k. slice_index_or m.forgotten.items k false };
+
+    ghost works = { λ m. m.to_fail ≡ 0 };
 
     ghost moment = { λ _. 0 };
 
