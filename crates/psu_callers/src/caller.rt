@@ -1,7 +1,7 @@
 // A thread's way to the device.
 ghost use Rattle.std.specs.Prelude.{◌≡◌, ◌⊎◌, ℕ, Bool, List, IfOk, is_some, true};
 ghost use Rattle.std.specs.Arc.{arc_value};
-ghost use Rattle.psu_turn.specs.Seats.{Calls, IsOf, Splits};
+ghost use Rattle.psu_turn.specs.Seats.{Begins, Calls, IsOf, Splits};
 ghost use Rattle.psu_exec.specs.Calls.Entry.{Executed, Settled, Took, Opened, Closed, Cleared, Sent, Delivered, Queried, Fetched, Told, Locked, Released, Ticked, Informed, Due};
 ghost use Rattle.psu_exec.specs.Shown.{outcome_of};
 ghost use Rattle.psu_bench.specs.Calls.{AdmitsOn, session_of};
@@ -50,12 +50,14 @@ fn news_of<D: Disk, R: Wait>(
 impl<D: Disk + Drop, G: Gate + Drop> Caller<D, G> {
     ghost use Rattle.psu_exec.specs.Jobs.{finished_of, taken_of};
 
-    /// The first way to a device.
+    /// The first way to a device: the history begins in the state that it has now, and no call is made yet.
     pub fn new(
         alloc: Global,
         exec: Exec<D, Global>,
         gate: SharedGate<G>,
-    ) -> Result<Caller<D, G>, AllocError> {
+    ) -> Result<Caller<D, G>, AllocError>
+        ensures begins { IfOk result (λ caller. Begins caller.seat.turn exec.device caller.seat) }
+    {
         let Ok((bench, seat)) = Bench::new(alloc, exec) else {
             return Err(AllocError);
         };

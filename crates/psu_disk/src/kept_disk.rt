@@ -1,7 +1,7 @@
 // A disk over a medium that forgets at a failed sync. It keeps the ranges written since the last sync that worked, and after one that
 // failed writes them again, as they read, before the next.
 ghost use Rattle.std.specs.Prelude.{◌≡◌, ℕ, ◌+◌, ◌^◌, ◌<◌, ◌≤◌, List, length, true, false, IfOk, OnOk, OnErr};
-ghost use Rattle.psu_disk.specs.Disk.{Left, IsFlagged, IsSynced, Only, Elapses, HasCause, is_unsynced};
+ghost use Rattle.psu_disk.specs.Disk.{Left, IsFlagged, IsSynced, Only, Elapses, HasCause, Holds, Touches, SameBut, Follows, is_unsynced};
 ghost use Rattle.psu_disk.specs.Medium.{NoneMore, IsKnown, IsKept};
 ghost use Rattle.psu_disk.specs.Touched.{is_in, is_covered};
 ghost use Rattle.std.proofs.Props.{props};
@@ -66,6 +66,7 @@ impl<M: Medium, A: Allocator> KeptDisk<M, A> {
         ensures faults { self.new.faults ≡ self.old.faults }
         ensures state { M.honest → M.state self.new.medium ≡ M.state self.old.medium }
         ensures known { M.honest → OnOk result ((k : ℕ) → M.forgotten self.new.medium k ≡ false) }
+        ensures works { M.works self.old.medium → self.old.written.full ≡ false → OnErr result ⊥ × M.works self.new.medium }
         ensures time { M.honest → M.tells → Elapses (M.moment self.old.medium) (M.moment self.new.medium) (M.left_since self.old.medium) (M.left_since self.new.medium) (Left (M.state self.old.medium)) }
     {
         if !self.failed {
@@ -88,6 +89,7 @@ impl<M: Medium, A: Allocator> KeptDisk<M, A> {
         ensures err { M.honest → OnErr result (M.state self.new.medium ≡ M.state self.old.medium) }
         ensures only { M.honest → OnOk result (Only (M.state self.new.medium)) }
         ensures left { M.honest → (x : List ℕ) → Left (M.state self.new.medium) x → Left (M.state self.old.medium) x }
+        ensures works { M.works self.old.medium → self.old.written.full ≡ false → OnErr result ⊥ × M.works self.new.medium }
         ensures time { M.honest → M.tells → Elapses (M.moment self.old.medium) (M.moment self.new.medium) (M.left_since self.old.medium) (M.left_since self.new.medium) (Left (M.state self.new.medium)) }
     {
         self.recover()?;
@@ -120,6 +122,7 @@ fn write_again<M: Medium>(medium: &mut M, spans: &[Span]) -> Result<(), DiskFaul
     ensures state { M.honest → M.state medium.new ≡ M.state medium.old }
     ensures none_more { M.honest → NoneMore (M.forgotten medium.old) (M.forgotten medium.new) }
     ensures known { M.honest → OnOk result ((k : ℕ) → is_covered spans.now k ≡ true → M.forgotten medium.new k ≡ false) }
+    ensures works { M.works medium.old → OnErr result ⊥ × M.works medium.new }
     ensures time { M.honest → M.tells → Elapses (M.moment medium.old) (M.moment medium.new) (M.left_since medium.old) (M.left_since medium.new) (Left (M.state medium.old)) }
 {
     for span in spans {
@@ -136,6 +139,7 @@ fn write_span<M: Medium>(medium: &mut M, span: Span) -> Result<(), DiskFault>
     ensures state { M.honest → M.state medium.new ≡ M.state medium.old }
     ensures none_more { M.honest → NoneMore (M.forgotten medium.old) (M.forgotten medium.new) }
     ensures known { M.honest → OnOk result ((k : ℕ) → is_in span k ≡ true → M.forgotten medium.new k ≡ false) }
+    ensures works { M.works medium.old → OnErr result ⊥ × M.works medium.new }
     ensures time { M.honest → M.tells → Elapses (M.moment medium.old) (M.moment medium.new) (M.left_since medium.old) (M.left_since medium.new) (Left (M.state medium.old)) }
 {
     let mut at = span.low;
@@ -156,6 +160,7 @@ fn write_piece<M: Medium>(medium: &mut M, at: u64, piece: &mut [u8]) -> Result<(
     ensures state { M.honest → M.state medium.new ≡ M.state medium.old }
     ensures none_more { M.honest → NoneMore (M.forgotten medium.old) (M.forgotten medium.new) }
     ensures known { M.honest → OnOk result (IsKnown at (length piece.old) (M.forgotten medium.new)) }
+    ensures works { M.works medium.old → OnErr result ⊥ × M.works medium.new }
     ensures time { M.honest → M.tells → Elapses (M.moment medium.old) (M.moment medium.new) (M.left_since medium.old) (M.left_since medium.new) (Left (M.state medium.old)) }
 {
     medium.read(at, piece)?;
@@ -196,7 +201,19 @@ impl<M: Medium, A: Allocator> Disk for KeptDisk<M, A> {
         counted(&mut self.faults, answer)
     }
 
-    fn write(&mut self, at: u64, bytes: &[u8]) -> Result<(), DiskFault> {
+    /// Also: while fewer than 1,024 ranges were written since the last good sync, each of them is known.
+    fn write(&mut self, at: u64, bytes: &[u8]) -> Result<(), DiskFault>
+        requires { at + length bytes.now ≤ M.extent self.old.medium }
+        ensures extent { M.extent self.new.medium ≡ M.extent self.old.medium }
+        ensures cause { HasCause self.old.faults self.new.faults result }
+        ensures written { M.honest → OnOk result (Holds at bytes.now (M.state self.old.medium).bytes (M.state self.new.medium).bytes) }
+        ensures flagged { M.honest → OnOk result (IsFlagged at (length bytes.now) (M.state self.new.medium)) }
+        ensures state { M.honest → Touches at (length bytes.now) (M.state self.old.medium) (M.state self.new.medium) }
+        ensures seen { M.honest → SameBut at (length bytes.now) (M.state self.old.medium).bytes (M.state self.new.medium).bytes }
+        ensures left { M.honest → Follows (SameBut at (length bytes.now)) (Left (M.state self.old.medium)) (Left (M.state self.new.medium)) }
+        ensures time { M.honest × M.tells → Elapses (M.moment self.old.medium) (M.moment self.new.medium) (M.left_since self.old.medium) (M.left_since self.new.medium) (Left (M.state self.new.medium)) }
+        ensures room { length self.old.written.spans.items < 1024 → self.new.written.full ≡ self.old.written.full }
+    {
         let span = Span {
             low: at as usize,
             high: at as usize + bytes.len(),
@@ -206,7 +223,19 @@ impl<M: Medium, A: Allocator> Disk for KeptDisk<M, A> {
         counted(&mut self.faults, answer)
     }
 
-    fn sync(&mut self) -> Result<(), DiskFault> {
+    /// Also: where the medium works from here on, and each range that was written since the last good sync is known, it succeeds, after
+    /// however many failed syncs.
+    fn sync(&mut self) -> Result<(), DiskFault>
+        ensures extent { M.extent self.new.medium ≡ M.extent self.old.medium }
+        ensures cause { HasCause self.old.faults self.new.faults result }
+        ensures synced { M.honest → OnOk result (IsSynced (M.state self.new.medium)) }
+        ensures seen { M.honest → (M.state self.new.medium).bytes ≡ (M.state self.old.medium).bytes }
+        ensures err { M.honest → OnErr result (M.state self.new.medium ≡ M.state self.old.medium) }
+        ensures only { M.honest → OnOk result (Only (M.state self.new.medium)) }
+        ensures left { M.honest → (x : List ℕ) → Left (M.state self.new.medium) x → Left (M.state self.old.medium) x }
+        ensures time { M.honest × M.tells → Elapses (M.moment self.old.medium) (M.moment self.new.medium) (M.left_since self.old.medium) (M.left_since self.new.medium) (Left (M.state self.new.medium)) }
+        ensures recovers { M.works self.old.medium → self.old.written.full ≡ false → OnErr result ⊥ × M.works self.new.medium }
+    {
         let answer = self.settle();
         counted(&mut self.faults, answer)
     }

@@ -25,6 +25,9 @@ pub trait Medium {
     /// Which of these no sync makes safe until they are written again.
     ghost forgotten: { Self → ℕ → Bool };
 
+    /// From here on each of its calls succeeds.
+    ghost works: { Self → Type 0 };
+
     /// The moment, as a number that doesn't fall.
     ghost moment: { Self → ℕ };
 
@@ -42,6 +45,7 @@ pub trait Medium {
         ensures bytes { honest → OnOk result (into.new ≡ Range at (length into.old) (state self.old).bytes) }
         ensures state { honest → state self.new ≡ state self.old }
         ensures none_more { honest → NoneMore (forgotten self.old) (forgotten self.new) }
+        ensures works { works self.old → OnErr result ⊥ × works self.new }
         ensures time { tells → Elapses (moment self.old) (moment self.new) (left_since self.old) (left_since self.new) (Left (state self.new)) };
 
     /// Puts the bytes at `at`. From its start on a power loss may leave any bytes in the range. A write over bytes that a power loss
@@ -56,6 +60,7 @@ pub trait Medium {
             → state self.new ≡ state self.old }
         ensures none_more { honest → NoneMore (forgotten self.old) (forgotten self.new) }
         ensures known { honest → OnOk result (IsKnown at (length bytes.now) (forgotten self.new)) }
+        ensures works { works self.old → OnErr result ⊥ × works self.new }
         ensures time { tells → Elapses (moment self.old) (moment self.new) (left_since self.old) (left_since self.new) (Left (state self.new)) };
 
     /// Makes safe what isn't forgotten. A failed sync may forget any byte that it was to make safe, and changes nothing else.
@@ -65,6 +70,7 @@ pub trait Medium {
         ensures settles { honest → OnOk result (Settles (state self.old) (state self.new) (forgotten self.old)) }
         ensures none_more { honest → OnOk result (NoneMore (forgotten self.old) (forgotten self.new)) }
         ensures err { honest → OnErr result (state self.new ≡ state self.old) }
+        ensures works { works self.old → OnErr result ⊥ × works self.new }
         ensures time { tells → Elapses (moment self.old) (moment self.new) (left_since self.old) (left_since self.new) (Left (state self.new)) };
 
     /// What a read gives has the medium's size.

@@ -36,6 +36,8 @@ impl Medium for SystemFile {
 
     ghost forgotten = { λ _ _. false };
 
+    ghost works = { λ _. ⊥ };
+
     ghost moment = { λ _. 0 };
 
     ghost left_since = { λ _ _ _. ⊥ };

@@ -1,5 +1,5 @@
 // The ranges written since the last sync that worked, in room for so many of them.
-ghost use Rattle.std.specs.Prelude.{◌≡◌, [], false, true, IfOk};
+ghost use Rattle.std.specs.Prelude.{◌≡◌, ◌<◌, ◌≤◌, ◌∷◌, ◌++◌, [], length, false, true, vec_capacity, IfOk};
 ghost use Rattle.psu_disk.specs.Medium.{KeepsRange};
 
 use crate::touched::Span;
@@ -13,6 +13,7 @@ const ROOM: usize = 1024;
 pub(crate) struct Written<A: Allocator> {
     pub(crate) spans: Vec<Span, A>,
     pub(crate) full: bool,
+    ghost room: { 1024 ≤ vec_capacity spans },
 }
 
 impl<A: Allocator> Written<A> {
@@ -27,11 +28,14 @@ impl<A: Allocator> Written<A> {
         })
     }
 
-    // A range is written: it finds room, or they are full.
+    // A range is written: it finds room where there are fewer than 1,024, and else they are full.
     pub(crate) fn add(&mut self, span: Span)
-        ensures { KeepsRange span self.old.spans.items self.new.spans.items self.old.full self.new.full }
+        ensures keeps { KeepsRange span self.old.spans.items self.new.spans.items self.old.full self.new.full }
+        ensures room { length self.old.spans.items < 1024 → (self.new.spans.items ≡ self.old.spans.items ++ span ∷ []) × (self.new.full ≡ self.old.full) }
     {
-        if self.spans.len() >= ROOM || self.spans.push(span).is_err() {
+        if self.spans.len() < ROOM {
+            self.spans.push_reserved(span);
+        } else {
             self.full = true;
         }
     }

@@ -142,7 +142,7 @@ telling parts source deeds c (Tries {deeds = before} {c = old} m request next de
     let quiet = try_quiet old.standing.parked request deed reply is in
     tells_more before old.text (text_after old.text reply) deed t quiet.1 (told_by t.now old.text deed reply (try_gives old.standing.parked request deed reply is) quiet.0 t.makes)
 telling parts source deeds c (Leaves {deeds = before} {c = old} m is) = telling parts source before old m
-telling parts source deeds c (Sends {deeds = before} {c = old} m begun) =
+telling parts source deeds c (Sends {deeds = before} {c = old} m begun long) =
     let t = telling parts source before old m in
     tells_more before old.text (emptied old.text) (Sent old.text.rest false) t refl (parted t.now old.text t.makes)
 telling parts source deeds c (Ends {deeds = before} {c = old} m ends) =

@@ -60,10 +60,10 @@ tells {X} does source was mid now c request reply text next t (inl (same, is)) =
     subst (λ (z : X). Goes does source was c z (course (standing_after c.standing reply) (expansion_after c.standing.inside c.expansion reply) text)) (sym same)
     (subst (λ (z : Text). Goes does source was c mid (course (standing_after c.standing reply) (expansion_after c.standing.inside c.expansion reply) z)) (sym is)
     (tries does source was mid c request reply next t))
-tells {X} does source was mid now c request reply text next t (inr (answered, sends, is)) =
+tells {X} does source was mid now c request reply text next t (inr (answered, long, sends, is)) =
     let d : Course = tried c reply in
     subst (λ (z : Text). Goes does source was c now (course (standing_after c.standing reply) (expansion_after c.standing.inside c.expansion reply) z)) (sym is)
-    (behind does source was mid now c d (sent d) (tries does source was mid c request reply next t) (one does source mid now d (sent d) (Sent d.text.rest false) sends (λ before b. Sends b answered)))
+    (behind does source was mid now c d (sent d) (tries does source was mid c request reply next t) (one does source mid now d (sent d) (Sent d.text.rest false) sends (λ before b. Sends b answered long)))
 
 -- ---- a step
 

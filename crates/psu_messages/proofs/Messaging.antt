@@ -298,7 +298,7 @@ messaging one parts source deeds c (Leaves {deeds = before} {c = old} m (body, n
       makes = n.makes;
       clean = n.clean;
     }
-messaging one parts source deeds c (Sends {deeds = before} {c = old} m begun) =
+messaging one parts source deeds c (Sends {deeds = before} {c = old} m begun long) =
     let n = messaging one parts source before old m in
     record {
       before = n.before;

@@ -246,7 +246,7 @@ turning one source deeds c (Tries {deeds = before} {c = old} m request next deed
 turning one source deeds c (Leaves {deeds = before} {c = old} m (body, next, stands, place, over)) =
     leave_at one (IsAsked source) 0 (acts before) old.standing.units next old.standing.parked old.expansion body
     (subst (λ (z : Option ℕ). At (IsAsked source) 0 (acts before) old.standing.units old.standing.parked old.expansion z) place (turning one source before old m)) stands over
-turning one source deeds c (Sends {deeds = before} {c = old} m begun) =
+turning one source deeds c (Sends {deeds = before} {c = old} m begun long) =
     subst (λ (l : List Deed). At (IsAsked source) 0 l old.standing.units old.standing.parked old.expansion old.standing.inside) (acts_sent before old.text.rest false) (turning one source before old m)
 turning one source deeds c (Ends {deeds = before} {c = old} m ends) =
     subst (λ (l : List Deed). At (IsAsked source) 0 l old.standing.units old.standing.parked old.expansion old.standing.inside) (acts_sent before (old.text.rest ++ 10 ∷ []) true) (turning one source before old m)

@@ -1,5 +1,5 @@
 -- How a transmission is executed: what was done for it, and how far it has come with that.
-use Rattle.std.specs.Prelude.{◌≡◌, ◌⊎◌, ℕ, ◌&&◌, Bool, true, false, Option, Some, None, is_some, List, [], ◌∷◌, ◌++◌, if◌then◌else◌}
+use Rattle.std.specs.Prelude.{◌≡◌, ◌⊎◌, ℕ, ◌&&◌, ◌<◌, Bool, true, false, Option, Some, None, is_some, List, [], ◌∷◌, ◌++◌, length, if◌then◌else◌}
 use Rattle.psu_tree.specs.declared.unit_request.Request.{Request}
 use Rattle.psu_lex.specs.Message.{Part}
 use Rattle.psu_exec.specs.Device.{Reply, Done, Answer, Error, Expand, Parked, Held, Later}
@@ -76,6 +76,11 @@ pub record EndsAnswered (source : Source) (c : Course) : Type 0 where
   pub ends : EndsMessage source c.standing.units c.standing.inside
   pub answered : c.text.answered ≡ true
 
+-- More is gathered than a message may have: a part of it leaves. So what one message may ask, the status byte among it, is answered before
+-- any of it is sent, unless it is that long.
+abbrev pub IsLong : Text → Type 0
+IsLong text = 65536 < length text.rest
+
 -- ---- the course of a transmission
 
 -- These deeds, first to last, bring a transmission so far: units are tried in order, each until its end; an expansion is executed in its unit's
@@ -84,7 +89,7 @@ pub data Comes (source : Source) : List Deed → Course → Type 0 where
   Begins : Comes source [] beginning
   Tries : {deeds : List Deed} {c : Course} → Comes source deeds c → (request : Request) → IsNext source c request → (deed : Deed) (reply : Reply) → IsTry c.standing.parked request deed reply → Comes source (deeds ++ deed ∷ []) (tried c reply)
   Leaves : {deeds : List Deed} {c : Course} → Comes source deeds c → IsExpanded c → Comes source deeds (outside c)
-  Sends : {deeds : List Deed} {c : Course} → Comes source deeds c → c.text.answered ≡ true → Comes source (deeds ++ Sent c.text.rest false ∷ []) (sent c)
+  Sends : {deeds : List Deed} {c : Course} → Comes source deeds c → c.text.answered ≡ true → IsLong c.text → Comes source (deeds ++ Sent c.text.rest false ∷ []) (sent c)
   Ends : {deeds : List Deed} {c : Course} → Comes source deeds c → EndsAnswered source c → Comes source (deeds ++ Sent (c.text.rest ++ 10 ∷ []) true ∷ []) (ended c)
 
 -- nothing is left to do
@@ -129,11 +134,11 @@ pub record Trial {X : Type 0} (does : X → Deed → X → Type 0) (at : X) (par
   pub done : does at deed now
   pub is : IsTry parked request deed reply
 
--- what a reply tells is gathered, and a part may have been sent
+-- what a reply tells is gathered, and sent as a part where that is long
 abbrev pub Tells : {X : Type 0} → (X → Deed → X → Type 0) → X → Text → Reply → X → Text → Type 0
 Tells does at text reply now new =
     ((now ≡ at) × (new ≡ text_after text reply))
-    ⊎ (((text_after text reply).answered ≡ true) × does at (Sent (text_after text reply).rest false) now × (new ≡ emptied (text_after text reply)))
+    ⊎ (((text_after text reply).answered ≡ true) × IsLong (text_after text reply) × does at (Sent (text_after text reply).rest false) now × (new ≡ emptied (text_after text reply)))
 
 -- the last of a text was sent, where it has an answer
 abbrev pub Closes : {X : Type 0} → (X → Deed → X → Type 0) → X → Text → X → Text → Type 0

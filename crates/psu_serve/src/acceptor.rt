@@ -1,11 +1,10 @@
 // The server: it powers on, and gives each connection a thread.
+use crate::power_on::power_on;
 use crate::serve_fault::ServeFault;
-use psu_bench::{Gate, Gated};
-use psu_callers::{Caller, Condition, Flusher, SharedGate};
+use psu_bench::Gate;
+use psu_callers::{Caller, Condition, Flusher};
 use psu_connections::Connection;
 use psu_disk::{Disk, FileDisk};
-use psu_exec::Exec;
-use psu_items::Store;
 use psu_members::{Link, Server, Silent};
 use std::alloc::Global;
 use std::fs::File;
@@ -19,30 +18,6 @@ use std::{io, thread};
 
 /// How long the acceptor sleeps where no connection can be accepted, in milliseconds.
 const PAUSE: u64 = 20;
-
-/// The disk of the server, with a gate before each write.
-type Served<D, G> = Gated<D, SharedGate<G>>;
-
-// The device, powered on with what a disk holds.
-fn power_on<D: Disk + Drop, G: Gate + Drop>(
-    alloc: Global,
-    disk: D,
-    gate: G,
-) -> Result<Caller<Served<D, G>, G>, ServeFault> {
-    let Ok(gate) = Arc::new(alloc, gate) else {
-        return Err(ServeFault::Memory);
-    };
-    let gate = SharedGate::new(gate);
-    let disk = Gated::new(disk, gate.another()?);
-    let store = match Store::open(alloc, disk) {
-        Ok(store) => store,
-        Err(refused) => return Err(ServeFault::from(refused.cause)),
-    };
-    match Exec::power_on(alloc, store) {
-        Ok(exec) => Ok(Caller::new(alloc, exec, gate)?),
-        Err(refused) => Err(ServeFault::from(refused.cause)),
-    }
-}
 
 // What accepts connections.
 #[derive(Drop)]

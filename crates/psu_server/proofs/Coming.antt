@@ -384,7 +384,7 @@ module _ {D A : Type 0} {G : Ghosts D} {X : Type 0} (exec : X → Exec D A G) (t
   come deeds x y c (Leaves {deeds = before} {c = from} m (body, next, stands, place, over)) runs =
       let at = come before x y from m runs in
       (refl, inl (leaves ones body (subst (λ (z : Option ℕ). At source (exec x) (told x) (exec y) (told y) from.standing.units from.expansion from.text z) place at.1) stands over))
-  come deeds x y c (Sends {deeds = before} {c = from} m answered) runs =
+  come deeds x y c (Sends {deeds = before} {c = from} m answered long) runs =
       let apart = runs_apart does before (Sent from.text.rest false) x y runs in
       let at = come before x apart.0 from m apart.1 in
       let done = on apart.0 y (Sent from.text.rest false) apart.2 in

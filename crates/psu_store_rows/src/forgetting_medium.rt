@@ -1,5 +1,5 @@
 // A medium in memory that forgets at a failed sync, as a file of a system with a page cache does.
-ghost use Rattle.std.specs.Prelude.{◌≡◌, ℕ, ◌+◌, ◌≤◌, length, replicate, true, false, slice_index, slice_index_or, IfOk};
+ghost use Rattle.std.specs.Prelude.{◌≡◌, ℕ, ◌+◌, ◌<◌, ◌≤◌, length, replicate, true, false, slice_index, slice_index_or, IfOk};
 ghost use Rattle.psu_disk.specs.Disk.{Left, Holds, IsSynced};
 ghost use Rattle.psu_disk.specs.Loss.{lost};
 ghost use Rattle.psu_disk.specs.Memory.{memory, marked};
@@ -8,7 +8,8 @@ ghost use Rattle.std.proofs.Props.{props};
 use psu_disk::{Choice, DiskFault, Medium};
 use std::alloc::{AllocError, Allocator};
 
-/// A medium in memory. Its syncs of two numbers fail. One that fails forgets all that it was to make safe.
+/// A medium in memory. Its syncs of two numbers fail. One that fails forgets all that it was to make safe; once both have failed, or the
+/// power was lost, it works.
 #[derive(Drop)]
 pub struct ForgettingMedium<A: Allocator + Copy> {
     bytes: Vec<u8, A>,
@@ -16,7 +17,9 @@ pub struct ForgettingMedium<A: Allocator + Copy> {
     at_risk: Vec<bool, A>,
     forgotten: Vec<bool, A>,
     syncs: u64,
-    failing: [u64; 2],
+    // The numbers of the syncs that are to fail, 0 once they have.
+    first: u64,
+    second: u64,
     ghost safe_whole: { length safe.items ≡ length bytes.items },
     ghost risk_whole: { length at_risk.items ≡ length bytes.items },
     ghost forgotten_whole: { length forgotten.items ≡ length bytes.items },
@@ -36,7 +39,8 @@ impl<A: Allocator + Copy> ForgettingMedium<A> {
             at_risk: vec![in alloc; false; size as usize]?,
             forgotten: vec![in alloc; false; size as usize]?,
             syncs: 0,
-            failing,
+            first: failing[0],
+            second: failing[1],
         })
     }
 
@@ -48,12 +52,14 @@ impl<A: Allocator + Copy> ForgettingMedium<A> {
         ensures safe { IsSynced (memory self.new.bytes.items self.new.at_risk.items) }
         ensures known { (k : ℕ) → slice_index_or self.new.forgotten.items k false ≡ false }
         ensures made_safe { self.new.safe.items ≡ self.new.bytes.items }
+        ensures works { (self.new.first ≡ 0) × (self.new.second ≡ 0) }
     {
         lose_bytes(&mut self.bytes, &self.safe, &self.at_risk, choice);
         self.safe.copy_from_slice(&self.bytes);
         self.at_risk.fill(false);
         self.forgotten.fill(false);
-        self.failing = [0; 2];
+        self.first = 0;
+        self.second = 0;
     }
 
     // A sync that fails: all that is at risk is forgotten.
@@ -73,10 +79,34 @@ impl<A: Allocator + Copy> ForgettingMedium<A> {
         ensures others { (k : ℕ) → slice_index_or self.old.forgotten.items k false ≡ true → slice_index self.new.safe.items k ≡ slice_index self.old.safe.items k }
         ensures at_risk { self.new.at_risk.items ≡ self.old.forgotten.items }
         ensures forgotten { self.new.forgotten.items ≡ self.old.forgotten.items }
+        ensures due { (self.new.first ≡ self.old.first) × (self.new.second ≡ self.old.second) }
     {
         make_safe(&self.bytes, &mut self.safe, &self.forgotten);
         self.at_risk.copy_from_slice(&self.forgotten);
     }
+}
+
+// Whether the sync of this number is to fail. It fails once.
+fn is_due(number: &mut u64, sync: u64) -> bool
+    requires { 0 < sync }
+    ensures spent { number.old ≡ 0 → (result ≡ false) × (number.new ≡ 0) }
+{
+    if *number != sync {
+        return false;
+    }
+    *number = 0;
+    true
+}
+
+// Whether the sync of this number is to fail, as one of two.
+fn are_due(first: &mut u64, second: &mut u64, sync: u64) -> bool
+    requires { 0 < sync }
+    ensures spent { first.old ≡ 0 → second.old ≡ 0 → (result ≡ false) × (first.new ≡ 0) × (second.new ≡ 0) }
+{
+    if is_due(first, sync) {
+        return true;
+    }
+    is_due(second, sync)
 }
 
 // What a loss leaves of the bytes.
@@ -148,6 +178,8 @@ impl<A: Allocator + Copy> Medium for ForgettingMedium<A> {
 
     ghost forgotten = { λ m k. slice_index_or m.forgotten.items k false };
 
+    ghost works = { λ m. (m.first ≡ 0) × (m.second ≡ 0) };
+
     ghost moment = { λ _. 0 };
 
     ghost left_since = { λ _ _ _. ⊥ };
@@ -179,7 +211,7 @@ impl<A: Allocator + Copy> Medium for ForgettingMedium<A> {
 
     fn sync(&mut self) -> Result<(), DiskFault> {
         self.syncs = self.syncs.saturating_add(1);
-        if self.failing.contains(&self.syncs) {
+        if are_due(&mut self.first, &mut self.second, self.syncs) {
             self.forget();
             return Err(DiskFault);
         }

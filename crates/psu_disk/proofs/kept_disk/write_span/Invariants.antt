@@ -9,6 +9,7 @@ invariant-loop-at g l = record {
   extent : g.M.Medium.extent l.medium ≡ g.M.Medium.extent l.fn.medium;
   state : g.M.Medium.honest → g.M.Medium.state l.medium ≡ g.M.Medium.state l.fn.medium;
   none_more : g.M.Medium.honest → NoneMore (g.M.Medium.forgotten l.fn.medium) (g.M.Medium.forgotten l.medium);
+  works : g.M.Medium.works l.fn.medium → g.M.Medium.works l.medium;
   known : g.M.Medium.honest → (k : ℕ) → l.span.low ≤ k → k < l.at → g.M.Medium.forgotten l.medium k ≡ false;
   time : g.M.Medium.honest → g.M.Medium.tells → Elapses (g.M.Medium.moment l.fn.medium) (g.M.Medium.moment l.medium) (g.M.Medium.left_since l.fn.medium) (g.M.Medium.left_since l.medium) (Left (g.M.Medium.state l.fn.medium));
 }

@@ -11,13 +11,13 @@ invariant_of-self-clause-kept g c = λ h.
     let n = length c.args.bytes.now in
     let span : Span = record { low = c.args.at; high = c.args.at + n } in
     kept_written (g.M.Medium.state s.medium) (g.M.Medium.state w.new.self) (g.M.Medium.forgotten s.medium) (g.M.Medium.forgotten w.new.self) s.written.spans.items span s.written.full s.failed c.args.at n refl refl
-    (w.ensures.state h) (w.ensures.flagged h) (w.ensures.none_more h) (s.kept h) c.add.new.self.spans.items c.add.new.self.full c.add.ensures
+    (w.ensures.state h) (w.ensures.flagged h) (w.ensures.none_more h) (s.kept h) c.add.new.self.spans.items c.add.new.self.full c.add.ensures.keeps
 
 pub invariant_of-self-clause-within : goal.invariant_of-self-clause-within
 invariant_of-self-clause-within g c =
     let s = c.args.self.now in
     let span : Span = record { low = c.args.at; high = c.args.at + length c.args.bytes.now } in
-    let within = within_written s.written.spans.items c.add.new.self.spans.items span s.written.full c.add.new.self.full (g.M.Medium.extent s.medium) c.requires s.within c.add.ensures in
+    let within = within_written s.written.spans.items c.add.new.self.spans.items span s.written.full c.add.new.self.full (g.M.Medium.extent s.medium) c.requires s.within c.add.ensures.keeps in
     λ k is. omega (arith, within k is, c.write-answer.ensures.extent)
 
 pub returns-clause-left : goal.returns-clause-left

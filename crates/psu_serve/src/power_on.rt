@@ -1,0 +1,39 @@
+// How a served device begins.
+ghost use Rattle.std.specs.Prelude.{IfOk};
+ghost use Rattle.psu_serve.specs.PowerOn.{BeginsWith};
+
+use crate::serve_fault::ServeFault;
+use psu_bench::{Gate, Gated};
+use psu_callers::{Caller, SharedGate};
+use psu_disk::Disk;
+use psu_exec::Exec;
+use psu_items::Store;
+use std::alloc::Global;
+use std::sync::Arc;
+
+/// The disk of the server, with a gate before each write.
+pub type Served<D, G> = Gated<D, SharedGate<G>>;
+
+/// Powers a device on with the contents of a disk, and returns the first way to it. It begins in the state at power-on that these contents
+/// prescribe, with no session and no lock (IEEE 488.2, 5.12), and no call is in its history.
+pub fn power_on<D: Disk + Drop, G: Gate + Drop>(
+    alloc: Global,
+    disk: D,
+    gate: G,
+) -> Result<Caller<Served<D, G>, G>, ServeFault>
+    ensures begins { D.honest → IfOk result (λ caller. BeginsWith (D.state disk).bytes caller.seat) }
+{
+    let Ok(gate) = Arc::new(alloc, gate) else {
+        return Err(ServeFault::Memory);
+    };
+    let gate = SharedGate::new(gate);
+    let disk = Gated::new(disk, gate.another()?);
+    let store = match Store::open(alloc, disk) {
+        Ok(store) => store,
+        Err(refused) => return Err(ServeFault::from(refused.cause)),
+    };
+    match Exec::power_on(alloc, store) {
+        Ok(exec) => Ok(Caller::new(alloc, exec, gate)?),
+        Err(refused) => Err(ServeFault::from(refused.cause)),
+    }
+}
