@@ -115,7 +115,7 @@ def format_disk(folder, name, command, size):
 def words_of(kernel, initial, sockets, words):
     """The command of QEMU, with no accelerator, so that it runs anywhere."""
     append = "console=ttyS0 quiet panic=-1 " + " ".join(f"pl.{key}={value}" for key, value in words.items() if value)
-    found = ["qemu-system-x86_64", "-accel", "tcg", "-m", "512", "-nodefaults", "-nographic", "-serial", "stdio", "-no-reboot"]
+    found = ["qemu-system-x86_64", "-accel", "tcg", "-cpu", "max", "-m", "512", "-nodefaults", "-nographic", "-serial", "stdio", "-no-reboot"]
     found += ["-kernel", kernel.file, "-initrd", initial, "-append", append]
     for socket in sockets:
         found += ["-drive", f"file=nbd+unix:///?socket={socket},format=raw,if=virtio,cache=none"]
