@@ -1,6 +1,6 @@
 // The server: it powers on, and gives each connection a thread.
-use crate::power_on::power_on;
 use crate::serve_fault::ServeFault;
+use crate::starting::power_on;
 use psu_bench::Gate;
 use psu_callers::{Caller, Condition, Flusher};
 use psu_connections::Connection;

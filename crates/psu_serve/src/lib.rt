@@ -2,10 +2,10 @@
 #![tactic(auto)]
 
 mod acceptor;
-mod power_on;
 mod serve_fault;
+mod starting;
 
 pub use acceptor::{serve, serve_disk};
-pub use power_on::{Served, power_on};
 pub use psu_bench::{Gate, Open, Point};
 pub use serve_fault::ServeFault;
+pub use starting::{Served, power_on};
