@@ -4,15 +4,18 @@
     python3 tools/powerloss --full           every file system, through run and serve, with and without other work on the disk
     python3 tools/powerloss --plant NAME     one planted fault, or `all`: the tool has to find its loss
 
-A guest under QEMU makes an image on the file system, and sends numbered changes of every kind to `psu run` or `psu serve`; it reports each `*OPC?`
-that is confirmed on a second disk. The disks are served from here, so every write and every flush is seen, when it arrives and when it is answered.
-At many points the disks are built that a power loss may leave: with the writes that the last flush covered, and of the others none, all, each one
-missing, random ones, and torn ones. A second guest mounts each of them, which replays its journal, and copies the image out. What the image represents
-is compared with the contents after each change, by a model that was written from the instrument's specification: it has to be the contents after one
-of the changes, and no earlier one than was confirmed before the power was cut.
+A guest under QEMU makes an image on the file system, and sends numbered changes of every kind to `psu run` or `psu
+serve`; it reports each `*OPC?` that is confirmed on a second disk. The disks are served from here, so every write and
+every flush is seen, when it arrives and when it is answered. At many points the disks are built that a power loss may
+leave: with the writes that the last flush covered, and of the others none, all, each one missing, random ones, and
+torn ones. A second guest mounts each of them, which replays its journal, and copies the image out. What the image
+represents is compared with the contents after each change, by a model that was written from the instrument's
+specification: it has to be the contents after one of the changes, and no earlier one than was confirmed before the
+power was cut.
 
-Needs: the built program (crates/psu/out/psu, or --psu), Debian's qemu-system-x86, gcc, e2fsprogs, xfsprogs, btrfs-progs, kmod and dpkg, and a kernel
-package unpacked with --kernel FOLDER, else it is downloaded (apt-get download) and unpacked. No root, nothing is installed, all is in a temporary folder.
+Needs: the built program (crates/psu/out/psu, or --psu), Debian's qemu-system-x86, gcc, e2fsprogs, xfsprogs,
+btrfs-progs, kmod and dpkg, and a kernel package unpacked with --kernel FOLDER, else it is downloaded (apt-get
+download) and unpacked. No root, nothing is installed, all is in a temporary folder.
 
 Exit status 1: something confirmed was lost, or a planted fault was not found. 2: something is missing on this machine.
 """
@@ -50,7 +53,8 @@ SYSTEMS = {
     "btrfs": (BTRFS, ""),
     "ext4 without a journal": (NO_JOURNAL, ""),
 }
-# Faults that have to be found: how psu loses syncs, how many writes a disk keeps to itself, or a file system that does not keep the promise.
+# Faults that have to be found: how psu loses syncs, how many writes a disk keeps to itself, or a file system that
+# does not keep the promise.
 PLANTS = {
     "no sync": ("ext4 ordered", "all", 0),
     "first sync of a commit lost": ("ext4 ordered", "first", 0),

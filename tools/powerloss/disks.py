@@ -56,8 +56,9 @@ class PlainDisk:
 
 class LoggedDisk:
     """A disk with a cache that it loses with the power. Answers come a few milliseconds late, at random. The log lists, in the order in which they
-    happened: ("write", id, at, data) when a write arrives, ("answered", id) when it is answered, ("flush", id, covered) when a flush arrives, with the
-    writes that were answered before it, and ("flushed", id) when it is answered. With `keeps` the disk lies: of the writes that were answered, each
+    happened: ("write", id, at, data) when a write arrives, ("answered", id) when it is answered, ("flush", id,
+    covered) when a flush arrives, with the writes that were answered before it, and ("flushed", id) when it is
+    answered. With `keeps` the disk lies: of the writes that were answered, each
     flush leaves the last ones in its cache."""
 
     def __init__(self, base, size, log, seed, keeps=0):

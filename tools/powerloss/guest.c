@@ -1,9 +1,13 @@
-// The only program of the guest, its process 1. It mounts the disk whose power will be cut, and does one of two things, by the kernel's command line:
+// The only program of the guest, its process 1. It mounts the disk whose power will be cut, and does one of two
+// things, by the kernel's command line:
 //
-//   pl.mode=work    makes an image, sends the messages of /lines to `psu run` or `psu serve`, and reports each confirmation on the second disk
-//   pl.mode=check   mounts one crash image after another, which the host puts into the disk, and copies what is in it to the second disk
+//   pl.mode=work    makes an image, sends the messages of /lines to `psu run` or `psu serve`, and reports each
+// confirmation on the second disk
+//   pl.mode=check   mounts one crash image after another, which the host puts into the disk, and copies what is in it
+// to the second disk
 //
-// The second disk is a mailbox. Sector 0: what the guest says (MARK n, NEXT); sector 1: what the host answers (GO, STOP); from 1 MiB on: a copied image.
+// The second disk is a mailbox. Sector 0: what the guest says (MARK n, NEXT); sector 1: what the host answers (GO,
+// STOP); from 1 MiB on: a copied image.
 #define _GNU_SOURCE
 #include <arpa/inet.h>
 #include <errno.h>

@@ -1,4 +1,5 @@
-// A library that is loaded before libc and loses syncs, to show that powerloss finds it. PL_DROP: all; or which of the three syncs of each commit, first
+// A library that is loaded before libc and loses syncs, to show that powerloss finds it. PL_DROP: all; or which of
+// the three syncs of each commit, first
 // or second. A process's first sync is that of the opening.
 #include <stdlib.h>
 #include <string.h>

@@ -74,6 +74,15 @@ def libraries_of(program):
     return [word for line in call("ldd", program).splitlines() for word in line.split() if word.startswith("/")]
 
 
+def folders_of(paths):
+    """Each folder of some paths, after the one that it is in."""
+    found = set()
+    for path in paths:
+        while path := os.path.dirname(path):
+            found.add(path)
+    return sorted(found)
+
+
 def archive(kernel, program, guest, losing, lines):
     """The guest's first file system: our program as its process 1, psu with its libraries, the modules, and the lines of the script."""
     files = {"init": guest, "psu": program, "losing.so": losing}
@@ -83,8 +92,7 @@ def archive(kernel, program, guest, losing, lines):
     for module in kernel.modules:
         names.append(os.path.basename(module))
         files[names[-1]] = module
-    folders = sorted({os.path.dirname(it)[:at] for it in files for at in range(1, len(os.path.dirname(it)) + 1) if (os.path.dirname(it) + "/")[at] == "/"})
-    parts = [entry(it, stat.S_IFDIR | 0o755) for it in folders]
+    parts = [entry(it, stat.S_IFDIR | 0o755) for it in folders_of(files)]
     for name, path in files.items():
         with open(path, "rb") as file:
             parts.append(entry(name, stat.S_IFREG | 0o755, file.read()))

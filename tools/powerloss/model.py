@@ -1,7 +1,8 @@
 """The instrument's nonvolatile contents, written from its specification: what each command makes of them, and what an image's bytes represent.
 
-Contents are compared as the items of the image format: a map from keys to values. Key 01: SRE and ESE; 02 r: the settings of register r; 03: user data;
-04: macros; 05 and a name: a file, its type and its bytes; 06: the settings at power-on are those of register 0.
+Contents are compared as the items of the image format: a map from keys to values. Key 01: SRE and ESE; 02 r: the
+settings of register r; 03: user data; 04: macros; 05 and a name: a file, its type and its bytes; 06: the settings at
+power-on are those of register 0.
 """
 import random
 import struct
