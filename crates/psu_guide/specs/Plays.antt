@@ -23,7 +23,8 @@ pub record Plays (sent text : List ℕ) : Type 0 where
   pub over : DiskState
   pub writes : WritesRun disk.bytes (Some sent) 0 0 (Some []) (Some text) over
 
--- On a new image a run to which this is sent ends early for this cause, and no call of its disk fails; `rest` is what it didn't read.
+-- On a new image a run to which this is sent ends early for this cause, and no call of its disk fails. `rest` is what it
+-- did not read.
 pub record Stops (sent : List ℕ) (cause : RunCause) : Type 0 where
   pub disk : DiskState
   pub is_new : IsNew disk

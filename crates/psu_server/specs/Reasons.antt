@@ -34,7 +34,8 @@ IsAtPower (m ∷ ms) = ⊥
 -- Why a run ends before the first of these messages, or in it. `before` and `now` are the counts of failures before it and at the
 -- end, `last` is the device then, and `left` what its disk reads as. Open: a restart was refused, and only as the disk failed in it,
 -- since what it stood for still stands. Device: the disk failed meanwhile, or, but for a restart, changes are left on a store whose
--- root has the last number. TooLong: the input is too long, as `long` says. That memory is refused, or that a reader or a writer fails, can't be seen.
+-- root has the last number. TooLong: the input is too long, as `long` says. That memory is refused, or that a reader or a
+-- writer fails, can't be seen.
 abbrev pub StopsFor : Type 0 → ℕ → ℕ → List Message → World → List ℕ → RunCause → Type 0
 StopsFor long before now rest last left (Open start.Device) = IsAtPower rest × HasFailed before now
 StopsFor long before now rest last left (Open cause) = ⊥
@@ -46,8 +47,8 @@ StopsFor long before now rest last left Memory = ⊤
 
 -- ---- the run
 
--- Why a run ends early: `found` is the image at its start, `left` the one at its end, and `long` says that the input is too long. Memory
--- is asked for only where a root could be read. That a reader or a writer fails can't be seen.
+-- Why a run ends early: `found` is the image at its start, `left` the one at its end, and `long` says that the input is
+-- too long. Memory is asked for only where a root could be read. That a reader or a writer fails can't be seen.
 abbrev pub EndsFor : List ℕ → ℕ → ℕ → List ℕ → Type 0 → RunCause → Type 0
 EndsFor found before now left long (Open start.Device) = HasFailed before now
 EndsFor found before now left long (Open start.NoRoot) = HasNoRoot found
