@@ -1,7 +1,8 @@
 -- What the instrument answers to lines that are sent to it, in the words of a run.
-use Rattle.std.specs.Prelude.{◌≡◌, ⊤, ℕ, List, [], length, Some}
+use Rattle.std.specs.Prelude.{◌≡◌, ⊤, ℕ, List, [], length, None, Some}
 use Rattle.psu_disk.specs.Disk.{DiskState, Left}
 use Rattle.psu_items.specs.Image.{EachStands, counting, number_in}
+use Rattle.psu_server.specs.Input.{IsTooLong}
 use Rattle.psu_server.specs.Results.{WritesRun}
 use Rattle.psu_server.specs.Reasons.{EndsFor}
 use Rattle.psu_server.specs.declared.run_cause.RunCause.{RunCause}
@@ -22,12 +23,14 @@ pub record Plays (sent text : List ℕ) : Type 0 where
   pub over : DiskState
   pub writes : WritesRun disk.bytes (Some sent) 0 0 (Some []) (Some text) over
 
--- On a new image a run to which this is sent ends early for this cause, and no call of its disk fails.
+-- On a new image a run to which this is sent ends early for this cause, and no call of its disk fails. `rest` is what it
+-- did not read.
 pub record Stops (sent : List ℕ) (cause : RunCause) : Type 0 where
   pub disk : DiskState
   pub is_new : IsNew disk
   pub left : List ℕ
-  pub why : EndsFor disk.bytes 0 0 left (Some sent) cause
+  pub rest : List ℕ
+  pub why : EndsFor disk.bytes 0 0 left (IsTooLong (Some sent) (Some rest) None None) cause
 
 -- Why a new instrument gives up. That memory was refused can't be seen.
 abbrev pub GivesUp : List ℕ → PlayFault → Type 0

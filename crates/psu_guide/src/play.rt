@@ -1,5 +1,6 @@
 //! What the instrument answers.
-ghost use Rattle.std.specs.Prelude.{IfErr, IfOk, IfSome, Some, []};
+ghost use Rattle.std.specs.Prelude.{IfErr, IfOk, IfSome, List, None, Some, [], ℕ};
+ghost use Rattle.psu_server.specs.Input.{IsTooLong};
 ghost use Rattle.psu_server.specs.Reasons.{EndsFor};
 ghost use Rattle.psu_server.specs.Results.{WritesRun};
 ghost use Rattle.psu_guide.specs.Plays.{GivesUp, IsNew, Plays};
@@ -37,7 +38,8 @@ fn written<D: Disk + Drop, A: Allocator + Copy>(
     disk: D,
 ) -> Result<Vec<u8, A>, RunCause>
     ensures whole { D.honest → IfOk result (λ text. (over : D) × WritesRun (D.state disk).bytes (Some sent.now) (D.failures disk) (D.failures over) (Some []) (Some text.items) (D.state over)) }
-    ensures early { D.honest → IfErr result (λ cause. (over : D) × EndsFor (D.state disk).bytes (D.failures disk) (D.failures over) (D.state over).bytes (Some sent.now) cause) }
+    ensures early { D.honest → IfErr result (λ cause. (over : D) × (rest : List ℕ) × EndsFor (D.state disk).bytes (D.failures disk) (D.failures over) (D.state over).bytes
+        (IsTooLong (Some sent.now) (Some rest) None None) cause) }
 {
     let mut reader = sent;
     let mut text = Vec::new(alloc);

@@ -1,5 +1,5 @@
 -- The cause of a run's end, from the device's to the run's.
-use Rattle.std.proofs.Common.{◌≡◌, ℕ, ◌≤◌, List, length, sym, subst, inl, inr, ⊎_elim, Option, IfSome}
+use Rattle.std.proofs.Common.{◌≡◌, ℕ, List, sym, subst, inl, inr, ⊎_elim}
 use Rattle.psu_items.specs.Image.{HasReadableRoot}
 use Rattle.psu_exec.specs.World.{World}
 use Rattle.psu_exec.specs.declared.start_cause.StartCause.TheVariants as start
@@ -30,29 +30,29 @@ never_long long before now rest last left TooLong why = absurd why
 -- ---- the end of a run
 
 -- once power is on
-pub ends_late : (found : List ℕ) (before now : ℕ) (rest : List Message) (last : World) (left : List ℕ) (input : Option (List ℕ)) (cause : RunCause) → HasReadableRoot found
-    → StopsFor (IfSome input (λ bytes. 1048576 ≤ length bytes)) before now rest last left cause → EndsFor found before now left input cause
-ends_late found before now rest last left input (Open start.Device) rooted why = why.1
-ends_late found before now rest last left input (Open start.NoRoot) rooted why = absurd why
-ends_late found before now rest last left input (Open start.BadRoot) rooted why = absurd why
-ends_late found before now rest last left input (Open start.BadVersion) rooted why = absurd why
-ends_late found before now rest last left input (Open start.BadItems) rooted why = absurd why
-ends_late found before now rest last left input Device rooted why = ⊎_elim inl (λ w. inr w.2) why
-ends_late found before now rest last left input OutOfMemory rooted why = rooted
-ends_late found before now rest last left input Read rooted why = tt
-ends_late found before now rest last left input Write rooted why = tt
-ends_late found before now rest last left input TooLong rooted why = why
+pub ends_late : (found : List ℕ) (before now : ℕ) (rest : List Message) (last : World) (left : List ℕ) (long : Type 0) (cause : RunCause) → HasReadableRoot found
+    → StopsFor long before now rest last left cause → EndsFor found before now left long cause
+ends_late found before now rest last left long (Open start.Device) rooted why = why.1
+ends_late found before now rest last left long (Open start.NoRoot) rooted why = absurd why
+ends_late found before now rest last left long (Open start.BadRoot) rooted why = absurd why
+ends_late found before now rest last left long (Open start.BadVersion) rooted why = absurd why
+ends_late found before now rest last left long (Open start.BadItems) rooted why = absurd why
+ends_late found before now rest last left long Device rooted why = ⊎_elim inl (λ w. inr w.2) why
+ends_late found before now rest last left long OutOfMemory rooted why = rooted
+ends_late found before now rest last left long Read rooted why = tt
+ends_late found before now rest last left long Write rooted why = tt
+ends_late found before now rest last left long TooLong rooted why = why
 
 -- at the start
-pub ends_at_once : (found : List ℕ) (before now : ℕ) (left : List ℕ) (input : Option (List ℕ)) (cause : RunCause) → NotStarted found before now cause
-    → EndsFor found before now left input cause
-ends_at_once found before now left input (Open start.Device) why = why
-ends_at_once found before now left input (Open start.NoRoot) why = why
-ends_at_once found before now left input (Open start.BadRoot) why = why
-ends_at_once found before now left input (Open start.BadVersion) why = why
-ends_at_once found before now left input (Open start.BadItems) why = why
-ends_at_once found before now left input Device why = absurd why
-ends_at_once found before now left input OutOfMemory why = why.1
-ends_at_once found before now left input Read why = tt
-ends_at_once found before now left input Write why = tt
-ends_at_once found before now left input TooLong why = absurd why
+pub ends_at_once : (found : List ℕ) (before now : ℕ) (left : List ℕ) (long : Type 0) (cause : RunCause) → NotStarted found before now cause
+    → EndsFor found before now left long cause
+ends_at_once found before now left long (Open start.Device) why = why
+ends_at_once found before now left long (Open start.NoRoot) why = why
+ends_at_once found before now left long (Open start.BadRoot) why = why
+ends_at_once found before now left long (Open start.BadVersion) why = why
+ends_at_once found before now left long (Open start.BadItems) why = why
+ends_at_once found before now left long Device why = absurd why
+ends_at_once found before now left long OutOfMemory why = why.1
+ends_at_once found before now left long Read why = tt
+ends_at_once found before now left long Write why = tt
+ends_at_once found before now left long TooLong why = absurd why

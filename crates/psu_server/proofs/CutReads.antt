@@ -12,7 +12,7 @@ use Rattle.psu_server.specs.declared.run_cause.RunCause.TheVariants.{Write}
 use Rattle.psu_server.specs.declared.run_fault.RunFault.{RunFault}
 use Rattle.psu_server.specs.Progress.{Answered, EndsEarly}
 use Rattle.psu_server.proofs.Feeding.{FaultOf}
-use Rattle.psu_server.proofs.Reading.{early_here, early_never_long, Ran, MayBeLong, Early, Reason, early_seen, ran_stop}
+use Rattle.psu_server.proofs.Reading.{early_here, early_never_long, Ran, Early, Reason, early_seen, ran_stop}
 
 -- what was read is a part and the rest
 cut_read : (n count : ℕ) (buf : List ℕ) → n ≤ count → take count buf ≡ take n buf ++ take (count - n) (drop n buf)
@@ -21,26 +21,26 @@ cut_read n count buf le =
     ap (λ (k : ℕ). take k buf) sum ∙ take-add n (count - n) buf
 
 -- a read of which only a part is taken
-cut_stop : {D A : Type 0} {G : Ghosts D} (mid : List ℕ → List Message) (n count : ℕ) (buf : List ℕ) (s s1 : Exec D A G) (fault : RunFault D) (from to next u v w : Option (List ℕ)) → n ≤ count
-    → Ran mid s s1 from to u v → Consumes to next (take count buf) → ((input : List ℕ) → EndsEarly (MayBeLong from) s1 fault (mid (take n buf ++ input)) v w) → Early s fault from u w
-cut_stop mid n count buf s s1 fault from to next u v w le r p q =
+cut_stop : {D A : Type 0} {G : Ghosts D} (long : Type 0) (mid : List ℕ → List Message) (n count : ℕ) (buf : List ℕ) (s s1 : Exec D A G) (fault : RunFault D) (from to next u v w : Option (List ℕ)) → n ≤ count
+    → Ran mid s s1 from to u v → Consumes to next (take count buf) → ((input : List ℕ) → EndsEarly long s1 fault (mid (take n buf ++ input)) v w) → Early long s fault from u w
+cut_stop long mid n count buf s s1 fault from to next u v w le r p q =
     let more = take (count - n) (drop n buf) in
-    ran_stop mid (take count buf) s s1 fault from to next u v w r p
-    (λ input. subst (λ (l : List ℕ). EndsEarly (MayBeLong from) s1 fault (mid l) v w)
+    ran_stop long mid (take count buf) s s1 fault from to next u v w r p
+    (λ input. subst (λ (l : List ℕ). EndsEarly long s1 fault (mid l) v w)
     (sym (append_assoc (take n buf) more input) ∙ ap (λ (l : List ℕ). l ++ input) (sym (cut_read n count buf le))) (q (more ++ input)))
 
 -- and a fault in that
-pub ran_cut_front : {D A : Type 0} {G : Ghosts D} (mid : List ℕ → List Message) (n count : ℕ) (buf : List ℕ) (s s1 : Exec D A G) (fault : RunFault D) (from to next u v w : Option (List ℕ)) → n ≤ count
-    → Ran mid s s1 from to u v → Consumes to next (take count buf) → ((input : List ℕ) → EndsEarly ⊥ s1 fault (mid (take n buf ++ input)) v w) → Early s fault from u w
-ran_cut_front mid n count buf s s1 fault from to next u v w le r p q =
-    cut_stop mid n count buf s s1 fault from to next u v w le r p (λ input. early_never_long (MayBeLong from) s1 fault (mid (take n buf ++ input)) v w (q input))
+pub ran_cut_front : {D A : Type 0} {G : Ghosts D} (long : Type 0) (mid : List ℕ → List Message) (n count : ℕ) (buf : List ℕ) (s s1 : Exec D A G) (fault : RunFault D) (from to next u v w : Option (List ℕ)) → n ≤ count
+    → Ran mid s s1 from to u v → Consumes to next (take count buf) → ((input : List ℕ) → EndsEarly ⊥ s1 fault (mid (take n buf ++ input)) v w) → Early long s fault from u w
+ran_cut_front long mid n count buf s s1 fault from to next u v w le r p q =
+    cut_stop long mid n count buf s s1 fault from to next u v w le r p (λ input. early_never_long long s1 fault (mid (take n buf ++ input)) v w (q input))
 
 -- and a fault behind it
-pub ran_cut : {D A : Type 0} {G : Ghosts D} (mid after : List ℕ → List Message) (n count : ℕ) (buf : List ℕ) (s s1 s2 : Exec D A G) (fault : RunFault D) (from to next u v w : Option (List ℕ)) (cause : RunCause) → n ≤ count
-    → Ran mid s s1 from to u v → Consumes to next (take count buf) → Answered mid (take n buf) after s1 s2 v w → FaultOf s2 fault cause → cause ≢ Write → Reason from s2 fault cause → Early s fault from u w
-ran_cut mid after n count buf s s1 s2 fault from to next u v w cause le r p q f other why =
-    cut_stop mid n count buf s s1 fault from to next u v w le r p
-    (λ input. early_seen (MayBeLong from) mid after (take n buf) input s1 s2 fault v w w q (early_here (MayBeLong from) s2 fault (after input) w cause f other (why (after input))))
+pub ran_cut : {D A : Type 0} {G : Ghosts D} (long : Type 0) (mid after : List ℕ → List Message) (n count : ℕ) (buf : List ℕ) (s s1 s2 : Exec D A G) (fault : RunFault D) (from to next u v w : Option (List ℕ)) (cause : RunCause) → n ≤ count
+    → Ran mid s s1 from to u v → Consumes to next (take count buf) → Answered mid (take n buf) after s1 s2 v w → FaultOf s2 fault cause → cause ≢ Write → Reason long s2 fault cause → Early long s fault from u w
+ran_cut long mid after n count buf s s1 s2 fault from to next u v w cause le r p q f other why =
+    cut_stop long mid n count buf s s1 fault from to next u v w le r p
+    (λ input. early_seen long mid after (take n buf) input s1 s2 fault v w w q (early_here long s2 fault (after input) w cause f other (why (after input))))
 
 -- all of the input was taken
 pub read_all : (most : ℕ) (seen : List ℕ) (from to next : Option (List ℕ)) → Consumes from to seen → Consumes to next [] → IsAtEnd next → length seen ≤ most
@@ -54,9 +54,3 @@ read_all most seen (Some x) (Some y) (Some z) p q e le =
 
 pub taken_more : (seen buf : List ℕ) (count a b c : ℕ) → length seen ≡ a → count ≤ length buf → b ≡ a → c ≡ b + count → length (seen ++ take count buf) ≡ c
 taken_more seen buf count a b c taken bound same more = grind (arith, common_steps, taken, bound, same, more)
-
--- the input is no shorter than what was taken of it
-pub taken_of : (least : ℕ) (seen : List ℕ) (from to : Option (List ℕ)) → Consumes from to seen → least ≤ length seen → IfSome from (λ input. least ≤ length input)
-taken_of least seen None to p le = tt
-taken_of least seen (Some x) None p le = absurd p
-taken_of least seen (Some x) (Some y) p le = grind (arith, common_steps, p, le)

@@ -18,6 +18,7 @@ pub mod Stopping
 pub mod Starting
 pub mod Passing
 pub mod Feeding
+pub mod Input
 pub mod Reading
 pub mod CutReads
 pub mod Outcomes

@@ -1,5 +1,5 @@
 -- The pieces that a run reads, one after another.
-use Rattle.std.proofs.Common.{◌≡◌, ◌≢◌, ℕ, ◌+◌, ◌≤◌, ◌<◌, Bool, true, false, List, [], ◌∷◌, ◌++◌, length, refl, sym, ap, ◌∙◌, subst, arith, append_assoc, Some, None, Option, IfSome, length-append}
+use Rattle.std.proofs.Common.{◌≡◌, ◌≢◌, ℕ, ◌+◌, ◌<◌, Bool, true, false, List, [], ◌∷◌, ◌++◌, length, refl, sym, ap, ◌∙◌, subst, arith, append_assoc, Some, None, Option, length-append}
 use Rattle.std.proofs.lemmas.List.{append-nil}
 use Rattle.std.proofs.KnownBytes.{Appends-trans, Appends-nil, Consumes-trans, Consumes-nil}
 use Rattle.std.specs.Io.KnownBytes.{Appends, Consumes, IsAtEnd}
@@ -151,45 +151,41 @@ brought_all (Some x) None next seen p q e = absurd p
 brought_all (Some x) (Some y) None seen p q e = absurd q
 brought_all (Some x) (Some y) (Some z) seen p q e = ap messages (sym (p ∙ ap (λ (l : List ℕ). seen ++ l) (q ∙ e)))
 
--- where a known input has so many bytes, it may be too long
-abbrev pub MayBeLong : Option (List ℕ) → Type 0
-MayBeLong from = IfSome from (λ input. 1048576 ≤ length input)
-
 -- a run of the messages that the input brings ended early, or ran them all
-abbrev pub Early : {D A : Type 0} {G : Ghosts D} → Exec D A G → RunFault D → Option (List ℕ) → Option (List ℕ) → Option (List ℕ) → Type 0
-Early s fault from u w = (due : List Message) × Brings from due × EndsEarly (MayBeLong from) s fault due u w
+abbrev pub Early : {D A : Type 0} {G : Ghosts D} → Type 0 → Exec D A G → RunFault D → Option (List ℕ) → Option (List ℕ) → Option (List ℕ) → Type 0
+Early long s fault from u w = (due : List Message) × Brings from due × EndsEarly long s fault due u w
 
 abbrev pub Whole : {D A : Type 0} {G : Ghosts D} → Exec D A G → D → Option (List ℕ) → Option (List ℕ) → Option (List ℕ) → Type 0
 Whole s disk from u w = (due : List Message) × Brings from due × RanAll s due disk u w
 
 -- why a run ends before the messages to come
-abbrev pub Reason : {D A : Type 0} {G : Ghosts D} → Option (List ℕ) → Exec D A G → RunFault D → RunCause → Type 0
-Reason {D} {A} {G} from s fault cause = (rest : List Message) (last : World) → StopsFor (MayBeLong from) (failures_of s) (Ghosts.failures G fault.disk) rest last (Ghosts.state G fault.disk).bytes cause
+abbrev pub Reason : {D A : Type 0} {G : Ghosts D} → Type 0 → Exec D A G → RunFault D → RunCause → Type 0
+Reason {D} {A} {G} long s fault cause = (rest : List Message) (last : World) → StopsFor long (failures_of s) (Ghosts.failures G fault.disk) rest last (Ghosts.state G fault.disk).bytes cause
 
 pub early_seen : {D A : Type 0} {G : Ghosts D} (long : Type 0) (f mid : List ℕ → List Message) (seen input : List ℕ) (s s1 : Exec D A G) (fault : RunFault D) (u v w : Option (List ℕ))
     → Answered f seen mid s s1 u v → EndsEarly long s1 fault (mid input) v w → EndsEarly long s fault (f (seen ++ input)) u w
 early_seen long f mid seen input s s1 fault u v w p q = early_after long s s1 fault (f (seen ++ input)) p.0 (mid input) p.1 u v w (p.3 input) p.4 p.2 q
 
 -- nothing is read, and nothing written
-pub early_unread : {D A : Type 0} {G : Ghosts D} (s : Exec D A G) (fault : RunFault D) (from w : Option (List ℕ)) (cause : RunCause) → FaultOf s fault cause → cause ≢ Write → Reason from s fault cause → Early s fault from w w
-early_unread s fault from w cause f other why =
-    (messages (left_of from), brought from from [] (Consumes-nil from), early_here (MayBeLong from) s fault (messages (left_of from)) w cause f other (why (messages (left_of from))))
+pub early_unread : {D A : Type 0} {G : Ghosts D} (long : Type 0) (s : Exec D A G) (fault : RunFault D) (from w : Option (List ℕ)) (cause : RunCause) → FaultOf s fault cause → cause ≢ Write → Reason long s fault cause → Early long s fault from w w
+early_unread long s fault from w cause f other why =
+    (messages (left_of from), brought from from [] (Consumes-nil from), early_here long s fault (messages (left_of from)) w cause f other (why (messages (left_of from))))
 
 -- a fault in a piece
-pub ran_stop : {D A : Type 0} {G : Ghosts D} (mid : List ℕ → List Message) (piece : List ℕ) (s s1 : Exec D A G) (fault : RunFault D) (from to next u v w : Option (List ℕ))
-    → Ran mid s s1 from to u v → Consumes to next piece → ((input : List ℕ) → EndsEarly (MayBeLong from) s1 fault (mid (piece ++ input)) v w) → Early s fault from u w
-ran_stop mid piece s s1 fault from to next u v w r p q =
+pub ran_stop : {D A : Type 0} {G : Ghosts D} (long : Type 0) (mid : List ℕ → List Message) (piece : List ℕ) (s s1 : Exec D A G) (fault : RunFault D) (from to next u v w : Option (List ℕ))
+    → Ran mid s s1 from to u v → Consumes to next piece → ((input : List ℕ) → EndsEarly long s1 fault (mid (piece ++ input)) v w) → Early long s fault from u w
+ran_stop long mid piece s s1 fault from to next u v w r p q =
     let rest = left_of next in (
       messages (r.0 ++ (piece ++ rest)),
       subst (λ (l : List ℕ). Brings from (messages l)) (append_assoc r.0 piece rest) (brought from next (r.0 ++ piece) (Consumes-trans from to next r.0 piece r.1 p)),
-      early_seen (MayBeLong from) messages mid r.0 (piece ++ rest) s s1 fault u v w r.2 (q rest),
+      early_seen long messages mid r.0 (piece ++ rest) s s1 fault u v w r.2 (q rest),
     )
 
 -- a fault while nothing of the next piece is answered
-pub ran_front : {D A : Type 0} {G : Ghosts D} (mid : List ℕ → List Message) (s s1 : Exec D A G) (fault : RunFault D) (from to u v : Option (List ℕ)) (cause : RunCause) → Ran mid s s1 from to u v
-    → FaultOf s1 fault cause → cause ≢ Write → Reason from s1 fault cause → Early s fault from u v
-ran_front mid s s1 fault from to u v cause r f other why =
-    ran_stop mid [] s s1 fault from to to u v v r (Consumes-nil to) (λ input. early_here (MayBeLong from) s1 fault (mid input) v cause f other (why (mid input)))
+pub ran_front : {D A : Type 0} {G : Ghosts D} (long : Type 0) (mid : List ℕ → List Message) (s s1 : Exec D A G) (fault : RunFault D) (from to u v : Option (List ℕ)) (cause : RunCause) → Ran mid s s1 from to u v
+    → FaultOf s1 fault cause → cause ≢ Write → Reason long s1 fault cause → Early long s fault from u v
+ran_front long mid s s1 fault from to u v cause r f other why =
+    ran_stop long mid [] s s1 fault from to to u v v r (Consumes-nil to) (λ input. early_here long s1 fault (mid input) v cause f other (why (mid input)))
 
 -- the end of what was read
 ran_all_after : {D A : Type 0} {G : Ghosts D} (s s1 : Exec D A G) (disk : D) (due done more : List Message) (text : List ℕ) (u v w : Option (List ℕ)) → due ≡ done ++ more
@@ -219,12 +215,12 @@ ran_end mid s s1 disk from to next u v w r p e q = (
 )
 
 -- a fault at the end of what was read
-pub ran_end_front : {D A : Type 0} {G : Ghosts D} (mid : List ℕ → List Message) (s s1 : Exec D A G) (fault : RunFault D) (from to next u v w : Option (List ℕ))
-    → Ran mid s s1 from to u v → Consumes to next [] → IsAtEnd next → EndsEarly ⊥ s1 fault (mid []) v w → Early s fault from u w
-ran_end_front mid s s1 fault from to next u v w r p e q = (
+pub ran_end_front : {D A : Type 0} {G : Ghosts D} (long : Type 0) (mid : List ℕ → List Message) (s s1 : Exec D A G) (fault : RunFault D) (from to next u v w : Option (List ℕ))
+    → Ran mid s s1 from to u v → Consumes to next [] → IsAtEnd next → EndsEarly ⊥ s1 fault (mid []) v w → Early long s fault from u w
+ran_end_front long mid s s1 fault from to next u v w r p e q = (
   messages (r.0 ++ []),
   brought_all from to next r.0 r.1 p e,
-  early_seen (MayBeLong from) messages mid r.0 [] s s1 fault u v w r.2 (early_never_long (MayBeLong from) s1 fault (mid []) v w q),
+  early_seen long messages mid r.0 [] s s1 fault u v w r.2 (early_never_long long s1 fault (mid []) v w q),
 )
 
 -- a text that is told from nothing on, and what is gathered of it is written

@@ -1,5 +1,5 @@
 -- Why a run ends early.
-use Rattle.std.specs.Prelude.{◌≡◌, ◌⊎◌, ℕ, ◌≤◌, List, [], ◌∷◌, length, Option, ⊤, IfSome}
+use Rattle.std.specs.Prelude.{◌≡◌, ◌⊎◌, ℕ, ◌≤◌, List, [], ◌∷◌, ⊤}
 use Rattle.psu_disk.specs.declared.disk.Disk.{Ghosts}
 use Rattle.psu_disk.specs.Disk.{HasFailed}
 use Rattle.psu_items.specs.Image.{HasNoRoot, HasBadRoot, HasOtherVersion, HasReadableRoot}
@@ -34,7 +34,8 @@ IsAtPower (m ∷ ms) = ⊥
 -- Why a run ends before the first of these messages, or in it. `before` and `now` are the counts of failures before it and at the
 -- end, `last` is the device then, and `left` what its disk reads as. Open: a restart was refused, and only as the disk failed in it,
 -- since what it stood for still stands. Device: the disk failed meanwhile, or, but for a restart, changes are left on a store whose
--- root has the last number. TooLong: as `long` says. That memory is refused, or that a reader or a writer fails, can't be seen.
+-- root has the last number. TooLong: the input is too long, as `long` says. That memory is refused, or that a reader or a
+-- writer fails, can't be seen.
 abbrev pub StopsFor : Type 0 → ℕ → ℕ → List Message → World → List ℕ → RunCause → Type 0
 StopsFor long before now rest last left (Open start.Device) = IsAtPower rest × HasFailed before now
 StopsFor long before now rest last left (Open cause) = ⊥
@@ -46,17 +47,16 @@ StopsFor long before now rest last left Memory = ⊤
 
 -- ---- the run
 
--- Why a run ends early: `found` is the image at its start, `left` the one at its end, and the input what the reader had. An input
--- of fewer bytes than a run may make reads is never too long. Memory is wanted only where a root could be read. That a reader or a
--- writer fails can't be seen.
-abbrev pub EndsFor : List ℕ → ℕ → ℕ → List ℕ → Option (List ℕ) → RunCause → Type 0
-EndsFor found before now left input (Open start.Device) = HasFailed before now
-EndsFor found before now left input (Open start.NoRoot) = HasNoRoot found
-EndsFor found before now left input (Open start.BadRoot) = HasBadRoot found
-EndsFor found before now left input (Open start.BadVersion) = HasOtherVersion found
-EndsFor found before now left input (Open start.BadItems) = HasBadItems found
-EndsFor found before now left input Device = HasFailed before now ⊎ IsWornOut left
-EndsFor found before now left input TooLong = IfSome input (λ bytes. 1048576 ≤ length bytes)
-EndsFor found before now left input Read = ⊤
-EndsFor found before now left input Write = ⊤
-EndsFor found before now left input Memory = HasReadableRoot found
+-- Why a run ends early: `found` is the image at its start, `left` the one at its end, and `long` says that the input is
+-- too long. Memory is asked for only where a root could be read. That a reader or a writer fails can't be seen.
+abbrev pub EndsFor : List ℕ → ℕ → ℕ → List ℕ → Type 0 → RunCause → Type 0
+EndsFor found before now left long (Open start.Device) = HasFailed before now
+EndsFor found before now left long (Open start.NoRoot) = HasNoRoot found
+EndsFor found before now left long (Open start.BadRoot) = HasBadRoot found
+EndsFor found before now left long (Open start.BadVersion) = HasOtherVersion found
+EndsFor found before now left long (Open start.BadItems) = HasBadItems found
+EndsFor found before now left long Device = HasFailed before now ⊎ IsWornOut left
+EndsFor found before now left long TooLong = long
+EndsFor found before now left long Read = ⊤
+EndsFor found before now left long Write = ⊤
+EndsFor found before now left long Memory = HasReadableRoot found

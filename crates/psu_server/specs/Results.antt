@@ -51,9 +51,9 @@ pub record DoesNotStart (cause : RunCause) (old_count new_count : ℕ) (old_rest
 -- A run that ended early: some first messages that the input brings were executed, and of the next one some first units. Their text
 -- and what was told of the next one are written, but where the writer failed: then some of that is missing. Each image that
 -- may be left of the disk stands for the contents after a front of all these units that holds every unit before a `*OPC?` that was
--- answered. It ended for a reason, which came up at the message that was not executed. Events lead through all of it, and on to the disk that
--- is handed back.
-pub record WritesFirst (cause : RunCause) (image : List ℕ) (input : Option (List ℕ)) (old_count new_count : ℕ) (old_written new_written : Option (List ℕ)) (disk : DiskState) : Type 0 where
+-- answered. It ended for a reason, which came up at the message that was not executed; `long` says that the input is too
+-- long. Events lead through all of it, and on to the disk that is handed back.
+pub record WritesFirst (long : Type 0) (cause : RunCause) (image : List ℕ) (input : Option (List ℕ)) (old_count new_count : ℕ) (old_written new_written : Option (List ℕ)) (disk : DiskState) : Type 0 where
   pub first : World
   pub starts : PowersOn image first
   pub done : List Message
@@ -74,7 +74,7 @@ pub record WritesFirst (cause : RunCause) (image : List ℕ) (input : Option (Li
   pub part : List ℕ
   pub last : World
   pub begun : NextBegins gone_then mid rest part last
-  pub why : StopsFor (IfSome input (λ bytes. 1048576 ≤ length bytes)) count new_count rest last disk.bytes cause
+  pub why : StopsFor long count new_count rest last disk.bytes cause
   -- what is written
   pub front : List ℕ
   pub written : Appends old_written new_written front

@@ -1,7 +1,8 @@
 // What a run reads from.
-ghost use Rattle.std.specs.Prelude.{◌+◌, ◌≤◌, ℕ, List, Option};
+ghost use Rattle.std.specs.Prelude.{ℕ, List, Option, None};
 ghost use Rattle.std.specs.Io.{ReadsAtMost};
 ghost use Rattle.std.specs.Io.KnownBytes.{ReadConsumes};
+ghost use Rattle.psu_server.specs.Input.{CountsRead, Reads};
 
 use std::io::{self, Read};
 
@@ -10,21 +11,21 @@ pub trait Source {
     /// The bytes that reads will give from here on, where they are known.
     ghost remaining: { Self → Option (List ℕ) };
 
-    /// How often it was read, where that is counted.
-    ghost reads: { Self → ℕ };
+    /// How many reads were made, and how many of them gave bytes, where that is counted.
+    ghost reads: { Self → Option Reads };
 
     /// Reads as a reader does.
     fn read_into(&mut self, piece: &mut [u8]) -> io::Result<usize>
         ensures bound { ReadsAtMost result piece.new }
         ensures bytes { ReadConsumes (remaining self.old) (remaining self.new) result piece.new }
-        ensures counted { reads self.new ≤ reads self.old + 1 };
+        ensures counted { CountsRead (reads self.old) (reads self.new) result };
 }
 
 /// A reader whose reads nobody counts.
 impl<R: Read> Source for R {
     ghost remaining = { R.remaining };
 
-    ghost reads = { λ reader. 0 };
+    ghost reads = { λ reader. None };
 
     fn read_into(&mut self, piece: &mut [u8]) -> io::Result<usize> {
         self.read(piece)

@@ -11,4 +11,4 @@ returns-in-Ok-clause-whole g c = λ h. (
 )
 
 pub returns-in-Err-clause-early : goal.returns-in-Err-clause-early
-returns-in-Err-clause-early g c = λ h. (c.in-Err.fault.disk, c.in-Err.ensures.cause h)
+returns-in-Err-clause-early g c = λ h. (c.in-Err.fault.disk, c.run.new.reader.now, c.in-Err.ensures.cause h)

@@ -1,16 +1,15 @@
-use Rattle.std.proofs.Common.{◌≡◌, List, ℕ, length, ◌+◌, ◌-◌, ◌≤◌}
-use Rattle.std.specs.Io.KnownBytes.{Consumes}
+use Rattle.std.proofs.Common.{◌≡◌, List, ℕ, length, ◌-◌}
+use Rattle.psu_server.specs.Input.{HasRead}
 use Rattle.psu_server.specs.Lines.{coming}
 use Rattle.psu_server.proofs.Reading.{Ran}
 use Rattle.psu_server.proofs.engine.execute_all.Given as goal
 
+-- Each read so far gave bytes.
 abbrev pub invariant-reading : goal.invariant-reading
 invariant-reading g l = record {
   seen : List ℕ;
-  consumed : Consumes (g.R.Source.remaining l.initial.reader) (g.R.Source.remaining l.reader) seen;
+  has : HasRead l.intake.reads l.intake.reads seen (g.R.Source.remaining l.initial.reader) (g.R.Source.remaining l.reader) (g.R.Source.reads l.initial.reader) (g.R.Source.reads l.reader);
   taken : length seen ≡ l.intake.bytes;
-  reads : l.intake.reads ≤ l.intake.bytes;
-  counted : g.R.Source.reads l.reader ≤ g.R.Source.reads l.initial.reader + l.intake.reads;
   ran : Ran (coming l.lines.is_over l.lines.line.items) l.initial.powered.exec l.powered.exec
       (g.R.Source.remaining l.initial.reader) (g.R.Source.remaining l.reader) (g.W.Write.contents l.initial.writer) (g.W.Write.contents l.writer);
 }
