@@ -1,6 +1,6 @@
 """Cuts the power of a real kernel with a real file system under psu, and looks what is there afterwards.
 
-    python3 tools/powerloss                  the file systems that keep the promise, and two planted faults: ten minutes
+    python3 tools/powerloss                  the file systems that keep the promise, and two planted faults: five to ten minutes
     python3 tools/powerloss --full           every file system, through run and serve, with and without other work on the disk
     python3 tools/powerloss --plant NAME     one planted fault, or `all`: the tool has to find its loss
 
