@@ -12,7 +12,7 @@ HAS_FLAGS_AND_FLUSH = 1 | 4
 
 
 class Sectors:
-    """A disk's content: a base that nobody changes, and the sectors that were written over it."""
+    """A disk's content: a base that is never changed, and the sectors that were written over it."""
 
     def __init__(self, base, size):
         self.base, self.size, self.written = base, size, {}
@@ -87,7 +87,7 @@ class LoggedDisk:
 
 
 async def negotiate(disk, reader, writer):
-    """The handshake of NBD; whether the client goes on to use the disk."""
+    """The handshake of NBD; whether the client then uses the disk."""
     export = struct.pack(">QH", disk.sectors.size, HAS_FLAGS_AND_FLUSH)
     writer.write(b"NBDMAGIC" + b"IHAVEOPT" + struct.pack(">H", NEWSTYLE))
     await reader.readexactly(4)
