@@ -53,6 +53,8 @@ SYSTEMS = {
     "btrfs": (BTRFS, ""),
     "ext4 without a journal": (NO_JOURNAL, ""),
 }
+# The file system whose loss has to be found.
+NOT_KEPT = "ext4 without a journal"
 # Faults that have to be found: how psu loses syncs, how many writes a disk keeps to itself, or a file system that
 # does not keep the promise.
 PLANTS = {
@@ -239,12 +241,13 @@ def trials_of(words):
     """What is tried."""
     if words.plant:
         return plants(PLANTS if words.plant == "all" else [words.plant])
-    kept = [it for it in SYSTEMS if it != "ext4 without a journal"]
+    kept = [it for it in SYSTEMS if it != NOT_KEPT]
     if not words.full:
         found = [Trial(it, it, via="serve" if at % 2 else "run", noise=at % 2 == 0) for at, it in enumerate(kept)]
         return found + plants(["second sync of a commit lost", "ext4 without a journal"])
     every = [(it, via, noise) for it in kept for via in ("run", "serve") for noise in (False, True)]
-    return [Trial(it, it, via, noise, seed=2 + at) for at, (it, via, noise) in enumerate(every)] + plants(PLANTS)
+    unsafe = [Trial(NOT_KEPT, NOT_KEPT, *way, is_plant=True) for way in (("run", True), ("serve", False), ("serve", True))]
+    return [Trial(it, it, via, noise, seed=2 + at) for at, (it, via, noise) in enumerate(every)] + plants(PLANTS) + unsafe
 
 
 def report(trial):
