@@ -1,4 +1,4 @@
-//! Tries the examples of the programmer's guide on the instrument, each on a fresh image.
+//! Runs the examples of the programmer's guide and the worked rows beside it on the instrument, each on a fresh image.
 #![tactic(auto)]
 
 mod guide;
@@ -13,40 +13,44 @@ use std::io::Eprint;
 use std::process::ExitCode;
 use std::{fs, str};
 
-// The guide, in the folder that the program is run in.
-const GUIDE: &str = "COMMANDS.md";
+// The documents, in the folder that the program is run in.
+const DOCUMENTS: [&str; 2] = ["COMMANDS.md", "ROWS.md"];
 
 fn main(rt: HostRuntime) -> ExitCode {
-    let Ok(guide) = fs::read(&rt, GUIDE) else {
-        let _ = eprintln!(rt; "{GUIDE} can't be read");
-        return ExitCode::FAILURE;
-    };
-    match guide_held(rt.alloc(), &guide) {
-        Ok(count) => match println!(rt; "{count} examples hold") {
-            Ok(()) => ExitCode::SUCCESS,
-            Err(_) => ExitCode::FAILURE,
-        },
-        Err(fault) => {
-            tell(&rt, &fault);
-            ExitCode::FAILURE
+    for name in DOCUMENTS {
+        let Ok(document) = fs::read(&rt, name) else {
+            let _ = eprintln!(rt; "{name} can't be read");
+            return ExitCode::FAILURE;
+        };
+        match guide_held(rt.alloc(), &document) {
+            Ok(count) => {
+                if println!(rt; "{name}: {count} examples hold").is_err() {
+                    return ExitCode::FAILURE;
+                }
+            }
+            Err(fault) => {
+                report(&rt, name, &fault);
+                return ExitCode::FAILURE;
+            }
         }
     }
+    ExitCode::SUCCESS
 }
 
-// Why the guide is refused, on standard error.
-fn tell<A: Allocator + Copy>(rt: &impl Eprint, fault: &GuideFault<A, PlayFault>) {
+// Reports on standard error why a document does not hold.
+fn report<A: Allocator + Copy>(rt: &impl Eprint, name: &str, fault: &GuideFault<A, PlayFault>) {
     let _ = match fault {
-        GuideFault::Empty => eprintln!(rt; "{GUIDE} has no example"),
+        GuideFault::Empty => eprintln!(rt; "{name} has no example"),
         GuideFault::Memory => eprintln!(rt; "out of memory"),
         GuideFault::Ended(line, PlayFault::Memory) => eprintln!(rt;
-            "{GUIDE}:{line}: out of memory"
+            "{name}:{line}: out of memory"
         ),
         GuideFault::Ended(line, PlayFault::Run(cause)) => eprintln!(rt;
-            "{GUIDE}:{line}: the run ends with {cause}"
+            "{name}:{line}: the run ends with {cause}"
         ),
         GuideFault::Differs(line, came) => {
             let text = str::from_utf8(came).unwrap_or("bytes that are no text\n");
-            eprint!(rt; "{GUIDE}:{line}: is answered\n{text}")
+            eprint!(rt; "{name}:{line}: is answered\n{text}")
         }
     };
 }

@@ -2,27 +2,11 @@
 use crate::holds::holds;
 use crate::images::{formatted, written, written_on};
 use crate::runs::run_from;
-use crate::transcripts::play;
 use psu_server::RunCause;
 use psu_tables::{bytes, row};
 use std::alloc::Global;
 use std::io::{self, Read};
 use std::process::Abort;
-
-// A length of nine digits where no bytes are; the fault takes the rest of the line into its unit.
-const A_BLOCK_LONGER_THAN_ITS_LINE: &str = r#"
-> *PUD #9999999999
-> SYST:ERR?
-< -161,"Invalid block data"
-> FOO #9999999999;*CLS;*RST
-> SYST:ERR?;:SYST:ERR?
-< -161,"Invalid block data";0,"No error"
-"#;
-
-#[test]
-fn a_block_longer_than_its_line(rt: HostRuntime) {
-    play(&rt, rt.alloc(), A_BLOCK_LONGER_THAN_ITS_LINE);
-}
 
 // Whether a line of these bytes leaves one error, or none.
 fn leaves(alloc: Global, line: &str, wanted: &str) -> Option<bool> {
@@ -87,29 +71,6 @@ const OF_THE_GREATEST_LENGTH: &str = r#"
 #[test]
 fn lines_of_the_greatest_length(rt: HostRuntime) {
     leave(&rt, rt.alloc(), OF_THE_GREATEST_LENGTH);
-}
-
-// An expansion of 65,536 bytes is executed, here as one undefined header; a longer one is -223.
-const AN_EXPANSION_THAT_GROWS: &str = r#"
-> *DMC "M",#41024{$1*512};*EMC 1
-> M {x*128}
-> SYST:ERR?
-< -113,"Undefined header"
-
-> *DMC "M",#41024{$1*512};*EMC 1
-> M {x*129}
-> SYST:ERR?
-< -223,"Too much data"
-
-> *DMC "M",#41024{$1*512};*EMC 1
-> M {x*60000}
-> SYST:ERR?
-< -223,"Too much data"
-"#;
-
-#[test]
-fn an_expansion_that_grows(rt: HostRuntime) {
-    play(&rt, rt.alloc(), AN_EXPANSION_THAT_GROWS);
 }
 
 /// A reader that gives a byte at each call, of a text first and then without end, and counts the calls.

@@ -2,13 +2,9 @@
 #![tactic(auto)]
 
 #[cfg(test)]
-mod common_rows;
-#[cfg(test)]
 mod failing_disks;
 #[cfg(test)]
 mod faults;
-#[cfg(test)]
-mod file_rows;
 #[cfg(test)]
 mod holds;
 #[cfg(test)]
@@ -18,15 +14,11 @@ mod hostile_lines;
 #[cfg(test)]
 mod images;
 #[cfg(test)]
-mod instrument_rows;
-#[cfg(test)]
 mod kept_parts;
 #[cfg(test)]
 mod long_answers;
 #[cfg(test)]
-mod macro_faults;
-#[cfg(test)]
-mod macro_rows;
+mod long_transcripts;
 #[cfg(test)]
 mod memory;
 #[cfg(test)]
@@ -34,13 +26,9 @@ mod messages;
 #[cfg(test)]
 mod old_images;
 #[cfg(test)]
-mod path_rows;
-#[cfg(test)]
 mod power_on_rows;
 #[cfg(test)]
 mod reports;
-#[cfg(test)]
-mod rows;
 #[cfg(test)]
 mod runs;
 #[cfg(test)]
@@ -48,7 +36,7 @@ mod scarce_lines;
 #[cfg(test)]
 mod spelled;
 #[cfg(test)]
-mod supply_rows;
+mod spelled_rows;
 #[cfg(test)]
 mod texts;
 #[cfg(test)]

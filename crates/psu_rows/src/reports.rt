@@ -1,6 +1,7 @@
 // What `recover` tells of images.
 use crate::holds::holds;
-use crate::images::{SIZE, formatted, left_by, reported};
+use crate::images::{SIZE, formatted, image, left_by, reported, written_on};
+use crate::texts::add_line;
 use crate::transcripts::lines_behind;
 use psu_disk::MemDisk;
 use psu_server::{RecoverFault, recover};
@@ -67,6 +68,16 @@ Two pages each: the user data, the macros, and the files, which stand in byte or
 = macros 2
 = file Z,MACR,5
 = file st.a,STAT,28
+
+Two pages each: register 0, the enables, and the choice of register 0 at power-on.
+> *PSC 0;*SRE 32;*ESE 128;VOLT 5;*SAV 0;OUTP:PON:STAT RCL0;*OPC?
+= image version 2 root 2
+= pages 6 of 256
+= enables 32 128
+= request 96
+= power RCL0
+= user 0
+= macros 0
 "#;
 
 #[test]
@@ -145,4 +156,42 @@ fn images_that_are_none(rt: HostRuntime) {
     for size in [0, 1_023, SIZE] {
         holds(&rt, is_none(rt.alloc(), size) == Some(true), &size);
     }
+}
+
+// The lines that fill an image of 480 pages with 240 items of two pages each: a hundred registers, and files of one byte.
+fn filling_lines(alloc: Global) -> Option<Vec<u8>> {
+    let mut lines = b"VOLT 1\n".to_vec(alloc).ok()?;
+    for register in 0..100u8 {
+        add_line(alloc, &mut lines, &format!(in alloc; "*SAV {register}").ok()?)?;
+    }
+    for file in 100..240u8 {
+        add_line(alloc, &mut lines, &format!(in alloc; "MMEM:DATA \"F{file}\",#11x").ok()?)?;
+    }
+    lines.extend_from_slice(b"*OPC?\n").ok()?;
+    Some(lines)
+}
+
+// The report on an image so filled.
+fn report_of_filled(alloc: Global) -> Option<Vec<u8>> {
+    let head = b"image version 2 root 2\npages 480 of 480\nenables none\nrequest none\nuser 0\nmacros 0\n";
+    let mut report = head.to_vec(alloc).ok()?;
+    for file in 100..240u8 {
+        add_line(alloc, &mut report, &format!(in alloc; "file F{file},BIN,1").ok()?)?;
+    }
+    Some(report)
+}
+
+// Whether the greatest image is reported as it is, and a change more does not fit.
+fn is_filled(alloc: Global) -> Option<bool> {
+    let disk = left_by(alloc, image(alloc, 480)?, &filling_lines(alloc)?)?;
+    let is_reported = reported(alloc, disk)? == report_of_filled(alloc)?;
+    let mut input = filling_lines(alloc)?;
+    input.extend_from_slice(b"*SRE 4;*PSC 0;:SYST:ERR?\n").ok()?;
+    let written = written_on(alloc, image(alloc, 480)?, &input)?;
+    Some(is_reported && written.as_slice() == b"1\n-254,\"Media full\"\n".as_slice())
+}
+
+#[test]
+fn an_image_of_the_greatest_limit_is_filled(rt: HostRuntime) {
+    assert!(rt; is_filled(rt.alloc()) == Some(true));
 }
