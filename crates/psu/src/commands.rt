@@ -1,6 +1,6 @@
 //! The commands of the program, thin over the server.
 use crate::fault::Fault;
-use psu_disk::{Disk, FileDisk, MemDisk};
+use psu_disk::{Disk, FileDisk, MemDisk, OsFiles};
 use psu_items::Store;
 use psu_server::{Examined, examine, report_text, run};
 use std::alloc::Global;
@@ -16,7 +16,7 @@ const SIZE: u64 = 263_168;
 
 /// Makes a formatted image at a path where no file is.
 pub fn make_image<R: Files<File = File>>(rt: &R, alloc: Global, path: &str) -> Result<(), Fault> {
-    let disk = match FileDisk::make(rt, alloc, path, SIZE) {
+    let disk = match FileDisk::make(&mut OsFiles { files: rt }, alloc, path, SIZE) {
         Ok(disk) => disk,
         Err(fault) => return Err(Fault::File(fault)),
     };
@@ -43,7 +43,7 @@ pub fn run_image<R: Files<File = File> + Input + Print>(
     alloc: Global,
     path: &str,
 ) -> Result<(), Fault> {
-    match FileDisk::of(rt, alloc, path) {
+    match FileDisk::of(&mut OsFiles { files: rt }, alloc, path) {
         Ok(disk) => run_on(rt, alloc, disk),
         Err(fault) => Err(Fault::File(fault)),
     }
@@ -63,7 +63,7 @@ pub fn recover_image<R: Files<File = File> + Print>(
     alloc: Global,
     path: &str,
 ) -> Result<(), Fault> {
-    let disk = match FileDisk::of(rt, alloc, path) {
+    let disk = match FileDisk::of(&mut OsFiles { files: rt }, alloc, path) {
         Ok(disk) => disk,
         Err(fault) => return Err(Fault::File(fault)),
     };

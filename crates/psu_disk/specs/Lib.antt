@@ -7,3 +7,4 @@ pub mod Touched
 pub mod Past
 pub mod Medium
 pub mod Failing
+pub mod FileCalls

@@ -1,188 +1,134 @@
-// A disk in a file of the system. Nothing is claimed of what a file holds: every clause on bytes or moments has a premise
-// that this kind of disk does not meet.
-ghost use Rattle.std.specs.Prelude.{◌≡◌, ◌↔◌, IfOk, IsErrAnd};
-ghost use Rattle.std.specs.Fs.{metadata_len};
-ghost use Rattle.std.specs.IoError.{error_kind};
-ghost use Rattle.psu_disk.specs.declared.open_fault.OpenFault.TheVariants.{Memory};
+// Disks in files of the system: how one is opened, and how one is made.
+ghost use Rattle.std.specs.Prelude.{◌≡◌, ◌+◌, ◌≤◌, ◌<◌, ◌-◌, ℕ, List, true, false, length, replicate, IfOk, IfErr, OnOk};
+ghost use Rattle.psu_disk.specs.declared.open_fault.OpenFault.TheVariants.{NotOpened};
+ghost use Rattle.psu_disk.specs.FileCalls.{FileCall, PathCall, Calls, AreZeros, IsLocked, IsTakenUp, IsOpened, IsFilled, IsMade};
 
-use crate::system_file::SystemFile;
-use crate::{Disk, DiskFault, KeptDisk, OpenFault};
-use std::alloc::{AllocError, Global};
-use std::fs::{File, Metadata, OpenOptions, TryLockError, remove_file};
-use std::io;
-use std::io::{Error, ErrorKind, Read};
-use std::os::fd::AsRawFd;
-use std::path::Path;
-use std::rt::Files;
+use crate::file_calls::{FileCalls, FileSystem, LockAnswer};
+use crate::{DiskFault, KeptDisk, OpenFault, SystemFile};
+use std::alloc::{AllocError, Allocator};
 
-/// A disk in a file of the system. A sync is the system's own, of the file's data (fdatasync), and works only where the file behind it has
-/// the disk's length and a name still. After one that failed what was written since the last that worked is written again before the
-/// next. The file is locked while it is open, so that no other disk is in it.
-#[derive(Drop)]
-pub struct FileDisk {
-    disk: KeptDisk<SystemFile, Global>,
-}
+// How many bytes of a new file are written at a time.
+const PIECE: u64 = 4_096;
 
-impl FileDisk {
-    /// The disk in a file that is there: its size is the file's. The file stays as it is. One that another disk is in is refused.
-    pub fn of<R: Files<File = File>>(
-        rt: &R,
-        alloc: Global,
+impl<F: FileCalls + Drop, A: Allocator + Drop> KeptDisk<SystemFile<F>, A> {
+    /// The disk in the file that is at a path: its size is the file's, which stays as it is. It is locked while it is open; one that another
+    /// program has locked is refused.
+    pub fn of<S: FileSystem<F>>(
+        system: &mut S,
+        alloc: A,
         path: &str,
-    ) -> Result<FileDisk, OpenFault>
-        ensures fresh { IfOk result (λ disk. disk.disk.faults ≡ 0) }
+    ) -> Result<KeptDisk<SystemFile<F>, A>, OpenFault>
+        ensures opened { IfOk result (λ disk. IsOpened S.made F.made path.now system.old disk.medium.file system.new) }
+        ensures faults { IfOk result (λ disk. disk.faults ≡ 0) }
     {
-        let mut options = OpenOptions::new();
-        options.read(true).write(true);
-        let file = FileDisk::in_file(opened(rt, path, &options))?;
-        FileDisk::over(alloc, file)
+        let file = system.open(path)?;
+        let file = taken_up(file)?;
+        over(alloc, file)
     }
 
-    /// A new file of `size` bytes 00, each of them written, and made to last with its name; one that is there already is refused and stays
-    /// as it is. A file that was made before a later step failed, as one that can't have its room, is removed where that is possible.
-    pub fn make<R: Files<File = File>>(
-        rt: &R,
-        alloc: Global,
+    /// A disk of `size` bytes in a new file at a path, each of them 00 and written, made to last with the file's name; a file that is there
+    /// already is refused and stays as it is. Where a step after its making fails, as where it can't have its room, the new file is removed.
+    pub fn make<S: FileSystem<F>>(
+        system: &mut S,
+        alloc: A,
         path: &str,
         size: u64,
-    ) -> Result<FileDisk, OpenFault>
-        ensures size { IfOk result (λ disk. disk.disk.medium.size ≡ size) }
-        ensures fresh { IfOk result (λ disk. disk.disk.faults ≡ 0) }
+    ) -> Result<KeptDisk<SystemFile<F>, A>, OpenFault>
+        ensures made { IfOk result (λ disk. IsMade S.made F.made path.now size system.old disk.medium.file system.new) }
+        ensures size { IfOk result (λ disk. F.extent disk.medium.file ≡ size) }
+        ensures faults { IfOk result (λ disk. disk.faults ≡ 0) }
     {
-        let mut options = OpenOptions::new();
-        options.read(true).write(true).create_new(true);
-        let mut file = FileDisk::in_file(opened(rt, path, &options))?;
-        if let Err(error) = made_to_last(rt, path, &mut file.file, size) {
-            let _ = remove_file(rt, path);
-            return Err(fault_of(error));
-        }
-        file.size = size;
-        FileDisk::over(alloc, file)
-    }
-
-    // The disk over a file.
-    fn over(alloc: Global, file: SystemFile) -> Result<FileDisk, OpenFault>
-        ensures size { IfOk result (λ disk. disk.disk.medium.size ≡ file.size) }
-        ensures fresh { IfOk result (λ disk. disk.disk.faults ≡ 0) }
-    {
-        match KeptDisk::new(alloc, file) {
-            Ok(disk) => Ok(FileDisk { disk }),
-            Err(AllocError) => Err(OpenFault::Memory),
-        }
-    }
-
-    // The medium in a file that was opened, by what the system told of it. Want of memory is told exactly where the system told it.
-    fn in_file(opened: io::Result<(File, Metadata)>) -> Result<SystemFile, OpenFault>
-        ensures size { IfOk result (λ made. IfOk opened (λ file. made.size ≡ metadata_len file.1)) }
-        ensures memory { IsErrAnd result (λ fault. fault ≡ Memory) ↔ IsErrAnd opened (λ error. error_kind error ≡ ErrorKind.OutOfMemory) }
-    {
-        let (file, metadata) = opened.map_err(fault_of)?;
-        if !metadata.is_file() || !is_ours(&file) {
+        let file = system.create(path, size)?;
+        let mut file = locked(file)?;
+        if make_last(system, path, &mut file).is_err() {
+            system.remove(path);
             return Err(OpenFault::NotOpened);
         }
-        Ok(SystemFile {
-            file,
-            size: metadata.len(),
-        })
+        over(alloc, file)
     }
 }
 
-// A file, and what the system tells of it.
-fn opened<R: Files<File = File>>(
-    rt: &R,
-    path: &str,
-    options: &OpenOptions,
-) -> io::Result<(File, Metadata)> {
-    let file = options.open(rt, path)?;
-    let metadata = file.metadata()?;
-    Ok((file, metadata))
-}
-
-// Writes a file full of zeros up to this length, and makes it and its name last.
-fn made_to_last<R: Files<File = File>>(
-    rt: &R,
-    path: &str,
-    file: &mut File,
-    size: u64,
-) -> io::Result<()> {
-    fill(file, size)?;
-    File::open(rt, folder_of(path))?.sync_all()
-}
-
-// The folder of the file that a path names.
-fn folder_of(path: &str) -> Path<'_> {
-    match Path::new(path).parent() {
-        Some(folder) if !folder.as_str().is_empty() => folder,
-        _ => Path::new("."),
-    }
-}
-
-// Writes a file full of zeros up to this length, so that its room is taken, and makes them last.
-fn fill(file: &mut File, size: u64) -> io::Result<()> {
-    file.set_len(size)?;
-    io::copy(&mut io::repeat(0).take(size), file)?;
-    file.sync_all()
-}
-
-// Whether a file is this program's alone: no other open of it has it locked, and it stands under no number of a standard stream that was closed,
-// as what is printed would be written into it. It is locked from now on, where the file system has locks.
-fn is_ours(file: &File) -> bool {
-    file.as_raw_fd() > 2 && !matches!(file.try_lock(), Err(TryLockError::WouldBlock))
-}
-
-// Want of memory is told exactly where the system told it. Which of the others is told where, no contract says.
-fn fault_of(error: Error) -> OpenFault
-    ensures memory { result ≡ Memory ↔ error_kind error ≡ ErrorKind.OutOfMemory }
+// The disk over a file of which nothing is forgotten.
+fn over<F: FileCalls + Drop, A: Allocator + Drop>(
+    alloc: A,
+    file: F,
+) -> Result<KeptDisk<SystemFile<F>, A>, OpenFault>
+    requires { F.keeps → (k : ℕ) → F.forgotten file k ≡ false }
+    ensures file { IfOk result (λ disk. disk.medium.file ≡ file) }
+    ensures faults { IfOk result (λ disk. disk.faults ≡ 0) }
 {
-    match error.kind() {
-        ErrorKind::NotFound => OpenFault::NoFile,
-        ErrorKind::AlreadyExists => OpenFault::Exists,
-        ErrorKind::OutOfMemory => OpenFault::Memory,
-        _ => OpenFault::NotOpened,
+    match KeptDisk::new(alloc, SystemFile { file }) {
+        Ok(disk) => Ok(disk),
+        Err(AllocError) => Err(OpenFault::Memory),
     }
 }
 
-impl Disk for FileDisk {
-    ghost use Rattle.std.specs.Prelude.{[]};
-    ghost use Rattle.psu_disk.specs.Memory.{memory};
-
-    ghost honest = { ⊥ };
-
-    ghost tells = { ⊥ };
-
-    ghost extent = { λ d. d.disk.medium.size };
-
-    ghost state = { λ _. memory [] [] };
-
-    ghost moment = { λ _. 0 };
-
-    ghost left_since = { λ _ _ _. ⊥ };
-
-    ghost failures = { λ d. d.disk.faults };
-
-    ghost sized = { λ honest. absurd honest };
-
-    ghost counts_now = { λ tells. absurd tells };
-
-    ghost only_now = { λ tells. absurd tells };
-
-    fn size(&self) -> u64 {
-        self.disk.size()
+// A file that was there and is this program's alone from now on: a plain file that no other open of it has locked.
+fn taken_up<F: FileCalls + Drop>(mut file: F) -> Result<F, OpenFault>
+    ensures taken { IfOk result (λ taken. IsTakenUp F.made file taken) }
+    ensures refused { IfErr result (λ fault. fault ≡ NotOpened) }
+    ensures known { F.keeps → ((k : ℕ) → F.forgotten file k ≡ false) → IfOk result (λ taken. (k : ℕ) → F.forgotten taken k ≡ false) }
+{
+    match file.look() {
+        Some(facts) if facts.is_file => locked(file),
+        _ => Err(OpenFault::NotOpened),
     }
+}
 
-    fn faults(&self) -> u64 {
-        self.disk.faults()
+// A file that no other open of it has locked; this one has it locked from now on, where the file system has locks.
+fn locked<F: FileCalls + Drop>(mut file: F) -> Result<F, OpenFault>
+    ensures locked { IfOk result (λ locked. IsLocked F.made file locked) }
+    ensures refused { IfErr result (λ fault. fault ≡ NotOpened) }
+    ensures extent { IfOk result (λ locked. F.extent locked ≡ F.extent file) }
+    ensures known { F.keeps → ((k : ℕ) → F.forgotten file k ≡ false) → IfOk result (λ locked. (k : ℕ) → F.forgotten locked k ≡ false) }
+{
+    match file.try_lock() {
+        LockAnswer::Locked | LockAnswer::NoLocks => Ok(file),
+        LockAnswer::InUse => Err(OpenFault::NotOpened),
     }
+}
 
-    fn read(&mut self, at: u64, into: &mut [u8]) -> Result<(), DiskFault> {
-        self.disk.read(at, into)
-    }
+// Writes a new file full of zeros, and makes it and its name last.
+fn make_last<F: FileCalls, S: FileSystem<F>>(
+    system: &mut S,
+    path: &str,
+    file: &mut F,
+) -> Result<(), DiskFault>
+    ensures extent { F.extent file.new ≡ F.extent file.old }
+    ensures filled { OnOk result (IsFilled F.made (F.extent file.old) file.old file.new) }
+    ensures folder { OnOk result (S.made system.old (PathCall.SyncedFolder path.now file.new true) system.new) }
+    ensures known { F.keeps → ((k : ℕ) → F.forgotten file.old k ≡ false) → OnOk result ((k : ℕ) → F.forgotten file.new k ≡ false) }
+{
+    fill(file)?;
+    file.sync_all()?;
+    system.sync_folder(path, file)
+}
 
-    fn write(&mut self, at: u64, bytes: &[u8]) -> Result<(), DiskFault> {
-        self.disk.write(at, bytes)
+// Writes 00 into each byte of a file, in order, so that its room is taken.
+fn fill<F: FileCalls>(file: &mut F) -> Result<(), DiskFault>
+    ensures extent { F.extent file.new ≡ F.extent file.old }
+    ensures zeros { OnOk result ((calls : List FileCall) × Calls F.made calls file.old file.new × AreZeros 0 (F.extent file.old) calls) }
+    ensures known { F.keeps → ((k : ℕ) → F.forgotten file.old k ≡ false) → OnOk result ((k : ℕ) → F.forgotten file.new k ≡ false) }
+{
+    let size = file.size();
+    let mut at = 0;
+    while at < size {
+        let n = (size - at).min(PIECE);
+        write_zeros(file, at, n)?;
+        at += n;
     }
+    Ok(())
+}
 
-    fn sync(&mut self) -> Result<(), DiskFault> {
-        self.disk.sync()
-    }
+// Writes so many zeros from `at` on.
+fn write_zeros<F: FileCalls>(file: &mut F, at: u64, n: u64) -> Result<(), DiskFault>
+    requires within { at + n ≤ F.extent file.old }
+    requires piece { n ≤ 4096 }
+    ensures extent { F.extent file.new ≡ F.extent file.old }
+    ensures made { OnOk result (F.made file.old (FileCall.WriteAt at (replicate n 0) true) file.new) }
+    ensures known { F.keeps → ((k : ℕ) → F.forgotten file.old k ≡ false) → (k : ℕ) → F.forgotten file.new k ≡ false }
+{
+    let zeros = [0; PIECE as usize];
+    file.write_at(at, &zeros[..n as usize])?;
+    Ok(())
 }

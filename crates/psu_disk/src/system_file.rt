@@ -1,78 +1,99 @@
-// A file of the system as a medium. Nothing is claimed of what a file holds: every clause on bytes or moments has a premise that this
-// kind of medium does not meet.
-use crate::{DiskFault, Medium};
-use std::fs::File;
-use std::os::unix::fs::{FileExt, MetadataExt};
+// A file of the system as a medium.
+ghost use Rattle.std.specs.Prelude.{◌≡◌, ◌+◌, ◌≤◌, length, is_ok, OnOk, OnErr};
+ghost use Rattle.psu_disk.specs.Disk.{Range, Holds, IsFlagged, Touches};
+ghost use Rattle.psu_disk.specs.Medium.{NoneMore, IsKnown, Settles};
+ghost use Rattle.psu_disk.specs.FileCalls.{FileCall, IsSync, LooksWhole};
 
-/// A file of a number of bytes. A sync is the system's own, of the file's data (fdatasync), and works only where the file behind it has
-/// this length and a name still.
+use crate::{DiskFault, FileCalls, Medium};
+
+/// A file of the system as a medium: a write is the system's own, and a sync is its fdatasync, which works only where the file behind it has
+/// its length and a name still.
 #[derive(Drop)]
-pub(crate) struct SystemFile {
-    pub(crate) file: File,
-    pub(crate) size: u64,
+pub struct SystemFile<F: FileCalls> {
+    /// The open file.
+    pub file: F,
 }
 
-impl SystemFile {
+impl<F: FileCalls> SystemFile<F> {
     // Whether the file is there as a whole: it has its length, and a name by which it is found again.
-    fn is_whole(&self) -> bool {
-        match self.file.metadata() {
-            Ok(metadata) => metadata.len() == self.size && metadata.nlink() > 0,
-            Err(_) => false,
+    fn is_whole(&mut self) -> bool
+        ensures extent { F.extent self.new.file ≡ F.extent self.old.file }
+        ensures looked { LooksWhole F.made (F.extent self.old.file) self.old.file result self.new.file }
+    {
+        let size = self.file.size();
+        match self.file.look() {
+            Some(facts) => facts.length == size && facts.names > 0,
+            None => false,
         }
     }
 }
 
-impl Medium for SystemFile {
-    ghost use Rattle.std.specs.Prelude.{[], false};
-    ghost use Rattle.psu_disk.specs.Memory.{memory};
-
-    ghost honest = { ⊥ };
+impl<F: FileCalls> Medium for SystemFile<F> {
+    ghost honest = { F.keeps };
 
     ghost tells = { ⊥ };
 
-    ghost extent = { λ m. m.size };
+    ghost extent = { λ m. F.extent m.file };
 
-    ghost state = { λ _. memory [] [] };
+    ghost state = { λ m. F.state m.file };
 
-    ghost forgotten = { λ _ _. false };
+    ghost forgotten = { λ m. F.forgotten m.file };
 
-    ghost works = { λ _. ⊥ };
+    ghost works = { λ m. F.works m.file };
 
     ghost moment = { λ _. 0 };
 
     ghost left_since = { λ _ _ _. ⊥ };
 
-    ghost sized = { λ honest. absurd honest };
+    ghost sized = { λ keeps m. F.sized keeps m.file };
 
-    ghost at_risk = { λ honest. absurd honest };
+    ghost at_risk = { λ keeps m. F.at_risk keeps m.file };
 
     ghost counts_now = { λ tells. absurd tells };
 
     ghost only_now = { λ tells. absurd tells };
 
     fn size(&self) -> u64 {
-        self.size
+        self.file.size()
     }
 
     fn read(&mut self, at: u64, into: &mut [u8]) -> Result<(), DiskFault> {
-        match self.file.read_exact_at(into, at) {
-            Ok(()) => Ok(()),
-            Err(_) => Err(DiskFault),
-        }
+        self.file.read_at(at, into)
     }
 
-    fn write(&mut self, at: u64, bytes: &[u8]) -> Result<(), DiskFault> {
-        match self.file.write_all_at(bytes, at) {
-            Ok(()) => Ok(()),
-            Err(_) => Err(DiskFault),
-        }
+    /// Also: it made just that write, which answered as it does.
+    fn write(&mut self, at: u64, bytes: &[u8]) -> Result<(), DiskFault>
+        requires { at + length bytes.now ≤ F.extent self.old.file }
+        ensures extent { F.extent self.new.file ≡ F.extent self.old.file }
+        ensures written { F.keeps → OnOk result (Holds at bytes.now (F.state self.old.file).bytes (F.state self.new.file).bytes) }
+        ensures flagged { F.keeps → IsFlagged at (length bytes.now) (F.state self.new.file) }
+        ensures state { F.keeps → Touches at (length bytes.now) (F.state self.old.file) (F.state self.new.file) }
+        ensures again { F.keeps → bytes.now ≡ Range at (length bytes.now) (F.state self.old.file).bytes → IsFlagged at (length bytes.now) (F.state self.old.file)
+            → F.state self.new.file ≡ F.state self.old.file }
+        ensures none_more { F.keeps → NoneMore (F.forgotten self.old.file) (F.forgotten self.new.file) }
+        ensures known { F.keeps → OnOk result (IsKnown at (length bytes.now) (F.forgotten self.new.file)) }
+        ensures works { F.works self.old.file → OnErr result ⊥ × F.works self.new.file }
+        ensures made { F.made self.old.file (FileCall.WriteAt at bytes.now (is_ok result)) self.new.file }
+    {
+        self.file.write_at(at, bytes)
     }
 
-    fn sync(&mut self) -> Result<(), DiskFault> {
+    /// Also: one that works made the file's data last, and then saw the file whole.
+    fn sync(&mut self) -> Result<(), DiskFault>
+        ensures extent { F.extent self.new.file ≡ F.extent self.old.file }
+        ensures seen { F.keeps → (F.state self.new.file).bytes ≡ (F.state self.old.file).bytes }
+        ensures settles { F.keeps → OnOk result (Settles (F.state self.old.file) (F.state self.new.file) (F.forgotten self.old.file)) }
+        ensures none_more { F.keeps → OnOk result (NoneMore (F.forgotten self.old.file) (F.forgotten self.new.file)) }
+        ensures err { F.keeps → OnErr result (F.state self.new.file ≡ F.state self.old.file) }
+        ensures works { F.works self.old.file → OnErr result ⊥ × F.works self.new.file }
+        ensures made { OnOk result (IsSync F.made (F.extent self.old.file) self.old.file self.new.file) }
+    {
+        self.file.sync_data()?;
         // The file is looked at last: a call that works has made sure of a file that was whole behind it.
-        if self.file.sync_data().is_err() || !self.is_whole() {
-            return Err(DiskFault);
+        if self.is_whole() {
+            Ok(())
+        } else {
+            Err(DiskFault)
         }
-        Ok(())
     }
 }

@@ -1,6 +1,6 @@
 // A server in a thread that is not joined, and its image.
 use psu_client::{Missed, connected};
-use psu_disk::{Disk, FileDisk, MemDisk};
+use psu_disk::{Disk, FileDisk, MemDisk, OsFiles};
 use psu_items::Store;
 use psu_serve::{Gate, Open, serve, serve_disk};
 use std::alloc::Global;
@@ -140,7 +140,7 @@ pub fn removed<R: Files>(rt: &R, image: &str) {
 /// A new image.
 pub fn formatted<R: Files<File = File>>(rt: &R, alloc: Global, image: &str) -> Result<(), Missed> {
     removed(rt, image);
-    let Ok(disk) = FileDisk::make(rt, alloc, image, SIZE) else {
+    let Ok(disk) = FileDisk::make(&mut OsFiles { files: rt }, alloc, image, SIZE) else {
         return Err(Missed::Ground("a file"));
     };
     match Store::format(alloc, disk, 256) {

@@ -1,8 +1,8 @@
 // One change of the contents.
-ghost use Rattle.std.specs.Prelude.{◌≡◌, ◌⊎◌, ◌≤◌, Some, None, true, length, IfErr, OnOk, OnErr};
-ghost use Rattle.psu_lex.specs.declared.scpi_error.ScpiError.TheVariants.{OutOfMemory};
+ghost use Rattle.std.specs.Prelude.{◌≡◌, ◌⊎◌, ◌≤◌, Some, None, true, false, length, IfErr, OnOk, OnErr};
+ghost use Rattle.psu_lex.specs.declared.scpi_error.ScpiError.TheVariants.{MediaFull, OutOfMemory};
 ghost use Rattle.psu_nv.specs.Commands.{answer, apply, refused, takes_memory};
-ghost use Rattle.psu_nv.specs.Contents.{IsContents};
+ghost use Rattle.psu_nv.specs.Contents.{IsContents, fits};
 ghost use Rattle.psu_nv.specs.Views.{command_of};
 
 use crate::{Contents, NvCommand};
@@ -20,9 +20,23 @@ impl<A: Allocator + Copy> Contents<A> {
         ensures memory { IfErr result (λ e. e ≡ OutOfMemory → takes_memory (command_of command.now) ≡ true) }
         ensures err { OnErr result (self.new ≡ self.old) }
     {
-        if let Some(error) = self.refusal(command) {
-            return Err(error);
+        match self.refusal(command) {
+            Some(error) => Err(error),
+            None => self.change_if_it_fits(limit, command),
         }
+    }
+
+    /// Makes the change of a command that is not refused by its names and labels and what they find, for a caller that has looked: -254
+    /// where the result doesn't fit the limit, -225 where memory is refused to a command that defines a macro or makes a file. After each
+    /// nothing has changed.
+    pub fn change_if_it_fits(&mut self, limit: u16, command: &NvCommand) -> Result<(), ScpiError>
+        requires found { refused self.old (command_of command.now) ≡ None }
+        ensures sound { OnOk result (IsContents self.new) }
+        ensures ok { OnOk result ((fits limit (apply self.old (command_of command.now)) ≡ true) × (self.new ≡ apply self.old (command_of command.now))) }
+        ensures full { IfErr result (λ e. ((e ≡ OutOfMemory) × (fits limit (apply self.old (command_of command.now)) ≡ true)) ⊎ ((e ≡ MediaFull) × (fits limit (apply self.old (command_of command.now)) ≡ false))) }
+        ensures memory { IfErr result (λ e. e ≡ OutOfMemory → takes_memory (command_of command.now) ≡ true) }
+        ensures err { OnErr result (self.new ≡ self.old) }
+    {
         if !self.fits_after(limit, command) {
             return Err(ScpiError::MediaFull);
         }

@@ -4,7 +4,7 @@ use crate::starting::power_on;
 use psu_bench::Gate;
 use psu_callers::{Caller, Condition, Flusher};
 use psu_connections::Connection;
-use psu_disk::{Disk, FileDisk};
+use psu_disk::{Disk, FileDisk, OsFiles};
 use psu_members::{Link, Server, Silent};
 use std::alloc::Global;
 use std::fs::File;
@@ -109,7 +109,7 @@ where
         + 'static,
     G: Gate + Drop + Send + Sync + 'static,
 {
-    match FileDisk::of(&rt, alloc, image) {
+    match FileDisk::of(&mut OsFiles { files: &rt }, alloc, image) {
         Ok(disk) => serve_disk(rt, alloc, disk, port, gate, rt),
         Err(fault) => ServeFault::File(fault),
     }

@@ -1,6 +1,6 @@
 // What lies in an image: lines that are executed on it, and items that it keeps.
 use psu_client::Missed;
-use psu_disk::{Disk, FileDisk, MemDisk};
+use psu_disk::{Disk, FileDisk, MemDisk, OsFiles};
 use psu_items::Store;
 use psu_server::run;
 use std::alloc::Global;
@@ -17,7 +17,7 @@ pub fn executed<R: Files<File = File>>(
     image: &str,
     lines: &[u8],
 ) -> Result<(), Missed> {
-    let Ok(disk) = FileDisk::of(rt, alloc, image) else {
+    let Ok(disk) = FileDisk::of(&mut OsFiles { files: rt }, alloc, image) else {
         return Err(Missed::Ground("an image"));
     };
     let mut reader = lines;
