@@ -1,4 +1,4 @@
-use Rattle.std.proofs.Common.{◌∙◌, arith, take, [], ◌++◌, sym, refl, inl, inr}
+use Rattle.std.proofs.Common.{◌+◌, ◌≤◌, ◌∙◌, arith, take, [], ◌++◌, sym, refl, inl, inr}
 use Rattle.psu_server.specs.Lines.{coming}
 use Rattle.psu_server.specs.declared.run_cause.RunCause.TheVariants.{Read, TooLong}
 use Rattle.psu_server.proofs.Fronts.{passed, consumes_none}
@@ -83,7 +83,9 @@ returns-clause-early g c =
     let f = c.fault-2.ensures in
     ran_front _ (coming c.reading.lines.is_over c.reading.lines.line.items) c.args.powered.exec c.reading.powered.exec c.fault-2.result _ _ _ _ TooLong c.reading.invariant.ran
     (record { told = f.cause; failures = f.failures; extent = f.extent; state = f.state; reason = f.reason; disk = f.same }) (λ w. cc)
-    (λ rest last. (c.reading.intake.reads, c.reading.invariant.seen, c.reading.invariant.has, inr (grind (arith, c.reading-test.ensures, c.reading.intake.few))))
+    (λ rest last.
+        let full : c.reading.intake.reads + 1 ≤ 1048576 → ⊥ = λ room. let left = c.reading-test.ensures.1 room in absurd cc in
+        (c.reading.intake.reads, c.reading.invariant.seen, c.reading.invariant.has, inr (omega (arith, full, c.reading.intake.few))))
 
 -- ---- how far it reads
 
