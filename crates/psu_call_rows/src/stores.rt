@@ -1,19 +1,19 @@
-// Stores for an execution: one that an opening gives, and one whose items are told. None where something hinders it.
+// Stores for an execution: one that an opening gives, and one with items of a row. None where something hinders it.
 ghost use Rattle.std.specs.Prelude.{IsTrue};
 ghost use Rattle.psu_map.specs.Batch.{changed};
 ghost use Rattle.psu_map.specs.Capacity.{CanHold, Fits};
 
 use psu_disk::Disk;
 use psu_items::{Batch, Commit, Items, Pair, Store, Value};
-use std::alloc::Global;
+use std::alloc::Allocator;
 
 /// The store that an opening gives.
-pub fn opened<D: Disk + Drop>(alloc: Global, disk: D) -> Option<Store<D, Global>> {
+pub fn opened<D: Disk + Drop, A: Allocator + Copy>(alloc: A, disk: D) -> Option<Store<D, A>> {
     Store::open(alloc, disk).ok()
 }
 
 // Whether an image can hold an item.
-fn fits(pair: &Pair<Global>) -> bool
+fn fits<A: Allocator + Copy>(pair: &Pair<A>) -> bool
     ensures { IsTrue result → Fits pair.now }
 {
     let key = pair.key().len();
@@ -22,7 +22,7 @@ fn fits(pair: &Pair<Global>) -> bool
 }
 
 // Whether an image of this limit can hold a map.
-fn can_hold(limit: u16, items: &Items<Global>) -> bool
+fn can_hold<A: Allocator + Copy>(limit: u16, items: &Items<A>) -> bool
     ensures { IsTrue result → CanHold limit items.now }
 {
     let pairs = items.pairs();
@@ -30,7 +30,7 @@ fn can_hold(limit: u16, items: &Items<Global>) -> bool
 }
 
 // Whether the image of a store can hold the map after a batch.
-fn takes<D: Disk>(alloc: Global, store: &Store<D, Global>, batch: &Batch<Global>) -> bool
+fn takes<D: Disk, A: Allocator + Copy>(alloc: A, store: &Store<D, A>, batch: &Batch<A>) -> bool
     ensures { IsTrue result → CanHold store.now.limit (changed store.now.items batch.now) }
 {
     match store.items().changed(alloc, batch) {
@@ -40,11 +40,11 @@ fn takes<D: Disk>(alloc: Global, store: &Store<D, Global>, batch: &Batch<Global>
 }
 
 /// The store after a commit that nothing hinders.
-pub fn stored<D: Disk + Drop>(
-    alloc: Global,
-    store: Store<D, Global>,
-    batch: Batch<Global>,
-) -> Option<Store<D, Global>> {
+pub fn stored<D: Disk + Drop, A: Allocator + Copy>(
+    alloc: A,
+    store: Store<D, A>,
+    batch: Batch<A>,
+) -> Option<Store<D, A>> {
     if !takes(alloc, &store, &batch) {
         return None;
     }
@@ -55,7 +55,7 @@ pub fn stored<D: Disk + Drop>(
 }
 
 /// A batch of one edit.
-pub fn assigned(alloc: Global, key: &[u8], value: &[u8]) -> Option<Batch<Global>> {
+pub fn assigned<A: Allocator + Copy>(alloc: A, key: &[u8], value: &[u8]) -> Option<Batch<A>> {
     let mut batch = Batch::new(alloc);
     let key = key.to_vec(alloc).ok()?;
     let value = value.to_vec(alloc).ok()?;

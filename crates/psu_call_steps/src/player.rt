@@ -1,0 +1,65 @@
+// Steps that are played, one after another.
+use crate::device_steps::{doing_of, is_done};
+use crate::session_steps::session_step;
+use crate::sights::{is_seen, sight_of};
+use crate::words::parted;
+use psu_disk::Disk;
+use psu_exec::Exec;
+use std::alloc::Allocator;
+
+/// A step that does not hold, and its line in its script, from 1.
+#[derive(Clone, Copy, Debug)]
+pub struct StepFault<'s> {
+    pub line: u32,
+    pub step: &'s str,
+}
+
+// What the device does, or a session. None where it is no step.
+fn changing_step<D: Disk + Drop, A: Allocator + Copy>(
+    exec: &mut Exec<D, A>,
+    step: &str,
+) -> Option<bool> {
+    let (word, rest) = parted(step);
+    match doing_of(word) {
+        Some(doing) => is_done(exec, doing, rest),
+        None => session_step(exec, step),
+    }
+}
+
+// Whether a step holds. None where it is no step.
+fn held<D: Disk + Drop, A: Allocator + Copy>(exec: &mut Exec<D, A>, step: &str) -> Option<bool> {
+    let (word, rest) = parted(step);
+    match sight_of(word) {
+        Some(sight) => is_seen(exec, sight, rest),
+        None => changing_step(exec, step),
+    }
+}
+
+/// Whether a line is a step that holds.
+pub fn step_holds<D: Disk + Drop, A: Allocator + Copy>(exec: &mut Exec<D, A>, step: &str) -> bool {
+    held(exec, step) == Some(true)
+}
+
+// Whether a line is to be played.
+fn is_played(line: &str) -> bool {
+    !line.is_empty() && !line.starts_with("#")
+}
+
+/// Plays a script on a device, up to a step that does not hold. How many steps it has.
+pub fn play<'s, D: Disk + Drop, A: Allocator + Copy>(
+    exec: &mut Exec<D, A>,
+    script: &'s str,
+) -> Result<u32, StepFault<'s>> {
+    let mut line = 0u32;
+    let mut steps = 0u32;
+    for step in script.lines() {
+        line = line.saturating_add(1);
+        if is_played(step) {
+            if !step_holds(exec, step) {
+                return Err(StepFault { line, step });
+            }
+            steps = steps.saturating_add(1);
+        }
+    }
+    Ok(steps)
+}
