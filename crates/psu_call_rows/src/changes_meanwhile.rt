@@ -86,7 +86,7 @@ fn flush_both<D: Disk + Drop, A: Allocator + Copy>(
     !done
 }
 
-// Two changes whose job may break the store. Whether it does; then a third is refused, and made once the store is opened again.
+// Two changes, the first of which may break the store. Whether it does; then a third is refused, and made once the store is opened again.
 fn go_on<D: Disk + Drop, A: Allocator + Copy>(
     rt: &impl Abort,
     exec: &mut Exec<D, A>,
@@ -101,16 +101,36 @@ fn go_on<D: Disk + Drop, A: Allocator + Copy>(
     true
 }
 
-// Whether a store holds these items, and a device that is powered on with it has their contents.
+// The items that a device keeps.
+fn kept<D: Disk, A: Allocator + Copy>(rt: &impl Abort, alloc: A, exec: &Exec<D, A>) -> Items<A> {
+    exec.contents()
+        .encode_items(alloc)
+        .ok()
+        .expect(rt, "memory")
+}
+
+// Whether a device keeps these items.
+fn keeps<D: Disk + Drop, A: Allocator + Copy>(
+    rt: &impl Abort,
+    alloc: A,
+    exec: Exec<D, A>,
+    items: &Items<A>,
+) -> bool {
+    let same = kept(rt, alloc, &exec).is_same(items);
+    whole(rt, exec);
+    same
+}
+
+// Whether a store holds these items, and a device that is powered on with it keeps them.
 fn has<D: Disk + Drop, A: Allocator + Copy>(
+    rt: &impl Abort,
     alloc: A,
     store: Store<D, A>,
     items: &Items<A>,
-) -> Option<bool> {
+) -> bool {
     let held = store.items().is_same(items);
-    let exec = Exec::power_on(alloc, store).ok()?;
-    let again = exec.contents().encode_items(alloc).ok()?;
-    Some(held && again.is_same(items))
+    let exec = Exec::power_on(alloc, store).ok().expect(rt, "a device");
+    keeps(rt, alloc, exec, items) && held
 }
 
 // What a loss of power leaves of a disk: what was synced.
@@ -125,10 +145,10 @@ fn is_found<A: Allocator + Copy>(
     rt: &impl Abort,
     alloc: A,
     exec: Exec<FailingDisk<MemDisk<A>>, A>,
-) -> Option<bool> {
-    let items = exec.contents().encode_items(alloc).ok()?;
-    let store = opened(alloc, lost(whole(rt, exec)))?;
-    has(alloc, store, &items)
+) -> bool {
+    let items = kept(rt, alloc, &exec);
+    let disk = lost(whole(rt, exec));
+    has(rt, alloc, opened(rt, alloc, disk), &items)
 }
 
 // Whether the second of two changes is refused; a restart then finds all that was done.
@@ -140,8 +160,7 @@ fn is_second_refused<A: Allocator + Copy>(
 ) -> bool {
     let mut exec = failing_after(rt, alloc, 1_000);
     let refused = flush_both(rt, &mut exec, first, second);
-    let found = is_found(rt, alloc, exec) == Some(true);
-    holds(rt, found, &(first, second));
+    holds(rt, is_found(rt, alloc, exec), &(first, second));
     refused
 }
 
@@ -176,10 +195,10 @@ fn is_broken<A: Allocator + Copy>(
 ) -> bool {
     let mut exec = failing_after(rt, alloc, calls);
     if !go_on(rt, &mut exec, first, second) {
+        whole(rt, exec);
         return false;
     }
-    let found = is_found(rt, alloc, exec) == Some(true);
-    holds(rt, found, &(calls, first, second));
+    holds(rt, is_found(rt, alloc, exec), &(calls, first, second));
     true
 }
 

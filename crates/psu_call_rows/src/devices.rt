@@ -1,12 +1,11 @@
 // Devices whose disks fail: stores that break, losses of power in a job, and a store that does not power on.
 use crate::holds::holds;
-use crate::plays::{LEAST, device_with, disk_after, image_of, plays};
-use crate::stores::{assigned, opened, stored};
-use psu_call_steps::image;
+use crate::plays::{LEAST, device_with, disk_after, image_of, played, whole};
+use crate::stores::{assign, opened, stored};
 use psu_disk::{Choice, Disk, FailingDisk, MemDisk};
-use psu_exec::{Ended, Exec, PowerCause};
-use psu_items::Store;
-use std::alloc::Allocator;
+use psu_exec::{Ended, Exec, PowerCause, PowerFault};
+use psu_items::{Batch, Store};
+use std::alloc::{Allocator, Global};
 use std::process::Abort;
 
 // A session waits for a job that does not fail.
@@ -15,7 +14,7 @@ const FLUSHED: &str = "open 1
 1: *OPC? -> parked
 flush 1
 whole
-1 settles -> 1
+1 settles 1
 flush
 flush
 flush
@@ -27,7 +26,7 @@ const BROKEN: &str = "open 1
 1: *OPC? -> parked
 flush 1
 broken
-1 settles -> error
+1 settles error
 1: *OPC? -> error
 1: *SRE 4 -> error
 1: *PSC? -> 0
@@ -45,8 +44,7 @@ fn flushed<A: Allocator + Copy>(rt: &impl Abort, alloc: A, passes: u64) -> MemDi
 
 // A restart finds what was flushed.
 fn is_flushed_after<A: Allocator + Copy>(rt: &impl Abort, alloc: A, passes: u64) {
-    let disk = flushed(rt, alloc, passes);
-    plays(rt, &mut device_with(rt, alloc, disk), "keeps 0 0");
+    disk_after(rt, alloc, flushed(rt, alloc, passes), "keeps 0 0");
 }
 
 // Each call of a commit that fails breaks the store, until it is opened again.
@@ -58,31 +56,33 @@ fn a_broken_store_is_opened_again(rt: HostRuntime) {
 }
 
 // A store whose enables' item has one byte in place of two.
-fn bad_items<A: Allocator + Copy>(alloc: A) -> Option<Store<MemDisk<A>, A>> {
-    let store = opened(alloc, image(alloc, LEAST)?)?;
-    stored(alloc, store, assigned(alloc, &[1], &[36])?)
+fn bad_items(rt: &impl Abort, alloc: Global) -> Store<MemDisk<Global>, Global> {
+    let mut batch = Batch::new(alloc);
+    assign(rt, alloc, &mut batch, &[1], &[36]);
+    let store = opened(rt, alloc, image_of(rt, alloc, LEAST));
+    opened(rt, alloc, stored(rt, alloc, store, batch))
 }
 
 // Why a device is not powered on with a store.
 fn refusal<D: Disk + Drop, A: Allocator + Copy>(
+    rt: &impl Abort,
     alloc: A,
     store: Store<D, A>,
-) -> Option<PowerCause> {
+) -> PowerCause {
     match Exec::power_on(alloc, store) {
-        Ok(_) => None,
-        Err(fault) => Some(fault.cause),
+        Ok(_) => panic!(rt; "a device"),
+        Err(PowerFault { cause, store }) => {
+            store.into_disk();
+            cause
+        }
     }
-}
-
-// Why it is not with those items.
-fn refusal_of_bad_items<A: Allocator + Copy>(alloc: A) -> Option<PowerCause> {
-    refusal(alloc, bad_items(alloc)?)
 }
 
 // No contents have such an item.
 #[test]
 fn bad_items_do_not_power_on(rt: HostRuntime) {
-    assert!(rt; refusal_of_bad_items(rt.alloc()) == Some(PowerCause::BadItems));
+    let cause = refusal(&rt, rt.alloc(), bad_items(&rt, rt.alloc()));
+    assert!(rt; cause == PowerCause::BadItems);
 }
 
 // The change of one job.
@@ -92,58 +92,47 @@ unflushed
 flush";
 
 // The disk of a device that ends with no job out.
-fn disk_of<D: Disk + Drop, A: Allocator + Copy>(ended: Ended<D, A>) -> Option<D> {
-    match ended {
-        Ended::Whole(store) => Some(store.into_disk()),
-        Ended::Failed(broken) => Some(broken.into_disk()),
-        Ended::Out(_) => None,
+fn disk_of<D: Disk + Drop, A: Allocator + Copy>(rt: &impl Abort, exec: Exec<D, A>) -> D {
+    match exec.end() {
+        Ended::Whole(store) => store.into_disk(),
+        Ended::Failed(broken) => broken.into_disk(),
+        Ended::Out(_) => panic!(rt; "a job is out"),
     }
 }
 
-// The disk once a device has run that job on a store.
-fn left_by<D: Disk + Drop, A: Allocator + Copy>(
-    rt: &impl Abort,
-    alloc: A,
-    store: Store<D, A>,
-) -> Option<D> {
-    let mut exec = Exec::power_on(alloc, store).ok()?;
-    plays(rt, &mut exec, ONE_CHANGE);
-    disk_of(exec.end())
-}
-
-// What is left of a disk that stops after so many calls, and then loses power with these bytes; none where it stops before it is opened.
+// What is left of a disk that stops after so many calls, the first of which open it, and that then loses power with these bytes.
 fn left_after<A: Allocator + Copy>(
     rt: &impl Abort,
     alloc: A,
     passes: u64,
     choice: Choice,
-) -> Option<MemDisk<A>> {
+) -> MemDisk<A> {
     let disk = FailingDisk::from_then_on(image_of(rt, alloc, LEAST), passes);
-    let store = opened(alloc, disk)?;
-    let mut disk = left_by(rt, alloc, store)
-        .expect(rt, "no job out")
-        .into_inner();
+    let exec = played(rt, alloc, disk, ONE_CHANGE);
+    let mut disk = disk_of(rt, exec).into_inner();
     disk.lose(choice);
-    Some(disk)
+    disk
 }
 
-// Whether a restart finds the contents before the job or its target.
-fn has_either<D: Disk + Drop, A: Allocator + Copy>(rt: &impl Abort, alloc: A, disk: D) -> bool {
-    let exec = device_with(rt, alloc, disk);
-    matches!(exec.contents().enables(), None | Some((0, 0)))
+// Whether a device keeps what was before the job, or its target.
+fn has_either<D: Disk, A: Allocator + Copy>(exec: &Exec<D, A>) -> bool {
+    match exec.contents().enables() {
+        None => true,
+        Some(enables) => enables == (0, 0),
+    }
 }
 
-// The same where power is lost after so many calls with these bytes.
+// Whether a restart finds either, where power is lost after so many calls with these bytes.
 fn leaves_either<A: Allocator + Copy>(
     rt: &impl Abort,
     alloc: A,
     passes: u64,
     choice: Choice,
 ) -> bool {
-    match left_after(rt, alloc, passes, choice) {
-        Some(disk) => has_either(rt, alloc, disk),
-        None => true,
-    }
+    let exec = device_with(rt, alloc, left_after(rt, alloc, passes, choice));
+    let is_so = has_either(&exec);
+    whole(rt, exec);
+    is_so
 }
 
 // Power is lost after each disk call of a job, with the bytes of the last sync, those written, or any: a restart finds the contents

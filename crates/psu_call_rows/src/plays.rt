@@ -80,5 +80,6 @@ pub fn ends<D: Disk + Drop, A: Allocator + Copy>(
     job: Job<D, A>,
     over: &str,
 ) {
-    assert!(rt; is_over(exec, job.run(), over) == Some(true));
+    let is_so = is_over(exec, job.run(), over);
+    assert!(rt; is_so);
 }

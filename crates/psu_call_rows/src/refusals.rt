@@ -3,7 +3,7 @@ ghost use Rattle.std.specs.Prelude.{◌≡◌, true};
 ghost use Rattle.psu_exec.specs.Device.{is_open};
 
 use crate::holds::holds;
-use crate::plays::{LEAST, ends, image_of, played, plays};
+use crate::plays::{LEAST, ends, image_of, played, plays, whole};
 use bumpalo::Bump;
 use psu_disk::Disk;
 use psu_exec::{Exec, Job, NoJob, Outcome, ScpiError, Session};
@@ -18,15 +18,15 @@ const WAITING: &str = "open 1
 // What holds where memory was refused for a job: nothing has changed.
 const AS_BEFORE: &str = "whole
 unflushed
-1 settles -> parked";
+1 settles parked";
 
 // With memory a job is taken, and its end answers the wait.
 const FLUSHES: &str = "flush 1
-1 settles -> 1";
+1 settles 1";
 
 // A wait that is over is answered once.
-const ANSWERED: &str = "1 settles -> 1
-1 settles -> done";
+const ANSWERED: &str = "1 settles 1
+1 settles done";
 
 fn arena<A: Allocator>(rt: &impl Abort, alloc: A) -> Bump<A> {
     Bump::try_with_capacity(alloc, 20_000)
@@ -54,7 +54,7 @@ fn answers<D: Disk + Drop, B: Allocator + Copy, A: Allocator>(
 ) {
     arena.set_allocation_limit(None);
     ends(rt, exec, job, "1");
-    plays(rt, exec, "1 settles -> 1");
+    plays(rt, exec, "1 settles 1");
 }
 
 // Whether a job is taken, whose end then answers the wait; else memory was refused for it.
@@ -76,7 +76,7 @@ fn is_taken<D: Disk + Drop, B: Allocator + Copy, A: Allocator>(
 }
 
 // Whether a take with so much of the device's memory is refused; then another is not.
-fn is_refused_with<D: Disk + Drop, B: Allocator + Copy, A: Allocator>(
+fn is_refused_of<D: Disk + Drop, B: Allocator + Copy, A: Allocator>(
     rt: &impl Abort,
     arena: &Bump<A>,
     exec: &mut Exec<D, B>,
@@ -92,6 +92,18 @@ fn is_refused_with<D: Disk + Drop, B: Allocator + Copy, A: Allocator>(
     true
 }
 
+// The same of a device, which then ends.
+fn is_refused_with<D: Disk + Drop, B: Allocator + Copy, A: Allocator>(
+    rt: &impl Abort,
+    arena: &Bump<A>,
+    mut exec: Exec<D, B>,
+    left: usize,
+) -> bool {
+    let refused = is_refused_of(rt, arena, &mut exec, left);
+    whole(rt, exec);
+    refused
+}
+
 // The same on a device of its own, whose memory is the arena's.
 fn is_refused_in<A: Allocator + Copy>(
     rt: &impl Abort,
@@ -99,8 +111,8 @@ fn is_refused_in<A: Allocator + Copy>(
     arena: &Bump<A>,
     left: usize,
 ) -> bool {
-    let mut exec = played(rt, arena, image_of(rt, alloc, LEAST), WAITING);
-    is_refused_with(rt, arena, &mut exec, left)
+    let exec = played(rt, arena, image_of(rt, alloc, LEAST), WAITING);
+    is_refused_with(rt, arena, exec, left)
 }
 
 // The same in an arena of its own.
@@ -152,10 +164,20 @@ fn stays_over<D: Disk + Drop, B: Allocator + Copy, A: Allocator>(
     plays(rt, exec, ANSWERED);
 }
 
+// The same of a device, which then ends.
+fn stays_over_with<D: Disk + Drop, B: Allocator + Copy, A: Allocator>(
+    rt: &impl Abort,
+    arena: &Bump<A>,
+    mut exec: Exec<D, B>,
+) {
+    stays_over(rt, arena, &mut exec);
+    whole(rt, exec);
+}
+
 // The same on a device of its own, whose memory is the arena's.
 fn stays_over_in<A: Allocator + Copy>(rt: &impl Abort, alloc: A, arena: &Bump<A>) {
-    let mut exec = played(rt, arena, image_of(rt, alloc, LEAST), WAITING);
-    stays_over(rt, arena, &mut exec);
+    let exec = played(rt, arena, image_of(rt, alloc, LEAST), WAITING);
+    stays_over_with(rt, arena, exec);
 }
 
 // A wait that is over stays so while there is no memory for its answer.

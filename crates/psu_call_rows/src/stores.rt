@@ -1,19 +1,24 @@
-// Stores for an execution: one that an opening gives, and one with items of a row. None where something hinders it.
+// Stores for an execution: one that an opening gives, and one with items of a row.
 ghost use Rattle.std.specs.Prelude.{IsTrue};
 ghost use Rattle.psu_map.specs.Batch.{changed};
 ghost use Rattle.psu_map.specs.Capacity.{CanHold, Fits};
 
 use psu_disk::Disk;
 use psu_items::{Batch, Commit, Items, Pair, Store, Value};
-use std::alloc::Allocator;
+use std::alloc::{Allocator, Global};
+use std::process::Abort;
 
 /// The store that an opening gives.
-pub fn opened<D: Disk + Drop, A: Allocator + Copy>(alloc: A, disk: D) -> Option<Store<D, A>> {
-    Store::open(alloc, disk).ok()
+pub fn opened<D: Disk + Drop, A: Allocator + Copy>(
+    rt: &impl Abort,
+    alloc: A,
+    disk: D,
+) -> Store<D, A> {
+    Store::open(alloc, disk).ok().expect(rt, "a store")
 }
 
 // Whether an image can hold an item.
-fn fits<A: Allocator + Copy>(pair: &Pair<A>) -> bool
+fn fits(pair: &Pair<Global>) -> bool
     ensures { IsTrue result → Fits pair.now }
 {
     let key = pair.key().len();
@@ -22,7 +27,7 @@ fn fits<A: Allocator + Copy>(pair: &Pair<A>) -> bool
 }
 
 // Whether an image of this limit can hold a map.
-fn can_hold<A: Allocator + Copy>(limit: u16, items: &Items<A>) -> bool
+fn can_hold(limit: u16, items: &Items<Global>) -> bool
     ensures { IsTrue result → CanHold limit items.now }
 {
     let pairs = items.pairs();
@@ -30,7 +35,7 @@ fn can_hold<A: Allocator + Copy>(limit: u16, items: &Items<A>) -> bool
 }
 
 // Whether the image of a store can hold the map after a batch.
-fn takes<D: Disk, A: Allocator + Copy>(alloc: A, store: &Store<D, A>, batch: &Batch<A>) -> bool
+fn takes<D: Disk>(alloc: Global, store: &Store<D, Global>, batch: &Batch<Global>) -> bool
     ensures { IsTrue result → CanHold store.now.limit (changed store.now.items batch.now) }
 {
     match store.items().changed(alloc, batch) {
@@ -39,26 +44,44 @@ fn takes<D: Disk, A: Allocator + Copy>(alloc: A, store: &Store<D, A>, batch: &Ba
     }
 }
 
-/// The store after a commit that nothing hinders.
-pub fn stored<D: Disk + Drop, A: Allocator + Copy>(
-    alloc: A,
-    store: Store<D, A>,
-    batch: Batch<A>,
-) -> Option<Store<D, A>> {
+/// The disk of a store after a commit that nothing hinders.
+pub fn stored<D: Disk + Drop>(
+    rt: &impl Abort,
+    alloc: Global,
+    store: Store<D, Global>,
+    batch: Batch<Global>,
+) -> D {
     if !takes(alloc, &store, &batch) {
-        return None;
+        panic!(rt; "no room");
     }
     match store.commit(alloc, batch) {
-        Commit::Stored(store) => Some(store),
-        _ => None,
+        Commit::Stored(store) => store.into_disk(),
+        _ => panic!(rt; "no commit"),
     }
 }
 
-/// A batch of one edit.
-pub fn assigned<A: Allocator + Copy>(alloc: A, key: &[u8], value: &[u8]) -> Option<Batch<A>> {
-    let mut batch = Batch::new(alloc);
-    let key = key.to_vec(alloc).ok()?;
-    let value = value.to_vec(alloc).ok()?;
-    batch.assign(key, Value::new(value).ok()?).ok()?;
-    Some(batch)
+// Bytes of their own.
+fn owned<A: Allocator + Copy>(rt: &impl Abort, alloc: A, bytes: &[u8]) -> Vec<u8, A> {
+    bytes.to_vec(alloc).ok().expect(rt, "memory")
+}
+
+/// Adds the edit by which an item has this value.
+pub fn assign<A: Allocator + Copy>(
+    rt: &impl Abort,
+    alloc: A,
+    batch: &mut Batch<A>,
+    key: &[u8],
+    value: &[u8],
+) {
+    let value = Value::new(owned(rt, alloc, value))
+        .ok()
+        .expect(rt, "memory");
+    let assigned = batch.assign(owned(rt, alloc, key), value).is_ok();
+    assert!(rt; assigned);
+}
+
+/// Adds the edit by which there is no such item.
+pub fn remove<A: Allocator + Copy>(rt: &impl Abort, alloc: A, batch: &mut Batch<A>, key: &[u8]) {
+    let removed = batch.remove(owned(rt, alloc, key)).is_ok();
+    assert!(rt; removed);
 }

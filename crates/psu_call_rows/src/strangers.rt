@@ -49,26 +49,26 @@ fn are_strangers<D: Disk + Drop, A: Allocator + Copy>(
 ) {
     let strange = taken(rt, other).run();
     let finished = handed_back(rt, exec, strange);
-    assert!(rt; is_over(other, finished, "") == Some(true));
+    assert!(rt; is_over(other, finished, ""));
     assert!(rt; exec.is_flushed() && other.is_flushed());
 }
 
-// The same of a device and another that has played a script on a disk.
-fn is_strange<D: Disk + Drop, A: Allocator + Copy>(
+// The same of two devices.
+fn both_are_strangers<D: Disk + Drop, A: Allocator + Copy>(
     rt: &impl Abort,
-    alloc: A,
     mut exec: Exec<D, A>,
-    disk: D,
-    script: &str,
+    mut other: Exec<D, A>,
 ) {
-    are_strangers(rt, &mut exec, &mut played(rt, alloc, disk, script));
+    are_strangers(rt, &mut exec, &mut other);
     whole(rt, exec);
+    whole(rt, other);
 }
 
 // The same of a device on an image of this limit with one change, and another on an image of the least size that has played a script.
 fn are_so<A: Allocator + Copy>(rt: &impl Abort, alloc: A, limit: u16, script: &str) {
     let exec = played(rt, alloc, image_of(rt, alloc, limit), ONE);
-    is_strange(rt, alloc, exec, image_of(rt, alloc, LEAST), script);
+    let other = played(rt, alloc, image_of(rt, alloc, LEAST), script);
+    both_are_strangers(rt, exec, other);
 }
 
 // The end of another device's job with another map is handed back.

@@ -10,7 +10,7 @@ use std::process::Abort;
 // A device with a session that holds a lock, and with changes that are not flushed.
 const BEGUN: &str = "open 1
 1: *SRE 4 -> done
-1 locks at 0 for 0 -> granted
+1 locks granted at 0 for 0
 1: *PSC 0 -> done";
 
 // What is not so of it, one after another.
@@ -21,25 +21,25 @@ const UNTRUE: &str = "1: *PSC? -> 1
 17: *IDN? -> EXAMPLE,PSU4,0,1.0
 *IDN?
 1 sends
-1 settles -> 1
-2 settles -> done
+1 settles 1
+2 settles done
 2 sent
 1 asks 68
 1 polls 4
-news 1; work
-news none; rest
+work 1
+rest
 flushed
 broken
 keeps 4 1
 keeps 0 0
 locks shared 1
 locks exclusive 2
-tick 0 fails 1; next none
-tick 0 fails; next 10
-1 locks at 0 for 0 -> granted
+tick 0 fails 1
+next 10
+1 locks granted at 0 for 0
 open 3
 2 shares
-1 releases exclusive; granted 2
+1 releases exclusive 2
 1 releases exclusive
 full
 1 does *PSC 0;FOO
@@ -50,7 +50,7 @@ unflushed
 flush 1
 1: *PSC 1 -> error
 idle
-1 closes and grants 4";
+1 closes 4";
 
 fn are_refused<D: Disk + Drop, A: Allocator + Copy>(rt: &impl Abort, exec: &mut Exec<D, A>) {
     for line in UNTRUE.lines() {
@@ -59,7 +59,9 @@ fn are_refused<D: Disk + Drop, A: Allocator + Copy>(rt: &impl Abort, exec: &mut 
 }
 
 fn are_refused_on<A: Allocator + Copy>(rt: &impl Abort, alloc: A) {
-    are_refused(rt, &mut played(rt, alloc, image_of(rt, alloc, 256), BEGUN));
+    let mut exec = played(rt, alloc, image_of(rt, alloc, 256), BEGUN);
+    are_refused(rt, &mut exec);
+    drop(exec);
 }
 
 #[test]

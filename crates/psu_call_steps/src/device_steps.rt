@@ -1,7 +1,6 @@
 // What a device does, by the word of its step: sessions that open, jobs, news and moments.
 use crate::job_steps::{beside, flushes, takes_none};
-use crate::lock_steps::ticks;
-use crate::words::{are, byte};
+use crate::words::are;
 use psu_disk::Disk;
 use psu_exec::{Exec, NoJob};
 use std::alloc::Allocator;
@@ -14,8 +13,9 @@ pub enum Doing {
     Flush,
     Beside,
     Idle,
-    News,
     Tick,
+    Work,
+    Rest,
 }
 
 /// What a word stands for.
@@ -26,23 +26,38 @@ pub fn doing_of(word: &str) -> Option<Doing> {
         "flush" => Some(Doing::Flush),
         "beside" => Some(Doing::Beside),
         "idle" => Some(Doing::Idle),
-        "news" => Some(Doing::News),
         "tick" => Some(Doing::Tick),
+        "work" => Some(Doing::Work),
+        "rest" => Some(Doing::Rest),
         _ => None,
     }
 }
 
 // Whether a session opens that has this number.
-fn opens<D: Disk, A: Allocator + Copy>(exec: &mut Exec<D, A>, wanted: &str) -> Option<bool> {
-    let session = exec.open_session().ok()?;
-    Some(session.number() == byte(wanted)?)
+fn opens<D: Disk, A: Allocator + Copy>(exec: &mut Exec<D, A>, wanted: &str) -> bool {
+    match exec.open_session() {
+        Ok(session) => wanted.parse() == Ok(session.number()),
+        Err(_) => false,
+    }
 }
 
-// Whether the news are these: `1 2; work`.
-fn has_news<D: Disk, A: Allocator + Copy>(exec: &mut Exec<D, A>, wanted: &str) -> Option<bool> {
-    let (sessions, work) = wanted.split_once("; ")?;
+// Whether these sessions asked for service since, and there is something to flush or not.
+fn has_news<D: Disk, A: Allocator + Copy>(
+    exec: &mut Exec<D, A>,
+    wanted: &str,
+    has_work: bool,
+) -> bool {
     let (asking, more) = exec.news();
-    Some(are(&asking, sessions.trim_start_matches("none"))? && more == (work == "work"))
+    are(&asking, wanted) && more == has_work
+}
+
+// A moment: `20 fails 2`.
+fn ticks<D: Disk, A: Allocator + Copy>(exec: &mut Exec<D, A>, wanted: &str) -> bool {
+    let (now, failed) = wanted.split_once(" fails").unwrap_or((wanted, ""));
+    match now.parse() {
+        Ok(now) => are(&exec.tick(now), failed),
+        Err(_) => false,
+    }
 }
 
 /// Whether what a device does comes to what its step says.
@@ -50,14 +65,15 @@ pub fn is_done<D: Disk + Drop, A: Allocator + Copy>(
     exec: &mut Exec<D, A>,
     doing: Doing,
     rest: &str,
-) -> Option<bool> {
+) -> bool {
     match doing {
         Doing::Opens => opens(exec, rest),
-        Doing::Full => Some(exec.open_session().is_err()),
+        Doing::Full => exec.open_session().is_err(),
         Doing::Flush => flushes(exec, rest),
-        Doing::Beside => beside(exec, rest),
-        Doing::Idle => Some(takes_none(exec, NoJob::Nothing)),
-        Doing::News => has_news(exec, rest),
+        Doing::Beside => beside(exec, rest) == Some(true),
+        Doing::Idle => takes_none(exec, NoJob::Nothing),
         Doing::Tick => ticks(exec, rest),
+        Doing::Work => has_news(exec, rest, true),
+        Doing::Rest => has_news(exec, rest, false),
     }
 }

@@ -5,23 +5,23 @@ use psu_disk::Disk;
 use psu_exec::{Exec, Finished, NoJob};
 use std::alloc::Allocator;
 
-/// Whether the waits of these sessions are over by the end of a job; none where the device does not expect that end.
+/// Whether a device expects the end of a job, by which the waits of these sessions are over.
 pub fn is_over<D: Disk + Drop, A: Allocator + Copy>(
     exec: &mut Exec<D, A>,
     finished: Finished<D, A>,
     wanted: &str,
-) -> Option<bool> {
-    are(&exec.give_back(finished).ok()?, wanted)
+) -> bool {
+    match exec.give_back(finished) {
+        Ok(sessions) => are(&sessions, wanted),
+        Err(_) => false,
+    }
 }
 
 /// Whether the waits of these sessions are over by one job, or there is nothing to do and none is written.
-pub fn flushes<D: Disk + Drop, A: Allocator + Copy>(
-    exec: &mut Exec<D, A>,
-    wanted: &str,
-) -> Option<bool> {
+pub fn flushes<D: Disk + Drop, A: Allocator + Copy>(exec: &mut Exec<D, A>, wanted: &str) -> bool {
     match exec.take() {
         Ok(job) => is_over(exec, job.run(), wanted),
-        Err(cause) => Some(cause == NoJob::Nothing && wanted.is_empty()),
+        Err(cause) => cause == NoJob::Nothing && wanted.is_empty(),
     }
 }
 
@@ -31,7 +31,10 @@ pub fn takes_none<D: Disk + Drop, A: Allocator + Copy>(
     wanted: NoJob,
 ) -> bool {
     match exec.take() {
-        Ok(_) => false,
+        Ok(job) => {
+            drop(job);
+            false
+        }
         Err(cause) => cause == wanted,
     }
 }
@@ -39,7 +42,7 @@ pub fn takes_none<D: Disk + Drop, A: Allocator + Copy>(
 // Whether these steps of sessions hold while a job is out, and no other is taken.
 fn are_beside<D: Disk + Drop, A: Allocator + Copy>(exec: &mut Exec<D, A>, steps: &str) -> bool {
     for step in steps.split("; ") {
-        if session_step(exec, step) != Some(true) {
+        if !session_step(exec, step) {
             return false;
         }
     }
@@ -52,10 +55,13 @@ pub fn beside<D: Disk + Drop, A: Allocator + Copy>(
     exec: &mut Exec<D, A>,
     steps: &str,
 ) -> Option<bool> {
-    let job = exec.take().ok()?;
-    let held = are_beside(exec, steps);
-    if is_over(exec, job.run(), "") != Some(true) {
+    let Ok(job) = exec.take() else {
         return None;
+    };
+    let held = are_beside(exec, steps);
+    if is_over(exec, job.run(), "") {
+        Some(held)
+    } else {
+        None
     }
-    Some(held)
 }

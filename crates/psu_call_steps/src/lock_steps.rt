@@ -1,8 +1,8 @@
-// What a session that is open does with locks, and its end, by the word of its step; the deadlines of locks.
+// What a session that is open does with locks, and its end, by the word of its step.
 ghost use Rattle.std.specs.Prelude.{◌≡◌, true};
 ghost use Rattle.psu_exec.specs.Device.{is_open};
 
-use crate::words::{are, number};
+use crate::words::{are, parted};
 use psu_disk::Disk;
 use psu_exec::{Exec, Freed, Grant, Kind, LockRefusal, LockString, Session};
 use std::alloc::Allocator;
@@ -34,8 +34,8 @@ fn called(granted: Result<Grant, LockRefusal>) -> &'static str {
         Ok(Grant::Queued) => "queued",
         Ok(Grant::Failed) => "failed",
         Err(LockRefusal::Waiting) => "waiting",
-        Err(LockRefusal::AlreadyHeld) => "held already",
-        Err(LockRefusal::NotHeld) => "not held",
+        Err(LockRefusal::AlreadyHeld) => "held",
+        Err(LockRefusal::NotHeld) => "not-held",
     }
 }
 
@@ -49,55 +49,54 @@ fn freed_as(freed: Freed) -> &'static str {
 
 // A moment and how long a request waits: `at 0 for 10`.
 fn moment_and_wait(asked: &str) -> Option<(u64, u32)> {
-    let (now, wait) = asked.trim_start_matches("at ").split_once(" for ")?;
-    Some((u64::from(number(now)?), number(wait)?))
+    let (now, wait) = asked.strip_prefix("at ")?.split_once(" for ")?;
+    Some((now.parse().ok()?, wait.parse().ok()?))
 }
 
-// The exclusive lock, asked for at a moment: `at 0 for 10 -> queued`.
-fn locks<D: Disk, A: Allocator + Copy>(
-    exec: &mut Exec<D, A>,
-    session: Session,
-    doing: &str,
-) -> Option<bool>
+// The exclusive lock, asked for at a moment: `queued at 0 for 10`.
+fn locks<D: Disk, A: Allocator + Copy>(exec: &mut Exec<D, A>, session: Session, doing: &str) -> bool
     requires { is_open exec.old.device session ≡ true }
 {
-    let (asked, wanted) = doing.split_once(" -> ")?;
-    let (now, wait) = moment_and_wait(asked)?;
-    Some(called(exec.lock(session, Kind::Exclusive, now, wait)) == wanted)
+    let (wanted, asked) = parted(doing);
+    match moment_and_wait(asked) {
+        Some((now, wait)) => called(exec.lock(session, Kind::Exclusive, now, wait)) == wanted,
+        None => false,
+    }
 }
 
 // The shared lock under `k`.
-fn shares<D: Disk, A: Allocator + Copy>(exec: &mut Exec<D, A>, session: Session) -> Option<bool>
+fn shares<D: Disk, A: Allocator + Copy>(exec: &mut Exec<D, A>, session: Session) -> bool
     requires { is_open exec.old.device session ≡ true }
 {
-    let kind = Kind::Shared(LockString::new(b"k".as_slice())?);
-    Some(called(exec.lock(session, kind, 0, 0)) == "granted")
+    match LockString::new(b"k".as_slice()) {
+        Some(string) => called(exec.lock(session, Kind::Shared(string), 0, 0)) == "granted",
+        None => false,
+    }
 }
 
-// A lock that is given up: `exclusive; granted 3`, or `nothing`.
+// A lock that is given up: `exclusive 3`, or `nothing`.
 fn releases<D: Disk, A: Allocator + Copy>(
     exec: &mut Exec<D, A>,
     session: Session,
     wanted: &str,
-) -> Option<bool>
+) -> bool
     requires { is_open exec.old.device session ≡ true }
 {
-    let (what, granted) = wanted.split_once("; granted ").unwrap_or((wanted, ""));
+    let (what, granted) = parted(wanted);
     match exec.release(session) {
-        Ok((freed, sessions)) => Some(freed_as(freed) == what && are(&sessions, granted)?),
-        Err(_) => Some(what == "nothing"),
+        Ok((freed, sessions)) => freed_as(freed) == what && are(&sessions, granted),
+        Err(_) => what == "nothing",
     }
 }
 
-// The end of a session: `and grants 4`, or nothing.
+// The end of a session, by which these are granted a lock.
 fn closes<D: Disk, A: Allocator + Copy>(
     exec: &mut Exec<D, A>,
     session: Session,
-    wanted: &str,
-) -> Option<bool>
+    granted: &str,
+) -> bool
     requires { is_open exec.old.device session ≡ true }
 {
-    let granted = wanted.strip_prefix("and grants ").unwrap_or(wanted);
     are(&exec.close_session(session), granted)
 }
 
@@ -107,7 +106,7 @@ pub fn is_locked<D: Disk, A: Allocator + Copy>(
     session: Session,
     deed: LockDeed,
     rest: &str,
-) -> Option<bool>
+) -> bool
     requires { is_open exec.old.device session ≡ true }
 {
     match deed {
@@ -116,21 +115,4 @@ pub fn is_locked<D: Disk, A: Allocator + Copy>(
         LockDeed::Releases => releases(exec, session, rest),
         LockDeed::Closes => closes(exec, session, rest),
     }
-}
-
-// Whether the next deadline is the one that is written, or `none`.
-fn is_due<D: Disk, A: Allocator + Copy>(exec: &Exec<D, A>, wanted: &str) -> Option<bool> {
-    let due = exec.next_deadline();
-    if wanted == "none" {
-        return Some(due.is_none());
-    }
-    Some(due == Some(u128::from(number(wanted)?)))
-}
-
-/// A moment: `20 fails 2; next 30`.
-pub fn ticks<D: Disk, A: Allocator + Copy>(exec: &mut Exec<D, A>, wanted: &str) -> Option<bool> {
-    let (now, rest) = wanted.split_once(" fails")?;
-    let (failed, due) = rest.split_once("; next ")?;
-    let sessions = exec.tick(u64::from(number(now)?));
-    Some(are(&sessions, failed)? && is_due(exec, due)?)
 }

@@ -14,11 +14,8 @@ pub struct StepFault<'s> {
     pub step: &'s str,
 }
 
-// What the device does, or a session. None where it is no step.
-fn changing_step<D: Disk + Drop, A: Allocator + Copy>(
-    exec: &mut Exec<D, A>,
-    step: &str,
-) -> Option<bool> {
+// Whether what the device does holds, or what a session does.
+fn changing_step<D: Disk + Drop, A: Allocator + Copy>(exec: &mut Exec<D, A>, step: &str) -> bool {
     let (word, rest) = parted(step);
     match doing_of(word) {
         Some(doing) => is_done(exec, doing, rest),
@@ -26,18 +23,13 @@ fn changing_step<D: Disk + Drop, A: Allocator + Copy>(
     }
 }
 
-// Whether a step holds. None where it is no step.
-fn held<D: Disk + Drop, A: Allocator + Copy>(exec: &mut Exec<D, A>, step: &str) -> Option<bool> {
+/// Whether a line is a step that holds.
+pub fn step_holds<D: Disk + Drop, A: Allocator + Copy>(exec: &mut Exec<D, A>, step: &str) -> bool {
     let (word, rest) = parted(step);
     match sight_of(word) {
         Some(sight) => is_seen(exec, sight, rest),
         None => changing_step(exec, step),
     }
-}
-
-/// Whether a line is a step that holds.
-pub fn step_holds<D: Disk + Drop, A: Allocator + Copy>(exec: &mut Exec<D, A>, step: &str) -> bool {
-    held(exec, step) == Some(true)
 }
 
 // Whether a line is to be played.

@@ -3,7 +3,6 @@ ghost use Rattle.std.specs.Prelude.{◌≡◌, true};
 ghost use Rattle.psu_exec.specs.Device.{is_open};
 
 use crate::unit_steps::{are_done, fills, settles};
-use crate::words::byte;
 use psu_disk::Disk;
 use psu_exec::{Exec, Session};
 use std::alloc::Allocator;
@@ -36,19 +35,14 @@ pub fn deed_of(word: &str) -> Option<Deed> {
     }
 }
 
-// Whether this is the request for service that goes out now.
-fn asks<D: Disk, A: Allocator + Copy>(
-    exec: &mut Exec<D, A>,
-    session: Session,
-    wanted: &str,
-) -> Option<bool>
+// Whether this is the request for service that goes out now: a status byte, or `nothing`.
+fn asks<D: Disk, A: Allocator + Copy>(exec: &mut Exec<D, A>, session: Session, wanted: &str) -> bool
     requires { is_open exec.old.device session ≡ true }
 {
-    let asked = exec.requests(session);
-    if wanted == "nothing" {
-        return Some(asked.is_none());
+    match exec.requests(session) {
+        Some(status) => wanted.parse() == Ok(status),
+        None => wanted == "nothing",
     }
-    Some(asked == Some(byte(wanted)?))
 }
 
 // Whether this is the status byte of a status query.
@@ -56,11 +50,10 @@ fn polls<D: Disk, A: Allocator + Copy>(
     exec: &mut Exec<D, A>,
     session: Session,
     wanted: &str,
-) -> Option<bool>
+) -> bool
     requires { is_open exec.old.device session ≡ true }
 {
-    let status = exec.status(session);
-    Some(status == byte(wanted)?)
+    wanted.parse() == Ok(exec.status(session))
 }
 
 /// Whether what a session that is open does comes to what its step says.
@@ -69,18 +62,18 @@ pub fn is_served<D: Disk, A: Allocator + Copy>(
     session: Session,
     deed: Deed,
     rest: &str,
-) -> Option<bool>
+) -> bool
     requires { is_open exec.old.device session ≡ true }
 {
     match deed {
-        Deed::Does => return Some(are_done(exec, session, rest)),
-        Deed::Fills => return Some(fills(exec, session, rest)),
-        Deed::Settles => return Some(settles(exec, session, rest)),
+        Deed::Does => return are_done(exec, session, rest),
+        Deed::Fills => return fills(exec, session, rest),
+        Deed::Settles => return settles(exec, session, rest),
         Deed::Asks => return asks(exec, session, rest),
         Deed::Polls => return polls(exec, session, rest),
         Deed::Sent => exec.sent(session),
         Deed::Delivered => exec.delivered(session),
         Deed::Clears => exec.clear(session),
     }
-    Some(true)
+    true
 }

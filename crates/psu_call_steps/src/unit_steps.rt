@@ -52,16 +52,28 @@ fn costs<D: Disk, A: Allocator + Copy>(exec: &Exec<D, A>, cost: &str) -> bool {
     cost.parse() == Ok(exec.contents().cost())
 }
 
-/// Whether a unit comes to what is written behind it: `*SRE 4 -> done`, `*SAV 0 -> done; costs 2`.
+// Whether a unit comes to this, and the contents then cost so much: `done; costs 2`.
+fn is_met<D: Disk, A: Allocator + Copy>(
+    exec: &mut Exec<D, A>,
+    session: Session,
+    unit: &str,
+    wanted: &str,
+) -> bool {
+    match wanted.split_once("; costs ") {
+        Some((want, cost)) => is_executed(exec, session, unit, want) && costs(exec, cost),
+        None => is_executed(exec, session, unit, wanted),
+    }
+}
+
+/// Whether a unit comes to what is written after it: `*SRE 4 -> done`, `*SAV 0 -> done; costs 2`.
 pub fn executes<D: Disk, A: Allocator + Copy>(
     exec: &mut Exec<D, A>,
     session: Session,
     doing: &str,
-) -> Option<bool> {
-    let (unit, wanted) = doing.split_once(" -> ")?;
-    match wanted.split_once("; costs ") {
-        Some((want, cost)) => Some(is_executed(exec, session, unit, want) && costs(exec, cost)),
-        None => Some(is_executed(exec, session, unit, wanted)),
+) -> bool {
+    match doing.split_once(" -> ") {
+        Some((unit, wanted)) => is_met(exec, session, unit, wanted),
+        None => false,
     }
 }
 
@@ -93,14 +105,13 @@ pub fn fills<D: Disk, A: Allocator + Copy>(
     true
 }
 
-/// Whether this comes of the wait of a session that is open: `-> 1`.
+/// Whether this comes of the wait of a session that is open.
 pub fn settles<D: Disk, A: Allocator + Copy>(
     exec: &mut Exec<D, A>,
     session: Session,
-    wanted: &str,
+    want: &str,
 ) -> bool
     requires { is_open exec.old.device session ≡ true }
 {
-    let want = wanted.trim_start_matches("-> ");
     said(&exec.settle(session)) == want.as_bytes()
 }
