@@ -5,16 +5,22 @@ use psu_disk::Disk;
 use psu_exec::{Exec, Finished, NoJob};
 use std::alloc::Allocator;
 
+// Whether the waits of these sessions are over by the end of a job. None where the device does not expect it.
+fn given_back<D: Disk + Drop, A: Allocator + Copy>(
+    exec: &mut Exec<D, A>,
+    finished: Finished<D, A>,
+    wanted: &str,
+) -> Option<bool> {
+    Some(are(&exec.give_back(finished).ok()?, wanted))
+}
+
 /// Whether a device expects the end of a job, by which the waits of these sessions are over.
 pub fn is_over<D: Disk + Drop, A: Allocator + Copy>(
     exec: &mut Exec<D, A>,
     finished: Finished<D, A>,
     wanted: &str,
 ) -> bool {
-    match exec.give_back(finished) {
-        Ok(sessions) => are(&sessions, wanted),
-        Err(_) => false,
-    }
+    given_back(exec, finished, wanted) == Some(true)
 }
 
 /// Whether the waits of these sessions are over by one job, or there is nothing to do and none is written.
