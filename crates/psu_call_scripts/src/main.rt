@@ -1,7 +1,7 @@
 //! Plays the scripts of its folder: what sessions do with a device, and what comes of it. The head of each file says what its scripts are
 //! about; `psu_call_steps` has the table of their steps.
 //!
-//! A script begins with a line `== ` and its title, and each begins on a device that is powered on with a fresh image. What stands before the
+//! A script begins with a line `== ` and its title, and each begins on a device that is powered on with a fresh image. What is before the
 //! first script, empty lines and lines that begin with `#` are not played.
 #![tactic(auto)]
 

@@ -1,7 +1,5 @@
 // Files of scripts.
-use psu_call_steps::{StepFault, image, play, powered_on};
-use psu_disk::{Disk, MemDisk};
-use psu_exec::Exec;
+use psu_call_steps::{StepFault, play_anew};
 use std::alloc::Allocator;
 
 /// How many scripts a file has, and how many steps these have.
@@ -30,31 +28,6 @@ fn lines_of(part: &str) -> u32 {
     lines
 }
 
-// A device on a fresh image.
-fn new_device<A: Allocator + Copy>(alloc: A, limit: u16) -> Option<Exec<MemDisk<A>, A>> {
-    powered_on(alloc, image(alloc, limit)?)
-}
-
-// Plays steps on a device, which then ends.
-fn play_on<D: Disk + Drop, A: Allocator + Copy>(
-    mut exec: Exec<D, A>,
-    steps: &str,
-) -> Result<u32, StepFault<'_>> {
-    play(&mut exec, steps)
-}
-
-// Plays steps on a device of their own. How many there are; 0 where there is no device.
-fn play_steps<A: Allocator + Copy>(
-    alloc: A,
-    limit: u16,
-    steps: &str,
-) -> Result<u32, StepFault<'_>> {
-    match new_device(alloc, limit) {
-        Some(exec) => play_on(exec, steps),
-        None => Ok(0),
-    }
-}
-
 // Plays a script, which begins with its title, in this line of its file. How many steps it has. Its title is what does not hold where there is no
 // step, or no device.
 fn play_script<A: Allocator + Copy>(
@@ -64,7 +37,7 @@ fn play_script<A: Allocator + Copy>(
     script: &str,
 ) -> Result<u32, StepFault<'_>> {
     let (title, steps) = script.split_once("\n").unwrap_or((script, ""));
-    match play_steps(alloc, limit, steps) {
+    match play_anew(alloc, limit, steps) {
         Ok(0) => Err(StepFault { line, step: title }),
         Ok(count) => Ok(count),
         Err(fault) => Err(StepFault {

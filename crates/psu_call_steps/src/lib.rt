@@ -46,4 +46,4 @@ mod words;
 
 pub use devices::{image, powered_on};
 pub use job_steps::{beside, is_over};
-pub use player::{StepFault, play, step_holds};
+pub use player::{StepFault, play, play_anew, step_holds};

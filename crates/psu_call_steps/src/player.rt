@@ -1,9 +1,10 @@
 // Steps that are played, one after another.
 use crate::device_steps::{doing_of, is_done};
+use crate::devices::{image, powered_on};
 use crate::session_steps::session_step;
 use crate::sights::{is_seen, sight_of};
 use crate::words::parted;
-use psu_disk::Disk;
+use psu_disk::{Disk, MemDisk};
 use psu_exec::Exec;
 use std::alloc::Allocator;
 
@@ -54,4 +55,32 @@ pub fn play<'s, D: Disk + Drop, A: Allocator + Copy>(
         }
     }
     Ok(steps)
+}
+
+// Plays a script on a device, which then ends.
+fn play_to_end<D: Disk + Drop, A: Allocator + Copy>(
+    mut exec: Exec<D, A>,
+    script: &str,
+) -> Result<u32, StepFault<'_>> {
+    let played = play(&mut exec, script);
+    drop(exec);
+    played
+}
+
+// A device that is powered on with a fresh image.
+fn new_device<A: Allocator + Copy>(alloc: A, limit: u16) -> Option<Exec<MemDisk<A>, A>> {
+    powered_on(alloc, image(alloc, limit)?)
+}
+
+/// Plays a script on a device of its own, which is powered on with a fresh image in memory, whose contents may cost so many pages. How many
+/// steps it has; 0 where no image has this limit, or memory is refused.
+pub fn play_anew<A: Allocator + Copy>(
+    alloc: A,
+    limit: u16,
+    script: &str,
+) -> Result<u32, StepFault<'_>> {
+    match new_device(alloc, limit) {
+        Some(exec) => play_to_end(exec, script),
+        None => Ok(0),
+    }
 }

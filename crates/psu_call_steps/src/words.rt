@@ -1,7 +1,7 @@
 // What is written in a step: its first word, and sessions by their numbers.
 use psu_exec::{Session, Sessions};
 
-/// The first word of a step, and what stands after it.
+/// The first word of a step, and the rest.
 pub fn parted(step: &str) -> (&str, &str) {
     step.split_once(" ").unwrap_or((step, ""))
 }
