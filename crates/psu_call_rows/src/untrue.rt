@@ -1,6 +1,6 @@
 // Steps that do not hold, and lines that are no steps: the player refuses each.
 use crate::holds::holds;
-use crate::plays::{image_of, played};
+use crate::plays::{image_of, played, whole};
 use psu_call_steps::step_holds;
 use psu_disk::Disk;
 use psu_exec::Exec;
@@ -61,7 +61,7 @@ fn are_refused<D: Disk + Drop, A: Allocator + Copy>(rt: &impl Abort, exec: &mut 
 fn are_refused_on<A: Allocator + Copy>(rt: &impl Abort, alloc: A) {
     let mut exec = played(rt, alloc, image_of(rt, alloc, 256), BEGUN);
     are_refused(rt, &mut exec);
-    drop(exec);
+    whole(rt, exec);
 }
 
 #[test]

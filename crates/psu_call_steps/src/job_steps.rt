@@ -31,14 +31,14 @@ pub fn flushes<D: Disk + Drop, A: Allocator + Copy>(exec: &mut Exec<D, A>, wante
     }
 }
 
-/// Whether no job is taken, for this cause.
+/// Whether no job is taken, for this cause. One that is taken is run and given back.
 pub fn takes_none<D: Disk + Drop, A: Allocator + Copy>(
     exec: &mut Exec<D, A>,
     wanted: NoJob,
 ) -> bool {
     match exec.take() {
         Ok(job) => {
-            drop(job);
+            is_over(exec, job.run(), "");
             false
         }
         Err(cause) => cause == wanted,
