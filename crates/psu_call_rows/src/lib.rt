@@ -1,8 +1,11 @@
-//! Tests of the calls on the execution, below the run. Expected values are worked by hand from the rules of the instrument.
+//! Tests of the calls on the execution, below the run, that need code: disks that fail, memory that is refused, counts of disk calls. What is a
+//! script of steps lies in `psu_call_scripts`. Expected values are worked by hand from the rules of the instrument.
 #![tactic(auto)]
 
 #[cfg(test)]
 mod changes_meanwhile;
+#[cfg(test)]
+mod counted;
 #[cfg(test)]
 mod counts;
 #[cfg(test)]
@@ -10,18 +13,12 @@ mod devices;
 #[cfg(test)]
 mod holds;
 #[cfg(test)]
-mod images;
-#[cfg(test)]
-mod outcomes;
+mod plays;
 #[cfg(test)]
 mod refusals;
 #[cfg(test)]
-mod sessions_bench;
-#[cfg(test)]
-mod sessions_locks;
-#[cfg(test)]
-mod sessions_script;
-#[cfg(test)]
-mod sessions_status;
-#[cfg(test)]
 mod stores;
+#[cfg(test)]
+mod strangers;
+#[cfg(test)]
+mod untrue;

@@ -1,37 +1,41 @@
-// Each allocation of a take and of a settle refused: nothing has changed, and with memory both go on.
+// Each allocation of a take and of a settle refused: nothing has changed, and with memory both continue.
+ghost use Rattle.std.specs.Prelude.{◌≡◌, true};
+ghost use Rattle.psu_exec.specs.Device.{is_open};
+
 use crate::holds::holds;
-use crate::images::least;
-use crate::sessions_bench::{gives_back, opened, powered_on_with, runs_job, say_all, settles};
+use crate::plays::{LEAST, ends, image_of, played, plays, whole};
 use bumpalo::Bump;
-use psu_disk::MemDisk;
-use psu_exec::{Condition, Exec, Job, NoJob, Outcome, ScpiError, Session};
-use std::alloc::Global;
+use psu_disk::Disk;
+use psu_exec::{Exec, Job, NoJob, Outcome, ScpiError, Session};
+use std::alloc::Allocator;
 use std::process::Abort;
 
-type Power<'a> = Exec<MemDisk<Global>, &'a Bump<Global>>;
+// A session with a change and a wait for it.
+const WAITING: &str = "open 1
+1: *PSC 0 -> done
+1: *OPC? -> parked";
 
-type Taken<'a> = Job<MemDisk<Global>, &'a Bump<Global>>;
+// What holds where memory was refused for a job: nothing has changed.
+const AS_BEFORE: &str = "whole
+unflushed
+1 settles parked";
 
-fn arena(rt: &impl Abort, alloc: Global) -> Bump<Global> {
+// With memory a job is taken, and its end answers the wait.
+const FLUSHES: &str = "flush 1
+1 settles 1";
+
+// A wait that is over is answered once.
+const ANSWERED: &str = "1 settles 1
+1 settles done";
+
+fn arena<A: Allocator>(rt: &impl Abort, alloc: A) -> Bump<A> {
     Bump::try_with_capacity(alloc, 20_000)
         .ok()
         .expect(rt, "an arena")
 }
 
-// A device whose memory is the arena's.
-fn powered_on<'a>(rt: &impl Abort, alloc: Global, arena: &'a Bump<Global>) -> Power<'a> {
-    powered_on_with(rt, arena, least(alloc).expect(rt, "a disk"))
-}
-
-// A session with a change and a wait for it.
-fn waiting<'a>(rt: &impl Abort, exec: &mut Power<'a>) -> Session {
-    let session = opened(rt, exec, 1);
-    say_all(rt, exec, session, "*PSC 0 -> done\n*OPC? -> parked");
-    session
-}
-
 // Takes the arena's memory but so many bytes.
-fn leave(rt: &impl Abort, arena: &Bump<Global>, left: usize) {
+fn leave<A: Allocator>(rt: &impl Abort, arena: &Bump<A>, left: usize) {
     arena.set_allocation_limit(Some(arena.allocated_bytes()));
     let spare = arena
         .chunk_capacity()
@@ -41,65 +45,78 @@ fn leave(rt: &impl Abort, arena: &Bump<Global>, left: usize) {
     assert!(rt; filled);
 }
 
-// What holds where memory was refused for a job: nothing has changed.
-fn is_as_before<'a>(rt: &impl Abort, exec: &mut Power<'a>, session: Session) {
-    assert!(rt; exec.condition() == Condition::Whole && !exec.is_flushed());
-    settles(rt, exec, session, "parked");
-}
-
-// Takes a job, where memory isn't refused for it; else nothing has changed.
-fn taken<'a>(rt: &impl Abort, exec: &mut Power<'a>, session: Session) -> Option<Taken<'a>> {
-    match exec.take() {
-        Ok(job) => Some(job),
-        Err(cause) => {
-            assert!(rt; cause == NoJob::Memory);
-            is_as_before(rt, exec, session);
-            None
-        }
-    }
-}
-
-// The job's end answers the wait.
-fn ends<'a>(rt: &impl Abort, exec: &mut Power<'a>, session: Session, job: Taken<'a>) {
-    gives_back(rt, exec, job.run(), 1);
-    settles(rt, exec, session, "1");
-}
-
-// A job is taken, and its end answers the wait.
-fn flushes<'a>(rt: &impl Abort, exec: &mut Power<'a>, session: Session) {
-    let job = taken(rt, exec, session).expect(rt, "a job");
-    ends(rt, exec, session, job);
-}
-
-// Whether a take with so much of the device's memory was refused; then another is not.
-fn is_refused_with<'a>(
+// The job's end answers the wait, once there is memory again.
+fn answers<D: Disk + Drop, B: Allocator + Copy, A: Allocator>(
     rt: &impl Abort,
-    arena: &Bump<Global>,
-    exec: &mut Power<'a>,
-    left: usize,
-) -> bool {
-    let session = waiting(rt, exec);
-    leave(rt, arena, left);
-    let first = taken(rt, exec, session);
+    arena: &Bump<A>,
+    exec: &mut Exec<D, B>,
+    job: Job<D, B>,
+) {
     arena.set_allocation_limit(None);
-    match first {
-        Some(job) => {
-            ends(rt, exec, session, job);
-            false
-        }
-        None => {
-            flushes(rt, exec, session);
+    ends(rt, exec, job, "1");
+    plays(rt, exec, "1 settles 1");
+}
+
+// Whether a job is taken, whose end then answers the wait; else memory was refused for it.
+fn is_taken<D: Disk + Drop, B: Allocator + Copy, A: Allocator>(
+    rt: &impl Abort,
+    arena: &Bump<A>,
+    exec: &mut Exec<D, B>,
+) -> bool {
+    match exec.take() {
+        Ok(job) => {
+            answers(rt, arena, exec, job);
             true
         }
+        Err(cause) => {
+            assert!(rt; cause == NoJob::Memory);
+            false
+        }
     }
 }
 
-// The same on a device of its own.
-fn is_refused_in<'a>(rt: &impl Abort, alloc: Global, arena: &'a Bump<Global>, left: usize) -> bool {
-    is_refused_with(rt, arena, &mut powered_on(rt, alloc, arena), left)
+// Whether a take with so much of the device's memory is refused; then another is not.
+fn is_refused_of<D: Disk + Drop, B: Allocator + Copy, A: Allocator>(
+    rt: &impl Abort,
+    arena: &Bump<A>,
+    exec: &mut Exec<D, B>,
+    left: usize,
+) -> bool {
+    leave(rt, arena, left);
+    if is_taken(rt, arena, exec) {
+        return false;
+    }
+    plays(rt, exec, AS_BEFORE);
+    arena.set_allocation_limit(None);
+    plays(rt, exec, FLUSHES);
+    true
 }
 
-fn take_is_refused(rt: &impl Abort, alloc: Global, left: usize) -> bool {
+// The same of a device, which then ends.
+fn is_refused_with<D: Disk + Drop, B: Allocator + Copy, A: Allocator>(
+    rt: &impl Abort,
+    arena: &Bump<A>,
+    mut exec: Exec<D, B>,
+    left: usize,
+) -> bool {
+    let refused = is_refused_of(rt, arena, &mut exec, left);
+    whole(rt, exec);
+    refused
+}
+
+// The same on a device of its own, whose memory is the arena's.
+fn is_refused_in<A: Allocator + Copy>(
+    rt: &impl Abort,
+    alloc: A,
+    arena: &Bump<A>,
+    left: usize,
+) -> bool {
+    let exec = played(rt, arena, image_of(rt, alloc, LEAST), WAITING);
+    is_refused_with(rt, arena, exec, left)
+}
+
+// The same in an arena of its own.
+fn is_refused<A: Allocator + Copy>(rt: &impl Abort, alloc: A, left: usize) -> bool {
     is_refused_in(rt, alloc, &arena(rt, alloc), left)
 }
 
@@ -107,7 +124,7 @@ fn take_is_refused(rt: &impl Abort, alloc: Global, left: usize) -> bool {
 fn each_allocation_of_a_take_refused(rt: HostRuntime) {
     let mut refused = 0u32;
     for step in 0..64usize {
-        if take_is_refused(&rt, rt.alloc(), step * 64) {
+        if is_refused(&rt, rt.alloc(), step * 64) {
             refused = refused.saturating_add(1);
         }
     }
@@ -115,37 +132,56 @@ fn each_allocation_of_a_take_refused(rt: HostRuntime) {
 }
 
 // Whether memory is refused for the answer of a wait that is over.
-fn settle_is_refused<'a>(rt: &impl Abort, exec: &mut Power<'a>, session: Session) -> bool {
-    if !exec.is_open(session) {
-        panic!(rt; "the session is gone");
-    }
+fn is_unanswered<D: Disk, B: Allocator + Copy>(exec: &mut Exec<D, B>, session: Session) -> bool
+    requires { is_open exec.old.device session ≡ true }
+{
     matches!(exec.settle(session), Outcome::Error(ScpiError::OutOfMemory))
 }
 
+// The same of the session of a number.
+fn settle_is_refused<D: Disk, B: Allocator + Copy>(exec: &mut Exec<D, B>, number: u8) -> bool {
+    let Some(session) = Session::new(number) else {
+        return false;
+    };
+    if !exec.is_open(session) {
+        return false;
+    }
+    is_unanswered(exec, session)
+}
+
 // Two refusals, by which the wait stays over; with memory it is answered.
-fn stays_over<'a>(rt: &impl Abort, arena: &Bump<Global>, exec: &mut Power<'a>, session: Session) {
+fn stays_over<D: Disk + Drop, B: Allocator + Copy, A: Allocator>(
+    rt: &impl Abort,
+    arena: &Bump<A>,
+    exec: &mut Exec<D, B>,
+) {
+    plays(rt, exec, "flush 1");
     leave(rt, arena, 0);
     for _ in 0..2 {
-        assert!(rt; settle_is_refused(rt, exec, session));
+        assert!(rt; settle_is_refused(exec, 1));
     }
     arena.set_allocation_limit(None);
-    settles(rt, exec, session, "1");
-    settles(rt, exec, session, "done");
+    plays(rt, exec, ANSWERED);
+}
+
+// The same of a device, which then ends.
+fn stays_over_with<D: Disk + Drop, B: Allocator + Copy, A: Allocator>(
+    rt: &impl Abort,
+    arena: &Bump<A>,
+    mut exec: Exec<D, B>,
+) {
+    stays_over(rt, arena, &mut exec);
+    whole(rt, exec);
+}
+
+// The same on a device of its own, whose memory is the arena's.
+fn stays_over_in<A: Allocator + Copy>(rt: &impl Abort, alloc: A, arena: &Bump<A>) {
+    let exec = played(rt, arena, image_of(rt, alloc, LEAST), WAITING);
+    stays_over_with(rt, arena, exec);
 }
 
 // A wait that is over stays so while there is no memory for its answer.
-fn waits<'a>(rt: &impl Abort, arena: &'a Bump<Global>, exec: &mut Power<'a>) {
-    let session = waiting(rt, exec);
-    runs_job(rt, exec, 1);
-    stays_over(rt, arena, exec, session);
-}
-
-// The same on a device of its own.
-fn waits_on<'a>(rt: &impl Abort, alloc: Global, arena: &'a Bump<Global>) {
-    waits(rt, arena, &mut powered_on(rt, alloc, arena));
-}
-
 #[test]
 fn the_allocation_of_a_settle_refused(rt: HostRuntime) {
-    waits_on(&rt, rt.alloc(), &arena(&rt, rt.alloc()));
+    stays_over_in(&rt, rt.alloc(), &arena(&rt, rt.alloc()));
 }

@@ -1,15 +1,20 @@
-// Stores for an execution: one that an opening gives, and one whose items are told. None where something hinders it.
+// Stores for an execution: one that an opening gives, and one with items of a row.
 ghost use Rattle.std.specs.Prelude.{IsTrue};
 ghost use Rattle.psu_map.specs.Batch.{changed};
 ghost use Rattle.psu_map.specs.Capacity.{CanHold, Fits};
 
 use psu_disk::Disk;
 use psu_items::{Batch, Commit, Items, Pair, Store, Value};
-use std::alloc::Global;
+use std::alloc::{Allocator, Global};
+use std::process::Abort;
 
 /// The store that an opening gives.
-pub fn opened<D: Disk + Drop>(alloc: Global, disk: D) -> Option<Store<D, Global>> {
-    Store::open(alloc, disk).ok()
+pub fn opened<D: Disk + Drop, A: Allocator + Copy>(
+    rt: &impl Abort,
+    alloc: A,
+    disk: D,
+) -> Store<D, A> {
+    Store::open(alloc, disk).ok().expect(rt, "a store")
 }
 
 // Whether an image can hold an item.
@@ -39,26 +44,44 @@ fn takes<D: Disk>(alloc: Global, store: &Store<D, Global>, batch: &Batch<Global>
     }
 }
 
-/// The store after a commit that nothing hinders.
+/// The disk of a store after a commit that nothing hinders.
 pub fn stored<D: Disk + Drop>(
+    rt: &impl Abort,
     alloc: Global,
     store: Store<D, Global>,
     batch: Batch<Global>,
-) -> Option<Store<D, Global>> {
+) -> D {
     if !takes(alloc, &store, &batch) {
-        return None;
+        panic!(rt; "no room");
     }
     match store.commit(alloc, batch) {
-        Commit::Stored(store) => Some(store),
-        _ => None,
+        Commit::Stored(store) => store.into_disk(),
+        _ => panic!(rt; "no commit"),
     }
 }
 
-/// A batch of one edit.
-pub fn assigned(alloc: Global, key: &[u8], value: &[u8]) -> Option<Batch<Global>> {
-    let mut batch = Batch::new(alloc);
-    let key = key.to_vec(alloc).ok()?;
-    let value = value.to_vec(alloc).ok()?;
-    batch.assign(key, Value::new(value).ok()?).ok()?;
-    Some(batch)
+// Bytes of their own.
+fn owned<A: Allocator + Copy>(rt: &impl Abort, alloc: A, bytes: &[u8]) -> Vec<u8, A> {
+    bytes.to_vec(alloc).ok().expect(rt, "memory")
+}
+
+/// Adds the edit by which an item has this value.
+pub fn assign<A: Allocator + Copy>(
+    rt: &impl Abort,
+    alloc: A,
+    batch: &mut Batch<A>,
+    key: &[u8],
+    value: &[u8],
+) {
+    let value = Value::new(owned(rt, alloc, value))
+        .ok()
+        .expect(rt, "memory");
+    let assigned = batch.assign(owned(rt, alloc, key), value).is_ok();
+    assert!(rt; assigned);
+}
+
+/// Adds the edit by which there is no such item.
+pub fn remove<A: Allocator + Copy>(rt: &impl Abort, alloc: A, batch: &mut Batch<A>, key: &[u8]) {
+    let removed = batch.remove(owned(rt, alloc, key)).is_ok();
+    assert!(rt; removed);
 }

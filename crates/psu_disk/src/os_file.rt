@@ -99,6 +99,7 @@ fn answered(came: io::Result<()>) -> Result<(), DiskFault> {
 }
 
 /// The files of the operating system, by the program's handle of them.
+#[derive(Drop)]
 pub struct OsFiles<'a, R> {
     /// The handle.
     pub files: &'a R,

@@ -1,0 +1,84 @@
+// Ends of jobs that a device does not expect.
+use crate::plays::{LEAST, ends, image_of, played, taken, whole};
+use psu_call_steps::is_over;
+use psu_disk::Disk;
+use psu_exec::{Exec, Finished, Stranger};
+use std::alloc::Allocator;
+use std::process::Abort;
+
+// One change, of a device with nothing to flush before it.
+const ONE: &str = "idle
+open 1
+1: *PSC 0 -> done";
+
+// One unit more.
+const TWO: &str = "idle
+open 1
+1: *PSC 0 -> done
+1: *ESE 1 -> done";
+
+// What a device that expects another end hands back.
+fn refused<D: Disk + Drop, A: Allocator + Copy>(
+    rt: &impl Abort,
+    exec: &mut Exec<D, A>,
+    finished: Finished<D, A>,
+) -> Finished<D, A> {
+    match exec.give_back(finished) {
+        Ok(_) => panic!(rt; "a stranger is accepted"),
+        Err(Stranger { finished }) => finished,
+    }
+}
+
+// What a device hands back whose own job is out, the end of which it then takes.
+fn handed_back<D: Disk + Drop, A: Allocator + Copy>(
+    rt: &impl Abort,
+    exec: &mut Exec<D, A>,
+    strange: Finished<D, A>,
+) -> Finished<D, A> {
+    let job = taken(rt, exec);
+    let finished = refused(rt, exec, strange);
+    ends(rt, exec, job, "");
+    finished
+}
+
+// The end of another device's job, which this one hands back and the other takes.
+fn are_strangers<D: Disk + Drop, A: Allocator + Copy>(
+    rt: &impl Abort,
+    exec: &mut Exec<D, A>,
+    other: &mut Exec<D, A>,
+) {
+    let strange = taken(rt, other).run();
+    let finished = handed_back(rt, exec, strange);
+    assert!(rt; is_over(other, finished, ""));
+    assert!(rt; exec.is_flushed() && other.is_flushed());
+}
+
+// The same of two devices.
+fn both_are_strangers<D: Disk + Drop, A: Allocator + Copy>(
+    rt: &impl Abort,
+    mut exec: Exec<D, A>,
+    mut other: Exec<D, A>,
+) {
+    are_strangers(rt, &mut exec, &mut other);
+    whole(rt, exec);
+    whole(rt, other);
+}
+
+// The same of a device on an image of this limit with one change, and another on an image of the least size that has played a script.
+fn are_so<A: Allocator + Copy>(rt: &impl Abort, alloc: A, limit: u16, script: &str) {
+    let exec = played(rt, alloc, image_of(rt, alloc, limit), ONE);
+    let other = played(rt, alloc, image_of(rt, alloc, LEAST), script);
+    both_are_strangers(rt, exec, other);
+}
+
+// The end of another device's job with another map is handed back.
+#[test]
+fn jobs_of_others_are_strangers(rt: HostRuntime) {
+    are_so(&rt, rt.alloc(), LEAST, TWO);
+}
+
+// An end that differs in the limit alone is of another device.
+#[test]
+fn a_job_of_another_limit_is_a_stranger(rt: HostRuntime) {
+    are_so(&rt, rt.alloc(), 256, ONE);
+}

@@ -1,0 +1,79 @@
+// What a device does, by the word of its step: sessions that open, jobs, news and moments.
+use crate::job_steps::{beside, flushes, takes_none};
+use crate::words::are;
+use psu_disk::Disk;
+use psu_exec::{Exec, NoJob};
+use std::alloc::Allocator;
+
+/// What a device does.
+#[derive(Clone, Copy)]
+pub enum Doing {
+    Opens,
+    Full,
+    Flush,
+    Beside,
+    Idle,
+    Tick,
+    Work,
+    Rest,
+}
+
+/// What a word stands for.
+pub fn doing_of(word: &str) -> Option<Doing> {
+    match word {
+        "open" => Some(Doing::Opens),
+        "full" => Some(Doing::Full),
+        "flush" => Some(Doing::Flush),
+        "beside" => Some(Doing::Beside),
+        "idle" => Some(Doing::Idle),
+        "tick" => Some(Doing::Tick),
+        "work" => Some(Doing::Work),
+        "rest" => Some(Doing::Rest),
+        _ => None,
+    }
+}
+
+// Whether a session opens that has this number.
+fn opens<D: Disk, A: Allocator + Copy>(exec: &mut Exec<D, A>, wanted: &str) -> bool {
+    match exec.open_session() {
+        Ok(session) => wanted.parse() == Ok(session.number()),
+        Err(_) => false,
+    }
+}
+
+// Whether these sessions asked for service since, and there is something to flush or not.
+fn has_news<D: Disk, A: Allocator + Copy>(
+    exec: &mut Exec<D, A>,
+    wanted: &str,
+    has_work: bool,
+) -> bool {
+    let (asking, more) = exec.news();
+    are(&asking, wanted) && more == has_work
+}
+
+// A moment: `20 fails 2`.
+fn ticks<D: Disk, A: Allocator + Copy>(exec: &mut Exec<D, A>, wanted: &str) -> bool {
+    let (now, failed) = wanted.split_once(" fails").unwrap_or((wanted, ""));
+    match now.parse() {
+        Ok(now) => are(&exec.tick(now), failed),
+        Err(_) => false,
+    }
+}
+
+/// Whether what a device does comes to what its step says.
+pub fn is_done<D: Disk + Drop, A: Allocator + Copy>(
+    exec: &mut Exec<D, A>,
+    doing: Doing,
+    rest: &str,
+) -> bool {
+    match doing {
+        Doing::Opens => opens(exec, rest),
+        Doing::Full => exec.open_session().is_err(),
+        Doing::Flush => flushes(exec, rest),
+        Doing::Beside => beside(exec, rest) == Some(true),
+        Doing::Idle => takes_none(exec, NoJob::Nothing),
+        Doing::Tick => ticks(exec, rest),
+        Doing::Work => has_news(exec, rest, true),
+        Doing::Rest => has_news(exec, rest, false),
+    }
+}

@@ -1,0 +1,86 @@
+// Steps that are played, one after another.
+use crate::device_steps::{doing_of, is_done};
+use crate::devices::{image, powered_on};
+use crate::session_steps::session_step;
+use crate::sights::{is_seen, sight_of};
+use crate::words::parted;
+use psu_disk::{Disk, MemDisk};
+use psu_exec::Exec;
+use std::alloc::Allocator;
+
+/// A step that does not hold, and its line in its script, from 1.
+#[derive(Clone, Copy, Debug)]
+pub struct StepFault<'s> {
+    pub line: u32,
+    pub step: &'s str,
+}
+
+// Whether what the device does holds, or what a session does.
+fn changing_step<D: Disk + Drop, A: Allocator + Copy>(exec: &mut Exec<D, A>, step: &str) -> bool {
+    let (word, rest) = parted(step);
+    match doing_of(word) {
+        Some(doing) => is_done(exec, doing, rest),
+        None => session_step(exec, step),
+    }
+}
+
+/// Whether a line is a step that holds.
+pub fn step_holds<D: Disk + Drop, A: Allocator + Copy>(exec: &mut Exec<D, A>, step: &str) -> bool {
+    let (word, rest) = parted(step);
+    match sight_of(word) {
+        Some(sight) => is_seen(exec, sight, rest),
+        None => changing_step(exec, step),
+    }
+}
+
+// Whether a line is to be played.
+fn is_played(line: &str) -> bool {
+    !line.is_empty() && !line.starts_with("#")
+}
+
+/// Plays a script on a device, up to a step that does not hold. How many steps it has.
+pub fn play<'s, D: Disk + Drop, A: Allocator + Copy>(
+    exec: &mut Exec<D, A>,
+    script: &'s str,
+) -> Result<u32, StepFault<'s>> {
+    let mut line = 0u32;
+    let mut steps = 0u32;
+    for step in script.lines() {
+        line = line.saturating_add(1);
+        if is_played(step) {
+            if !step_holds(exec, step) {
+                return Err(StepFault { line, step });
+            }
+            steps = steps.saturating_add(1);
+        }
+    }
+    Ok(steps)
+}
+
+// Plays a script on a device, which then ends.
+fn play_to_end<D: Disk + Drop, A: Allocator + Copy>(
+    mut exec: Exec<D, A>,
+    script: &str,
+) -> Result<u32, StepFault<'_>> {
+    let played = play(&mut exec, script);
+    drop(exec);
+    played
+}
+
+// A device that is powered on with a fresh image.
+fn new_device<A: Allocator + Copy>(alloc: A, limit: u16) -> Option<Exec<MemDisk<A>, A>> {
+    powered_on(alloc, image(alloc, limit)?)
+}
+
+/// Plays a script on a device of its own, which is powered on with a fresh image in memory, whose contents may cost so many pages. How many
+/// steps it has; 0 where no image has this limit, or memory is refused.
+pub fn play_anew<A: Allocator + Copy>(
+    alloc: A,
+    limit: u16,
+    script: &str,
+) -> Result<u32, StepFault<'_>> {
+    match new_device(alloc, limit) {
+        Some(exec) => play_to_end(exec, script),
+        None => Ok(0),
+    }
+}

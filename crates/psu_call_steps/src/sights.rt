@@ -1,0 +1,67 @@
+// What is seen of a device, by the word of its step: what it keeps, its store, who holds locks, and their deadlines.
+use crate::words::parted;
+use psu_disk::Disk;
+use psu_exec::{Condition, Exec, Info};
+use std::alloc::Allocator;
+
+/// What is seen of a device.
+#[derive(Clone, Copy)]
+pub enum Sight {
+    Flushed,
+    Unflushed,
+    Whole,
+    Broken,
+    Keeps,
+    Locks,
+    Next,
+}
+
+/// What a word stands for.
+pub fn sight_of(word: &str) -> Option<Sight> {
+    match word {
+        "flushed" => Some(Sight::Flushed),
+        "unflushed" => Some(Sight::Unflushed),
+        "whole" => Some(Sight::Whole),
+        "broken" => Some(Sight::Broken),
+        "keeps" => Some(Sight::Keeps),
+        "locks" => Some(Sight::Locks),
+        "next" => Some(Sight::Next),
+        _ => None,
+    }
+}
+
+// Whether these are the enables that are kept: `4 0`.
+fn are_kept(kept: Option<(u8, u8)>, wanted: &str) -> bool {
+    let (first, second) = parted(wanted);
+    match kept {
+        Some((service, event)) => first.parse() == Ok(service) && second.parse() == Ok(event),
+        None => false,
+    }
+}
+
+// Whether locks are held so: `exclusive 2`.
+fn are_locked(info: Info, wanted: &str) -> bool {
+    let (how, holders) = parted(wanted);
+    info.exclusive == (how == "exclusive") && holders.parse() == Ok(info.holders)
+}
+
+// Whether this is the deadline that is next, or `none`.
+fn is_due(deadline: Option<u128>, wanted: &str) -> bool {
+    match deadline {
+        Some(deadline) => wanted.parse() == Ok(deadline),
+        None => wanted == "none",
+    }
+}
+
+/// Whether a device is as its step says.
+pub fn is_seen<D: Disk, A: Allocator + Copy>(exec: &Exec<D, A>, sight: Sight, rest: &str) -> bool {
+    match sight {
+        Sight::Flushed => exec.is_flushed(),
+        Sight::Unflushed => !exec.is_flushed(),
+        Sight::Whole => exec.condition() == Condition::Whole,
+        Sight::Broken => exec.condition() == Condition::Broken,
+        Sight::Keeps => are_kept(exec.contents().enables(), rest),
+        Sight::Locks => are_locked(exec.info(), rest),
+        Sight::Next => is_due(exec.next_deadline(), rest),
+    }
+}

@@ -1,0 +1,117 @@
+// Units that a session executes, and its wait.
+ghost use Rattle.std.specs.Prelude.{◌≡◌, true};
+ghost use Rattle.psu_exec.specs.Device.{is_open};
+
+use crate::outcomes::said;
+use psu_disk::Disk;
+use psu_exec::{Exec, Request, Session};
+use psu_lex::Unit;
+use psu_tree::{Path, request};
+use std::alloc::Allocator;
+
+// How often a unit is executed that fills: so many changes may be unflushed.
+const FILLING: u32 = 1_024;
+
+// The request of a text that is one unit.
+fn read(text: &str) -> Request<'_> {
+    let unit = Unit {
+        text: text.as_bytes(),
+        first: true,
+        fault: None,
+    };
+    request(&mut Path::root(), &unit, false)
+}
+
+// Whether this comes of a unit of a session that is open.
+fn comes<D: Disk, A: Allocator + Copy>(
+    exec: &mut Exec<D, A>,
+    session: Session,
+    text: &str,
+    want: &str,
+) -> bool
+    requires { is_open exec.old.device session ≡ true }
+{
+    said(&exec.execute(session, &read(text))) == want.as_bytes()
+}
+
+// Whether the session is open, and this comes of its unit.
+fn is_executed<D: Disk, A: Allocator + Copy>(
+    exec: &mut Exec<D, A>,
+    session: Session,
+    text: &str,
+    want: &str,
+) -> bool {
+    if !exec.is_open(session) {
+        return false;
+    }
+    comes(exec, session, text, want)
+}
+
+// Whether the contents cost so many pages.
+fn costs<D: Disk, A: Allocator + Copy>(exec: &Exec<D, A>, cost: &str) -> bool {
+    cost.parse() == Ok(exec.contents().cost())
+}
+
+// Whether a unit comes to this, and the contents then cost so much: `done; costs 2`.
+fn is_met<D: Disk, A: Allocator + Copy>(
+    exec: &mut Exec<D, A>,
+    session: Session,
+    unit: &str,
+    wanted: &str,
+) -> bool {
+    match wanted.split_once("; costs ") {
+        Some((want, cost)) => is_executed(exec, session, unit, want) && costs(exec, cost),
+        None => is_executed(exec, session, unit, wanted),
+    }
+}
+
+/// Whether a unit comes to what is written after it: `*SRE 4 -> done`, `*SAV 0 -> done; costs 2`.
+pub fn executes<D: Disk, A: Allocator + Copy>(
+    exec: &mut Exec<D, A>,
+    session: Session,
+    doing: &str,
+) -> bool {
+    match doing.split_once(" -> ") {
+        Some((unit, wanted)) => is_met(exec, session, unit, wanted),
+        None => false,
+    }
+}
+
+/// Whether each of these units is done: `VOLT 2;*SAV 3`.
+pub fn are_done<D: Disk, A: Allocator + Copy>(
+    exec: &mut Exec<D, A>,
+    session: Session,
+    units: &str,
+) -> bool {
+    for unit in units.split(";") {
+        if !is_executed(exec, session, unit, "done") {
+            return false;
+        }
+    }
+    true
+}
+
+/// Whether a unit is done each time that it is executed, until no change more may be unflushed.
+pub fn fills<D: Disk, A: Allocator + Copy>(
+    exec: &mut Exec<D, A>,
+    session: Session,
+    unit: &str,
+) -> bool {
+    for _ in 0..FILLING {
+        if !is_executed(exec, session, unit, "done") {
+            return false;
+        }
+    }
+    true
+}
+
+/// Whether this comes of the wait of a session that is open.
+pub fn settles<D: Disk, A: Allocator + Copy>(
+    exec: &mut Exec<D, A>,
+    session: Session,
+    want: &str,
+) -> bool
+    requires { is_open exec.old.device session ≡ true }
+{
+    said(&exec.settle(session)) == want.as_bytes()
+}
