@@ -1,9 +1,10 @@
 // Heads that are refused, and heads that are good to the last: keys, lengths, counts and pages.
-use crate::bad_roots::{IMAGE, SIZE, are_found, found};
+use crate::holds::holds;
+use crate::openings::{IMAGE, SIZE, are_found, found, is_wanted};
 use crate::spelled::{put, put_word, spelled};
-use psu_disk::MemDisk;
-use psu_items::OpenCause;
-use std::alloc::Global;
+use psu_disk::{Disk, MemDisk};
+use psu_tables::row;
+use std::alloc::Allocator;
 
 // The head on page 3, which says: a key of one byte, the value's length, how many pages, which.
 const WORDS_OF_A_HEAD: &str = "
@@ -80,7 +81,7 @@ fn keys_and_values_of_the_greatest_length(rt: HostRuntime) {
 }
 
 // Names an item in the root, its head on an even page, and puts the head there. Its key is one byte, and its value is on the page behind.
-fn put_item(disk: &mut MemDisk<Global>, item: u16) -> Option<()> {
+fn put_item<D: Disk>(disk: &mut D, item: u16) -> Option<()> {
     let page = item.saturating_mul(2).saturating_add(2);
     let [_, key] = item.saturating_add(1).to_be_bytes();
     let [high, low] = page.saturating_add(1).to_be_bytes();
@@ -96,31 +97,45 @@ fn put_item(disk: &mut MemDisk<Global>, item: u16) -> Option<()> {
     )
 }
 
-// An image of this limit with so many items, each of a key and a value of one byte. The second root counts, of the number 9.
-fn with_many(alloc: Global, limit: u16, count: u16) -> Option<MemDisk<Global>> {
+// Puts the limit, so many items, each of a key and a value of one byte, and their count in the second root.
+fn put_many<D: Disk>(disk: &mut D, limit: u16, count: u16) -> Option<()> {
+    put_word(disk, 518, limit)?;
+    put_word(disk, 528, count)?;
+    for item in 0..count {
+        put_item(disk, item)?;
+    }
+    Some(())
+}
+
+// An image of this limit with so many items. The second root counts, of the number 9.
+fn with_many<A: Allocator + Copy>(alloc: A, limit: u16, count: u16) -> Option<MemDisk<A>> {
     let size = u64::from(limit).saturating_add(1).saturating_mul(1_024);
     let mut disk = spelled(alloc, size, "512: a5 'PSU 00 02; 527: 09")?;
-    put_word(&mut disk, 518, limit)?;
-    put_word(&mut disk, 528, count)?;
-    for item in 0..count {
-        put_item(&mut disk, item)?;
-    }
+    put_many(&mut disk, limit, count)?;
     Some(disk)
 }
 
-// Whether an opening finds so many items on an image of this limit, or a bad root where it holds no map.
-fn is_filled(alloc: Global, limit: u16, count: u16, is_map: bool) -> Option<bool> {
-    match found(alloc, with_many(alloc, limit, count)?) {
-        Ok(items) => Some(is_map && items == usize::from(count)),
-        Err(cause) => Some(!is_map && cause == OpenCause::BadRoot),
-    }
+// Whether an opening finds such an image as wanted. The row has the limit and the count.
+fn is_found<A: Allocator + Copy>(alloc: A, filled: &str, wanted: &str) -> Option<bool> {
+    let (limit, count) = filled.split_once(": ")?;
+    let disk = with_many(alloc, limit.parse().ok()?, count.parse().ok()?)?;
+    Some(is_wanted(found(alloc, disk), wanted))
 }
 
 // 240 items are on an image of limit 480, which they fill. Of limit 479 the last is one page too many.
+const FILLED: &str = "
+480: 240 -> 240
+480: 241 -> bad root
+479: 240 -> bad root
+479: 239 -> 239
+";
+
 #[test]
 fn images_that_items_fill(rt: HostRuntime) {
-    assert!(rt; is_filled(rt.alloc(), 480, 240, true) == Some(true));
-    assert!(rt; is_filled(rt.alloc(), 480, 241, false) == Some(true));
-    assert!(rt; is_filled(rt.alloc(), 479, 240, false) == Some(true));
-    assert!(rt; is_filled(rt.alloc(), 479, 239, true) == Some(true));
+    for line in FILLED.lines() {
+        if let Some((filled, wanted)) = row(line) {
+            let is_so = is_found(rt.alloc(), filled, wanted) == Some(true);
+            holds(&rt, is_so, &filled);
+        }
+    }
 }

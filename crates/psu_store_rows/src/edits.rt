@@ -1,29 +1,10 @@
-// Batches of edits: as texts, and by their numbers.
-use psu_items::{Batch, Value};
+// Batches as texts, and maps as the batches that assign their items.
+use psu_items::{Batch, Items, Value};
 use psu_tables::bytes;
-use std::alloc::Global;
-
-/// Adds a value of one byte for a key of one byte.
-pub fn assign(alloc: Global, batch: &mut Batch<Global>, key: u8, value: u8) -> Option<()> {
-    let key = [key].to_vec(alloc).ok()?;
-    let value = [value].to_vec(alloc).ok()?;
-    batch.assign(key, Value::new(value).ok()?).ok()
-}
-
-/// Adds the removal of a key of one byte.
-pub fn remove(alloc: Global, batch: &mut Batch<Global>, key: u8) -> Option<()> {
-    batch.remove([key].to_vec(alloc).ok()?).ok()
-}
-
-/// A batch of one edit.
-pub fn assigned(alloc: Global, key: u8, value: u8) -> Option<Batch<Global>> {
-    let mut batch = Batch::new(alloc);
-    assign(alloc, &mut batch, key, value)?;
-    Some(batch)
-}
+use std::alloc::Allocator;
 
 // Adds the edit that a text has: a value for a key, or the key alone, which is removed.
-fn add(alloc: Global, batch: &mut Batch<Global>, edit: &str) -> Option<()> {
+fn add<A: Allocator + Copy>(alloc: A, batch: &mut Batch<A>, edit: &str) -> Option<()> {
     match edit.split_once(" = ") {
         Some((key, value)) => {
             let value = Value::new(bytes(alloc, value)?).ok()?;
@@ -33,11 +14,47 @@ fn add(alloc: Global, batch: &mut Batch<Global>, edit: &str) -> Option<()> {
     }
 }
 
-/// The batch of a text, its bytes in hexadecimal digits: `01 = 24; 02` gives the key 1 the value 36, and removes the key 2.
-pub fn edits(alloc: Global, text: &str) -> Option<Batch<Global>> {
+/// The batch of a text, its bytes in hexadecimal digits: `01 = 24; 02` gives the key 1 the value 36, and removes the key 2. No text is
+/// no edit.
+pub fn edits<A: Allocator + Copy>(alloc: A, text: &str) -> Option<Batch<A>> {
     let mut batch = Batch::new(alloc);
     for edit in text.split(";") {
-        add(alloc, &mut batch, edit)?;
+        if !edit.is_empty() {
+            add(alloc, &mut batch, edit)?;
+        }
     }
     Some(batch)
+}
+
+/// Adds a value of one byte for a key of one byte.
+pub fn assign<A: Allocator + Copy>(
+    alloc: A,
+    batch: &mut Batch<A>,
+    key: u8,
+    value: u8,
+) -> Option<()> {
+    let key = [key].to_vec(alloc).ok()?;
+    let value = [value].to_vec(alloc).ok()?;
+    batch.assign(key, Value::new(value).ok()?).ok()
+}
+
+/// A value of one byte for each of the keys of one byte from the first to before the last.
+pub fn each_of<A: Allocator + Copy>(alloc: A, first: u8, last: u8, value: u8) -> Option<Batch<A>> {
+    let mut batch = Batch::new(alloc);
+    for key in first..last {
+        assign(alloc, &mut batch, key, value)?;
+    }
+    Some(batch)
+}
+
+/// Whether a map has just the items that a batch assigns in the order of their keys.
+pub fn is_map<A: Allocator + Copy>(items: &Items<A>, want: &Batch<A>) -> bool {
+    let mut pairs = items.pairs().iter();
+    for edit in want.edits() {
+        match pairs.next() {
+            Some(pair) if pair.key() == edit.key() && Some(pair.value()) == edit.value() => {}
+            _ => return false,
+        }
+    }
+    pairs.next().is_none()
 }

@@ -1,5 +1,6 @@
 // Disks in files: what is refused, one in use too, and what a file keeps.
-use psu_disk::{Disk, DiskFault, FileDisk, OpenFault};
+use crate::spelled::{put, word_at};
+use psu_disk::{Disk, FileDisk, OpenFault};
 use std::alloc::Global;
 use std::fs::{File, OpenOptions};
 use std::io;
@@ -25,50 +26,48 @@ pub fn set_length(files: &impl Files<File = File>, name: &str, length: u64) -> i
 
 const NAME: &str = "a_disk_for_a_test.image";
 
+// Why no disk is found in a file; none where one is.
+fn unfound(files: &impl Files<File = File>, alloc: Global, name: &str) -> Option<OpenFault> {
+    FileDisk::of(files, alloc, name).err()
+}
+
+// Why no disk of 4,096 bytes is made in a file; none where one is.
+fn unmade(files: &impl Files<File = File>, alloc: Global, name: &str) -> Option<OpenFault> {
+    FileDisk::make(files, alloc, name, 4_096).err()
+}
+
 // Whether no disk is found where there is no file, or a folder, nor made where there is no folder.
 fn are_not_there(files: &impl Files<File = File>, alloc: Global) -> bool {
-    matches!(FileDisk::of(files, alloc, NAME), Err(OpenFault::NoFile))
-        && matches!(FileDisk::of(files, alloc, "."), Err(OpenFault::NotOpened))
-        && matches!(
-            FileDisk::make(files, alloc, "no_such_folder/file", 4_096),
-            Err(OpenFault::NoFile)
-        )
+    unfound(files, alloc, NAME) == Some(OpenFault::NoFile)
+        && unfound(files, alloc, ".") == Some(OpenFault::NotOpened)
+        && unmade(files, alloc, "no_such_folder/file") == Some(OpenFault::NoFile)
 }
 
 // Whether a file in which a disk is takes no other.
 fn is_in_use(files: &impl Files<File = File>, alloc: Global) -> bool {
-    matches!(
-        FileDisk::make(files, alloc, NAME, 4_096),
-        Err(OpenFault::Exists)
-    ) && matches!(FileDisk::of(files, alloc, NAME), Err(OpenFault::NotOpened))
+    unmade(files, alloc, NAME) == Some(OpenFault::Exists)
+        && unfound(files, alloc, NAME) == Some(OpenFault::NotOpened)
 }
 
-// Makes the disk, looks whether it is in use, and writes its last two bytes.
-fn are_written(files: &impl Files<File = File>, alloc: Global) -> Option<bool> {
-    let mut disk = FileDisk::make(files, alloc, NAME, 4_096).ok()?;
-    if disk.size() != 4_096 || !is_in_use(files, alloc) {
-        return None;
-    }
-    Some(disk.write(4_094, &[7, 8]).is_ok() && disk.sync().is_ok())
+// Whether a disk of 4,096 bytes takes two at its end.
+fn takes_its_last<D: Disk>(disk: &mut D) -> bool {
+    disk.size() == 4_096 && put(disk, 4_094, &[7, 8]).is_some()
 }
 
-// Whether a disk in the file has them.
-fn are_kept(files: &impl Files<File = File>, alloc: Global) -> Option<bool> {
-    let mut disk = FileDisk::of(files, alloc, NAME).ok()?;
-    let mut two = [0u8; 2];
-    if disk.size() != 4_096 {
-        return None;
-    }
-    disk.read(4_094, &mut two).ok()?;
-    Some(two == [7, 8] && disk.faults() == 0)
+// Whether it has them.
+fn has_its_last<D: Disk>(disk: &mut D) -> bool {
+    disk.size() == 4_096 && word_at(disk, 4_094) == Some(0x0708) && disk.faults() == 0
 }
 
 #[test]
 fn a_file_is_made_once_and_keeps_its_bytes(rt: HostRuntime) {
     let _ = std::fs::remove_file(&rt, NAME);
     assert!(rt; are_not_there(&rt, rt.alloc()));
-    assert!(rt; are_written(&rt, rt.alloc()) == Some(true));
-    assert!(rt; are_kept(&rt, rt.alloc()) == Some(true));
+    let mut disk = FileDisk::make(&rt, rt.alloc(), NAME, 4_096).expect(&rt, "made");
+    assert!(rt; is_in_use(&rt, rt.alloc()) && takes_its_last(&mut disk));
+    drop(disk);
+    let mut disk = FileDisk::of(&rt, rt.alloc(), NAME).expect(&rt, "found");
+    assert!(rt; has_its_last(&mut disk));
     assert!(rt; std::fs::remove_file(&rt, NAME).is_ok());
 }
 
@@ -88,49 +87,42 @@ fn a_new_file_is_of_zeros_and_has_its_room(rt: HostRuntime) {
     assert!(rt; std::fs::remove_file(&rt, NEW).is_ok());
 }
 
-// Whether a sync works, on a disk that has failed so often.
-fn syncs(disk: &mut FileDisk, faults: u64) -> bool {
-    disk.sync() == Ok(()) && disk.faults() == faults
-}
-
-// Whether a sync fails, and with it the disk has failed so often.
-fn fails(disk: &mut FileDisk, faults: u64) -> bool {
-    disk.sync() == Err(DiskFault) && disk.faults() == faults
+// Whether a sync works or fails, and the disk has then failed so often.
+fn syncs<D: Disk>(disk: &mut D, works: bool, faults: u64) -> bool {
+    disk.sync().is_ok() == works && disk.faults() == faults
 }
 
 const CUT: &str = "a_cut_disk_for_a_test.image";
 
-// Whether the file gets this length.
-fn is_set_to(files: &impl Files<File = File>, length: u64) -> bool {
-    set_length(files, CUT, length).is_ok()
-}
+// Lengths that the file gets one after another, whether a sync works then, and how often the disk has failed.
+const LENGTHS: [(u64, bool, u64); 3] = [(4_095, false, 1), (4_097, false, 2), (4_096, true, 2)];
 
-// Whether a disk is synced while its file has its length, and at no other.
-fn needs_its_length(files: &impl Files<File = File>, alloc: Global) -> Option<bool> {
-    let mut disk = new_disk(files, alloc, CUT, 4_096).ok()?;
-    Some(
-        syncs(&mut disk, 0)
-            && is_set_to(files, 4_095)
-            && fails(&mut disk, 1)
-            && is_set_to(files, 4_097)
-            && fails(&mut disk, 2)
-            && is_set_to(files, 4_096)
-            && syncs(&mut disk, 2),
-    )
+// Whether a disk of 4,096 bytes is synced while its file has its length, and at no other.
+fn needs_its_length<D: Disk>(files: &impl Files<File = File>, disk: &mut D) -> bool {
+    if !syncs(disk, true, 0) {
+        return false;
+    }
+    for (length, works, faults) in LENGTHS {
+        if set_length(files, CUT, length).is_err() || !syncs(disk, works, faults) {
+            return false;
+        }
+    }
+    true
 }
 
 // No sync is confirmed while the file has another length than the disk.
 #[test]
 fn a_file_that_was_cut_short_is_not_synced(rt: HostRuntime) {
-    assert!(rt; needs_its_length(&rt, rt.alloc()) == Some(true));
+    let mut disk = new_disk(&rt, rt.alloc(), CUT, 4_096).expect(&rt, "made");
+    assert!(rt; needs_its_length(&rt, &mut disk));
     assert!(rt; std::fs::remove_file(&rt, CUT).is_ok());
 }
 
 const LOST: &str = "a_lost_disk_for_a_test.image";
 
 // Whether a disk is synced until its file loses its name.
-fn needs_a_name(files: &impl Files<File = File>, disk: &mut FileDisk) -> bool {
-    syncs(disk, 0) && std::fs::remove_file(files, LOST).is_ok() && fails(disk, 1)
+fn needs_a_name<D: Disk>(files: &impl Files<File = File>, disk: &mut D) -> bool {
+    syncs(disk, true, 0) && std::fs::remove_file(files, LOST).is_ok() && syncs(disk, false, 1)
 }
 
 #[test]
@@ -144,8 +136,8 @@ const NAMED: &str = "a_replaced_disk_for_a_test.image";
 const OTHER: &str = "another_disk_for_a_test.image";
 
 // Whether a disk is synced until another file has its name.
-fn needs_its_name(files: &impl Files<File = File>, disk: &mut FileDisk) -> bool {
-    syncs(disk, 0) && std::fs::rename(files, OTHER, NAMED).is_ok() && fails(disk, 1)
+fn needs_its_name<D: Disk>(files: &impl Files<File = File>, disk: &mut D) -> bool {
+    syncs(disk, true, 0) && std::fs::rename(files, OTHER, NAMED).is_ok() && syncs(disk, false, 1)
 }
 
 // Another file of the same length takes its place, and it keeps no name.
@@ -162,14 +154,14 @@ const BEFORE: &str = "a_renamed_disk_for_a_test.image";
 const AFTER: &str = "a_disk_renamed_for_a_test.image";
 
 // Whether a disk is synced once its file has another name.
-fn needs_any_name(files: &impl Files<File = File>, alloc: Global) -> Option<bool> {
-    let mut disk = new_disk(files, alloc, BEFORE, 4_096).ok()?;
-    Some(std::fs::rename(files, BEFORE, AFTER).is_ok() && syncs(&mut disk, 0))
+fn needs_any_name<D: Disk>(files: &impl Files<File = File>, disk: &mut D) -> bool {
+    std::fs::rename(files, BEFORE, AFTER).is_ok() && syncs(disk, true, 0)
 }
 
 // A file that only got another name is whole.
 #[test]
 fn a_file_that_was_renamed_is_synced(rt: HostRuntime) {
-    assert!(rt; needs_any_name(&rt, rt.alloc()) == Some(true));
+    let mut disk = new_disk(&rt, rt.alloc(), BEFORE, 4_096).expect(&rt, "made");
+    assert!(rt; needs_any_name(&rt, &mut disk));
     assert!(rt; std::fs::remove_file(&rt, AFTER).is_ok());
 }

@@ -1,17 +1,15 @@
 // Images byte for byte: after a format, and after one commit and two. Which free pages a commit takes is open, so they are read from
 // the image; all other bytes are known.
-ghost use Rattle.std.specs.Prelude.{◌≡◌, ◌+◌, ◌*◌};
+ghost use Rattle.std.specs.Prelude.{◌≡◌, ◌*◌};
 
-use crate::edits::edits;
-use crate::images::{formatted, laid_out};
-use crate::spelled::{are_alike, put, put_all, put_word, spelled, word_at};
-use crate::stores::{one_edit, opened, stored};
-use psu_disk::MemDisk;
-use std::alloc::Global;
+use crate::images::{changed, formatted, formatted_over};
+use crate::spelled::{are_alike, put, put_all, put_word, spelled, spelled_over, word_at};
+use psu_disk::{Disk, MemDisk};
+use std::alloc::Allocator;
 
 // Whether a formatted disk of 00 has these bytes.
-fn is_formatted(alloc: Global) -> Option<bool> {
-    let want = spelled(alloc, 263_168, "0: a5 'PSU 00 02 01 00 00*7 01 00 00")?;
+fn is_formatted<A: Allocator + Copy>(alloc: A) -> Option<bool> {
+    let want: MemDisk<A> = spelled(alloc, 263_168, "0: a5 'PSU 00 02 01 00 00*7 01 00 00")?;
     are_alike(alloc, formatted(alloc, 263_168, 256)?, want)
 }
 
@@ -20,16 +18,14 @@ fn a_formatted_image(rt: HostRuntime) {
     assert!(rt; is_formatted(rt.alloc()) == Some(true));
 }
 
+// The parts of a disk that a format writes, on one of a5.
+const FORMATTED: &str = "0: a5 'PSU 00 02 00 04 00*7 01 00*496; 512: 00";
+
 // Whether a format leaves the bytes of a disk but for these.
-fn is_formatted_over(alloc: Global) -> Option<bool> {
+fn is_formatted_over<A: Allocator + Copy>(alloc: A) -> Option<bool> {
     let used = spelled(alloc, 5_200, "0: a5*5200")?;
-    let mut want = spelled(alloc, 5_200, "0: a5*5200")?;
-    put_all(
-        alloc,
-        &mut want,
-        "0: a5 'PSU 00 02 00 04 00*7 01 00*496; 512: 00",
-    )?;
-    are_alike(alloc, laid_out(alloc, used, 4)?, want)
+    let want = spelled_over(alloc, 5_200, "0: a5*5200", FORMATTED)?;
+    are_alike(alloc, formatted_over(alloc, used, 4)?, want)
 }
 
 // A format writes the page of the first root and the gate of the second, and leaves the rest.
@@ -56,57 +52,95 @@ fn at(page: u16) -> u64
 }
 
 // The page that a head names first, as its key and the key's length, the value's length and the count of pages take 8 bytes.
-fn first_page(disk: &mut MemDisk<Global>, head: u16) -> Option<u16> {
+fn first_page<D: Disk>(disk: &mut D, head: u16) -> Option<u16> {
     word_at(disk, at(head) + 8)
+}
+
+// The pages of the first item: its head, and its value. A root that names one head has its place at 530 of the image.
+fn first_pages<D: Disk>(disk: &mut D) -> Option<[u16; 2]> {
+    let head = word_at(disk, 530)?;
+    Some([head, first_page(disk, head)?])
+}
+
+// Puts the first item on its pages: the value 36 for the key 1.
+fn put_first<D: Disk>(disk: &mut D, [head, value]: [u16; 2]) -> Option<()> {
+    put(disk, at(head), &[1, 1, 0, 0, 0, 1, 0, 1])?;
+    put_word(disk, at(head) + 8, value)?;
+    put(disk, at(value), &[36])
 }
 
 // A root that stands closed, and one of the number 2 that names a head.
 const ROOTS_AFTER_ONE: &str =
     "0: 00 'PSU 00 02 00 08 00*7 01; 512: a5 'PSU 00 02 00 08 00*7 02 00 01";
 
-// The image of limit 8 after a commit of one item, which was put on these pages: its head, and its value.
-fn after_one(alloc: Global, of_head: u16, of_value: u16) -> Option<MemDisk<Global>> {
-    let mut disk = spelled(alloc, 9_216, ROOTS_AFTER_ONE)?;
-    put_word(&mut disk, 530, of_head)?;
-    put(&mut disk, at(of_head), &[1, 1, 0, 0, 0, 1, 0, 1])?;
-    put_word(&mut disk, at(of_head) + 8, of_value)?;
-    put(&mut disk, at(of_value), &[36])?;
-    Some(disk)
+// Puts the image of limit 8 after a commit of one item on a disk of 00.
+fn put_one<D: Disk, A: Allocator + Copy>(alloc: A, disk: &mut D, first: [u16; 2]) -> Option<()> {
+    put_all(alloc, disk, ROOTS_AFTER_ONE)?;
+    put_word(disk, 530, first[0])?;
+    put_first(disk, first)
 }
 
-// The image of limit 8 with the value 36 for the key 1.
-fn with_one(alloc: Global) -> Option<MemDisk<Global>> {
-    let store = opened(alloc, formatted(alloc, 9_216, 8)?)?;
-    Some(stored(alloc, store, one_edit(alloc)?)?.into_disk())
+// Whether an image of limit 8 after a commit of the first item has each byte that its own pages ask for.
+fn is_after_one<D: Disk + Drop, A: Allocator + Copy>(
+    alloc: A,
+    mut disk: D,
+    mut want: MemDisk<A>,
+) -> Option<bool> {
+    let first = first_pages(&mut disk)?;
+    put_one(alloc, &mut want, first)?;
+    Some(are_apart(&first) && are_alike(alloc, disk, want)?)
 }
 
-// The pages of that item: its head, and its value.
-fn kept_pages(disk: &mut MemDisk<Global>) -> Option<[u16; 2]> {
-    let head = word_at(disk, 530)?;
-    Some([head, first_page(disk, head)?])
-}
-
-// Whether the image after a commit has each byte that its own pages ask for.
-fn is_after_one(alloc: Global) -> Option<bool> {
-    let mut disk = with_one(alloc)?;
-    let [of_head, of_value] = kept_pages(&mut disk)?;
-    let want = after_one(alloc, of_head, of_value)?;
-    Some(are_apart(&[of_head, of_value]) && are_alike(alloc, disk, want)?)
+// An image of limit 8 after a commit of the first item.
+fn one<A: Allocator + Copy>(alloc: A) -> Option<MemDisk<A>> {
+    changed(alloc, formatted(alloc, 9_216, 8)?, "01 = 24")
 }
 
 #[test]
 fn an_image_after_a_commit(rt: HostRuntime) {
-    assert!(rt; is_after_one(rt.alloc()) == Some(true));
+    let disk = one(rt.alloc()).expect(&rt, "a commit");
+    let want = MemDisk::new(rt.alloc(), 9_216).expect(&rt, "a disk");
+    assert!(rt; is_after_one(rt.alloc(), disk, want) == Some(true));
 }
 
-// The same image after a second commit, of 600 bytes 7 for the key 2.
-fn with_two(alloc: Global, one: MemDisk<Global>) -> Option<MemDisk<Global>> {
-    let batch = edits(alloc, "02 = 07*600")?;
-    Some(stored(alloc, opened(alloc, one)?, batch)?.into_disk())
+// Where a second item is: the root's names of both heads, its own head, and the two pages of its value.
+#[derive(Clone, Copy, Debug, Drop)]
+struct Second {
+    names: [u16; 2],
+    head: u16,
+    pages: [u16; 2],
 }
 
-// Where the second item is: its head, and the two pages of its value.
-fn put_second(disk: &mut MemDisk<Global>, head: u16, pages: [u16; 2]) -> Option<()> {
+// The one of two names that is not the first item's head.
+fn other(names: [u16; 2], first: u16) -> Option<u16> {
+    match names {
+        [one, second] if one == first => Some(second),
+        [second, other] if other == first => Some(second),
+        _ => None,
+    }
+}
+
+// Where an image has a second item beside the one of this head.
+fn second_pages<D: Disk>(disk: &mut D, first: u16) -> Option<Second> {
+    let names = [word_at(disk, 18)?, word_at(disk, 20)?];
+    let head = other(names, first)?;
+    let pages = [first_page(disk, head)?, word_at(disk, at(head) + 10)?];
+    Some(Second { names, head, pages })
+}
+
+// The root after both commits, behind whose count of items the names stand, and the gate of the other.
+const ROOTS_AFTER_TWO: &str = "0: a5 'PSU 00 02 00 08 00*7 03 00 02; 512: 00";
+
+// Puts the root after both commits.
+fn put_root<D: Disk, A: Allocator + Copy>(alloc: A, disk: &mut D, names: [u16; 2]) -> Option<()> {
+    put_all(alloc, disk, ROOTS_AFTER_TWO)?;
+    put_word(disk, 18, names[0])?;
+    put_word(disk, 20, names[1])
+}
+
+// Puts the second item on its pages: 600 bytes 7 for the key 2.
+fn put_second<D: Disk>(disk: &mut D, second: Second) -> Option<()> {
+    let Second { head, pages, .. } = second;
     put(disk, at(head), &[1, 2, 0, 0, 2, 88, 0, 2])?;
     put_word(disk, at(head) + 8, pages[0])?;
     put_word(disk, at(head) + 10, pages[1])?;
@@ -114,49 +148,28 @@ fn put_second(disk: &mut MemDisk<Global>, head: u16, pages: [u16; 2]) -> Option<
     put(disk, at(pages[1]), &[7; 88])
 }
 
-// The pages of the second item: its head, which is the one of the root's two names that is not the first item's, and those of its value.
-fn new_pages(disk: &mut MemDisk<Global>, names: [u16; 2], kept: u16) -> Option<(u16, [u16; 2])> {
-    let head = match names {
-        [first, second] if first == kept => second,
-        [first, second] if second == kept => first,
-        _ => return None,
-    };
-    let first = first_page(disk, head)?;
-    Some((head, [first, word_at(disk, at(head) + 10)?]))
-}
-
-// The root after both commits, behind whose count of items the names stand, and the gate of the other.
-const ROOTS_AFTER_TWO: &str = "0: a5 'PSU 00 02 00 08 00*7 03 00 02; 512: 00";
-
-// The image after both commits: the first item on its pages, and the second on its own. The root names the heads so.
-fn after_two(
-    alloc: Global,
-    kept: [u16; 2],
-    new: u16,
-    pages: [u16; 2],
-    names: [u16; 2],
-) -> Option<MemDisk<Global>> {
-    let mut disk = after_one(alloc, kept[0], kept[1])?;
-    put_all(alloc, &mut disk, ROOTS_AFTER_TWO)?;
-    put_word(&mut disk, 18, names[0])?;
-    put_word(&mut disk, 20, names[1])?;
-    put_second(&mut disk, new, pages)?;
-    Some(disk)
-}
-
-// Whether the image after both commits has each byte that its own pages ask for, with the first item where it was.
-fn is_after_two(alloc: Global) -> Option<bool> {
-    let mut one = with_one(alloc)?;
-    let kept = kept_pages(&mut one)?;
-    let mut disk = with_two(alloc, one)?;
-    let names = [word_at(&mut disk, 18)?, word_at(&mut disk, 20)?];
-    let (new, pages) = new_pages(&mut disk, names, kept[0])?;
-    let want = after_two(alloc, kept, new, pages, names)?;
-    Some(are_apart(&[kept[0], kept[1], new, pages[0], pages[1]]) && are_alike(alloc, disk, want)?)
+// Whether an image of the first item has each byte that its own pages ask for after the commit of a second, with the first where it was.
+fn is_after_two<D: Disk + Drop, A: Allocator + Copy>(
+    alloc: A,
+    mut disk: D,
+    mut want: MemDisk<A>,
+) -> Option<bool> {
+    let first = first_pages(&mut disk)?;
+    let mut disk = changed(alloc, disk, "02 = 07*600")?;
+    let second = second_pages(&mut disk, first[0])?;
+    put_one(alloc, &mut want, first)?;
+    put_root(alloc, &mut want, second.names)?;
+    put_second(&mut want, second)?;
+    let [value, more] = second.pages;
+    Some(
+        are_apart(&[first[0], first[1], second.head, value, more]) && are_alike(alloc, disk, want)?,
+    )
 }
 
 // The item that stays keeps its pages, and the other takes a head and two pages of its own. The first root names both heads.
 #[test]
 fn an_image_after_two_commits(rt: HostRuntime) {
-    assert!(rt; is_after_two(rt.alloc()) == Some(true));
+    let disk = one(rt.alloc()).expect(&rt, "a commit");
+    let want = MemDisk::new(rt.alloc(), 9_216).expect(&rt, "a disk");
+    assert!(rt; is_after_two(rt.alloc(), disk, want) == Some(true));
 }

@@ -1,43 +1,39 @@
 // The ranges that a disk keeps to write them again, at the bound of their room.
 use crate::ForgettingMedium;
 use crate::holds::holds;
-use psu_disk::{Choice, Disk, DiskFault, KeptDisk, Medium};
+use crate::passing_disk::PassingDisk;
+use crate::spelled::{bytes_of, write};
+use psu_disk::{Choice, Disk, DiskFault, KeptDisk};
 use psu_tables::row;
-use std::alloc::Global;
+use std::alloc::Allocator;
 
 const SIZE: u64 = 4_096;
 
-type Kept = KeptDisk<ForgettingMedium<Global>, Global>;
-
-// A disk whose medium fails this sync.
-fn failing(alloc: Global, sync: u64) -> Option<Kept> {
-    let medium = ForgettingMedium::new(alloc, SIZE, [sync, 0]).ok()?;
-    KeptDisk::new(alloc, medium).ok()
-}
+type Kept<A> = KeptDisk<ForgettingMedium<A>, A>;
 
 // A disk that fails its next sync: the first of all, or the second, where one works first.
-fn fresh(alloc: Global, synced: &str) -> Option<Kept> {
+fn fresh<A: Allocator + Copy>(alloc: A, synced: &str) -> Option<Kept<A>> {
     match synced {
-        "synced" => {
-            let mut disk = failing(alloc, 2)?;
-            disk.sync().ok()?;
-            Some(disk)
-        }
+        "synced" => first_synced(failing(alloc, 2)?),
         "fresh" => failing(alloc, 1),
         _ => None,
     }
 }
 
-// Writes a range.
-fn write(disk: &mut Kept, at: u64, range: &[u8]) -> Option<()> {
-    if at > disk.size() || range.len() as u64 > disk.size() - at {
-        return None;
-    }
-    disk.write(at, range).ok()
+// A disk whose medium fails this sync.
+fn failing<A: Allocator + Copy>(alloc: A, sync: u64) -> Option<Kept<A>> {
+    let medium = ForgettingMedium::new(alloc, SIZE, [sync, 0]).ok()?;
+    KeptDisk::new(alloc, medium).ok()
+}
+
+// A disk whose first sync works.
+fn first_synced<D: Disk + Drop>(mut disk: D) -> Option<D> {
+    disk.sync().ok()?;
+    Some(disk)
 }
 
 // Writes so many ranges of this length, each as far from the next.
-fn write_apart(disk: &mut Kept, ranges: u64, length: usize) -> Option<()> {
+fn write_apart<D: Disk>(disk: &mut D, ranges: u64, length: usize) -> Option<()> {
     let bytes = [0xa5; 1_300];
     let range = &bytes[..length.min(1_300)];
     for n in 0..ranges {
@@ -62,38 +58,40 @@ fn count(bytes: &[u8]) -> u64 {
 }
 
 // How many bytes are there as they were written, after a loss that takes each that is not safe.
-fn kept(disk: Kept) -> Option<u64> {
+fn kept<A: Allocator + Copy>(alloc: A, disk: Kept<A>) -> Option<u64> {
     let mut medium = disk.into_inner();
     medium.lose(Choice::Old);
-    let mut bytes = [0; SIZE as usize];
-    if medium.size() != SIZE {
-        return None;
-    }
-    medium.read(0, &mut bytes).ok()?;
-    Some(count(&bytes))
+    Some(count(&bytes_of(alloc, PassingDisk::new(medium))?))
 }
 
 // Whether the next sync fails, and whether the two behind it work or fail, too.
-fn syncs(disk: &mut Kept, work: bool) -> bool {
+fn syncs<D: Disk>(disk: &mut D, work: bool) -> bool {
     disk.sync() == Err(DiskFault) && disk.sync().is_ok() == work && disk.sync().is_ok() == work
 }
 
-// Whether ranges that are written before a sync that fails are kept, or none is.
-fn are_as_wanted(alloc: Global, written: &str, wanted: &str) -> Option<bool> {
-    let (synced, sizes) = written.split_once(": ")?;
-    let (ranges, length) = sizes.split_once(" of ")?;
-    let ranges: u64 = ranges.parse().ok()?;
-    let length: usize = length.parse().ok()?;
-    let are_kept = wanted == "kept";
-    let mut disk = fresh(alloc, synced)?;
+// Whether ranges of a length that are written before a sync that fails are kept, or none is.
+fn are_kept<A: Allocator + Copy>(
+    alloc: A,
+    mut disk: Kept<A>,
+    (ranges, length): (u64, usize),
+    wanted: bool,
+) -> Option<bool> {
     write_apart(&mut disk, ranges, length)?;
-    let work = syncs(&mut disk, are_kept);
-    let want = if are_kept {
+    let work = syncs(&mut disk, wanted);
+    let want = if wanted {
         ranges.saturating_mul(length as u64)
     } else {
         0
     };
-    Some(work && kept(disk)? == want)
+    Some(work && kept(alloc, disk)? == want)
+}
+
+// The same of a row.
+fn are_as_wanted<A: Allocator + Copy>(alloc: A, written: &str, wanted: &str) -> Option<bool> {
+    let (synced, sizes) = written.split_once(": ")?;
+    let (ranges, length) = sizes.split_once(" of ")?;
+    let sizes = (ranges.parse().ok()?, length.parse().ok()?);
+    are_kept(alloc, fresh(alloc, synced)?, sizes, wanted == "kept")
 }
 
 // Whether a sync works first, how many ranges of which length are written before one that fails, and whether they are kept.

@@ -28,9 +28,13 @@ mod maps;
 #[cfg(test)]
 mod migrations;
 #[cfg(test)]
+mod openings;
+#[cfg(test)]
 mod passing_disk;
 #[cfg(test)]
 mod pools;
+#[cfg(test)]
+mod scenes;
 #[cfg(test)]
 mod spelled;
 #[cfg(test)]

@@ -1,47 +1,61 @@
 // The map of items by itself.
+use crate::edits::{edits, is_map};
 use crate::holds::holds;
-use crate::stores::is_just;
 use psu_items::{Items, Value};
-use std::alloc::Global;
+use psu_tables::{bytes, row};
+use std::alloc::Allocator;
 
-// Puts a value of one byte.
-fn put(alloc: Global, items: &mut Items<Global>, key: u8, value: u8) -> Option<()> {
-    let key = [key].to_vec(alloc).ok()?;
-    let value = [value].to_vec(alloc).ok()?;
-    items.insert(key, Value::new(value).ok()?).ok()
+// Puts a value, which a text has like its key.
+fn put<A: Allocator + Copy>(alloc: A, items: &mut Items<A>, item: &str) -> Option<()> {
+    let (key, value) = item.split_once(" = ")?;
+    let value = Value::new(bytes(alloc, value)?).ok()?;
+    items.insert(bytes(alloc, key)?, value).ok()
 }
 
-// A map of items that are put in another order than that of their keys, and one of them twice.
-fn four_put(alloc: Global) -> Option<Items<Global>> {
+// A map of the items that a text has, put in its order.
+fn map_of<A: Allocator + Copy>(alloc: A, text: &str) -> Option<Items<A>> {
     let mut items = Items::new(alloc);
-    for (key, value) in [(5, 10), (1, 20), (3, 30), (1, 40)] {
-        put(alloc, &mut items, key, value)?;
+    for item in text.split(";") {
+        put(alloc, &mut items, item)?;
     }
     Some(items)
 }
 
+// Whether a map whose items are put in another order than that of their keys, and one of them twice, is in the order of its keys.
+fn is_in_order<A: Allocator + Copy>(alloc: A) -> Option<bool> {
+    let items = map_of(alloc, "05 = 0a; 01 = 14; 03 = 1e; 01 = 28")?;
+    let want = edits(alloc, "01 = 28; 03 = 1e; 05 = 0a")?;
+    let has_third = items.get(&[3]) == Some([30].as_slice());
+    Some(has_third && items.get(&[3, 0]).is_none() && is_map(&items, &want))
+}
+
 #[test]
 fn a_map_is_in_the_order_of_its_keys(rt: HostRuntime) {
-    let items = four_put(rt.alloc()).expect(&rt, "memory");
-    assert!(rt; is_just(&items, &[(1, 40), (3, 30), (5, 10)]));
-    assert!(rt; items.get(&[3]) == Some([30].as_slice()));
-    assert!(rt; items.get(&[3, 0]).is_none());
+    assert!(rt; is_in_order(rt.alloc()) == Some(true));
 }
 
-// What a map of one value of this length costs.
-fn cost_of(alloc: Global, length: usize) -> Option<u128> {
-    let mut items = Items::new(alloc);
-    let value = vec![in alloc; 0; length].ok()?;
-    items
-        .insert([5].to_vec(alloc).ok()?, Value::new(value).ok()?)
-        .ok()?;
-    Some(items.cost())
+// What a map of one value costs.
+const COSTS: &str = "
+05 = 00*1 -> 2
+05 = 00*512 -> 2
+05 = 00*513 -> 3
+
+The value of a file of 29,183 bytes, and of one of 32,768.
+05 = 00*29184 -> 58
+05 = 00*32769 -> 66
+";
+
+// Whether a map of these items costs so many pages.
+fn costs<A: Allocator + Copy>(alloc: A, items: &str, pages: &str) -> Option<bool> {
+    let pages: u64 = pages.parse().ok()?;
+    Some(map_of(alloc, items)?.cost() == u128::from(pages))
 }
 
-// A file of 32,768 bytes has a value of one byte more, and costs 66; one of 29,183 costs 58.
 #[test]
 fn a_map_costs_pages(rt: HostRuntime) {
-    for (length, pages) in [(1, 2), (512, 2), (513, 3), (29184, 58), (32769, 66)] {
-        holds(&rt, cost_of(rt.alloc(), length) == Some(pages), &length);
+    for line in COSTS.lines() {
+        if let Some((items, pages)) = row(line) {
+            holds(&rt, costs(rt.alloc(), items, pages) == Some(true), &items);
+        }
     }
 }

@@ -1,26 +1,16 @@
-// The store on disks in memory. What answers an `Option` answers none where something hinders it that no test is about.
+// The store on any disk. What answers an `Option` answers none where something hinders it that no test is about.
 ghost use Rattle.std.specs.Prelude.{IsTrue};
 ghost use Rattle.psu_map.specs.Batch.{changed};
 ghost use Rattle.psu_map.specs.Capacity.{CanHold, Fits};
 
-use crate::edits::{assigned, edits};
-use crate::images::formatted;
-use psu_disk::{Disk, MemDisk, TellingDisk};
+use crate::edits::{edits, is_map};
+use crate::images::{empty, formatted_over};
+use psu_disk::{Disk, TellingDisk};
 use psu_items::{Batch, Commit, Items, Pair, Store};
-use std::alloc::Global;
-
-/// A disk of 5,120 bytes that holds an empty map of limit 4.
-pub fn empty(alloc: Global) -> Option<MemDisk<Global>> {
-    formatted(alloc, 5_120, 4)
-}
-
-/// One edit: the value 36 for the key 1.
-pub fn one_edit(alloc: Global) -> Option<Batch<Global>> {
-    assigned(alloc, 1, 36)
-}
+use std::alloc::Allocator;
 
 // Whether an image can hold an item.
-fn fits(pair: &Pair<Global>) -> bool
+fn fits<A: Allocator + Copy>(pair: &Pair<A>) -> bool
     ensures { IsTrue result → Fits pair.now }
 {
     let key = pair.key().len();
@@ -29,15 +19,14 @@ fn fits(pair: &Pair<Global>) -> bool
 }
 
 // Whether an image of this limit can hold a map.
-fn can_hold(limit: u16, items: &Items<Global>) -> bool
+fn can_hold<A: Allocator + Copy>(limit: u16, items: &Items<A>) -> bool
     ensures { IsTrue result → CanHold limit items.now }
 {
-    let pairs = items.pairs();
-    items.cost() <= u128::from(limit) && pairs.len() <= 240 && pairs.iter().all(fits)
+    items.cost() <= u128::from(limit) && items.pairs().iter().all(fits)
 }
 
 // Whether the image of a store can hold the map after a batch.
-fn takes<D: Disk>(alloc: Global, store: &Store<D, Global>, batch: &Batch<Global>) -> bool
+fn takes<D: Disk, A: Allocator + Copy>(alloc: A, store: &Store<D, A>, batch: &Batch<A>) -> bool
     ensures { IsTrue result → CanHold store.now.limit (changed store.now.items batch.now) }
 {
     match store.items().changed(alloc, batch) {
@@ -47,11 +36,11 @@ fn takes<D: Disk>(alloc: Global, store: &Store<D, Global>, batch: &Batch<Global>
 }
 
 /// What a commit gives, where the image can hold the map after the batch.
-pub fn commit<D: Disk + Drop>(
-    alloc: Global,
-    store: Store<D, Global>,
-    batch: Batch<Global>,
-) -> Option<Commit<D, Global>> {
+pub fn commit<D: Disk + Drop, A: Allocator + Copy>(
+    alloc: A,
+    store: Store<D, A>,
+    batch: Batch<A>,
+) -> Option<Commit<D, A>> {
     if !takes(alloc, &store, &batch) {
         return None;
     }
@@ -59,11 +48,11 @@ pub fn commit<D: Disk + Drop>(
 }
 
 /// The store after a commit that nothing hinders.
-pub fn stored<D: Disk + Drop>(
-    alloc: Global,
-    store: Store<D, Global>,
-    batch: Batch<Global>,
-) -> Option<Store<D, Global>> {
+pub fn stored<D: Disk + Drop, A: Allocator + Copy>(
+    alloc: A,
+    store: Store<D, A>,
+    batch: Batch<A>,
+) -> Option<Store<D, A>> {
     match commit(alloc, store, batch)? {
         Commit::Stored(store) => Some(store),
         _ => None,
@@ -71,21 +60,21 @@ pub fn stored<D: Disk + Drop>(
 }
 
 /// The store that an opening gives.
-pub fn opened<D: Disk + Drop>(alloc: Global, disk: D) -> Option<Store<D, Global>> {
+pub fn opened<D: Disk + Drop, A: Allocator + Copy>(alloc: A, disk: D) -> Option<Store<D, A>> {
     Store::open(alloc, disk).ok()
 }
 
 /// What a commit gives on a disk that is opened for it.
-pub fn committed<D: Disk + Drop>(
-    alloc: Global,
+pub fn committed<D: Disk + Drop, A: Allocator + Copy>(
+    alloc: A,
     disk: D,
-    batch: Batch<Global>,
-) -> Option<Commit<D, Global>> {
-    commit(alloc, opened(alloc, disk)?, batch)
+    batch: &Batch<A>,
+) -> Option<Commit<D, A>> {
+    commit(alloc, opened(alloc, disk)?, batch.copy(alloc).ok()?)
 }
 
 /// The disk that a commit hands on.
-pub fn disk_of<D: Disk>(commit: Commit<D, Global>) -> D {
+pub fn disk_of<D: Disk, A: Allocator + Copy>(commit: Commit<D, A>) -> D {
     match commit {
         Commit::Stored(store) => store.into_disk(),
         Commit::Unstarted(store, _, _) => store.into_disk(),
@@ -93,62 +82,41 @@ pub fn disk_of<D: Disk>(commit: Commit<D, Global>) -> D {
     }
 }
 
-/// Whether an item has this key and this value.
-pub fn is(pair: &Pair<Global>, key: &[u8], value: &[u8]) -> bool {
-    pair.key() == key && pair.value() == value
-}
-
-/// Whether a map has just these items, each with a key and a value of one byte.
-pub fn is_just(items: &Items<Global>, want: &[(u8, u8)]) -> bool {
-    let mut pairs = items.pairs().iter();
-    for (key, value) in want {
-        match pairs.next() {
-            Some(pair) if is(pair, &[*key], &[*value]) => {}
-            _ => return false,
-        }
-    }
-    pairs.next().is_none()
-}
-
 // Edits of which the later of a key counts, and one that removes.
 const FIVE_EDITS: &str = "01 = 0a; 02 = 14; 03 = 1e; 02; 03 = 1f";
 
 // Whether a batch has each of the five edits, and the fourth is the one that removes.
-fn are_the_five(batch: &Batch<Global>) -> bool {
+fn are_the_five<A: Allocator + Copy>(batch: &Batch<A>) -> bool {
     let edits = batch.edits();
     edits.len() == 5 && edits[3].key() == [2].as_slice() && edits[3].value().is_none()
 }
 
-// The store with the five edits, of which the batch has each.
-fn with_five(alloc: Global) -> Option<Store<MemDisk<Global>, Global>> {
+// Whether a store has the map of the five edits after a commit of them.
+fn keeps_the_later<D: Disk + Drop, A: Allocator + Copy>(alloc: A, disk: D) -> Option<bool> {
     let batch = edits(alloc, FIVE_EDITS)?;
-    if !are_the_five(&batch) {
-        return None;
-    }
-    stored(alloc, opened(alloc, empty(alloc)?)?, batch)
+    let are_five = are_the_five(&batch);
+    let store = stored(alloc, opened(alloc, disk)?, batch)?;
+    Some(are_five && is_map(store.items(), &edits(alloc, "01 = 0a; 03 = 1f")?))
 }
 
 #[test]
 fn the_later_edit_of_a_key_counts(rt: HostRuntime) {
-    let store = with_five(rt.alloc()).expect(&rt, "a store with five edits");
-    assert!(rt; is_just(store.items(), &[(1, 10), (3, 31)]));
+    let disk = empty(rt.alloc()).expect(&rt, "a disk");
+    assert!(rt; keeps_the_later(rt.alloc(), disk) == Some(true));
 }
 
-// A formatted disk that tells its moments.
-fn telling(alloc: Global) -> Option<TellingDisk<Global>> {
-    let disk = TellingDisk::new(alloc, 5_120).ok()?;
-    Some(Store::format(alloc, disk, 4).ok()?.into_disk())
+// Whether a first commit on a disk of 5,120 bytes stands.
+fn is_stored_on<D: Disk + Drop, A: Allocator + Copy>(alloc: A, disk: D) -> Option<bool> {
+    let store = opened(alloc, formatted_over(alloc, disk, 4)?)?;
+    let store = stored(alloc, store, edits(alloc, "01 = 24")?)?;
+    let stands = is_map(store.items(), &edits(alloc, "01 = 24")?);
+    let is_second = store.number() == 2 && store.version() == 2;
+    Some(stands && is_second && store.into_disk().faults() == 0)
 }
 
-// Whether a commit on it stands.
-fn is_stored_on_telling(alloc: Global) -> Option<bool> {
-    let store = stored(alloc, opened(alloc, telling(alloc)?)?, one_edit(alloc)?)?;
-    let stands = store.number() == 2 && store.version() == 2 && is_just(store.items(), &[(1, 36)]);
-    Some(stands && store.into_disk().faults() == 0)
-}
-
-// A disk that tells its moments, on which the clauses on moments are no empty promise.
+// A disk that reports its moments, on which the clauses on moments are no empty promise.
 #[test]
-fn a_disk_that_tells_its_moments_is_stored_on(rt: HostRuntime) {
-    assert!(rt; is_stored_on_telling(rt.alloc()) == Some(true));
+fn a_disk_that_reports_its_moments_is_stored_on(rt: HostRuntime) {
+    let disk = TellingDisk::new(rt.alloc(), 5_120).expect(&rt, "a disk");
+    assert!(rt; is_stored_on(rt.alloc(), disk) == Some(true));
 }

@@ -1,92 +1,91 @@
 // A store on a file that breaks, and in whose file another map lies when it is opened again.
-use crate::edits::assigned;
+use crate::edits::{edits, is_map};
 use crate::files::{new_disk, set_length};
+use crate::images::{changed, empty, laid_out};
 use crate::spelled::bytes_of;
-use crate::stores::{commit, empty, is_just, one_edit, opened, stored};
-use psu_disk::{Disk, FileDisk};
+use crate::stores::commit;
+use psu_disk::{Disk, MemDisk};
 use psu_items::{Broken, BrokenCause, Commit, Store};
-use std::alloc::Global;
+use std::alloc::Allocator;
 use std::fs::File;
 use std::rt::Files;
 
 const NAME: &str = "a_strange_disk_for_a_test.image";
 
-type OnFile = Store<FileDisk, Global>;
-
-type BrokenOnFile = Broken<FileDisk, Global>;
-
-// An empty map of limit 4 in a new file.
-fn formatted(files: &impl Files<File = File>, alloc: Global) -> Option<OnFile> {
-    let disk = new_disk(files, alloc, NAME, 5_120).ok()?;
-    if disk.size() < 5_120 {
-        return None;
-    }
-    Store::format(alloc, disk, 4).ok()
-}
-
 // What a commit of the value 36 gives while the file is cut short.
-fn cut(files: &impl Files<File = File>, alloc: Global) -> Option<Commit<FileDisk, Global>> {
-    let store = formatted(files, alloc)?;
+fn cut<D: Disk + Drop, A: Allocator + Copy>(
+    files: &impl Files<File = File>,
+    alloc: A,
+    store: Store<D, A>,
+) -> Option<Commit<D, A>> {
     set_length(files, NAME, 5_119).ok()?;
-    let ended = commit(alloc, store, one_edit(alloc)?);
+    let ended = commit(alloc, store, edits(alloc, "01 = 24")?);
     set_length(files, NAME, 5_120).ok()?;
     ended
 }
 
 // The store that broke by it.
-fn broken(files: &impl Files<File = File>, alloc: Global) -> Option<BrokenOnFile> {
-    match cut(files, alloc)? {
+fn broken<D: Disk + Drop, A: Allocator + Copy>(ended: Commit<D, A>) -> Option<Broken<D, A>> {
+    match ended {
         Commit::Broken(broken) => Some(broken),
         _ => None,
     }
 }
 
-// Puts an image in the file whose map has this value under the key 1.
-fn put_map(files: &impl Files<File = File>, alloc: Global, value: u8) -> Option<()> {
-    let store = opened(alloc, empty(alloc)?)?;
-    let disk = stored(alloc, store, assigned(alloc, 1, value)?)?.into_disk();
-    std::fs::write(files, NAME, bytes_of(alloc, disk)?.as_slice()).ok()
+// Puts bytes in the file.
+fn put(files: &impl Files<File = File>, bytes: &[u8]) -> Option<()> {
+    std::fs::write(files, NAME, bytes).ok()
 }
 
-// Puts zeros in the file.
-fn put_zeros(files: &impl Files<File = File>) -> Option<()> {
-    std::fs::write(files, NAME, [0; 5_120].as_slice()).ok()
+// Puts an image in the file whose map a text has.
+fn put_map<A: Allocator + Copy>(
+    files: &impl Files<File = File>,
+    alloc: A,
+    map: &str,
+) -> Option<()> {
+    let disk: MemDisk<A> = changed(alloc, empty(alloc)?, map)?;
+    put(files, &bytes_of(alloc, disk)?)
 }
 
 // A store that stays broken where it is opened again, as what is in its file is strange.
-fn strange(alloc: Global, broken: BrokenOnFile) -> Option<BrokenOnFile> {
+fn strange<D: Disk + Drop, A: Allocator + Copy>(
+    alloc: A,
+    broken: Broken<D, A>,
+) -> Option<Broken<D, A>> {
     let broken = broken.reopen(alloc).err()?;
-    if broken.cause() != BrokenCause::Strange {
-        return None;
-    }
-    Some(broken)
+    (broken.cause() == BrokenCause::Strange).then_some(broken)
 }
 
 // The store that finds its target in the file, after zeros and another map were strange to it.
-fn reopened(
+fn reopened<D: Disk + Drop, A: Allocator + Copy>(
     files: &impl Files<File = File>,
-    alloc: Global,
-    broken: BrokenOnFile,
-) -> Option<OnFile> {
-    put_zeros(files)?;
+    alloc: A,
+    broken: Broken<D, A>,
+) -> Option<Store<D, A>> {
+    put(files, &[0; 5_120])?;
     let broken = strange(alloc, broken)?;
-    put_map(files, alloc, 37)?;
+    put_map(files, alloc, "01 = 25")?;
     let broken = strange(alloc, broken)?;
-    put_map(files, alloc, 36)?;
+    put_map(files, alloc, "01 = 24")?;
     broken.reopen(alloc).ok()
 }
 
 // Whether it finds it, and broke for its device.
-fn is_found(files: &impl Files<File = File>, alloc: Global) -> Option<bool> {
-    let broken = broken(files, alloc)?;
+fn is_found<D: Disk + Drop, A: Allocator + Copy>(
+    files: &impl Files<File = File>,
+    alloc: A,
+    disk: D,
+) -> Option<bool> {
+    let broken = broken(cut(files, alloc, laid_out(alloc, disk, 4)?)?)?;
     let is_of_the_device = broken.cause() == BrokenCause::Device;
     let store = reopened(files, alloc, broken)?;
-    Some(is_of_the_device && is_just(store.items(), &[(1, 36)]))
+    Some(is_of_the_device && is_map(store.items(), &edits(alloc, "01 = 24")?))
 }
 
 // Neither zeros nor another map are the map before the commit or the one after it; the one after it is.
 #[test]
-fn a_strange_file_is_told_as_strange(rt: HostRuntime) {
-    assert!(rt; is_found(&rt, rt.alloc()) == Some(true));
+fn a_strange_file_is_reported_as_strange(rt: HostRuntime) {
+    let disk = new_disk(&rt, rt.alloc(), NAME, 5_120).expect(&rt, "a disk");
+    assert!(rt; is_found(&rt, rt.alloc(), disk) == Some(true));
     assert!(rt; std::fs::remove_file(&rt, NAME).is_ok());
 }
