@@ -1,10 +1,10 @@
 // Heads that are refused, and heads that are good to the last: keys, lengths, counts and pages.
-use crate::holds::holds;
-use crate::openings::{IMAGE, SIZE, are_found, found, is_wanted};
-use crate::spelled::{put, put_word, spelled};
-use psu_disk::{Disk, MemDisk};
-use psu_tables::row;
+use crate::holds::rows_hold;
+use crate::openings::{IMAGE, SIZE, are_found, is_found};
+use crate::spelled::{halves, number, put, put_word, spelled};
+use psu_disk::Disk;
 use std::alloc::Allocator;
+use std::process::Abort;
 
 // The head on page 3, which says: a key of one byte, the value's length, how many pages, which.
 const WORDS_OF_A_HEAD: &str = "
@@ -81,45 +81,37 @@ fn keys_and_values_of_the_greatest_length(rt: HostRuntime) {
 }
 
 // Names an item in the root, its head on an even page, and puts the head there. Its key is one byte, and its value is on the page behind.
-fn put_item<D: Disk>(disk: &mut D, item: u16) -> Option<()> {
+fn put_item<D: Disk>(rt: &impl Abort, disk: &mut D, item: u16) {
     let page = item.saturating_mul(2).saturating_add(2);
+    let place = u64::from(item).saturating_mul(2).saturating_add(530);
+    put_word(rt, disk, place, page);
     let [_, key] = item.saturating_add(1).to_be_bytes();
     let [high, low] = page.saturating_add(1).to_be_bytes();
-    put_word(
-        disk,
-        u64::from(item).saturating_mul(2).saturating_add(530),
-        page,
-    )?;
-    put(
-        disk,
-        u64::from(page).saturating_mul(512),
-        &[1, key, 0, 0, 0, 1, 0, 1, high, low],
-    )
+    let head = [1, key, 0, 0, 0, 1, 0, 1, high, low];
+    put(rt, disk, u64::from(page).saturating_mul(512), &head);
 }
 
-// Puts the limit, so many items, each of a key and a value of one byte, and their count in the second root.
-fn put_many<D: Disk>(disk: &mut D, limit: u16, count: u16) -> Option<()> {
-    put_word(disk, 518, limit)?;
-    put_word(disk, 528, count)?;
+// Puts the limit, and so many items, each of a key and a value of one byte, in the second root.
+fn put_many<D: Disk>(rt: &impl Abort, disk: &mut D, limit: u16, count: u16) {
+    put_word(rt, disk, 518, limit);
+    put_word(rt, disk, 528, count);
     for item in 0..count {
-        put_item(disk, item)?;
+        put_item(rt, disk, item);
     }
-    Some(())
 }
 
-// An image of this limit with so many items. The second root counts, of the number 9.
-fn with_many<A: Allocator + Copy>(alloc: A, limit: u16, count: u16) -> Option<MemDisk<A>> {
-    let size = u64::from(limit).saturating_add(1).saturating_mul(1_024);
-    let mut disk = spelled(alloc, size, "512: a5 'PSU 00 02; 527: 09")?;
-    put_many(&mut disk, limit, count)?;
-    Some(disk)
+// A number of two bytes.
+fn word(rt: &impl Abort, text: &str) -> u16 {
+    text.parse().ok().expect(rt, "a word")
 }
 
-// Whether an opening finds such an image as wanted. The row has the limit and the count.
-fn is_found<A: Allocator + Copy>(alloc: A, filled: &str, wanted: &str) -> Option<bool> {
-    let (limit, count) = filled.split_once(": ")?;
-    let disk = with_many(alloc, limit.parse().ok()?, count.parse().ok()?)?;
-    Some(is_wanted(found(alloc, disk), wanted))
+// Whether an opening finds an image of this limit with so many items as wanted. The second root counts, of the number 9.
+fn is_filled<A: Allocator + Copy>(rt: &impl Abort, alloc: A, filled: &str, wanted: &str) -> bool {
+    let (limit, count) = halves(rt, filled, ": ");
+    let size = number(rt, limit).saturating_add(1).saturating_mul(1_024);
+    let mut disk = spelled(rt, alloc, size, "512: a5 'PSU 00 02; 527: 09");
+    put_many(rt, &mut disk, word(rt, limit), word(rt, count));
+    is_found(alloc, disk, wanted)
 }
 
 // 240 items are on an image of limit 480, which they fill. Of limit 479 the last is one page too many.
@@ -132,10 +124,7 @@ const FILLED: &str = "
 
 #[test]
 fn images_that_items_fill(rt: HostRuntime) {
-    for line in FILLED.lines() {
-        if let Some((filled, wanted)) = row(line) {
-            let is_so = is_found(rt.alloc(), filled, wanted) == Some(true);
-            holds(&rt, is_so, &filled);
-        }
-    }
+    rows_hold(&rt, FILLED, |filled, wanted| {
+        is_filled(&rt, rt.alloc(), filled, wanted)
+    });
 }

@@ -1,25 +1,29 @@
 // Roots that are refused, and roots that are good though they differ: what is looked at, and in which order.
-use crate::edits::{edits, is_map};
-use crate::holds::holds;
-use crate::openings::{IMAGE, SIZE, are_found, found, is_wanted};
-use crate::spelled::spelled;
-use crate::stores::opened;
+use crate::holds::{holds, rows_hold};
+use crate::openings::{IMAGE, SIZE, are_found, is_found};
+use crate::spelled::{number, spelled};
+use crate::stores::{has_map, opened};
 use psu_disk::Disk;
-use psu_tables::row;
+use psu_items::Store;
 use std::alloc::Allocator;
+use std::process::Abort;
 
-// Whether a disk has the limit and the number that the image says, and holds its two items.
-fn is_the_image<D: Disk + Drop, A: Allocator + Copy>(alloc: A, disk: D) -> Option<bool> {
-    let want = edits(alloc, "01 = 24; 02 09 = 08*512 09*88")?;
-    let store = opened(alloc, disk)?;
-    let words = store.limit() == 6 && store.number() == 1 && store.version() == 2;
-    Some(words && is_map(store.items(), &want))
+// A store has the limit and the number that the image says, and its two items.
+fn is_the_image<D: Disk, A: Allocator + Copy>(rt: &impl Abort, alloc: A, store: &Store<D, A>) {
+    holds(rt, store.limit() == 6, &"the limit");
+    holds(rt, store.number() == 1, &"the number");
+    holds(rt, store.version() == 2, &"the version");
+    has_map(rt, alloc, store, "01 = 24; 02 09 = 08*512 09*88");
+}
+
+// That store is found on a disk.
+fn is_found_on<D: Disk + Drop, A: Allocator + Copy>(rt: &impl Abort, alloc: A, disk: D) {
+    is_the_image(rt, alloc, &opened(rt, alloc, disk));
 }
 
 #[test]
 fn the_image_holds_two_items(rt: HostRuntime) {
-    let disk = spelled(rt.alloc(), SIZE, IMAGE).expect(&rt, "an image");
-    assert!(rt; is_the_image(rt.alloc(), disk) == Some(true));
+    is_found_on(&rt, rt.alloc(), spelled(&rt, rt.alloc(), SIZE, IMAGE));
 }
 
 const WORDS_OF_A_ROOT: &str = "
@@ -122,21 +126,10 @@ const SIZES: &str = "
 // A root of version 2, limit 4 and number 1 without items, for a disk of another size than its image has.
 const EMPTY: &str = "0: a5 'PSU 00 02 00 04 00*7 01";
 
-// Whether a disk of so many bytes with this root is found as wanted.
-fn size_is_found<A: Allocator + Copy>(alloc: A, size: &str, wanted: &str) -> Option<bool> {
-    let disk = spelled(alloc, size.parse().ok()?, EMPTY)?;
-    Some(is_wanted(found(alloc, disk), wanted))
-}
-
 #[test]
 fn disks_that_are_too_small_or_larger(rt: HostRuntime) {
-    for line in SIZES.lines() {
-        if let Some((size, wanted)) = row(line) {
-            holds(
-                &rt,
-                size_is_found(rt.alloc(), size, wanted) == Some(true),
-                &size,
-            );
-        }
-    }
+    rows_hold(&rt, SIZES, |size, wanted| {
+        let disk = spelled(&rt, rt.alloc(), number(&rt, size), EMPTY);
+        is_found(rt.alloc(), disk, wanted)
+    });
 }

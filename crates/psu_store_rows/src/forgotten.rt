@@ -1,5 +1,7 @@
 // Syncs that fail on a medium that forgets, and a power loss after them: what a store confirmed is there still, over a disk that writes it
 // again.
+ghost use Rattle.std.specs.Prelude.{◌≡◌, ℕ, false, slice_index_or};
+
 use crate::ForgettingMedium;
 use crate::edits::each_of;
 use crate::holds::holds;
@@ -41,7 +43,7 @@ struct Case {
 
 // The values of the key 1 that may stand after some steps, 0 where no item does: the one that was confirmed last and, where a commit is
 // in flight, its target.
-#[derive(Clone, Copy, Debug, Drop)]
+#[derive(Clone, Copy, Drop)]
 struct Values {
     confirmed: u8,
     target: u8,
@@ -62,121 +64,175 @@ fn value_of<A: Allocator + Copy>(items: &Items<A>) -> Option<u8> {
     }
 }
 
-// The value that stands in a store, where it is one of two.
-fn standing<D: Disk, A: Allocator + Copy>(store: &Store<D, A>, values: Values) -> Option<u8> {
-    let value = value_of(store.items())?;
-    (value == values.confirmed || value == values.target).then_some(value)
+impl Values {
+    // One value that stands.
+    fn just(value: u8) -> Values {
+        Values {
+            confirmed: value,
+            target: value,
+        }
+    }
+
+    // The value that stands in a store, where it is one of these.
+    fn standing<D: Disk, A: Allocator + Copy>(self, store: &Store<D, A>) -> Option<u8> {
+        let value = value_of(store.items())?;
+        (value == self.confirmed || value == self.target).then_some(value)
+    }
+
+    // The values after a commit of this one.
+    fn after<D: Disk, A: Allocator + Copy>(self, ended: &Commit<D, A>, target: u8) -> Values {
+        match ended {
+            Commit::Stored(_) => Values::just(target),
+            _ => Values {
+                confirmed: self.confirmed,
+                target,
+            },
+        }
+    }
 }
 
 // A commit of this value on a store that is whole.
 fn put<D: Disk + Drop, A: Allocator + Copy>(
+    rt: &impl Abort,
     alloc: A,
     store: Store<D, A>,
+    (values, value): (Values, u8),
+) -> Run<D, A> {
+    let batch = each_of(rt, alloc, (1, 2), value);
+    let store = commit(rt, alloc, store, batch);
+    let values = values.after(&store, value);
+    Run { store, values }
+}
+
+// A run whose store was opened again: it confirms which of the two values stands.
+fn found<D: Disk + Drop, A: Allocator + Copy>(
+    rt: &impl Abort,
+    store: Store<D, A>,
     values: Values,
-    value: u8,
-) -> Option<Run<D, A>> {
-    let store = commit(alloc, store, each_of(alloc, 1, 2, value)?)?;
-    let is_stored = matches!(store, Commit::Stored(_));
-    let confirmed = if is_stored { value } else { values.confirmed };
-    Some(Run {
-        store,
-        values: Values {
-            confirmed,
-            target: value,
-        },
-    })
+) -> Run<D, A> {
+    let value = values.standing(&store).expect(rt, "a value that can stand");
+    Run {
+        store: Commit::Stored(store),
+        values: Values::just(value),
+    }
 }
 
 // The reopening of a store that broke: where it works, one of the two values stands.
 fn reopened<D: Disk + Drop, A: Allocator + Copy>(
+    rt: &impl Abort,
     alloc: A,
     broken: Broken<D, A>,
     values: Values,
-) -> Option<Run<D, A>> {
+) -> Run<D, A> {
     match broken.reopen(alloc) {
-        Ok(store) => stands(store, values),
-        Err(broken) => Some(Run {
+        Ok(store) => found(rt, store, values),
+        Err(broken) => Run {
             store: Commit::Broken(broken),
             values,
-        }),
-    }
-}
-
-// A run whose store was opened again: it confirms which of the two values stands.
-fn stands<D: Disk + Drop, A: Allocator + Copy>(
-    store: Store<D, A>,
-    values: Values,
-) -> Option<Run<D, A>> {
-    let value = standing(&store, values)?;
-    Some(Run {
-        store: Commit::Stored(store),
-        values: Values {
-            confirmed: value,
-            target: value,
         },
-    })
+    }
 }
 
 // The next step: a commit of this value, or the reopening of a store that broke.
 fn next<D: Disk + Drop, A: Allocator + Copy>(
+    rt: &impl Abort,
     alloc: A,
     run: Run<D, A>,
     value: u8,
-) -> Option<Run<D, A>> {
+) -> Run<D, A> {
     let Run { store, values } = run;
     match store {
-        Commit::Stored(store) => put(alloc, store, values, value),
-        Commit::Unstarted(_, _, _) => None,
-        Commit::Broken(broken) => reopened(alloc, broken, values),
+        Commit::Stored(store) => put(rt, alloc, store, (values, value)),
+        Commit::Unstarted(_, _, _) => panic!(rt; "a commit is not begun"),
+        Commit::Broken(broken) => reopened(rt, alloc, broken, values),
     }
 }
 
-// A run of no step: a format.
-fn begun<D: Disk + Drop, A: Allocator + Copy>(alloc: A, disk: D) -> Option<Run<D, A>> {
-    Some(Run {
-        store: Commit::Stored(laid_out(alloc, disk, 4)?),
-        values: Values {
-            confirmed: 0,
-            target: 0,
-        },
-    })
-}
-
-// The disk after so many steps behind a format, and the values that may stand on it. Each value that is put is the number of its step.
-fn after<D: Disk + Drop, A: Allocator + Copy>(alloc: A, disk: D, steps: u8) -> Option<(D, Values)> {
-    let mut run = begun(alloc, disk)?;
+// A run of so many steps behind a format. Each value that is put is the number of its step.
+fn after<D: Disk + Drop, A: Allocator + Copy>(
+    rt: &impl Abort,
+    alloc: A,
+    disk: D,
+    steps: u8,
+) -> Run<D, A> {
+    let mut run = Run {
+        store: Commit::Stored(laid_out(rt, alloc, disk, 4)),
+        values: Values::just(0),
+    };
     for step in 0..steps {
-        run = next(alloc, run, step.saturating_add(1))?;
+        run = next(rt, alloc, run, step.saturating_add(1));
     }
-    let Run { store, values } = run;
-    Some((disk_of(store), values))
+    run
+}
+
+// The disk after that, and the values that may stand on it.
+fn ended<D: Disk + Drop, A: Allocator + Copy>(
+    rt: &impl Abort,
+    alloc: A,
+    disk: D,
+    steps: u8,
+) -> (D, Values) {
+    let Run { store, values } = after(rt, alloc, disk, steps);
+    (disk_of(store), values)
 }
 
 // Whether an opening after the loss finds neither value.
 fn is_lost<D: Disk + Drop, A: Allocator + Copy>(alloc: A, disk: D, values: Values) -> bool {
     match Store::open(alloc, disk) {
-        Ok(store) => standing(&store, values).is_none(),
+        Ok(store) => values.standing(&store).is_none(),
         Err(_) => true,
     }
 }
 
-// Whether a run loses what was confirmed, over a disk that writes again.
-fn is_lost_on_kept<A: Allocator + Copy>(alloc: A, case: Case, choice: Choice) -> Option<bool> {
-    let medium = ForgettingMedium::new(alloc, SIZE, case.failing).ok()?;
-    let (disk, values) = after(alloc, KeptDisk::new(alloc, medium).ok()?, case.steps)?;
+// A disk that writes again, over a medium.
+fn kept<A: Allocator + Copy>(
+    rt: &impl Abort,
+    alloc: A,
+    medium: ForgettingMedium<A>,
+) -> KeptDisk<ForgettingMedium<A>, A>
+    requires { (k : ℕ) → slice_index_or medium.forgotten.items k false ≡ false }
+{
+    KeptDisk::new(alloc, medium).expect(rt, "memory for a disk")
+}
+
+// A medium whose syncs of these numbers fail.
+fn forgetting<A: Allocator + Copy>(
+    rt: &impl Abort,
+    alloc: A,
+    failing: [u64; 2],
+) -> ForgettingMedium<A>
+    ensures { (k : ℕ) → slice_index_or result.forgotten.items k false ≡ false }
+{
+    ForgettingMedium::new(alloc, SIZE, failing).expect(rt, "memory for a medium")
+}
+
+// Whether a run loses what was confirmed, over a disk that writes again; the last step is confirmed.
+fn is_lost_on_kept<A: Allocator + Copy>(
+    rt: &impl Abort,
+    alloc: A,
+    case: Case,
+    choice: Choice,
+) -> bool {
+    let disk = kept(rt, alloc, forgetting(rt, alloc, case.failing));
+    let (disk, values) = ended(rt, alloc, disk, case.steps);
+    holds(rt, case.steps < LAST || values.confirmed == LAST, &case);
     let mut medium = disk.into_inner();
     medium.lose(choice);
-    let is_lost = is_lost(alloc, KeptDisk::new(alloc, medium).ok()?, values);
-    (case.steps < LAST || values.confirmed == LAST).then_some(is_lost)
+    is_lost(alloc, kept(rt, alloc, medium), values)
 }
 
 // The same over one that does not.
-fn is_lost_on_passing<A: Allocator + Copy>(alloc: A, case: Case, choice: Choice) -> Option<bool> {
-    let medium = ForgettingMedium::new(alloc, SIZE, case.failing).ok()?;
-    let (disk, values) = after(alloc, PassingDisk::new(medium), case.steps)?;
+fn is_lost_on_passing<A: Allocator + Copy>(
+    rt: &impl Abort,
+    alloc: A,
+    case: Case,
+    choice: Choice,
+) -> bool {
+    let disk = PassingDisk::new(forgetting(rt, alloc, case.failing));
+    let (disk, values) = ended(rt, alloc, disk, case.steps);
     let mut medium = disk.into_inner();
     medium.lose(choice);
-    Some(is_lost(alloc, PassingDisk::new(medium), values))
+    is_lost(alloc, PassingDisk::new(medium), values)
 }
 
 // A run of each number of steps in which these syncs fail loses nothing that was confirmed.
@@ -184,8 +240,8 @@ fn loses_nothing<A: Allocator + Copy>(rt: &impl Abort, alloc: A, failing: [u64; 
     for steps in 0..LAST + 1 {
         let case = Case { failing, steps };
         for choice in CHOICES {
-            let lost = is_lost_on_kept(alloc, case, choice);
-            holds(rt, lost == Some(false), &(case, choice));
+            let is_lost = is_lost_on_kept(rt, alloc, case, choice);
+            holds(rt, !is_lost, &(case, choice));
         }
     }
 }
@@ -218,7 +274,7 @@ fn a_disk_that_does_not_write_again_loses_it(rt: HostRuntime) {
             failing: [sync, 0],
             steps,
         };
-        let lost = is_lost_on_passing(rt.alloc(), case, choice);
-        holds(&rt, lost == Some(want), &(case, choice));
+        let is_lost = is_lost_on_passing(&rt, rt.alloc(), case, choice);
+        holds(&rt, is_lost == want, &(case, choice));
     }
 }

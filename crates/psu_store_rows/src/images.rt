@@ -1,44 +1,69 @@
 // Images that the store itself makes.
 use crate::edits::edits;
+use crate::spelled::zeros;
 use crate::stores::{opened, stored};
 use psu_disk::{Disk, MemDisk};
 use psu_items::Store;
 use std::alloc::Allocator;
+use std::process::Abort;
 
-/// A store of an empty map of this limit on a disk that is laid out for it; none where the limit or the room is not one that an image can
-/// have.
+/// A store of an empty map of this limit on a disk that is laid out for it. The limit and the room are such as an image can have.
 pub fn laid_out<D: Disk + Drop, A: Allocator + Copy>(
+    rt: &impl Abort,
     alloc: A,
     disk: D,
     limit: u16,
-) -> Option<Store<D, A>> {
-    if limit < 4 || limit > 480 || disk.size() < 512 * (2 + 2 * u64::from(limit)) {
-        return None;
-    }
-    Store::format(alloc, disk, limit).ok()
+) -> Store<D, A> {
+    assert!(rt; 4 <= limit);
+    assert!(rt; limit <= 480);
+    assert!(rt; 512 * (2 + 2 * u64::from(limit)) <= disk.size());
+    Store::format(alloc, disk, limit)
+        .ok()
+        .expect(rt, "a format")
 }
 
 /// A disk that was laid out for an empty map of this limit.
 pub fn formatted_over<D: Disk + Drop, A: Allocator + Copy>(
+    rt: &impl Abort,
     alloc: A,
     disk: D,
     limit: u16,
-) -> Option<D> {
-    Some(laid_out(alloc, disk, limit)?.into_disk())
+) -> D {
+    laid_out(rt, alloc, disk, limit).into_disk()
 }
 
 /// A disk of so many bytes that was laid out for an empty map of this limit.
-pub fn formatted<A: Allocator + Copy>(alloc: A, size: u64, limit: u16) -> Option<MemDisk<A>> {
-    formatted_over(alloc, MemDisk::new(alloc, size).ok()?, limit)
+pub fn formatted<A: Allocator + Copy>(
+    rt: &impl Abort,
+    alloc: A,
+    size: u64,
+    limit: u16,
+) -> MemDisk<A> {
+    formatted_over(rt, alloc, zeros(rt, alloc, size), limit)
 }
 
 /// A disk of 5,120 bytes that holds an empty map of limit 4.
-pub fn empty<A: Allocator + Copy>(alloc: A) -> Option<MemDisk<A>> {
-    formatted(alloc, 5_120, 4)
+pub fn empty<A: Allocator + Copy>(rt: &impl Abort, alloc: A) -> MemDisk<A> {
+    formatted(rt, alloc, 5_120, 4)
 }
 
-/// The disk after the commit of a batch, as a text has it.
-pub fn changed<D: Disk + Drop, A: Allocator + Copy>(alloc: A, disk: D, batch: &str) -> Option<D> {
-    let batch = edits(alloc, batch)?;
-    Some(stored(alloc, opened(alloc, disk)?, batch)?.into_disk())
+/// The store on a disk after the commit of a batch, as a text has it.
+pub fn store_with<D: Disk + Drop, A: Allocator + Copy>(
+    rt: &impl Abort,
+    alloc: A,
+    disk: D,
+    batch: &str,
+) -> Store<D, A> {
+    let store = opened(rt, alloc, disk);
+    stored(rt, alloc, store, edits(rt, alloc, batch))
+}
+
+/// The disk after that.
+pub fn changed<D: Disk + Drop, A: Allocator + Copy>(
+    rt: &impl Abort,
+    alloc: A,
+    disk: D,
+    batch: &str,
+) -> D {
+    store_with(rt, alloc, disk, batch).into_disk()
 }

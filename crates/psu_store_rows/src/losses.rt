@@ -1,52 +1,64 @@
 // Losses of power during a commit and during the opening that follows, and disks that fail once.
+use crate::edits::copied;
 use crate::holds::holds;
 use crate::images::{changed, empty, formatted};
 use crate::scenes::{Counts, Scene};
 use crate::spelled::{bytes_of, remade};
-use crate::stores::{committed, disk_of, opened, stored};
+use crate::stores::{broken_by, committed, disk_of, faults_of, opened, stored, stored_by};
 use psu_disk::{Choice, Disk, FailingDisk, MemDisk};
-use psu_items::{Broken, Commit, Store};
+use psu_items::{Broken, Store};
 use std::alloc::Allocator;
 use std::process::Abort;
 
-// Whether the commit stands where nothing fails.
-fn is_stored<A: Allocator + Copy>(alloc: A, scene: &Scene<A>) -> Option<bool> {
-    let store = opened(alloc, scene.disk(alloc)?)?;
-    scene.has_target(&stored(alloc, store, scene.batch.copy(alloc).ok()?)?)
+// A loss of power: the number of calls before it, and what it makes of the bytes that are not safe.
+#[derive(Clone, Copy, Debug, Drop)]
+struct Loss {
+    calls: u64,
+    choice: Choice,
+}
+
+// The commit stands on a disk where nothing fails.
+fn is_stored<D: Disk + Drop, A: Allocator + Copy>(
+    rt: &impl Abort,
+    alloc: A,
+    scene: &Scene<A>,
+    disk: D,
+) {
+    let store = stored_by(rt, committed(rt, alloc, disk, &scene.batch));
+    holds(rt, scene.has_target(&store) == Some(true), &"the target");
 }
 
 // The disk behind an opening of it and a commit, whatever fails in that.
 fn after_commit<D: Disk + Drop, A: Allocator + Copy>(
+    rt: &impl Abort,
     alloc: A,
     scene: &Scene<A>,
     disk: D,
-) -> Option<D> {
-    Some(disk_of(committed(alloc, disk, &scene.batch)?))
+) -> D {
+    disk_of(committed(rt, alloc, disk, &scene.batch))
 }
 
-// What a power loss leaves after k calls of a commit.
+// What a power loss leaves during a commit.
 fn left<A: Allocator + Copy>(
+    rt: &impl Abort,
     alloc: A,
     scene: &Scene<A>,
-    k: u64,
-    choice: Choice,
-) -> Option<MemDisk<A>> {
-    let calls = scene.counts.opening.saturating_add(k);
-    let disk = FailingDisk::from_then_on(scene.disk(alloc)?, calls);
-    let mut disk = after_commit(alloc, scene, disk)?.into_inner();
-    disk.lose(choice);
-    Some(disk)
+    loss: Loss,
+) -> MemDisk<A> {
+    let calls = scene.counts.opening.saturating_add(loss.calls);
+    let disk = FailingDisk::from_then_on(remade(rt, alloc, &scene.image), calls);
+    let mut disk = after_commit(rt, alloc, scene, disk).into_inner();
+    disk.lose(loss.choice);
+    disk
 }
 
-// Whether a loss after k calls leaves a map that can stand: the one before where there were none, and the target after all of them.
-fn can_stand<A: Allocator + Copy>(
-    alloc: A,
-    scene: &Scene<A>,
-    k: u64,
-    choice: Choice,
-) -> Option<bool> {
-    let target = scene.finds_target(alloc, left(alloc, scene, k, choice)?)?;
-    Some((k > 0 || !target) && (k < scene.counts.commit || target))
+// Whether what a loss leaves can stand: the map before where no call was made, and the target where all were.
+fn can_stand<A: Allocator + Copy>(rt: &impl Abort, alloc: A, scene: &Scene<A>, loss: Loss) -> bool {
+    match scene.finds_target(alloc, left(rt, alloc, scene, loss)) {
+        Some(true) => loss.calls > 0,
+        Some(false) => loss.calls < scene.counts.commit,
+        None => false,
+    }
 }
 
 // Old, New, and the byte of a fill.
@@ -60,11 +72,11 @@ fn choice_of(n: u16) -> Choice {
 
 /// A loss after each number of calls of a commit, and of each kind, leaves the map before it or the target.
 pub fn each_loss_leaves_a_map<A: Allocator + Copy>(rt: &impl Abort, alloc: A, scene: &Scene<A>) {
-    assert!(rt; is_stored(alloc, scene) == Some(true));
-    for k in 0..scene.counts.commit.saturating_add(1) {
+    for calls in 0..scene.counts.commit.saturating_add(1) {
         for n in 0..258u16 {
-            let can_stand = can_stand(alloc, scene, k, choice_of(n));
-            holds(rt, can_stand == Some(true), &(k, n));
+            let choice = choice_of(n);
+            let loss = Loss { calls, choice };
+            holds(rt, can_stand(rt, alloc, scene, loss), &loss);
         }
     }
 }
@@ -77,16 +89,17 @@ fn after_opening<D: Disk, A: Allocator + Copy>(alloc: A, disk: D) -> D {
     }
 }
 
-// Whether the target is found on an image after a further loss, after so many calls of its opening.
+// Whether the target is found on an image after a further loss, during its opening.
 fn finds_again<A: Allocator + Copy>(
+    rt: &impl Abort,
     alloc: A,
     scene: &Scene<A>,
     image: &[u8],
-    (call, choice): (u64, Choice),
+    loss: Loss,
 ) -> Option<bool> {
-    let disk = FailingDisk::from_then_on(remade(alloc, image)?, call);
+    let disk = FailingDisk::from_then_on(remade(rt, alloc, image), loss.calls);
     let mut disk = after_opening(alloc, disk).into_inner();
-    disk.lose(choice);
+    disk.lose(loss.choice);
     scene.finds_target(alloc, disk)
 }
 
@@ -98,31 +111,22 @@ const CHOICES: [Choice; 5] = [
     Choice::Fill(3),
 ];
 
-// The image that a loss leaves after k calls of a commit.
-fn image_left<A: Allocator + Copy>(
-    alloc: A,
-    scene: &Scene<A>,
-    k: u64,
-    choice: Choice,
-) -> Option<Vec<u8, A>> {
-    bytes_of(alloc, left(alloc, scene, k, choice)?)
-}
-
 // What stands after one loss stands after a second. An opening reads the roots, a head and its value, and closes a gate: seven calls at
 // most.
 fn second_changes_nothing<A: Allocator + Copy>(
     rt: &impl Abort,
     alloc: A,
     scene: &Scene<A>,
-    (k, first): (u64, Choice),
+    first: Loss,
 ) {
-    let image = image_left(alloc, scene, k, first).expect(rt, "a loss");
-    let want = scene.finds_target_in(alloc, &image);
-    assert!(rt; want.is_some());
-    for call in 0..8u64 {
-        for second in CHOICES {
-            let found = finds_again(alloc, scene, &image, (call, second));
-            holds(rt, found == want, &(k, first, call, second));
+    let image = bytes_of(rt, alloc, left(rt, alloc, scene, first));
+    let want = scene.finds_target(alloc, remade(rt, alloc, &image));
+    holds(rt, want.is_some(), &first);
+    for calls in 0..8u64 {
+        for choice in CHOICES {
+            let second = Loss { calls, choice };
+            let found = finds_again(rt, alloc, scene, &image, second);
+            holds(rt, found == want, &(first, second));
         }
     }
 }
@@ -133,112 +137,142 @@ pub fn second_losses_change_nothing<A: Allocator + Copy>(
     alloc: A,
     scene: &Scene<A>,
 ) {
-    for k in 0..scene.counts.commit.saturating_add(1) {
-        for first in CHOICES {
-            second_changes_nothing(rt, alloc, scene, (k, first));
+    for calls in 0..scene.counts.commit.saturating_add(1) {
+        for choice in CHOICES {
+            second_changes_nothing(rt, alloc, scene, Loss { calls, choice });
         }
     }
 }
 
-// The first commit of an image: of one item. The opening of an empty map makes a sync, and a read for each root; the commit writes a head
-// and its value, the root, a gate and the other, with three syncs.
-fn first_item<A: Allocator + Copy>(alloc: A) -> Option<Scene<A>> {
-    let counts = Counts {
-        limit: 4,
-        version: 2,
-        number: 1,
-        opening: 3,
-        commit: 8,
-    };
-    Scene::of(alloc, empty(alloc)?, ["01 = 24", "", "01 = 24"], counts)
+/// The commit stands where nothing fails. A loss during it leaves the map before it or the target, and a second loss, during the opening
+/// that follows, changes nothing.
+pub fn losses_leave_a_map<A: Allocator + Copy>(rt: &impl Abort, alloc: A, scene: &Scene<A>) {
+    is_stored(rt, alloc, scene, remade(rt, alloc, &scene.image));
+    each_loss_leaves_a_map(rt, alloc, scene);
+    second_losses_change_nothing(rt, alloc, scene);
+}
+
+// How many calls a commit of one item makes, of its head and its value, the root, a gate and the other, with three syncs. The opening of
+// an empty map makes a sync, and a read for each root.
+const FIRST: Counts = Counts {
+    limit: 4,
+    version: 2,
+    number: 1,
+    opening: 3,
+    commit: 8,
+};
+
+// The first commit of an image: of one item.
+fn first_item<A: Allocator + Copy>(rt: &impl Abort, alloc: A) -> Scene<A> {
+    let disk = empty(rt, alloc);
+    Scene::of(rt, alloc, disk, ["01 = 24", "", "01 = 24"], FIRST)
 }
 
 #[test]
 fn losses_in_the_first_commit(rt: HostRuntime) {
-    let scene = first_item(rt.alloc()).expect(&rt, "a scene");
-    each_loss_leaves_a_map(&rt, rt.alloc(), &scene);
-    second_losses_change_nothing(&rt, rt.alloc(), &scene);
+    losses_leave_a_map(&rt, rt.alloc(), &first_item(&rt, rt.alloc()));
 }
 
-// A commit that changes the key 1, drops the key 2, and gives the key 3 a value of two pages. The opening makes a sync and reads two roots,
-// two heads and two values; the commit writes five pages, a root and two gates, with three syncs.
-fn several_items<A: Allocator + Copy>(alloc: A) -> Option<Scene<A>> {
-    let disk = changed(alloc, formatted(alloc, 9_216, 8)?, "01 = 0a; 02 = 14")?;
-    let texts = [
-        "01 = 24; 02; 03 = 07*600",
-        "01 = 0a; 02 = 14",
-        "01 = 24; 03 = 07*600",
-    ];
-    let counts = Counts {
-        limit: 8,
-        version: 2,
-        number: 2,
-        opening: 7,
-        commit: 11,
-    };
-    Scene::of(alloc, disk, texts, counts)
+// That opening makes a sync and reads two roots, two heads and two values; that commit writes five pages, a root and two gates, with three
+// syncs.
+const SEVERAL: Counts = Counts {
+    limit: 8,
+    version: 2,
+    number: 2,
+    opening: 7,
+    commit: 11,
+};
+
+// A commit that changes the key 1, drops the key 2, and gives the key 3 a value of two pages.
+const THREE_EDITS: [&str; 3] = [
+    "01 = 24; 02; 03 = 07*600",
+    "01 = 0a; 02 = 14",
+    "01 = 24; 03 = 07*600",
+];
+
+// That commit on an image of limit 8.
+fn several_items<A: Allocator + Copy>(rt: &impl Abort, alloc: A) -> Scene<A> {
+    let disk = formatted(rt, alloc, 9_216, 8);
+    let disk = changed(rt, alloc, disk, THREE_EDITS[1]);
+    Scene::of(rt, alloc, disk, THREE_EDITS, SEVERAL)
 }
 
 #[test]
 fn losses_among_several_items(rt: HostRuntime) {
-    let scene = several_items(rt.alloc()).expect(&rt, "a scene");
-    each_loss_leaves_a_map(&rt, rt.alloc(), &scene);
-}
-
-// The store that broke in a commit.
-fn broken<D: Disk + Drop, A: Allocator + Copy>(
-    alloc: A,
-    scene: &Scene<A>,
-    disk: D,
-) -> Option<Broken<D, A>> {
-    match committed(alloc, disk, &scene.batch)? {
-        Commit::Broken(broken) => Some(broken),
-        _ => None,
-    }
+    each_loss_leaves_a_map(&rt, rt.alloc(), &several_items(&rt, rt.alloc()));
 }
 
 // A store that is opened again, by the second trial where the first fails, and whether the first did.
 fn reopened<D: Disk + Drop, A: Allocator + Copy>(
+    rt: &impl Abort,
     alloc: A,
     broken: Broken<D, A>,
-) -> Option<(Store<D, A>, bool)> {
+) -> (Store<D, A>, bool) {
     match broken.reopen(alloc) {
-        Ok(store) => Some((store, false)),
-        Err(broken) => Some((broken.reopen(alloc).ok()?, true)),
+        Ok(store) => (store, false),
+        Err(broken) => (
+            broken.reopen(alloc).ok().expect(rt, "the second trial"),
+            true,
+        ),
     }
 }
 
-// Whether the next commit of a store that was opened again, on a disk that failed twice, stands.
+// The next commit of a store that was opened again stands, on a disk that failed twice. One that failed once is not tried, as it is to fail
+// again.
 fn continues<D: Disk + Drop, A: Allocator + Copy>(
+    rt: &impl Abort,
     alloc: A,
     scene: &Scene<A>,
-    store: Store<D, A>,
-) -> Option<bool> {
-    let store = stored(alloc, store, scene.batch.copy(alloc).ok()?)?;
-    let store = opened(alloc, store.into_disk())?;
-    let stands = scene.is_target(store.items())?;
-    Some(stands && store.into_disk().faults() == 2)
+    (store, again): (Store<D, A>, bool),
+) {
+    if again {
+        let store = stored(rt, alloc, store, copied(rt, alloc, &scene.batch));
+        stands(rt, alloc, scene, store.into_disk());
+    }
 }
 
-// Whether the reopening failed once too, after a commit that failed at its call k; then the store continues. None where it does not, or
-// where the target is not what has to stand.
-fn fails_again<D: Disk + Drop, A: Allocator + Copy>(
+// The target stands on a disk that failed twice.
+fn stands<D: Disk + Drop, A: Allocator + Copy>(
+    rt: &impl Abort,
     alloc: A,
     scene: &Scene<A>,
     disk: D,
-    k: u64,
-) -> Option<bool> {
-    let (store, again) = reopened(alloc, broken(alloc, scene, disk)?)?;
-    let target = scene.is_target(store.items())?;
-    let continues = !again || continues(alloc, scene, store)?;
-    (continues && (k.saturating_add(1) < scene.counts.commit || target)).then_some(again)
+) {
+    let store = opened(rt, alloc, disk);
+    holds(
+        rt,
+        scene.is_target(store.items()) == Some(true),
+        &"the target",
+    );
+    holds(rt, faults_of(store) == 2, &"two failed calls");
 }
 
-// The same on a disk that fails at the call k of the commit, and again after so many calls more.
-fn fails_twice<A: Allocator + Copy>(alloc: A, scene: &Scene<A>, k: u64, more: u64) -> Option<bool> {
+// Whether the target stands after a commit that failed, and whether the reopening failed once too; then the store continues.
+fn fails_again<D: Disk + Drop, A: Allocator + Copy>(
+    rt: &impl Abort,
+    alloc: A,
+    scene: &Scene<A>,
+    disk: D,
+) -> (Option<bool>, bool) {
+    let broken = broken_by(rt, committed(rt, alloc, disk, &scene.batch));
+    let (store, again) = reopened(rt, alloc, broken);
+    let target = scene.is_target(store.items());
+    continues(rt, alloc, scene, (store, again));
+    (target, again)
+}
+
+// Whether the reopening failed once too, on a disk that fails at the call k of the commit, and again after so many calls more. None where
+// the target is not what has to stand.
+fn fails_twice<A: Allocator + Copy>(
+    rt: &impl Abort,
+    alloc: A,
+    scene: &Scene<A>,
+    (k, more): (u64, u64),
+) -> Option<bool> {
     let call = scene.counts.opening.saturating_add(k);
-    let once = FailingDisk::once(scene.disk(alloc)?, call.saturating_add(more));
-    fails_again(alloc, scene, FailingDisk::once(once, call), k)
+    let disk = FailingDisk::once(remade(rt, alloc, &scene.image), call.saturating_add(more));
+    let (target, again) = fails_again(rt, alloc, scene, FailingDisk::once(disk, call));
+    (target? || k.saturating_add(1) < scene.counts.commit).then_some(again)
 }
 
 // Each call of a commit fails once, and then each of the reopening. The store continues: its next commit stands.
@@ -246,7 +280,7 @@ fn is_opened_again<A: Allocator + Copy>(rt: &impl Abort, alloc: A, scene: &Scene
     let mut twice = 0u32;
     for k in 0..scene.counts.commit {
         for more in 0..12u64 {
-            let again = fails_twice(alloc, scene, k, more);
+            let again = fails_twice(rt, alloc, scene, (k, more));
             holds(rt, again.is_some(), &(k, more));
             twice = twice.saturating_add(u32::from(again == Some(true)));
         }
@@ -256,6 +290,5 @@ fn is_opened_again<A: Allocator + Copy>(rt: &impl Abort, alloc: A, scene: &Scene
 
 #[test]
 fn is_opened_again_after_each_failed_call(rt: HostRuntime) {
-    let scene = several_items(rt.alloc()).expect(&rt, "a scene");
-    is_opened_again(&rt, rt.alloc(), &scene);
+    is_opened_again(&rt, rt.alloc(), &several_items(&rt, rt.alloc()));
 }

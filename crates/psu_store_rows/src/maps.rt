@@ -1,37 +1,40 @@
 // The map of items by itself.
-use crate::edits::{edits, is_map};
-use crate::holds::holds;
-use psu_items::{Items, Value};
-use psu_tables::{bytes, row};
+use crate::edits::{copy_of, edits, is_just, value_of};
+use crate::holds::{holds, rows_hold};
+use crate::spelled::number;
+use psu_items::{Edit, Items};
 use std::alloc::Allocator;
+use std::process::Abort;
 
-// Puts a value, which a text has like its key.
-fn put<A: Allocator + Copy>(alloc: A, items: &mut Items<A>, item: &str) -> Option<()> {
-    let (key, value) = item.split_once(" = ")?;
-    let value = Value::new(bytes(alloc, value)?).ok()?;
-    items.insert(bytes(alloc, key)?, value).ok()
+// Puts the value that an edit assigns.
+fn put<A: Allocator + Copy>(rt: &impl Abort, alloc: A, items: &mut Items<A>, edit: &Edit<A>) {
+    let value = edit.value().expect(rt, "a value");
+    let value = value_of(rt, copy_of(rt, alloc, value));
+    let key = copy_of(rt, alloc, edit.key());
+    items.insert(key, value).expect(rt, "memory for an item");
 }
 
 // A map of the items that a text has, put in its order.
-fn map_of<A: Allocator + Copy>(alloc: A, text: &str) -> Option<Items<A>> {
+fn map_of<A: Allocator + Copy>(rt: &impl Abort, alloc: A, text: &str) -> Items<A> {
     let mut items = Items::new(alloc);
-    for item in text.split(";") {
-        put(alloc, &mut items, item)?;
+    for edit in edits(rt, alloc, text).edits() {
+        put(rt, alloc, &mut items, edit);
     }
-    Some(items)
+    items
 }
 
-// Whether a map whose items are put in another order than that of their keys, and one of them twice, is in the order of its keys.
-fn is_in_order<A: Allocator + Copy>(alloc: A) -> Option<bool> {
-    let items = map_of(alloc, "05 = 0a; 01 = 14; 03 = 1e; 01 = 28")?;
-    let want = edits(alloc, "01 = 28; 03 = 1e; 05 = 0a")?;
-    let has_third = items.get(&[3]) == Some([30].as_slice());
-    Some(has_third && items.get(&[3, 0]).is_none() && is_map(&items, &want))
+// A map whose items are put in another order than that of their keys, and one of them twice, is in the order of its keys.
+fn is_in_order<A: Allocator + Copy>(rt: &impl Abort, alloc: A) {
+    let items = map_of(rt, alloc, "05 = 0a; 01 = 14; 03 = 1e; 01 = 28");
+    let is_so = is_just(rt, alloc, &items, "01 = 28; 03 = 1e; 05 = 0a");
+    holds(rt, is_so, &"the order of the keys");
+    holds(rt, items.get(&[3]) == Some([30].as_slice()), &"the key 3");
+    holds(rt, items.get(&[3, 0]).is_none(), &"the key 3, 0");
 }
 
 #[test]
 fn a_map_is_in_the_order_of_its_keys(rt: HostRuntime) {
-    assert!(rt; is_in_order(rt.alloc()) == Some(true));
+    is_in_order(&rt, rt.alloc());
 }
 
 // What a map of one value costs.
@@ -46,16 +49,15 @@ The value of a file of 29,183 bytes, and of one of 32,768.
 ";
 
 // Whether a map of these items costs so many pages.
-fn costs<A: Allocator + Copy>(alloc: A, items: &str, pages: &str) -> Option<bool> {
-    let pages: u64 = pages.parse().ok()?;
-    Some(map_of(alloc, items)?.cost() == u128::from(pages))
+fn costs<A: Allocator + Copy>(rt: &impl Abort, alloc: A, items: &str, pages: &str) -> bool {
+    map_of(rt, alloc, items).cost() == u128::from(number(rt, pages))
 }
 
 #[test]
 fn a_map_costs_pages(rt: HostRuntime) {
-    for line in COSTS.lines() {
-        if let Some((items, pages)) = row(line) {
-            holds(&rt, costs(rt.alloc(), items, pages) == Some(true), &items);
-        }
-    }
+    rows_hold(
+        &rt,
+        COSTS,
+        |items, pages| costs(&rt, rt.alloc(), items, pages),
+    );
 }

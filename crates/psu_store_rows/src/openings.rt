@@ -1,9 +1,8 @@
 // What an opening finds of images that are spelled: how many items, or why none. Each row of a table puts parts over an image.
-use crate::holds::holds;
-use crate::spelled::spelled_over;
+use crate::holds::rows_hold;
+use crate::spelled::{spelled, with_parts};
 use psu_disk::Disk;
 use psu_items::{OpenCause, Store};
-use psu_tables::row;
 use std::alloc::Allocator;
 use std::process::Abort;
 
@@ -21,16 +20,8 @@ pub const IMAGE: &str = "
 3072: 09*88
 ";
 
-/// What an opening finds of a disk: how many items, or why none.
-pub fn found<D: Disk + Drop, A: Allocator + Copy>(alloc: A, disk: D) -> Result<usize, OpenCause> {
-    match Store::open(alloc, disk) {
-        Ok(store) => Ok(store.items().pairs().len()),
-        Err(refused) => Err(refused.cause),
-    }
-}
-
-/// Whether that is what a table wants, in its words.
-pub fn is_wanted(found: Result<usize, OpenCause>, wanted: &str) -> bool {
+// Whether what an opening finds is what a table wants, in its words.
+fn is_wanted(found: Result<usize, OpenCause>, wanted: &str) -> bool {
     match found {
         Ok(count) => wanted.parse() == Ok(count),
         Err(OpenCause::NoRoot) => wanted == "no root",
@@ -40,15 +31,17 @@ pub fn is_wanted(found: Result<usize, OpenCause>, wanted: &str) -> bool {
     }
 }
 
-// Whether an opening finds an image of so many bytes as wanted, with parts put over it.
-fn is_found<A: Allocator + Copy>(
-    alloc: A,
-    size: u64,
-    image: &str,
-    (parts, wanted): (&str, &str),
-) -> Option<bool> {
-    let disk = spelled_over(alloc, size, image, parts)?;
-    Some(is_wanted(found(alloc, disk), wanted))
+// What an opening finds of a disk: how many items, or why none.
+fn found<D: Disk + Drop, A: Allocator + Copy>(alloc: A, disk: D) -> Result<usize, OpenCause> {
+    match Store::open(alloc, disk) {
+        Ok(store) => Ok(store.items().pairs().len()),
+        Err(refused) => Err(refused.cause),
+    }
+}
+
+/// Whether an opening finds a disk as a table wants.
+pub fn is_found<D: Disk + Drop, A: Allocator + Copy>(alloc: A, disk: D, wanted: &str) -> bool {
+    is_wanted(found(alloc, disk), wanted)
 }
 
 /// An image of so many bytes is found as a table says with the parts of each row put over it: `512: a5 'PSU; 527: 01 -> bad root`.
@@ -59,13 +52,8 @@ pub fn are_found<A: Allocator + Copy>(
     image: &str,
     table: &str,
 ) {
-    let mut rows = 0u32;
-    for line in table.lines() {
-        if let Some(row) = row(line) {
-            let is_so = is_found(alloc, size, image, row) == Some(true);
-            holds(rt, is_so, &row);
-            rows = rows.saturating_add(1);
-        }
-    }
-    holds(rt, rows > 0, &table);
+    rows_hold(rt, table, |parts, wanted| {
+        let disk = spelled(rt, alloc, size, image);
+        is_found(alloc, with_parts(rt, alloc, disk, parts), wanted)
+    });
 }

@@ -1,13 +1,13 @@
 // Commits in which power is lost: the image before one, its batch, and the maps on both sides of it.
 use crate::edits::{edits, is_map};
-use crate::spelled::{bytes_of, remade};
-use crate::stores::opened;
-use psu_disk::{Disk, MemDisk};
+use crate::spelled::bytes_of;
+use psu_disk::Disk;
 use psu_items::{Batch, Items, Store};
 use std::alloc::Allocator;
+use std::process::Abort;
 
 /// Of an image before a commit: what its store says, and how many calls of the disk are made.
-#[derive(Clone, Copy, Debug, Drop)]
+#[derive(Clone, Copy, Drop)]
 pub struct Counts {
     /// The limit of the image.
     pub limit: u16,
@@ -38,26 +38,22 @@ pub struct Scene<A: Allocator + Copy> {
 impl<A: Allocator + Copy> Scene<A> {
     /// The commit of a batch on a disk. The texts are the batch, the map before it, and the map after it.
     pub fn of<D: Disk + Drop>(
+        rt: &impl Abort,
         alloc: A,
         disk: D,
         texts: [&str; 3],
         counts: Counts,
-    ) -> Option<Scene<A>> {
-        Some(Scene {
-            image: bytes_of(alloc, disk)?,
-            batch: edits(alloc, texts[0])?,
+    ) -> Scene<A> {
+        Scene {
+            image: bytes_of(rt, alloc, disk),
+            batch: edits(rt, alloc, texts[0]),
             counts,
-            before: edits(alloc, texts[1])?,
-            after: edits(alloc, texts[2])?,
-        })
+            before: edits(rt, alloc, texts[1]),
+            after: edits(rt, alloc, texts[2]),
+        }
     }
 
-    /// A disk with the image.
-    pub fn disk(&self, alloc: A) -> Option<MemDisk<A>> {
-        remade(alloc, &self.image)
-    }
-
-    /// Whether a map is the one after the commit; it is that or the one before.
+    /// Whether a map is the one after the commit; it is that or the one before. None where it is neither.
     pub fn is_target(&self, items: &Items<A>) -> Option<bool> {
         let is_after = is_map(items, &self.after);
         (is_map(items, &self.before) != is_after).then_some(is_after)
@@ -77,13 +73,11 @@ impl<A: Allocator + Copy> Scene<A> {
         self.is_numbered(store, is_target).then_some(is_target)
     }
 
-    /// Whether an opening of a disk finds the target.
+    /// Whether an opening of a disk finds the target; it finds that or the map before. None where it finds neither.
     pub fn finds_target<D: Disk + Drop>(&self, alloc: A, disk: D) -> Option<bool> {
-        self.has_target(&opened(alloc, disk)?)
-    }
-
-    /// The same of a disk with these bytes.
-    pub fn finds_target_in(&self, alloc: A, image: &[u8]) -> Option<bool> {
-        self.finds_target(alloc, remade(alloc, image)?)
+        match Store::open(alloc, disk) {
+            Ok(store) => self.has_target(&store),
+            Err(_) => None,
+        }
     }
 }

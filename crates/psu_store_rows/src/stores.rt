@@ -1,13 +1,16 @@
-// The store on any disk. What answers an `Option` answers none where something hinders it that no test is about.
+// The store on any disk.
 ghost use Rattle.std.specs.Prelude.{IsTrue};
+ghost use Rattle.std.specs.List.{AllByRecursion};
 ghost use Rattle.psu_map.specs.Batch.{changed};
 ghost use Rattle.psu_map.specs.Capacity.{CanHold, Fits};
 
-use crate::edits::{edits, is_map};
-use crate::images::{empty, formatted_over};
+use crate::edits::{copied, edits, is_just};
+use crate::holds::holds;
+use crate::images::{empty, formatted_over, store_with};
 use psu_disk::{Disk, TellingDisk};
-use psu_items::{Batch, Commit, Items, Pair, Store};
+use psu_items::{Batch, Broken, Commit, Pair, Store};
 use std::alloc::Allocator;
+use std::process::Abort;
 
 // Whether an image can hold an item.
 fn fits<A: Allocator + Copy>(pair: &Pair<A>) -> bool
@@ -18,11 +21,14 @@ fn fits<A: Allocator + Copy>(pair: &Pair<A>) -> bool
     1 <= key && key <= 65 && 1 <= value && value <= 33_280
 }
 
-// Whether an image of this limit can hold a map.
-fn can_hold<A: Allocator + Copy>(limit: u16, items: &Items<A>) -> bool
-    ensures { IsTrue result → CanHold limit items.now }
+// Whether an image can hold each of these items.
+fn all_fit<A: Allocator + Copy>(pairs: &[Pair<A>]) -> bool
+    ensures { IsTrue result → AllByRecursion Fits pairs.now }
 {
-    items.cost() <= u128::from(limit) && items.pairs().iter().all(fits)
+    match pairs {
+        [] => true,
+        [first, rest @ ..] => fits(first) && all_fit(rest),
+    }
 }
 
 // Whether the image of a store can hold the map after a batch.
@@ -30,47 +36,61 @@ fn takes<D: Disk, A: Allocator + Copy>(alloc: A, store: &Store<D, A>, batch: &Ba
     ensures { IsTrue result → CanHold store.now.limit (changed store.now.items batch.now) }
 {
     match store.items().changed(alloc, batch) {
-        Ok(target) => can_hold(store.limit(), &target),
+        Ok(target) => target.cost() <= u128::from(store.limit()) && all_fit(target.pairs()),
         Err(_) => false,
     }
 }
 
 /// What a commit gives, where the image can hold the map after the batch.
 pub fn commit<D: Disk + Drop, A: Allocator + Copy>(
+    rt: &impl Abort,
     alloc: A,
     store: Store<D, A>,
     batch: Batch<A>,
-) -> Option<Commit<D, A>> {
-    if !takes(alloc, &store, &batch) {
-        return None;
+) -> Commit<D, A> {
+    assert!(rt; takes(alloc, &store, &batch));
+    store.commit(alloc, batch)
+}
+
+/// The store after a commit that nothing hindered.
+pub fn stored_by<D: Disk + Drop, A: Allocator + Copy>(
+    rt: &impl Abort,
+    ended: Commit<D, A>,
+) -> Store<D, A> {
+    match ended {
+        Commit::Stored(store) => store,
+        _ => panic!(rt; "a commit is not stored"),
     }
-    Some(store.commit(alloc, batch))
 }
 
 /// The store after a commit that nothing hinders.
 pub fn stored<D: Disk + Drop, A: Allocator + Copy>(
+    rt: &impl Abort,
     alloc: A,
     store: Store<D, A>,
     batch: Batch<A>,
-) -> Option<Store<D, A>> {
-    match commit(alloc, store, batch)? {
-        Commit::Stored(store) => Some(store),
-        _ => None,
-    }
+) -> Store<D, A> {
+    stored_by(rt, commit(rt, alloc, store, batch))
 }
 
 /// The store that an opening gives.
-pub fn opened<D: Disk + Drop, A: Allocator + Copy>(alloc: A, disk: D) -> Option<Store<D, A>> {
-    Store::open(alloc, disk).ok()
+pub fn opened<D: Disk + Drop, A: Allocator + Copy>(
+    rt: &impl Abort,
+    alloc: A,
+    disk: D,
+) -> Store<D, A> {
+    Store::open(alloc, disk).ok().expect(rt, "a map on a disk")
 }
 
 /// What a commit gives on a disk that is opened for it.
 pub fn committed<D: Disk + Drop, A: Allocator + Copy>(
+    rt: &impl Abort,
     alloc: A,
     disk: D,
     batch: &Batch<A>,
-) -> Option<Commit<D, A>> {
-    commit(alloc, opened(alloc, disk)?, batch.copy(alloc).ok()?)
+) -> Commit<D, A> {
+    let store = opened(rt, alloc, disk);
+    commit(rt, alloc, store, copied(rt, alloc, batch))
 }
 
 /// The disk that a commit hands on.
@@ -82,6 +102,32 @@ pub fn disk_of<D: Disk, A: Allocator + Copy>(commit: Commit<D, A>) -> D {
     }
 }
 
+/// The store that broke in a commit.
+pub fn broken_by<D: Disk + Drop, A: Allocator + Copy>(
+    rt: &impl Abort,
+    ended: Commit<D, A>,
+) -> Broken<D, A> {
+    match ended {
+        Commit::Broken(broken) => broken,
+        _ => panic!(rt; "a commit is not broken"),
+    }
+}
+
+/// How often a call of the disk of a store failed.
+pub fn faults_of<D: Disk + Drop, A: Allocator + Copy>(store: Store<D, A>) -> u64 {
+    store.into_disk().faults()
+}
+
+/// A store has just the items that a text assigns in the order of their keys.
+pub fn has_map<D: Disk, A: Allocator + Copy>(
+    rt: &impl Abort,
+    alloc: A,
+    store: &Store<D, A>,
+    want: &str,
+) {
+    holds(rt, is_just(rt, alloc, store.items(), want), &want);
+}
+
 // Edits of which the later of a key counts, and one that removes.
 const FIVE_EDITS: &str = "01 = 0a; 02 = 14; 03 = 1e; 02; 03 = 1f";
 
@@ -91,32 +137,35 @@ fn are_the_five<A: Allocator + Copy>(batch: &Batch<A>) -> bool {
     edits.len() == 5 && edits[3].key() == [2].as_slice() && edits[3].value().is_none()
 }
 
-// Whether a store has the map of the five edits after a commit of them.
-fn keeps_the_later<D: Disk + Drop, A: Allocator + Copy>(alloc: A, disk: D) -> Option<bool> {
-    let batch = edits(alloc, FIVE_EDITS)?;
-    let are_five = are_the_five(&batch);
-    let store = stored(alloc, opened(alloc, disk)?, batch)?;
-    Some(are_five && is_map(store.items(), &edits(alloc, "01 = 0a; 03 = 1f")?))
+// A store has the map of the five edits after a commit of them.
+fn keeps_the_later<A: Allocator + Copy>(rt: &impl Abort, alloc: A) {
+    let store = store_with(rt, alloc, empty(rt, alloc), FIVE_EDITS);
+    has_map(rt, alloc, &store, "01 = 0a; 03 = 1f");
 }
 
 #[test]
 fn the_later_edit_of_a_key_counts(rt: HostRuntime) {
-    let disk = empty(rt.alloc()).expect(&rt, "a disk");
-    assert!(rt; keeps_the_later(rt.alloc(), disk) == Some(true));
+    assert!(rt; are_the_five(&edits(&rt, rt.alloc(), FIVE_EDITS)));
+    keeps_the_later(&rt, rt.alloc());
 }
 
-// Whether a first commit on a disk of 5,120 bytes stands.
-fn is_stored_on<D: Disk + Drop, A: Allocator + Copy>(alloc: A, disk: D) -> Option<bool> {
-    let store = opened(alloc, formatted_over(alloc, disk, 4)?)?;
-    let store = stored(alloc, store, edits(alloc, "01 = 24")?)?;
-    let stands = is_map(store.items(), &edits(alloc, "01 = 24")?);
-    let is_second = store.number() == 2 && store.version() == 2;
-    Some(stands && is_second && store.into_disk().faults() == 0)
+// A store has the number and the map of a first commit.
+fn is_first<D: Disk, A: Allocator + Copy>(rt: &impl Abort, alloc: A, store: &Store<D, A>) {
+    holds(rt, store.number() == 2, &"the number");
+    holds(rt, store.version() == 2, &"the version");
+    has_map(rt, alloc, store, "01 = 24");
+}
+
+// A first commit stands on a disk of 5,120 bytes, none of whose calls fails.
+fn is_stored_on<D: Disk + Drop, A: Allocator + Copy>(rt: &impl Abort, alloc: A, disk: D) {
+    let store = store_with(rt, alloc, formatted_over(rt, alloc, disk, 4), "01 = 24");
+    is_first(rt, alloc, &store);
+    holds(rt, faults_of(store) == 0, &"a failed call");
 }
 
 // A disk that reports its moments, on which the clauses on moments are no empty promise.
 #[test]
 fn a_disk_that_reports_its_moments_is_stored_on(rt: HostRuntime) {
     let disk = TellingDisk::new(rt.alloc(), 5_120).expect(&rt, "a disk");
-    assert!(rt; is_stored_on(rt.alloc(), disk) == Some(true));
+    is_stored_on(&rt, rt.alloc(), disk);
 }
