@@ -1,7 +1,7 @@
 // Heads that are refused, and heads that are good to the last: keys, lengths, counts and pages.
-use crate::holds::rows_hold;
-use crate::openings::{IMAGE, SIZE, are_found, is_found};
+use crate::openings::is_found;
 use crate::spelled::{halves, number, put, put_word, spelled};
+use crate::trials::{Trial, rows_hold};
 use psu_disk::Disk;
 use std::alloc::Allocator;
 use std::process::Abort;
@@ -45,14 +45,14 @@ What stands behind a head's words, and behind a value, is not looked at.
 
 #[test]
 fn the_words_of_a_head(rt: HostRuntime) {
-    are_found(&rt, rt.alloc(), SIZE, IMAGE, WORDS_OF_A_HEAD);
+    rows_hold(&rt, rt.alloc(), Trial::Two, WORDS_OF_A_HEAD);
 }
 
-// How many bytes an image of limit 100 takes.
-const GREAT: u64 = 103_424;
+/// How many bytes an image of limit 100 takes.
+pub const GREAT: u64 = 103_424;
 
-// An image of limit 100 with one head, on page 2. The words behind it are the pages from 3 to 68 where its key has 65 bytes.
-const ONE_HEAD: &str = "
+/// An image of limit 100 with one head, on page 2. The words behind it are the pages from 3 to 68 where its key has 65 bytes.
+pub const ONE_HEAD: &str = "
 0: a5 'PSU 00 02 00 64 00*7 01 00 01 00 02;
 1096: 00 03 00 04 00 05 00 06 00 07 00 08 00 09 00 0a 00 0b 00 0c 00 0d 00 0e 00 0f 00 10 00 11 00 12;
 1128: 00 13 00 14 00 15 00 16 00 17 00 18 00 19 00 1a 00 1b 00 1c 00 1d 00 1e 00 1f 00 20 00 21 00 22;
@@ -77,7 +77,7 @@ A value of 33,280 bytes takes 65 pages.
 
 #[test]
 fn keys_and_values_of_the_greatest_length(rt: HostRuntime) {
-    are_found(&rt, rt.alloc(), GREAT, ONE_HEAD, GREATEST_LENGTHS);
+    rows_hold(&rt, rt.alloc(), Trial::Great, GREATEST_LENGTHS);
 }
 
 // Names an item in the root, its head on an even page, and puts the head there. Its key is one byte, and its value is on the page behind.
@@ -105,8 +105,13 @@ fn word(rt: &impl Abort, text: &str) -> u16 {
     text.parse().ok().expect(rt, "a word")
 }
 
-// Whether an opening finds an image of this limit with so many items as wanted. The second root counts, of the number 9.
-fn is_filled<A: Allocator + Copy>(rt: &impl Abort, alloc: A, filled: &str, wanted: &str) -> bool {
+/// Whether an opening finds an image of this limit with so many items as wanted. The second root counts, of the number 9.
+pub fn is_filled<A: Allocator + Copy>(
+    rt: &impl Abort,
+    alloc: A,
+    filled: &str,
+    wanted: &str,
+) -> bool {
     let (limit, count) = halves(rt, filled, ": ");
     let size = number(rt, limit).saturating_add(1).saturating_mul(1_024);
     let mut disk = spelled(rt, alloc, size, "512: a5 'PSU 00 02; 527: 09");
@@ -124,7 +129,5 @@ const FILLED: &str = "
 
 #[test]
 fn images_that_items_fill(rt: HostRuntime) {
-    rows_hold(&rt, FILLED, |filled, wanted| {
-        is_filled(&rt, rt.alloc(), filled, wanted)
-    });
+    rows_hold(&rt, rt.alloc(), Trial::Filled, FILLED);
 }

@@ -1,8 +1,9 @@
 // Roots that are refused, and roots that are good though they differ: what is looked at, and in which order.
-use crate::holds::{holds, rows_hold};
-use crate::openings::{IMAGE, SIZE, are_found, is_found};
+use crate::holds::holds;
+use crate::openings::{IMAGE, SIZE, is_found};
 use crate::spelled::{number, spelled};
 use crate::stores::{has_map, opened};
+use crate::trials::{Trial, rows_hold};
 use psu_disk::Disk;
 use psu_items::Store;
 use std::alloc::Allocator;
@@ -59,7 +60,7 @@ What stands behind the names is not looked at.
 
 #[test]
 fn the_words_of_a_root(rt: HostRuntime) {
-    are_found(&rt, rt.alloc(), SIZE, IMAGE, WORDS_OF_A_ROOT);
+    rows_hold(&rt, rt.alloc(), Trial::Two, WORDS_OF_A_ROOT);
 }
 
 // From the count of items on.
@@ -85,7 +86,7 @@ A head twice, and a page of zeros, whose key is empty.
 
 #[test]
 fn the_heads_that_a_root_names(rt: HostRuntime) {
-    are_found(&rt, rt.alloc(), SIZE, IMAGE, HEADS_OF_A_ROOT);
+    rows_hold(&rt, rt.alloc(), Trial::Two, HEADS_OF_A_ROOT);
 }
 
 // Of two open gates the higher number counts, and the other root's content is not looked at. A second root of the number 2 names the
@@ -109,7 +110,7 @@ Equal numbers are refused whatever else the roots say.
 
 #[test]
 fn the_root_that_counts(rt: HostRuntime) {
-    are_found(&rt, rt.alloc(), SIZE, IMAGE, ROOT_THAT_COUNTS);
+    rows_hold(&rt, rt.alloc(), Trial::Two, ROOT_THAT_COUNTS);
 }
 
 // The image on disks of other sizes.
@@ -126,10 +127,13 @@ const SIZES: &str = "
 // A root of version 2, limit 4 and number 1 without items, for a disk of another size than its image has.
 const EMPTY: &str = "0: a5 'PSU 00 02 00 04 00*7 01";
 
+/// Whether a disk of so many bytes with this root is found as wanted.
+pub fn is_sized<A: Allocator + Copy>(rt: &impl Abort, alloc: A, size: &str, wanted: &str) -> bool {
+    let disk = spelled(rt, alloc, number(rt, size), EMPTY);
+    is_found(alloc, disk, wanted)
+}
+
 #[test]
 fn disks_that_are_too_small_or_larger(rt: HostRuntime) {
-    rows_hold(&rt, SIZES, |size, wanted| {
-        let disk = spelled(&rt, rt.alloc(), number(&rt, size), EMPTY);
-        is_found(rt.alloc(), disk, wanted)
-    });
+    rows_hold(&rt, rt.alloc(), Trial::Sized, SIZES);
 }

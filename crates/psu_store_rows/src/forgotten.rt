@@ -35,7 +35,7 @@ const CHOICES: [Choice; 5] = [
 ];
 
 // A run: which syncs fail, and how many steps follow the format.
-#[derive(Clone, Copy, Debug, Drop)]
+#[derive(Clone, Copy, Drop)]
 struct Case {
     failing: [u64; 2],
     steps: u8,
@@ -215,7 +215,11 @@ fn is_lost_on_kept<A: Allocator + Copy>(
 ) -> bool {
     let disk = kept(rt, alloc, forgetting(rt, alloc, case.failing));
     let (disk, values) = ended(rt, alloc, disk, case.steps);
-    holds(rt, case.steps < LAST || values.confirmed == LAST, &case);
+    holds(
+        rt,
+        case.steps < LAST || values.confirmed == LAST,
+        &case.failing,
+    );
     let mut medium = disk.into_inner();
     medium.lose(choice);
     is_lost(alloc, kept(rt, alloc, medium), values)
@@ -241,7 +245,7 @@ fn loses_nothing<A: Allocator + Copy>(rt: &impl Abort, alloc: A, failing: [u64; 
         let case = Case { failing, steps };
         for choice in CHOICES {
             let is_lost = is_lost_on_kept(rt, alloc, case, choice);
-            holds(rt, !is_lost, &(case, choice));
+            holds(rt, !is_lost, &(failing, steps, choice));
         }
     }
 }
@@ -275,6 +279,6 @@ fn a_disk_that_does_not_write_again_loses_it(rt: HostRuntime) {
             steps,
         };
         let is_lost = is_lost_on_passing(&rt, rt.alloc(), case, choice);
-        holds(&rt, is_lost == want, &(case, choice));
+        holds(&rt, is_lost == want, &(sync, steps, choice));
     }
 }

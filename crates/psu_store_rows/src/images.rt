@@ -1,4 +1,6 @@
 // Images that the store itself makes.
+ghost use Rattle.std.specs.Prelude.{IsTrue, ◌+◌, ◌*◌, ◌≤◌};
+
 use crate::edits::edits;
 use crate::spelled::zeros;
 use crate::stores::{opened, stored};
@@ -7,6 +9,15 @@ use psu_items::Store;
 use std::alloc::Allocator;
 use std::process::Abort;
 
+// Whether an image can have this limit, and a disk of this size the room for it.
+fn has_room(limit: u16, size: u64) -> bool
+    ensures least { IsTrue result → 4 ≤ limit }
+    ensures most { IsTrue result → limit ≤ 480 }
+    ensures room { IsTrue result → 512 * (2 + 2 * limit) ≤ size }
+{
+    4 <= limit && limit <= 480 && 512 * (2 + 2 * u64::from(limit)) <= size
+}
+
 /// A store of an empty map of this limit on a disk that is laid out for it. The limit and the room are such as an image can have.
 pub fn laid_out<D: Disk + Drop, A: Allocator + Copy>(
     rt: &impl Abort,
@@ -14,9 +25,7 @@ pub fn laid_out<D: Disk + Drop, A: Allocator + Copy>(
     disk: D,
     limit: u16,
 ) -> Store<D, A> {
-    assert!(rt; 4 <= limit);
-    assert!(rt; limit <= 480);
-    assert!(rt; 512 * (2 + 2 * u64::from(limit)) <= disk.size());
+    assert!(rt; has_room(limit, disk.size()));
     Store::format(alloc, disk, limit)
         .ok()
         .expect(rt, "a format")

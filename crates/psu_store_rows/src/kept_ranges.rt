@@ -1,8 +1,8 @@
 // The ranges that a disk keeps to write them again, at the bound of their room.
 use crate::ForgettingMedium;
-use crate::holds::rows_hold;
 use crate::passing_disk::PassingDisk;
 use crate::spelled::{bytes_of, halves, number, write};
+use crate::trials::{Trial, rows_hold};
 use psu_disk::{Choice, Disk, DiskFault, KeptDisk};
 use std::alloc::Allocator;
 use std::process::Abort;
@@ -74,8 +74,8 @@ fn are_kept<A: Allocator + Copy>(
     kept(rt, alloc, disk) == want && work
 }
 
-// The same of a row.
-fn are_as_wanted<A: Allocator + Copy>(
+/// The same of a row.
+pub fn are_as_wanted<A: Allocator + Copy>(
     rt: &impl Abort,
     alloc: A,
     written: &str,
@@ -102,7 +102,5 @@ fresh: 1 of 1 -> lost
 
 #[test]
 fn ranges_at_their_bound(rt: HostRuntime) {
-    rows_hold(&rt, RANGES, |written, wanted| {
-        are_as_wanted(&rt, rt.alloc(), written, wanted)
-    });
+    rows_hold(&rt, rt.alloc(), Trial::Ranges, RANGES);
 }

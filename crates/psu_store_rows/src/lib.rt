@@ -41,5 +41,7 @@ mod spelled;
 mod stores;
 #[cfg(test)]
 mod strange;
+#[cfg(test)]
+mod trials;
 
 pub use forgetting_medium::ForgettingMedium;

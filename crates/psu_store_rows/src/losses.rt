@@ -11,7 +11,7 @@ use std::alloc::Allocator;
 use std::process::Abort;
 
 // A loss of power: the number of calls before it, and what it makes of the bytes that are not safe.
-#[derive(Clone, Copy, Debug, Drop)]
+#[derive(Clone, Copy, Drop)]
 struct Loss {
     calls: u64,
     choice: Choice,
@@ -25,7 +25,7 @@ fn is_stored<D: Disk + Drop, A: Allocator + Copy>(
     disk: D,
 ) {
     let store = stored_by(rt, committed(rt, alloc, disk, &scene.batch));
-    holds(rt, scene.has_target(&store) == Some(true), &"the target");
+    holds(rt, scene.has_target(&store).unwrap_or(false), &"the target");
 }
 
 // The disk behind an opening of it and a commit, whatever fails in that.
@@ -70,13 +70,13 @@ fn choice_of(n: u16) -> Choice {
     }
 }
 
-/// A loss after each number of calls of a commit, and of each kind, leaves the map before it or the target.
-pub fn each_loss_leaves_a_map<A: Allocator + Copy>(rt: &impl Abort, alloc: A, scene: &Scene<A>) {
+// A loss after each number of calls of a commit, and of each kind, leaves the map before it or the target.
+fn each_loss_leaves_a_map<A: Allocator + Copy>(rt: &impl Abort, alloc: A, scene: &Scene<A>) {
     for calls in 0..scene.counts.commit.saturating_add(1) {
         for n in 0..258u16 {
             let choice = choice_of(n);
             let loss = Loss { calls, choice };
-            holds(rt, can_stand(rt, alloc, scene, loss), &loss);
+            holds(rt, can_stand(rt, alloc, scene, loss), &(calls, choice));
         }
     }
 }
@@ -111,8 +111,23 @@ const CHOICES: [Choice; 5] = [
     Choice::Fill(3),
 ];
 
-// What stands after one loss stands after a second. An opening reads the roots, a head and its value, and closes a gate: seven calls at
-// most.
+// The target is found on an image that a loss after k calls left, or is not, after a second loss, in each call of the opening and of each
+// kind. An opening reads the roots, a head and its value, and closes a gate: seven calls at most.
+fn each_loss_finds<A: Allocator + Copy>(
+    rt: &impl Abort,
+    alloc: A,
+    scene: &Scene<A>,
+    (image, want, k): (&[u8], bool, u64),
+) {
+    for calls in 0..8u64 {
+        for choice in CHOICES {
+            let found = finds_again(rt, alloc, scene, image, Loss { calls, choice });
+            holds(rt, found == Some(want), &(k, calls, choice, want));
+        }
+    }
+}
+
+// What stands after one loss stands after a second.
 fn second_changes_nothing<A: Allocator + Copy>(
     rt: &impl Abort,
     alloc: A,
@@ -120,23 +135,13 @@ fn second_changes_nothing<A: Allocator + Copy>(
     first: Loss,
 ) {
     let image = bytes_of(rt, alloc, left(rt, alloc, scene, first));
-    let want = scene.finds_target(alloc, remade(rt, alloc, &image));
-    holds(rt, want.is_some(), &first);
-    for calls in 0..8u64 {
-        for choice in CHOICES {
-            let second = Loss { calls, choice };
-            let found = finds_again(rt, alloc, scene, &image, second);
-            holds(rt, found == want, &(first, second));
-        }
-    }
+    let found = scene.finds_target(alloc, remade(rt, alloc, &image));
+    let want = found.expect(rt, "a map that can stand");
+    each_loss_finds(rt, alloc, scene, (&image, want, first.calls));
 }
 
-/// A loss in the opening that follows a loss changes nothing of what stands.
-pub fn second_losses_change_nothing<A: Allocator + Copy>(
-    rt: &impl Abort,
-    alloc: A,
-    scene: &Scene<A>,
-) {
+// A loss in the opening that follows a loss changes nothing of what stands.
+fn second_losses_change_nothing<A: Allocator + Copy>(rt: &impl Abort, alloc: A, scene: &Scene<A>) {
     for calls in 0..scene.counts.commit.saturating_add(1) {
         for choice in CHOICES {
             second_changes_nothing(rt, alloc, scene, Loss { calls, choice });
@@ -241,7 +246,7 @@ fn stands<D: Disk + Drop, A: Allocator + Copy>(
     let store = opened(rt, alloc, disk);
     holds(
         rt,
-        scene.is_target(store.items()) == Some(true),
+        scene.is_target(store.items()).unwrap_or(false),
         &"the target",
     );
     holds(rt, faults_of(store) == 2, &"two failed calls");
@@ -282,7 +287,7 @@ fn is_opened_again<A: Allocator + Copy>(rt: &impl Abort, alloc: A, scene: &Scene
         for more in 0..12u64 {
             let again = fails_twice(rt, alloc, scene, (k, more));
             holds(rt, again.is_some(), &(k, more));
-            twice = twice.saturating_add(u32::from(again == Some(true)));
+            twice = twice.saturating_add(u32::from(again.unwrap_or(false)));
         }
     }
     holds(rt, twice >= 77, &twice);

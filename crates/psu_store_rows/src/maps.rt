@@ -1,7 +1,8 @@
 // The map of items by itself.
 use crate::edits::{copy_of, edits, is_just, value_of};
-use crate::holds::{holds, rows_hold};
+use crate::holds::holds;
 use crate::spelled::number;
+use crate::trials::{Trial, rows_hold};
 use psu_items::{Edit, Items};
 use std::alloc::Allocator;
 use std::process::Abort;
@@ -23,13 +24,18 @@ fn map_of<A: Allocator + Copy>(rt: &impl Abort, alloc: A, text: &str) -> Items<A
     items
 }
 
+// A map has this value for a key, or none where that is empty.
+fn has<A: Allocator + Copy>(rt: &impl Abort, items: &Items<A>, key: &[u8], value: &[u8]) {
+    holds(rt, items.get(key).unwrap_or(&[]) == value, &key);
+}
+
 // A map whose items are put in another order than that of their keys, and one of them twice, is in the order of its keys.
 fn is_in_order<A: Allocator + Copy>(rt: &impl Abort, alloc: A) {
     let items = map_of(rt, alloc, "05 = 0a; 01 = 14; 03 = 1e; 01 = 28");
     let is_so = is_just(rt, alloc, &items, "01 = 28; 03 = 1e; 05 = 0a");
     holds(rt, is_so, &"the order of the keys");
-    holds(rt, items.get(&[3]) == Some([30].as_slice()), &"the key 3");
-    holds(rt, items.get(&[3, 0]).is_none(), &"the key 3, 0");
+    has(rt, &items, &[3], &[30]);
+    has(rt, &items, &[3, 0], &[]);
 }
 
 #[test]
@@ -48,16 +54,12 @@ The value of a file of 29,183 bytes, and of one of 32,768.
 05 = 00*32769 -> 66
 ";
 
-// Whether a map of these items costs so many pages.
-fn costs<A: Allocator + Copy>(rt: &impl Abort, alloc: A, items: &str, pages: &str) -> bool {
+/// Whether a map of these items costs so many pages.
+pub fn costs<A: Allocator + Copy>(rt: &impl Abort, alloc: A, items: &str, pages: &str) -> bool {
     map_of(rt, alloc, items).cost() == u128::from(number(rt, pages))
 }
 
 #[test]
 fn a_map_costs_pages(rt: HostRuntime) {
-    rows_hold(
-        &rt,
-        COSTS,
-        |items, pages| costs(&rt, rt.alloc(), items, pages),
-    );
+    rows_hold(&rt, rt.alloc(), Trial::Costs, COSTS);
 }

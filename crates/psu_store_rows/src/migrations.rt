@@ -1,17 +1,17 @@
 // Images of version 1: read as they stand, and made ones of version 2 by the next commit, at whatever call power is lost.
-use crate::holds::rows_hold;
 use crate::images::changed;
 use crate::losses::losses_leave_a_map;
-use crate::openings::{SIZE, are_found};
+use crate::openings::SIZE;
 use crate::scenes::{Counts, Scene};
 use crate::spelled::{are_alike, halves, spelled, with_parts};
 use crate::stores::opened;
+use crate::trials::{Trial, rows_hold};
 use psu_disk::{Disk, MemDisk};
 use std::alloc::Allocator;
 use std::process::Abort;
 
-// An image of version 1 and limit 6 whose second root, of the number 2, names the head on page 3: the key 1 with the value 10 on page 4.
-const OLD: &str = "
+/// An image of version 1 and limit 6 whose second root, of the number 2, names the head on page 3: the key 1 with the value 10 on page 4.
+pub const OLD: &str = "
  512: a5 'PSU 00 01 00 06 00*7 02 00 01 00 03;
 1536: 01 01 00 00 00 01 00 01 00 04;
 2048: 0a
@@ -51,8 +51,8 @@ fn old_with<A: Allocator + Copy>(rt: &impl Abort, alloc: A, parts: &str) -> MemD
     with_parts(rt, alloc, spelled(rt, alloc, SIZE, OLD), parts)
 }
 
-// Whether the old image with these parts put over it has the others, and no other byte, behind that.
-fn becomes<A: Allocator + Copy>(rt: &impl Abort, alloc: A, given: &str, wanted: &str) -> bool {
+/// Whether the old image with these parts put over it has the others, and no other byte, behind that.
+pub fn becomes<A: Allocator + Copy>(rt: &impl Abort, alloc: A, given: &str, wanted: &str) -> bool {
     let (word, parts) = halves(rt, given, " ");
     let disk = after(rt, alloc, old_with(rt, alloc, parts), word);
     are_alike(rt, alloc, disk, old_with(rt, alloc, wanted))
@@ -72,9 +72,7 @@ committed 512: a5 -> 0: a5 'PSU 00 02 00 06 00*7 03 00 01 00 03; 512: 00
 
 #[test]
 fn an_empty_batch_makes_it_version_2_and_an_opening_does_not(rt: HostRuntime) {
-    rows_hold(&rt, WRITTEN, |given, wanted| {
-        becomes(&rt, rt.alloc(), given, wanted)
-    });
+    rows_hold(&rt, rt.alloc(), Trial::Written, WRITTEN);
 }
 
 // Version 1 has keys of 33 bytes at most, and version 2 of 65. The last byte of the version is at 517.
@@ -88,5 +86,5 @@ const KEYS: &str = "
 
 #[test]
 fn keys_of_either_version(rt: HostRuntime) {
-    are_found(&rt, rt.alloc(), SIZE, OLD, KEYS);
+    rows_hold(&rt, rt.alloc(), Trial::Old, KEYS);
 }

@@ -1,5 +1,4 @@
 // What an opening finds of images that are spelled: how many items, or why none. Each row of a table puts parts over an image.
-use crate::holds::rows_hold;
 use crate::spelled::{spelled, with_parts};
 use psu_disk::Disk;
 use psu_items::{OpenCause, Store};
@@ -44,16 +43,13 @@ pub fn is_found<D: Disk + Drop, A: Allocator + Copy>(alloc: A, disk: D, wanted: 
     is_wanted(found(alloc, disk), wanted)
 }
 
-/// An image of so many bytes is found as a table says with the parts of each row put over it: `512: a5 'PSU; 527: 01 -> bad root`.
-pub fn are_found<A: Allocator + Copy>(
+/// Whether an opening finds an image of so many bytes as a table wants, with parts put over it: `512: a5 'PSU; 527: 01 -> bad root`.
+pub fn is_spelled<A: Allocator + Copy>(
     rt: &impl Abort,
     alloc: A,
-    size: u64,
-    image: &str,
-    table: &str,
-) {
-    rows_hold(rt, table, |parts, wanted| {
-        let disk = spelled(rt, alloc, size, image);
-        is_found(alloc, with_parts(rt, alloc, disk, parts), wanted)
-    });
+    (size, image, parts): (u64, &str, &str),
+    wanted: &str,
+) -> bool {
+    let disk = spelled(rt, alloc, size, image);
+    is_found(alloc, with_parts(rt, alloc, disk, parts), wanted)
 }

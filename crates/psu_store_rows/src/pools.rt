@@ -45,22 +45,22 @@ fn set_all<D: Disk + Drop, A: Allocator + Copy>(
     store
 }
 
-// The store on a disk after these commits.
-fn set_often<D: Disk + Drop, A: Allocator + Copy>(
+// After these commits on a disk its store has this number, and its map costs so many pages.
+fn is_set_often<D: Disk + Drop, A: Allocator + Copy>(
     rt: &impl Abort,
     alloc: A,
     disk: D,
-    course: Course,
-) -> Store<D, A> {
+    (course, number, pages): (Course, u64, u128),
+) {
     let mut store = opened(rt, alloc, disk);
     for value in course.first..course.last {
         let batch = each_of(rt, alloc, (0, course.keys), value);
         store = set_all(rt, alloc, store, (&batch, value >= course.again));
     }
-    store
+    ends_with(rt, &store, number, pages);
 }
 
-// That store has this number, and its map costs so many pages.
+// A store has this number, and its map costs so many pages.
 fn ends_with<D: Disk, A: Allocator + Copy>(
     rt: &impl Abort,
     store: &Store<D, A>,
@@ -79,15 +79,10 @@ const MANY: Course = Course {
     again: 1,
 };
 
-// Five commits on an image of limit 480.
-fn fills_it_five_times<A: Allocator + Copy>(rt: &impl Abort, alloc: A) {
-    let disk = formatted(rt, alloc, 492_544, 480);
-    ends_with(rt, &set_often(rt, alloc, disk, MANY), 6, 480);
-}
-
 #[test]
 fn two_hundred_and_forty_items(rt: HostRuntime) {
-    fills_it_five_times(&rt, rt.alloc());
+    let disk = formatted(&rt, rt.alloc(), 492_544, 480);
+    is_set_often(&rt, rt.alloc(), disk, (MANY, 6, 480));
 }
 
 // Two items fill the limit of 4, and a commit that changes both takes the whole pool of 8 pages. The commits continue in one store, and
@@ -99,15 +94,10 @@ const TWO: Course = Course {
     again: 40,
 };
 
-// Sixty commits on an image of limit 4.
-fn fills_it_sixty_times<A: Allocator + Copy>(rt: &impl Abort, alloc: A) {
-    let disk = empty(rt, alloc);
-    ends_with(rt, &set_often(rt, alloc, disk, TWO), 61, 4);
-}
-
 #[test]
 fn sixty_commits_in_a_pool_that_is_full(rt: HostRuntime) {
-    fills_it_sixty_times(&rt, rt.alloc());
+    let disk = empty(&rt, rt.alloc());
+    is_set_often(&rt, rt.alloc(), disk, (TWO, 61, 4));
 }
 
 // A batch that drops the key 0, and gives this value to the key 200.
@@ -131,9 +121,9 @@ fn passed_on<D: Disk + Drop, A: Allocator + Copy>(
     store
 }
 
-// Sixty such turns on a full image of limit 4.
-fn passes_on_sixty_times<A: Allocator + Copy>(rt: &impl Abort, alloc: A) {
-    let mut store = store_with(rt, alloc, empty(rt, alloc), "00 = 63; 01 = 63");
+// Sixty such turns on an empty image of limit 4 that two items fill.
+fn is_passed_on_often<D: Disk + Drop, A: Allocator + Copy>(rt: &impl Abort, alloc: A, disk: D) {
+    let mut store = store_with(rt, alloc, disk, "00 = 63; 01 = 63");
     for value in 0..60u8 {
         store = passed_on(rt, alloc, store, value);
     }
@@ -143,41 +133,40 @@ fn passes_on_sixty_times<A: Allocator + Copy>(rt: &impl Abort, alloc: A) {
 // One item of a full image is changed again and again, and the other stays; then it gives its place to a third.
 #[test]
 fn sixty_commits_beside_what_stays(rt: HostRuntime) {
-    passes_on_sixty_times(&rt, rt.alloc());
+    is_passed_on_often(&rt, rt.alloc(), empty(&rt, rt.alloc()));
 }
 
 // A fresh image of limit 4 whose root has the last number but one.
 const NEARLY_WORN: &str = "0: a5 'PSU 00 02 00 04 ff*7 fe";
 
-// A commit was not begun as the number is the last: what it hands back.
+// A commit of no edit was not begun as the number is the last: the store that it hands back.
 fn unstarted<D: Disk + Drop, A: Allocator + Copy>(
     rt: &impl Abort,
     ended: Commit<D, A>,
-) -> (Store<D, A>, Batch<A>) {
+) -> Store<D, A> {
     match ended {
-        Commit::Unstarted(store, batch, UnstartedCause::Worn) => (store, batch),
+        Commit::Unstarted(store, batch, UnstartedCause::Worn) => {
+            holds(rt, batch.edits().is_empty(), &"the batch");
+            store
+        }
         _ => panic!(rt; "a commit is begun"),
     }
 }
 
-// A commit of no edit leaves the map.
-fn is_refused<D: Disk + Drop, A: Allocator + Copy>(rt: &impl Abort, alloc: A, store: Store<D, A>) {
-    let ended = commit(rt, alloc, store, Batch::new(alloc));
-    let (store, batch) = unstarted(rt, ended);
-    holds(rt, batch.edits().is_empty(), &"the batch");
-    has_map(rt, alloc, &store, "01 = 24");
-}
-
-// The root of the last number, which the one before it writes, takes no commit.
-fn is_worn<A: Allocator + Copy>(rt: &impl Abort, alloc: A) {
-    let disk = spelled(rt, alloc, 5_120, NEARLY_WORN);
+// The root of the last number, which the one before it writes, takes no commit, and its map is left.
+fn is_worn<D: Disk + Drop, A: Allocator + Copy>(rt: &impl Abort, alloc: A, disk: D) {
     let store = opened(rt, alloc, changed(rt, alloc, disk, "01 = 24"));
     holds(rt, store.number() == u64::MAX, &"the last number");
-    is_refused(rt, alloc, store);
+    let ended = commit(rt, alloc, store, Batch::new(alloc));
+    has_map(rt, alloc, &unstarted(rt, ended), "01 = 24");
 }
 
 // The root of the last number takes no commit, and the one before takes one.
 #[test]
 fn the_last_number_is_worn(rt: HostRuntime) {
-    is_worn(&rt, rt.alloc());
+    is_worn(
+        &rt,
+        rt.alloc(),
+        spelled(&rt, rt.alloc(), 5_120, NEARLY_WORN),
+    );
 }

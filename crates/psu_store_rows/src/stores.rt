@@ -137,16 +137,16 @@ fn are_the_five<A: Allocator + Copy>(batch: &Batch<A>) -> bool {
     edits.len() == 5 && edits[3].key() == [2].as_slice() && edits[3].value().is_none()
 }
 
-// A store has the map of the five edits after a commit of them.
-fn keeps_the_later<A: Allocator + Copy>(rt: &impl Abort, alloc: A) {
-    let store = store_with(rt, alloc, empty(rt, alloc), FIVE_EDITS);
+// A store on an empty disk has the map of the five edits after a commit of them.
+fn keeps_the_later<D: Disk + Drop, A: Allocator + Copy>(rt: &impl Abort, alloc: A, disk: D) {
+    let store = store_with(rt, alloc, disk, FIVE_EDITS);
     has_map(rt, alloc, &store, "01 = 0a; 03 = 1f");
 }
 
 #[test]
 fn the_later_edit_of_a_key_counts(rt: HostRuntime) {
     assert!(rt; are_the_five(&edits(&rt, rt.alloc(), FIVE_EDITS)));
-    keeps_the_later(&rt, rt.alloc());
+    keeps_the_later(&rt, rt.alloc(), empty(&rt, rt.alloc()));
 }
 
 // A store has the number and the map of a first commit.

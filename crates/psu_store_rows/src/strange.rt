@@ -32,18 +32,19 @@ fn put(rt: &(impl Abort + Files<File = File>), bytes: &[u8]) {
     std::fs::write(rt, NAME, bytes).expect(rt, "a file");
 }
 
-// Puts an image in the file whose map a text has.
-fn put_map<A: Allocator + Copy>(rt: &(impl Abort + Files<File = File>), alloc: A, map: &str) {
-    let disk = changed(rt, alloc, empty(rt, alloc), map);
-    put(rt, &bytes_of(rt, alloc, disk));
+// An image whose map a text has.
+fn image<A: Allocator + Copy>(rt: &impl Abort, alloc: A, map: &str) -> Vec<u8, A> {
+    bytes_of(rt, alloc, changed(rt, alloc, empty(rt, alloc), map))
 }
 
-// A store that stays broken where it is opened again, as what is in its file is strange.
+// A store that stays broken where it is opened again, as what is put in its file is strange.
 fn strange<D: Disk + Drop, A: Allocator + Copy>(
-    rt: &impl Abort,
+    rt: &(impl Abort + Files<File = File>),
     alloc: A,
     broken: Broken<D, A>,
+    image: &[u8],
 ) -> Broken<D, A> {
+    put(rt, image);
     let broken = broken.reopen(alloc).err().expect(rt, "a strange file");
     holds(
         rt,
@@ -53,22 +54,28 @@ fn strange<D: Disk + Drop, A: Allocator + Copy>(
     broken
 }
 
-// The store finds its target in the file, after zeros and another map were strange to it.
+// A store to which zeros and another map in its file are strange.
+fn stays_broken<D: Disk + Drop, A: Allocator + Copy>(
+    rt: &(impl Abort + Files<File = File>),
+    alloc: A,
+    broken: Broken<D, A>,
+) -> Broken<D, A> {
+    let broken = strange(rt, alloc, broken, &[0; 5_120]);
+    strange(rt, alloc, broken, &image(rt, alloc, "01 = 25"))
+}
+
+// A store finds its target in the file.
 fn is_found<D: Disk + Drop, A: Allocator + Copy>(
     rt: &(impl Abort + Files<File = File>),
     alloc: A,
     broken: Broken<D, A>,
 ) {
-    put(rt, &[0; 5_120]);
-    let broken = strange(rt, alloc, broken);
-    put_map(rt, alloc, "01 = 25");
-    let broken = strange(rt, alloc, broken);
-    put_map(rt, alloc, "01 = 24");
+    put(rt, &image(rt, alloc, "01 = 24"));
     let store = broken.reopen(alloc).ok().expect(rt, "the target");
     has_map(rt, alloc, &store, "01 = 24");
 }
 
-// A store on a disk in the file breaks, and finds its target.
+// A store on a disk in the file breaks for its device, and finds its target after zeros and another map.
 fn is_found_in<D: Disk + Drop, A: Allocator + Copy>(
     rt: &(impl Abort + Files<File = File>),
     alloc: A,
@@ -76,7 +83,7 @@ fn is_found_in<D: Disk + Drop, A: Allocator + Copy>(
 ) {
     let broken = broken_by(rt, cut(rt, alloc, laid_out(rt, alloc, disk, 4)));
     holds(rt, broken.cause() == BrokenCause::Device, &"the device");
-    is_found(rt, alloc, broken);
+    is_found(rt, alloc, stays_broken(rt, alloc, broken));
 }
 
 // Neither zeros nor another map are the map before the commit or the one after it; the one after it is.
