@@ -1,9 +1,10 @@
 // Heads that are refused, and heads that are good to the last: keys, lengths, counts and pages.
-use crate::bad_roots::{IMAGE, SIZE, are_found, found};
-use crate::spelled::{put, put_word, spelled};
-use psu_disk::MemDisk;
-use psu_items::OpenCause;
-use std::alloc::Global;
+use crate::openings::is_found;
+use crate::spelled::{halves, number, put, put_word, spelled};
+use crate::trials::{Trial, rows_hold};
+use psu_disk::Disk;
+use std::alloc::Allocator;
+use std::process::Abort;
 
 // The head on page 3, which says: a key of one byte, the value's length, how many pages, which.
 const WORDS_OF_A_HEAD: &str = "
@@ -44,14 +45,14 @@ What stands behind a head's words, and behind a value, is not looked at.
 
 #[test]
 fn the_words_of_a_head(rt: HostRuntime) {
-    are_found(&rt, rt.alloc(), SIZE, IMAGE, WORDS_OF_A_HEAD);
+    rows_hold(&rt, rt.alloc(), Trial::Two, WORDS_OF_A_HEAD);
 }
 
-// How many bytes an image of limit 100 takes.
-const GREAT: u64 = 103_424;
+/// How many bytes an image of limit 100 takes.
+pub const GREAT: u64 = 103_424;
 
-// An image of limit 100 with one head, on page 2. The words behind it are the pages from 3 to 68 where its key has 65 bytes.
-const ONE_HEAD: &str = "
+/// An image of limit 100 with one head, on page 2. The words behind it are the pages from 3 to 68 where its key has 65 bytes.
+pub const ONE_HEAD: &str = "
 0: a5 'PSU 00 02 00 64 00*7 01 00 01 00 02;
 1096: 00 03 00 04 00 05 00 06 00 07 00 08 00 09 00 0a 00 0b 00 0c 00 0d 00 0e 00 0f 00 10 00 11 00 12;
 1128: 00 13 00 14 00 15 00 16 00 17 00 18 00 19 00 1a 00 1b 00 1c 00 1d 00 1e 00 1f 00 20 00 21 00 22;
@@ -76,51 +77,57 @@ A value of 33,280 bytes takes 65 pages.
 
 #[test]
 fn keys_and_values_of_the_greatest_length(rt: HostRuntime) {
-    are_found(&rt, rt.alloc(), GREAT, ONE_HEAD, GREATEST_LENGTHS);
+    rows_hold(&rt, rt.alloc(), Trial::Great, GREATEST_LENGTHS);
 }
 
 // Names an item in the root, its head on an even page, and puts the head there. Its key is one byte, and its value is on the page behind.
-fn put_item(disk: &mut MemDisk<Global>, item: u16) -> Option<()> {
+fn put_item<D: Disk>(rt: &impl Abort, disk: &mut D, item: u16) {
     let page = item.saturating_mul(2).saturating_add(2);
+    let place = u64::from(item).saturating_mul(2).saturating_add(530);
+    put_word(rt, disk, place, page);
     let [_, key] = item.saturating_add(1).to_be_bytes();
     let [high, low] = page.saturating_add(1).to_be_bytes();
-    put_word(
-        disk,
-        u64::from(item).saturating_mul(2).saturating_add(530),
-        page,
-    )?;
-    put(
-        disk,
-        u64::from(page).saturating_mul(512),
-        &[1, key, 0, 0, 0, 1, 0, 1, high, low],
-    )
+    let head = [1, key, 0, 0, 0, 1, 0, 1, high, low];
+    put(rt, disk, u64::from(page).saturating_mul(512), &head);
 }
 
-// An image of this limit with so many items, each of a key and a value of one byte. The second root counts, of the number 9.
-fn with_many(alloc: Global, limit: u16, count: u16) -> Option<MemDisk<Global>> {
-    let size = u64::from(limit).saturating_add(1).saturating_mul(1_024);
-    let mut disk = spelled(alloc, size, "512: a5 'PSU 00 02; 527: 09")?;
-    put_word(&mut disk, 518, limit)?;
-    put_word(&mut disk, 528, count)?;
+// Puts the limit, and so many items, each of a key and a value of one byte, in the second root.
+fn put_many<D: Disk>(rt: &impl Abort, disk: &mut D, limit: u16, count: u16) {
+    put_word(rt, disk, 518, limit);
+    put_word(rt, disk, 528, count);
     for item in 0..count {
-        put_item(&mut disk, item)?;
+        put_item(rt, disk, item);
     }
-    Some(disk)
 }
 
-// Whether an opening finds so many items on an image of this limit, or a bad root where it holds no map.
-fn is_filled(alloc: Global, limit: u16, count: u16, is_map: bool) -> Option<bool> {
-    match found(alloc, with_many(alloc, limit, count)?) {
-        Ok(items) => Some(is_map && items == usize::from(count)),
-        Err(cause) => Some(!is_map && cause == OpenCause::BadRoot),
-    }
+// A number of two bytes.
+fn word(rt: &impl Abort, text: &str) -> u16 {
+    text.parse().ok().expect(rt, "a word")
+}
+
+/// Whether an opening finds an image of this limit with so many items as wanted. The second root counts, of the number 9.
+pub fn is_filled<A: Allocator + Copy>(
+    rt: &impl Abort,
+    alloc: A,
+    filled: &str,
+    wanted: &str,
+) -> bool {
+    let (limit, count) = halves(rt, filled, ": ");
+    let size = number(rt, limit).saturating_add(1).saturating_mul(1_024);
+    let mut disk = spelled(rt, alloc, size, "512: a5 'PSU 00 02; 527: 09");
+    put_many(rt, &mut disk, word(rt, limit), word(rt, count));
+    is_found(alloc, disk, wanted)
 }
 
 // 240 items are on an image of limit 480, which they fill. Of limit 479 the last is one page too many.
+const FILLED: &str = "
+480: 240 -> 240
+480: 241 -> bad root
+479: 240 -> bad root
+479: 239 -> 239
+";
+
 #[test]
 fn images_that_items_fill(rt: HostRuntime) {
-    assert!(rt; is_filled(rt.alloc(), 480, 240, true) == Some(true));
-    assert!(rt; is_filled(rt.alloc(), 480, 241, false) == Some(true));
-    assert!(rt; is_filled(rt.alloc(), 479, 240, false) == Some(true));
-    assert!(rt; is_filled(rt.alloc(), 479, 239, true) == Some(true));
+    rows_hold(&rt, rt.alloc(), Trial::Filled, FILLED);
 }

@@ -1,85 +1,30 @@
 // Roots that are refused, and roots that are good though they differ: what is looked at, and in which order.
 use crate::holds::holds;
-use crate::spelled::{put_all, spelled};
-use crate::stores::{is, opened};
-use psu_disk::MemDisk;
-use psu_items::{Items, OpenCause, Store};
-use psu_tables::{bytes, row};
-use std::alloc::Global;
+use crate::openings::{IMAGE, SIZE, is_found};
+use crate::spelled::{number, spelled};
+use crate::stores::{has_map, opened};
+use crate::trials::{Trial, rows_hold};
+use psu_disk::Disk;
+use psu_items::Store;
+use std::alloc::Allocator;
 use std::process::Abort;
 
-/// How many bytes an image of limit 6 takes.
-pub const SIZE: u64 = 7_168;
-
-/// An image of limit 6 whose first root, of the number 1, names the heads on pages 3 and 5: the key 1 with the value 36 on page 4, and
-/// the key 2, 9 with 600 bytes on pages 7 and 6.
-pub const IMAGE: &str = "
-   0: a5 'PSU 00 02 00 06 00*7 01 00 02 00 03 00 05;
-1536: 01 01 00 00 00 01 00 01 00 04;
-2048: 24;
-2560: 02 02 09 00 00 02 58 00 02 00 07 00 06;
-3584: 08*512;
-3072: 09*88
-";
-
-/// What an opening finds of a disk: how many items, or why none.
-pub fn found(alloc: Global, disk: MemDisk<Global>) -> Result<usize, OpenCause> {
-    match Store::open(alloc, disk) {
-        Ok(store) => Ok(store.items().pairs().len()),
-        Err(refused) => Err(refused.cause),
-    }
+// A store has the limit and the number that the image says, and its two items.
+fn is_the_image<D: Disk, A: Allocator + Copy>(rt: &impl Abort, alloc: A, store: &Store<D, A>) {
+    holds(rt, store.limit() == 6, &"the limit");
+    holds(rt, store.number() == 1, &"the number");
+    holds(rt, store.version() == 2, &"the version");
+    has_map(rt, alloc, store, "01 = 24; 02 09 = 08*512 09*88");
 }
 
-// What an opening finds, in the words of a table: how many items, or why none.
-fn told(found: Result<usize, OpenCause>, wanted: &str) -> bool {
-    match found {
-        Ok(count) => wanted.parse() == Ok(count),
-        Err(OpenCause::NoRoot) => wanted == "no root",
-        Err(OpenCause::BadVersion) => wanted == "bad version",
-        Err(OpenCause::BadRoot) => wanted == "bad root",
-        Err(_) => false,
-    }
-}
-
-// Whether an image with these parts put over it is found as wanted.
-fn is_found(alloc: Global, size: u64, image: &str, parts: &str, wanted: &str) -> Option<bool> {
-    let mut disk = spelled(alloc, size, image)?;
-    put_all(alloc, &mut disk, parts)?;
-    Some(told(found(alloc, disk), wanted))
-}
-
-/// An image of so many bytes is found as a table says with the parts of each row put over it: `512: a5 'PSU; 527: 01 -> bad root`.
-pub fn are_found(rt: &impl Abort, alloc: Global, size: u64, image: &str, table: &str) {
-    let mut rows = 0u32;
-    for line in table.lines() {
-        if let Some((parts, wanted)) = row(line) {
-            let is_so = is_found(alloc, size, image, parts, wanted) == Some(true);
-            holds(rt, is_so, &parts);
-            rows = rows.saturating_add(1);
-        }
-    }
-    holds(rt, rows > 0, &table);
-}
-
-// Whether the items are the two of the image.
-fn are_the_two(alloc: Global, items: &Items<Global>) -> Option<bool> {
-    let long = bytes(alloc, "08*512 09*88")?;
-    match items.pairs() {
-        [one, two] => Some(is(one, &[1], &[36]) && is(two, &[2, 9], &long)),
-        _ => None,
-    }
-}
-
-// Whether the image is of the limit and the number that it says, and holds its two items.
-fn is_the_image(alloc: Global) -> Option<bool> {
-    let store = opened(alloc, spelled(alloc, SIZE, IMAGE)?)?;
-    let words = store.limit() == 6 && store.number() == 1 && store.version() == 2;
-    Some(words && are_the_two(alloc, store.items())?)
+// That store is found on a disk.
+fn is_found_on<D: Disk + Drop, A: Allocator + Copy>(rt: &impl Abort, alloc: A, disk: D) {
+    is_the_image(rt, alloc, &opened(rt, alloc, disk));
 }
 
 #[test]
 fn the_image_holds_two_items(rt: HostRuntime) {
-    assert!(rt; is_the_image(rt.alloc()) == Some(true));
+    is_found_on(&rt, rt.alloc(), spelled(&rt, rt.alloc(), SIZE, IMAGE));
 }
 
 const WORDS_OF_A_ROOT: &str = "
@@ -115,7 +60,7 @@ What stands behind the names is not looked at.
 
 #[test]
 fn the_words_of_a_root(rt: HostRuntime) {
-    are_found(&rt, rt.alloc(), SIZE, IMAGE, WORDS_OF_A_ROOT);
+    rows_hold(&rt, rt.alloc(), Trial::Two, WORDS_OF_A_ROOT);
 }
 
 // From the count of items on.
@@ -141,7 +86,7 @@ A head twice, and a page of zeros, whose key is empty.
 
 #[test]
 fn the_heads_that_a_root_names(rt: HostRuntime) {
-    are_found(&rt, rt.alloc(), SIZE, IMAGE, HEADS_OF_A_ROOT);
+    rows_hold(&rt, rt.alloc(), Trial::Two, HEADS_OF_A_ROOT);
 }
 
 // Of two open gates the higher number counts, and the other root's content is not looked at. A second root of the number 2 names the
@@ -165,7 +110,7 @@ Equal numbers are refused whatever else the roots say.
 
 #[test]
 fn the_root_that_counts(rt: HostRuntime) {
-    are_found(&rt, rt.alloc(), SIZE, IMAGE, ROOT_THAT_COUNTS);
+    rows_hold(&rt, rt.alloc(), Trial::Two, ROOT_THAT_COUNTS);
 }
 
 // The image on disks of other sizes.
@@ -182,21 +127,13 @@ const SIZES: &str = "
 // A root of version 2, limit 4 and number 1 without items, for a disk of another size than its image has.
 const EMPTY: &str = "0: a5 'PSU 00 02 00 04 00*7 01";
 
-// Whether a disk of so many bytes with this root is found as wanted.
-fn size_is_found(alloc: Global, size: &str, wanted: &str) -> Option<bool> {
-    let disk = spelled(alloc, size.parse().ok()?, EMPTY)?;
-    Some(told(found(alloc, disk), wanted))
+/// Whether a disk of so many bytes with this root is found as wanted.
+pub fn is_sized<A: Allocator + Copy>(rt: &impl Abort, alloc: A, size: &str, wanted: &str) -> bool {
+    let disk = spelled(rt, alloc, number(rt, size), EMPTY);
+    is_found(alloc, disk, wanted)
 }
 
 #[test]
 fn disks_that_are_too_small_or_larger(rt: HostRuntime) {
-    for line in SIZES.lines() {
-        if let Some((size, wanted)) = row(line) {
-            holds(
-                &rt,
-                size_is_found(rt.alloc(), size, wanted) == Some(true),
-                &size,
-            );
-        }
-    }
+    rows_hold(&rt, rt.alloc(), Trial::Sized, SIZES);
 }

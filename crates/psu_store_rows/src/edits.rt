@@ -1,43 +1,109 @@
-// Batches of edits: as texts, and by their numbers.
-use psu_items::{Batch, Value};
+// Batches as texts, and maps as the batches that assign their items.
+use psu_items::{Batch, Edit, Items, Pair, Value};
 use psu_tables::bytes;
-use std::alloc::Global;
+use std::alloc::Allocator;
+use std::process::Abort;
 
-/// Adds a value of one byte for a key of one byte.
-pub fn assign(alloc: Global, batch: &mut Batch<Global>, key: u8, value: u8) -> Option<()> {
-    let key = [key].to_vec(alloc).ok()?;
-    let value = [value].to_vec(alloc).ok()?;
-    batch.assign(key, Value::new(value).ok()?).ok()
+/// The bytes that a text has in hexadecimal digits.
+pub fn bytes_in<A: Allocator>(rt: &impl Abort, alloc: A, text: &str) -> Vec<u8, A> {
+    bytes(alloc, text).expect(rt, "a text of bytes")
 }
 
-/// Adds the removal of a key of one byte.
-pub fn remove(alloc: Global, batch: &mut Batch<Global>, key: u8) -> Option<()> {
-    batch.remove([key].to_vec(alloc).ok()?).ok()
+/// A value of these bytes.
+pub fn value_of<A: Allocator + Copy>(rt: &impl Abort, bytes: Vec<u8, A>) -> Value<A> {
+    Value::new(bytes).expect(rt, "memory for a value")
 }
 
-/// A batch of one edit.
-pub fn assigned(alloc: Global, key: u8, value: u8) -> Option<Batch<Global>> {
-    let mut batch = Batch::new(alloc);
-    assign(alloc, &mut batch, key, value)?;
-    Some(batch)
+// Adds a value for a key.
+fn assign_value<A: Allocator + Copy>(
+    rt: &impl Abort,
+    batch: &mut Batch<A>,
+    key: Vec<u8, A>,
+    value: Vec<u8, A>,
+) {
+    let value = value_of(rt, value);
+    batch.assign(key, value).expect(rt, "memory for an edit");
 }
 
 // Adds the edit that a text has: a value for a key, or the key alone, which is removed.
-fn add(alloc: Global, batch: &mut Batch<Global>, edit: &str) -> Option<()> {
-    match edit.split_once(" = ") {
-        Some((key, value)) => {
-            let value = Value::new(bytes(alloc, value)?).ok()?;
-            batch.assign(bytes(alloc, key)?, value).ok()
-        }
-        None => batch.remove(bytes(alloc, edit)?).ok(),
+fn add<A: Allocator + Copy>(rt: &impl Abort, alloc: A, batch: &mut Batch<A>, edit: &str) {
+    let (key, value) = edit.split_once(" = ").unwrap_or((edit, ""));
+    let key = bytes_in(rt, alloc, key);
+    if value.is_empty() {
+        batch.remove(key).expect(rt, "memory for an edit");
+    } else {
+        assign_value(rt, batch, key, bytes_in(rt, alloc, value));
     }
 }
 
-/// The batch of a text, its bytes in hexadecimal digits: `01 = 24; 02` gives the key 1 the value 36, and removes the key 2.
-pub fn edits(alloc: Global, text: &str) -> Option<Batch<Global>> {
+/// The batch of a text, its bytes in hexadecimal digits: `01 = 24; 02` gives the key 1 the value 36, and removes the key 2. No text is
+/// no edit.
+pub fn edits<A: Allocator + Copy>(rt: &impl Abort, alloc: A, text: &str) -> Batch<A> {
     let mut batch = Batch::new(alloc);
     for edit in text.split(";") {
-        add(alloc, &mut batch, edit)?;
+        if !edit.is_empty() {
+            add(rt, alloc, &mut batch, edit);
+        }
     }
-    Some(batch)
+    batch
+}
+
+/// The same bytes, in memory of their own.
+pub fn copy_of<A: Allocator>(rt: &impl Abort, alloc: A, bytes: &[u8]) -> Vec<u8, A> {
+    bytes.to_vec(alloc).expect(rt, "memory for bytes")
+}
+
+/// Adds a value of one byte for a key of one byte.
+pub fn assign<A: Allocator + Copy>(
+    rt: &impl Abort,
+    alloc: A,
+    batch: &mut Batch<A>,
+    (key, value): (u8, u8),
+) {
+    let value = copy_of(rt, alloc, &[value]);
+    assign_value(rt, batch, copy_of(rt, alloc, &[key]), value);
+}
+
+/// A value of one byte for each of the keys of one byte from the first to before the last.
+pub fn each_of<A: Allocator + Copy>(
+    rt: &impl Abort,
+    alloc: A,
+    (first, last): (u8, u8),
+    value: u8,
+) -> Batch<A> {
+    let mut batch = Batch::new(alloc);
+    for key in first..last {
+        assign(rt, alloc, &mut batch, (key, value));
+    }
+    batch
+}
+
+/// The same batch once more.
+pub fn copied<A: Allocator + Copy>(rt: &impl Abort, alloc: A, batch: &Batch<A>) -> Batch<A> {
+    batch.copy(alloc).expect(rt, "memory for a batch")
+}
+
+// Whether an item is the one that an edit assigns.
+fn is<A: Allocator + Copy>(pair: &Pair<A>, edit: &Edit<A>) -> bool {
+    pair.key() == edit.key() && Some(pair.value()) == edit.value()
+}
+
+/// Whether a map has just the items that a batch assigns in the order of their keys.
+pub fn is_map<A: Allocator + Copy>(items: &Items<A>, want: &Batch<A>) -> bool {
+    for (pair, edit) in items.pairs().iter().zip(want.edits()) {
+        if !is(pair, edit) {
+            return false;
+        }
+    }
+    items.pairs().len() == want.edits().len()
+}
+
+/// Whether a map has just the items that a text assigns in the order of their keys.
+pub fn is_just<A: Allocator + Copy>(
+    rt: &impl Abort,
+    alloc: A,
+    items: &Items<A>,
+    want: &str,
+) -> bool {
+    is_map(items, &edits(rt, alloc, want))
 }

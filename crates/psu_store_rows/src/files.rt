@@ -1,175 +1,201 @@
 // Disks in files: what is refused, one in use too, and what a file keeps.
-use psu_disk::{Disk, DiskFault, FileDisk, OpenFault};
+use crate::holds::holds;
+use crate::spelled::{put, word_at};
+use psu_disk::{Disk, FileDisk, OpenFault};
 use std::alloc::Global;
 use std::fs::{File, OpenOptions};
-use std::io;
 use std::os::unix::fs::MetadataExt;
+use std::process::Abort;
 use std::rt::Files;
 
 /// A disk of so many bytes in a new file of this name.
 pub fn new_disk(
-    files: &impl Files<File = File>,
+    rt: &(impl Abort + Files<File = File>),
     alloc: Global,
     name: &str,
     size: u64,
-) -> Result<FileDisk, OpenFault> {
-    let _ = std::fs::remove_file(files, name);
-    FileDisk::make(files, alloc, name, size)
+) -> FileDisk {
+    let _ = std::fs::remove_file(rt, name);
+    FileDisk::make(rt, alloc, name, size).expect(rt, "a new file")
 }
 
 /// Gives a file another length behind the back of the disk that is in it.
-pub fn set_length(files: &impl Files<File = File>, name: &str, length: u64) -> io::Result<()> {
+pub fn set_length(rt: &(impl Abort + Files<File = File>), name: &str, length: u64) {
     let mut options = OpenOptions::new();
-    options.write(true).open(files, name)?.set_len(length)
+    let file = options.write(true).open(rt, name).expect(rt, "the file");
+    file.set_len(length).expect(rt, "a length");
+}
+
+/// Removes a file.
+pub fn remove(rt: &(impl Abort + Files<File = File>), name: &str) {
+    std::fs::remove_file(rt, name).expect(rt, "the file");
 }
 
 const NAME: &str = "a_disk_for_a_test.image";
 
-// Whether no disk is found where there is no file, or a folder, nor made where there is no folder.
-fn are_not_there(files: &impl Files<File = File>, alloc: Global) -> bool {
-    matches!(FileDisk::of(files, alloc, NAME), Err(OpenFault::NoFile))
-        && matches!(FileDisk::of(files, alloc, "."), Err(OpenFault::NotOpened))
-        && matches!(
-            FileDisk::make(files, alloc, "no_such_folder/file", 4_096),
-            Err(OpenFault::NoFile)
-        )
+// Why no disk is found in a file; none where one is.
+fn unfound(rt: &impl Files<File = File>, alloc: Global, name: &str) -> Option<OpenFault> {
+    FileDisk::of(rt, alloc, name).err()
 }
 
-// Whether a file in which a disk is takes no other.
-fn is_in_use(files: &impl Files<File = File>, alloc: Global) -> bool {
-    matches!(
-        FileDisk::make(files, alloc, NAME, 4_096),
-        Err(OpenFault::Exists)
-    ) && matches!(FileDisk::of(files, alloc, NAME), Err(OpenFault::NotOpened))
+// Why no disk of 4,096 bytes is made in a file; none where one is.
+fn unmade(rt: &impl Files<File = File>, alloc: Global, name: &str) -> Option<OpenFault> {
+    FileDisk::make(rt, alloc, name, 4_096).err()
 }
 
-// Makes the disk, looks whether it is in use, and writes its last two bytes.
-fn are_written(files: &impl Files<File = File>, alloc: Global) -> Option<bool> {
-    let mut disk = FileDisk::make(files, alloc, NAME, 4_096).ok()?;
-    if disk.size() != 4_096 || !is_in_use(files, alloc) {
-        return None;
-    }
-    Some(disk.write(4_094, &[7, 8]).is_ok() && disk.sync().is_ok())
+// A disk is not found or not made, for this cause.
+fn is_for(rt: &impl Abort, found: Option<OpenFault>, cause: OpenFault) {
+    holds(rt, found == Some(cause), &(found, cause));
 }
 
-// Whether a disk in the file has them.
-fn are_kept(files: &impl Files<File = File>, alloc: Global) -> Option<bool> {
-    let mut disk = FileDisk::of(files, alloc, NAME).ok()?;
-    let mut two = [0u8; 2];
-    if disk.size() != 4_096 {
-        return None;
-    }
-    disk.read(4_094, &mut two).ok()?;
-    Some(two == [7, 8] && disk.faults() == 0)
+// No disk is found where there is no file, or a folder, nor made where there is no folder.
+fn are_not_there(rt: &(impl Abort + Files<File = File>), alloc: Global) {
+    let _ = std::fs::remove_file(rt, NAME);
+    is_for(rt, unfound(rt, alloc, NAME), OpenFault::NoFile);
+    is_for(rt, unfound(rt, alloc, "."), OpenFault::NotOpened);
+    let made = unmade(rt, alloc, "no_such_folder/file");
+    is_for(rt, made, OpenFault::NoFile);
+}
+
+// A file in which a disk is takes no other.
+fn is_in_use(rt: &(impl Abort + Files<File = File>), alloc: Global) {
+    is_for(rt, unmade(rt, alloc, NAME), OpenFault::Exists);
+    is_for(rt, unfound(rt, alloc, NAME), OpenFault::NotOpened);
+}
+
+// A disk of 4,096 bytes takes two at its end.
+fn takes_its_last<D: Disk>(rt: &impl Abort, disk: &mut D) {
+    holds(rt, disk.size() == 4_096, &"the size");
+    put(rt, disk, 4_094, &[7, 8]);
+}
+
+// A disk is made, is in use, and takes two bytes at its end.
+fn is_made(rt: &(impl Abort + Files<File = File>), alloc: Global) {
+    let mut disk = FileDisk::make(rt, alloc, NAME, 4_096).expect(rt, "a new file");
+    is_in_use(rt, alloc);
+    takes_its_last(rt, &mut disk);
+}
+
+// A disk that is found has them.
+fn has_its_last<D: Disk + Drop>(rt: &impl Abort, mut disk: D) {
+    holds(rt, disk.size() == 4_096, &"the size");
+    holds(rt, word_at(rt, &mut disk, 4_094) == 0x0708, &"the bytes");
+    holds(rt, disk.faults() == 0, &"a failed call");
+}
+
+// A file is made once, and keeps its bytes.
+fn is_made_once(rt: &(impl Abort + Files<File = File>), alloc: Global) {
+    are_not_there(rt, alloc);
+    is_made(rt, alloc);
+    has_its_last(rt, FileDisk::of(rt, alloc, NAME).expect(rt, "the file"));
+    remove(rt, NAME);
 }
 
 #[test]
 fn a_file_is_made_once_and_keeps_its_bytes(rt: HostRuntime) {
-    let _ = std::fs::remove_file(&rt, NAME);
-    assert!(rt; are_not_there(&rt, rt.alloc()));
-    assert!(rt; are_written(&rt, rt.alloc()) == Some(true));
-    assert!(rt; are_kept(&rt, rt.alloc()) == Some(true));
-    assert!(rt; std::fs::remove_file(&rt, NAME).is_ok());
+    is_made_once(&rt, rt.alloc());
 }
 
 const NEW: &str = "a_new_disk_for_a_test.image";
 
-// Whether a file holds 4,096 bytes 00, in as much room: 8 blocks of 512 bytes or more.
-fn is_of_zeros(files: &(impl Files<File = File> + Alloc), name: &str) -> Option<bool> {
-    let bytes = std::fs::read(files, name).ok()?;
-    let blocks = std::fs::metadata(files, name).ok()?.blocks();
-    Some(blocks >= 8 && bytes.as_slice() == [0; 4_096].as_slice())
+// A file takes room for 4,096 bytes: 8 blocks of 512 bytes or more.
+fn has_its_room(rt: &(impl Abort + Files<File = File>), name: &str) {
+    let metadata = std::fs::metadata(rt, name).expect(rt, "the file");
+    holds(rt, metadata.blocks() >= 8, &"the blocks");
+}
+
+// A file holds 4,096 bytes 00.
+fn is_of_zeros(rt: &(impl Abort + Alloc + Files<File = File>), name: &str) {
+    let bytes = std::fs::read(rt, name).expect(rt, "its bytes");
+    let is_so = bytes.as_slice() == [0; 4_096].as_slice();
+    holds(rt, is_so, &"the bytes");
 }
 
 #[test]
 fn a_new_file_is_of_zeros_and_has_its_room(rt: HostRuntime) {
-    drop(new_disk(&rt, rt.alloc(), NEW, 4_096).expect(&rt, "made"));
-    assert!(rt; is_of_zeros(&rt, NEW) == Some(true));
-    assert!(rt; std::fs::remove_file(&rt, NEW).is_ok());
+    drop(new_disk(&rt, rt.alloc(), NEW, 4_096));
+    has_its_room(&rt, NEW);
+    is_of_zeros(&rt, NEW);
+    remove(&rt, NEW);
 }
 
-// Whether a sync works, on a disk that has failed so often.
-fn syncs(disk: &mut FileDisk, faults: u64) -> bool {
-    disk.sync() == Ok(()) && disk.faults() == faults
-}
-
-// Whether a sync fails, and with it the disk has failed so often.
-fn fails(disk: &mut FileDisk, faults: u64) -> bool {
-    disk.sync() == Err(DiskFault) && disk.faults() == faults
+// A sync works or fails, and the disk has then failed so often.
+fn syncs<D: Disk>(rt: &impl Abort, disk: &mut D, works: bool, faults: u64) {
+    holds(rt, disk.sync().is_ok() == works, &"the sync");
+    holds(rt, disk.faults() == faults, &"the failed calls");
 }
 
 const CUT: &str = "a_cut_disk_for_a_test.image";
 
-// Whether the file gets this length.
-fn is_set_to(files: &impl Files<File = File>, length: u64) -> bool {
-    set_length(files, CUT, length).is_ok()
-}
-
-// Whether a disk is synced while its file has its length, and at no other.
-fn needs_its_length(files: &impl Files<File = File>, alloc: Global) -> Option<bool> {
-    let mut disk = new_disk(files, alloc, CUT, 4_096).ok()?;
-    Some(
-        syncs(&mut disk, 0)
-            && is_set_to(files, 4_095)
-            && fails(&mut disk, 1)
-            && is_set_to(files, 4_097)
-            && fails(&mut disk, 2)
-            && is_set_to(files, 4_096)
-            && syncs(&mut disk, 2),
-    )
+// A disk of 4,096 bytes is synced while its file has its length, and at no other.
+fn needs_its_length<D: Disk + Drop>(rt: &(impl Abort + Files<File = File>), mut disk: D) {
+    syncs(rt, &mut disk, true, 0);
+    set_length(rt, CUT, 4_095);
+    syncs(rt, &mut disk, false, 1);
+    set_length(rt, CUT, 4_097);
+    syncs(rt, &mut disk, false, 2);
+    set_length(rt, CUT, 4_096);
+    syncs(rt, &mut disk, true, 2);
+    remove(rt, CUT);
 }
 
 // No sync is confirmed while the file has another length than the disk.
 #[test]
 fn a_file_that_was_cut_short_is_not_synced(rt: HostRuntime) {
-    assert!(rt; needs_its_length(&rt, rt.alloc()) == Some(true));
-    assert!(rt; std::fs::remove_file(&rt, CUT).is_ok());
+    needs_its_length(&rt, new_disk(&rt, rt.alloc(), CUT, 4_096));
 }
 
 const LOST: &str = "a_lost_disk_for_a_test.image";
 
-// Whether a disk is synced until its file loses its name.
-fn needs_a_name(files: &impl Files<File = File>, disk: &mut FileDisk) -> bool {
-    syncs(disk, 0) && std::fs::remove_file(files, LOST).is_ok() && fails(disk, 1)
+// A disk is synced until its file loses its name.
+fn needs_a_name<D: Disk + Drop>(rt: &(impl Abort + Files<File = File>), mut disk: D) {
+    syncs(rt, &mut disk, true, 0);
+    remove(rt, LOST);
+    syncs(rt, &mut disk, false, 1);
 }
 
 #[test]
 fn a_file_that_lost_its_name_is_not_synced(rt: HostRuntime) {
-    let mut disk = new_disk(&rt, rt.alloc(), LOST, 4_096).expect(&rt, "made");
-    assert!(rt; needs_a_name(&rt, &mut disk));
+    needs_a_name(&rt, new_disk(&rt, rt.alloc(), LOST, 4_096));
 }
 
 const NAMED: &str = "a_replaced_disk_for_a_test.image";
 
 const OTHER: &str = "another_disk_for_a_test.image";
 
-// Whether a disk is synced until another file has its name.
-fn needs_its_name(files: &impl Files<File = File>, disk: &mut FileDisk) -> bool {
-    syncs(disk, 0) && std::fs::rename(files, OTHER, NAMED).is_ok() && fails(disk, 1)
+// Gives a file another name.
+fn rename(rt: &(impl Abort + Files<File = File>), from: &str, to: &str) {
+    std::fs::rename(rt, from, to).expect(rt, "another name");
+}
+
+// A disk is synced until another file has its name.
+fn needs_its_name<D: Disk + Drop>(rt: &(impl Abort + Files<File = File>), mut disk: D) {
+    syncs(rt, &mut disk, true, 0);
+    rename(rt, OTHER, NAMED);
+    syncs(rt, &mut disk, false, 1);
+    remove(rt, NAMED);
 }
 
 // Another file of the same length takes its place, and it keeps no name.
 #[test]
 fn a_file_that_was_replaced_is_not_synced(rt: HostRuntime) {
-    let mut disk = new_disk(&rt, rt.alloc(), NAMED, 4_096).expect(&rt, "made");
-    drop(new_disk(&rt, rt.alloc(), OTHER, 4_096).expect(&rt, "made"));
-    assert!(rt; needs_its_name(&rt, &mut disk));
-    assert!(rt; std::fs::remove_file(&rt, NAMED).is_ok());
+    drop(new_disk(&rt, rt.alloc(), OTHER, 4_096));
+    needs_its_name(&rt, new_disk(&rt, rt.alloc(), NAMED, 4_096));
 }
 
 const BEFORE: &str = "a_renamed_disk_for_a_test.image";
 
 const AFTER: &str = "a_disk_renamed_for_a_test.image";
 
-// Whether a disk is synced once its file has another name.
-fn needs_any_name(files: &impl Files<File = File>, alloc: Global) -> Option<bool> {
-    let mut disk = new_disk(files, alloc, BEFORE, 4_096).ok()?;
-    Some(std::fs::rename(files, BEFORE, AFTER).is_ok() && syncs(&mut disk, 0))
+// A disk is synced once its file has another name.
+fn needs_any_name<D: Disk + Drop>(rt: &(impl Abort + Files<File = File>), mut disk: D) {
+    rename(rt, BEFORE, AFTER);
+    syncs(rt, &mut disk, true, 0);
+    remove(rt, AFTER);
 }
 
 // A file that only got another name is whole.
 #[test]
 fn a_file_that_was_renamed_is_synced(rt: HostRuntime) {
-    assert!(rt; needs_any_name(&rt, rt.alloc()) == Some(true));
-    assert!(rt; std::fs::remove_file(&rt, AFTER).is_ok());
+    needs_any_name(&rt, new_disk(&rt, rt.alloc(), BEFORE, 4_096));
 }

@@ -1,13 +1,16 @@
-// Syncs that fail on a medium that forgets, and a power loss after them: what a store told is there still, over a disk that writes it
+// Syncs that fail on a medium that forgets, and a power loss after them: what a store confirmed is there still, over a disk that writes it
 // again.
+ghost use Rattle.std.specs.Prelude.{◌≡◌, ℕ, false, slice_index_or};
+
 use crate::ForgettingMedium;
-use crate::edits::assigned;
+use crate::edits::each_of;
 use crate::holds::holds;
+use crate::images::laid_out;
 use crate::passing_disk::PassingDisk;
 use crate::stores::{commit, disk_of};
 use psu_disk::{Choice, Disk, KeptDisk};
-use psu_items::{Commit, Items, Store};
-use std::alloc::{AllocError, Global};
+use psu_items::{Broken, Commit, Items, Store};
+use std::alloc::Allocator;
 use std::process::Abort;
 
 // How many bytes an image of limit 4 takes.
@@ -19,7 +22,7 @@ const FORMAT: u64 = 4;
 // How many syncs a commit makes: behind the root, behind the gate that it opens, and behind the other that it closes.
 const COMMIT: u64 = 3;
 
-// Two failures cost two reopenings at most, the later one in the fifth step, so the sixth is a commit that is told.
+// Two failures cost two reopenings at most, the later one in the fifth step, so the sixth is a commit that is confirmed.
 const LAST: u8 = 6;
 
 // What a power loss makes of the bytes that are not safe.
@@ -32,38 +35,28 @@ const CHOICES: [Choice; 5] = [
 ];
 
 // A run: which syncs fail, and how many steps follow the format.
-#[derive(Clone, Copy, Debug, Drop)]
+#[derive(Clone, Copy, Drop)]
 struct Case {
     failing: [u64; 2],
     steps: u8,
 }
 
-// Each sync of two commits fails once, and with it none or one of the next four, as those of the reopening.
-fn cases(alloc: Global) -> Result<Vec<Case, Global>, AllocError> {
-    let mut cases = Vec::new(alloc);
-    for first in FORMAT + 1..FORMAT + 2 * COMMIT + 1 {
-        for more in 0..5 {
-            let second = if more == 0 { 0 } else { first + more };
-            for steps in 0..LAST + 1 {
-                cases.push(Case {
-                    failing: [first, second],
-                    steps,
-                })?;
-            }
-        }
-    }
-    Ok(cases)
-}
-
-// A store after some steps. The value of the key 1 is the one that was told last or, where a commit is in flight, its target.
-struct Run<D: Disk> {
-    store: Commit<D, Global>,
-    told: u8,
+// The values of the key 1 that may stand after some steps, 0 where no item does: the one that was confirmed last and, where a commit is
+// in flight, its target.
+#[derive(Clone, Copy, Drop)]
+struct Values {
+    confirmed: u8,
     target: u8,
 }
 
+// A store after some steps.
+struct Run<D: Disk, A: Allocator + Copy> {
+    store: Commit<D, A>,
+    values: Values,
+}
+
 // The value of the key 1 in a map of no other, or 0 in an empty map.
-fn value_of(items: &Items<Global>) -> Option<u8> {
+fn value_of<A: Allocator + Copy>(items: &Items<A>) -> Option<u8> {
     match (items.pairs(), items.get(&[1])) {
         ([], _) => Some(0),
         ([_], Some([value])) => Some(*value),
@@ -71,135 +64,201 @@ fn value_of(items: &Items<Global>) -> Option<u8> {
     }
 }
 
-// A commit of this value on a store that is whole.
-fn put<D: Disk + Drop>(
-    alloc: Global,
-    store: Store<D, Global>,
-    told: u8,
-    value: u8,
-) -> Option<Run<D>> {
-    let store = commit(alloc, store, assigned(alloc, 1, value)?)?;
-    let is_told = matches!(store, Commit::Stored(_));
-    Some(Run {
-        store,
-        told: if is_told { value } else { told },
-        target: value,
-    })
+impl Values {
+    // One value that stands.
+    fn just(value: u8) -> Values {
+        Values {
+            confirmed: value,
+            target: value,
+        }
+    }
+
+    // The value that stands in a store, where it is one of these.
+    fn standing<D: Disk, A: Allocator + Copy>(self, store: &Store<D, A>) -> Option<u8> {
+        let value = value_of(store.items())?;
+        (value == self.confirmed || value == self.target).then_some(value)
+    }
+
+    // The values after a commit of this one.
+    fn after<D: Disk, A: Allocator + Copy>(self, ended: &Commit<D, A>, target: u8) -> Values {
+        match ended {
+            Commit::Stored(_) => Values::just(target),
+            _ => Values {
+                confirmed: self.confirmed,
+                target,
+            },
+        }
+    }
 }
 
-// The next step: a commit of this value, or the reopening of a store that broke.
-fn next<D: Disk + Drop>(alloc: Global, run: Run<D>, value: u8) -> Option<Run<D>> {
-    let Run {
-        store,
-        told,
-        target,
-    } = run;
-    match store {
-        Commit::Stored(store) => put(alloc, store, told, value),
-        Commit::Unstarted(_, _, _) => None,
-        Commit::Broken(broken) => match broken.reopen(alloc) {
-            Ok(store) => reopened(store, told, target),
-            Err(broken) => Some(Run {
-                store: Commit::Broken(broken),
-                told,
-                target,
-            }),
+// A commit of this value on a store that is whole.
+fn put<D: Disk + Drop, A: Allocator + Copy>(
+    rt: &impl Abort,
+    alloc: A,
+    store: Store<D, A>,
+    (values, value): (Values, u8),
+) -> Run<D, A> {
+    let batch = each_of(rt, alloc, (1, 2), value);
+    let store = commit(rt, alloc, store, batch);
+    let values = values.after(&store, value);
+    Run { store, values }
+}
+
+// A run whose store was opened again: it confirms which of the two values stands.
+fn found<D: Disk + Drop, A: Allocator + Copy>(
+    rt: &impl Abort,
+    store: Store<D, A>,
+    values: Values,
+) -> Run<D, A> {
+    let value = values.standing(&store).expect(rt, "a value that can stand");
+    Run {
+        store: Commit::Stored(store),
+        values: Values::just(value),
+    }
+}
+
+// The reopening of a store that broke: where it works, one of the two values stands.
+fn reopened<D: Disk + Drop, A: Allocator + Copy>(
+    rt: &impl Abort,
+    alloc: A,
+    broken: Broken<D, A>,
+    values: Values,
+) -> Run<D, A> {
+    match broken.reopen(alloc) {
+        Ok(store) => found(rt, store, values),
+        Err(broken) => Run {
+            store: Commit::Broken(broken),
+            values,
         },
     }
 }
 
-// A run whose store was opened again: it tells which of the two values stands.
-fn reopened<D: Disk + Drop>(store: Store<D, Global>, told: u8, target: u8) -> Option<Run<D>> {
-    let value = value_of(store.items())?;
-    if value != told && value != target {
-        return None;
+// The next step: a commit of this value, or the reopening of a store that broke.
+fn next<D: Disk + Drop, A: Allocator + Copy>(
+    rt: &impl Abort,
+    alloc: A,
+    run: Run<D, A>,
+    value: u8,
+) -> Run<D, A> {
+    let Run { store, values } = run;
+    match store {
+        Commit::Stored(store) => put(rt, alloc, store, (values, value)),
+        Commit::Unstarted(_, _, _) => panic!(rt; "a commit is not begun"),
+        Commit::Broken(broken) => reopened(rt, alloc, broken, values),
     }
-    Some(Run {
-        store: Commit::Stored(store),
-        told: value,
-        target: value,
-    })
-}
-
-// A run of no step: a format.
-fn begun<D: Disk + Drop>(alloc: Global, disk: D) -> Option<Run<D>> {
-    if disk.size() < SIZE {
-        return None;
-    }
-    let store = Store::format(alloc, disk, 4).ok()?;
-    Some(Run {
-        store: Commit::Stored(store),
-        told: 0,
-        target: 0,
-    })
 }
 
 // A run of so many steps behind a format. Each value that is put is the number of its step.
-fn after<D: Disk + Drop>(alloc: Global, disk: D, steps: u8) -> Option<Run<D>> {
-    let mut run = begun(alloc, disk)?;
-    for step in 0..steps {
-        run = next(alloc, run, step.saturating_add(1))?;
-    }
-    Some(run)
-}
-
-// Whether an opening after the loss finds neither what was told nor the target.
-fn is_lost<D: Disk + Drop>(alloc: Global, disk: D, told: u8, target: u8) -> bool {
-    let Ok(store) = Store::open(alloc, disk) else {
-        return true;
+fn after<D: Disk + Drop, A: Allocator + Copy>(
+    rt: &impl Abort,
+    alloc: A,
+    disk: D,
+    steps: u8,
+) -> Run<D, A> {
+    let mut run = Run {
+        store: Commit::Stored(laid_out(rt, alloc, disk, 4)),
+        values: Values::just(0),
     };
-    let value = value_of(store.items());
-    value != Some(told) && value != Some(target)
+    for step in 0..steps {
+        run = next(rt, alloc, run, step.saturating_add(1));
+    }
+    run
 }
 
-// Whether a run loses what was told, over a disk that writes again.
-fn is_lost_on_kept(alloc: Global, case: Case, choice: Choice) -> Option<bool> {
-    let medium = ForgettingMedium::new(alloc, SIZE, case.failing).ok()?;
-    let Run {
-        store,
-        told,
-        target,
-    } = after(alloc, KeptDisk::new(alloc, medium).ok()?, case.steps)?;
-    let goes_on = case.steps < LAST || told == LAST;
-    let mut medium = disk_of(store).into_inner();
+// The disk after that, and the values that may stand on it.
+fn ended<D: Disk + Drop, A: Allocator + Copy>(
+    rt: &impl Abort,
+    alloc: A,
+    disk: D,
+    steps: u8,
+) -> (D, Values) {
+    let Run { store, values } = after(rt, alloc, disk, steps);
+    (disk_of(store), values)
+}
+
+// Whether an opening after the loss finds neither value.
+fn is_lost<D: Disk + Drop, A: Allocator + Copy>(alloc: A, disk: D, values: Values) -> bool {
+    match Store::open(alloc, disk) {
+        Ok(store) => values.standing(&store).is_none(),
+        Err(_) => true,
+    }
+}
+
+// A disk that writes again, over a medium.
+fn kept<A: Allocator + Copy>(
+    rt: &impl Abort,
+    alloc: A,
+    medium: ForgettingMedium<A>,
+) -> KeptDisk<ForgettingMedium<A>, A>
+    requires { (k : ℕ) → slice_index_or medium.forgotten.items k false ≡ false }
+{
+    KeptDisk::new(alloc, medium).expect(rt, "memory for a disk")
+}
+
+// A medium whose syncs of these numbers fail.
+fn forgetting<A: Allocator + Copy>(
+    rt: &impl Abort,
+    alloc: A,
+    failing: [u64; 2],
+) -> ForgettingMedium<A>
+    ensures { (k : ℕ) → slice_index_or result.forgotten.items k false ≡ false }
+{
+    ForgettingMedium::new(alloc, SIZE, failing).expect(rt, "memory for a medium")
+}
+
+// Whether a run loses what was confirmed, over a disk that writes again; the last step is confirmed.
+fn is_lost_on_kept<A: Allocator + Copy>(
+    rt: &impl Abort,
+    alloc: A,
+    case: Case,
+    choice: Choice,
+) -> bool {
+    let disk = kept(rt, alloc, forgetting(rt, alloc, case.failing));
+    let (disk, values) = ended(rt, alloc, disk, case.steps);
+    holds(
+        rt,
+        case.steps < LAST || values.confirmed == LAST,
+        &case.failing,
+    );
+    let mut medium = disk.into_inner();
     medium.lose(choice);
-    let is_lost = is_lost(alloc, KeptDisk::new(alloc, medium).ok()?, told, target);
-    goes_on.then_some(is_lost)
+    is_lost(alloc, kept(rt, alloc, medium), values)
 }
 
 // The same over one that does not.
-fn is_lost_on_passing(alloc: Global, case: Case, choice: Choice) -> Option<bool> {
-    let medium = ForgettingMedium::new(alloc, SIZE, case.failing).ok()?;
-    let Run {
-        store,
-        told,
-        target,
-    } = after(alloc, PassingDisk::new(medium), case.steps)?;
-    let mut medium = disk_of(store).into_inner();
+fn is_lost_on_passing<A: Allocator + Copy>(
+    rt: &impl Abort,
+    alloc: A,
+    case: Case,
+    choice: Choice,
+) -> bool {
+    let disk = PassingDisk::new(forgetting(rt, alloc, case.failing));
+    let (disk, values) = ended(rt, alloc, disk, case.steps);
+    let mut medium = disk.into_inner();
     medium.lose(choice);
-    Some(is_lost(alloc, PassingDisk::new(medium), told, target))
+    is_lost(alloc, PassingDisk::new(medium), values)
 }
 
-// No loss takes what was told.
-fn loses_nothing(rt: &impl Abort, alloc: Global, case: Case) {
-    for choice in CHOICES {
-        let lost = is_lost_on_kept(alloc, case, choice);
-        holds(rt, lost == Some(false), &(case, choice));
+// A run of each number of steps in which these syncs fail loses nothing that was confirmed.
+fn loses_nothing<A: Allocator + Copy>(rt: &impl Abort, alloc: A, failing: [u64; 2]) {
+    for steps in 0..LAST + 1 {
+        let case = Case { failing, steps };
+        for choice in CHOICES {
+            let is_lost = is_lost_on_kept(rt, alloc, case, choice);
+            holds(rt, !is_lost, &(failing, steps, choice));
+        }
     }
 }
 
+// Each sync of two commits fails once, and with it none or one of the next four, as those of the reopening.
 #[test]
-fn what_was_told_is_there_after_a_loss(rt: HostRuntime) {
-    let cases = cases(rt.alloc()).expect(&rt, "memory");
-    for case in &cases {
-        loses_nothing(&rt, rt.alloc(), *case);
+fn what_was_confirmed_is_there_after_a_loss(rt: HostRuntime) {
+    for first in FORMAT + 1..FORMAT + 2 * COMMIT + 1 {
+        for more in 0..5 {
+            let second = if more == 0 { 0 } else { first + more };
+            loses_nothing(&rt, rt.alloc(), [first, second]);
+        }
     }
-}
-
-// Whether a run of so many steps, one of whose syncs fails, loses what was told.
-fn is_lost_after(alloc: Global, failing: u64, steps: u8, choice: Choice) -> Option<bool> {
-    let failing = [failing, 0];
-    is_lost_on_passing(alloc, Case { failing, steps }, choice)
 }
 
 // The second sync of a commit is that of its gate. Where it is forgotten, the reopening closes the other gate behind it, and no root is left.
@@ -214,8 +273,12 @@ fn a_disk_that_does_not_write_again_loses_it(rt: HostRuntime) {
         (FORMAT + 2, 2, Choice::Fill(0xff), true),
         (FORMAT + COMMIT + 2, 3, Choice::Old, true),
     ];
-    for (failing, steps, choice, want) in rows {
-        let lost = is_lost_after(rt.alloc(), failing, steps, choice);
-        holds(&rt, lost == Some(want), &(failing, steps, choice));
+    for (sync, steps, choice, want) in rows {
+        let case = Case {
+            failing: [sync, 0],
+            steps,
+        };
+        let is_lost = is_lost_on_passing(&rt, rt.alloc(), case, choice);
+        holds(&rt, is_lost == want, &(sync, steps, choice));
     }
 }

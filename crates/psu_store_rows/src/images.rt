@@ -1,17 +1,78 @@
-// Formatted images in memory.
+// Images that the store itself makes.
+ghost use Rattle.std.specs.Prelude.{IsTrue, ◌+◌, ◌*◌, ◌≤◌};
+
+use crate::edits::edits;
+use crate::spelled::zeros;
+use crate::stores::{opened, stored};
 use psu_disk::{Disk, MemDisk};
 use psu_items::Store;
-use std::alloc::Global;
+use std::alloc::Allocator;
+use std::process::Abort;
 
-/// A formatted image of so many bytes under this limit: a disk that holds an empty map.
-pub fn formatted(alloc: Global, size: u64, limit: u16) -> Option<MemDisk<Global>> {
-    laid_out(alloc, MemDisk::new(alloc, size).ok()?, limit)
+// Whether an image can have this limit, and a disk of this size the room for it.
+fn has_room(limit: u16, size: u64) -> bool
+    ensures least { IsTrue result → 4 ≤ limit }
+    ensures most { IsTrue result → limit ≤ 480 }
+    ensures room { IsTrue result → 512 * (2 + 2 * limit) ≤ size }
+{
+    4 <= limit && limit <= 480 && 512 * (2 + 2 * u64::from(limit)) <= size
 }
 
-/// A disk that is laid out for an empty map of this limit; none where the limit or the room is not one that an image can have.
-pub fn laid_out(alloc: Global, disk: MemDisk<Global>, limit: u16) -> Option<MemDisk<Global>> {
-    if limit < 4 || limit > 480 || disk.size() < 512 * (2 + 2 * u64::from(limit)) {
-        return None;
-    }
-    Some(Store::format(alloc, disk, limit).ok()?.into_disk())
+/// A store of an empty map of this limit on a disk that is laid out for it. The limit and the room are such as an image can have.
+pub fn laid_out<D: Disk + Drop, A: Allocator + Copy>(
+    rt: &impl Abort,
+    alloc: A,
+    disk: D,
+    limit: u16,
+) -> Store<D, A> {
+    assert!(rt; has_room(limit, disk.size()));
+    Store::format(alloc, disk, limit)
+        .ok()
+        .expect(rt, "a format")
+}
+
+/// A disk that was laid out for an empty map of this limit.
+pub fn formatted_over<D: Disk + Drop, A: Allocator + Copy>(
+    rt: &impl Abort,
+    alloc: A,
+    disk: D,
+    limit: u16,
+) -> D {
+    laid_out(rt, alloc, disk, limit).into_disk()
+}
+
+/// A disk of so many bytes that was laid out for an empty map of this limit.
+pub fn formatted<A: Allocator + Copy>(
+    rt: &impl Abort,
+    alloc: A,
+    size: u64,
+    limit: u16,
+) -> MemDisk<A> {
+    formatted_over(rt, alloc, zeros(rt, alloc, size), limit)
+}
+
+/// A disk of 5,120 bytes that holds an empty map of limit 4.
+pub fn empty<A: Allocator + Copy>(rt: &impl Abort, alloc: A) -> MemDisk<A> {
+    formatted(rt, alloc, 5_120, 4)
+}
+
+/// The store on a disk after the commit of a batch, as a text has it.
+pub fn store_with<D: Disk + Drop, A: Allocator + Copy>(
+    rt: &impl Abort,
+    alloc: A,
+    disk: D,
+    batch: &str,
+) -> Store<D, A> {
+    let store = opened(rt, alloc, disk);
+    stored(rt, alloc, store, edits(rt, alloc, batch))
+}
+
+/// The disk after that.
+pub fn changed<D: Disk + Drop, A: Allocator + Copy>(
+    rt: &impl Abort,
+    alloc: A,
+    disk: D,
+    batch: &str,
+) -> D {
+    store_with(rt, alloc, disk, batch).into_disk()
 }

@@ -1,53 +1,39 @@
 // The ranges that a disk keeps to write them again, at the bound of their room.
 use crate::ForgettingMedium;
-use crate::holds::holds;
-use psu_disk::{Choice, Disk, DiskFault, KeptDisk, Medium};
-use psu_tables::row;
-use std::alloc::Global;
+use crate::passing_disk::PassingDisk;
+use crate::spelled::{bytes_of, halves, number, write};
+use crate::trials::{Trial, rows_hold};
+use psu_disk::{Choice, Disk, DiskFault, KeptDisk};
+use std::alloc::Allocator;
+use std::process::Abort;
 
 const SIZE: u64 = 4_096;
 
-type Kept = KeptDisk<ForgettingMedium<Global>, Global>;
+type Kept<A> = KeptDisk<ForgettingMedium<A>, A>;
 
 // A disk whose medium fails this sync.
-fn failing(alloc: Global, sync: u64) -> Option<Kept> {
-    let medium = ForgettingMedium::new(alloc, SIZE, [sync, 0]).ok()?;
-    KeptDisk::new(alloc, medium).ok()
+fn failing<A: Allocator + Copy>(rt: &impl Abort, alloc: A, sync: u64) -> Kept<A> {
+    let medium = ForgettingMedium::new(alloc, SIZE, [sync, 0]).expect(rt, "memory for a medium");
+    KeptDisk::new(alloc, medium).expect(rt, "memory for a disk")
 }
 
 // A disk that fails its next sync: the first of all, or the second, where one works first.
-fn fresh(alloc: Global, synced: &str) -> Option<Kept> {
-    match synced {
-        "synced" => {
-            let mut disk = failing(alloc, 2)?;
-            disk.sync().ok()?;
-            Some(disk)
-        }
-        "fresh" => failing(alloc, 1),
-        _ => None,
+fn fresh<A: Allocator + Copy>(rt: &impl Abort, alloc: A, is_synced: bool) -> Kept<A> {
+    let mut disk = failing(rt, alloc, 1 + u64::from(is_synced));
+    if is_synced {
+        disk.sync().expect(rt, "a first sync");
     }
-}
-
-// Writes a range.
-fn write(disk: &mut Kept, at: u64, range: &[u8]) -> Option<()> {
-    if at > disk.size() || range.len() as u64 > disk.size() - at {
-        return None;
-    }
-    disk.write(at, range).ok()
+    disk
 }
 
 // Writes so many ranges of this length, each as far from the next.
-fn write_apart(disk: &mut Kept, ranges: u64, length: usize) -> Option<()> {
+fn write_apart<D: Disk>(rt: &impl Abort, disk: &mut D, ranges: u64, length: u64) {
     let bytes = [0xa5; 1_300];
-    let range = &bytes[..length.min(1_300)];
+    let range = &bytes[..length.min(1_300) as usize];
     for n in 0..ranges {
-        write(
-            disk,
-            n.saturating_mul(2).saturating_mul(length as u64),
-            range,
-        )?;
+        let at = n.saturating_mul(2).saturating_mul(length);
+        write(rt, disk, at, range);
     }
-    Some(())
 }
 
 // How many bytes are a5.
@@ -62,38 +48,43 @@ fn count(bytes: &[u8]) -> u64 {
 }
 
 // How many bytes are there as they were written, after a loss that takes each that is not safe.
-fn kept(disk: Kept) -> Option<u64> {
+fn kept<A: Allocator + Copy>(rt: &impl Abort, alloc: A, disk: Kept<A>) -> u64 {
     let mut medium = disk.into_inner();
     medium.lose(Choice::Old);
-    let mut bytes = [0; SIZE as usize];
-    if medium.size() != SIZE {
-        return None;
-    }
-    medium.read(0, &mut bytes).ok()?;
-    Some(count(&bytes))
+    count(&bytes_of(rt, alloc, PassingDisk::new(medium)))
 }
 
 // Whether the next sync fails, and whether the two behind it work or fail, too.
-fn syncs(disk: &mut Kept, work: bool) -> bool {
+fn syncs<D: Disk>(disk: &mut D, work: bool) -> bool {
     disk.sync() == Err(DiskFault) && disk.sync().is_ok() == work && disk.sync().is_ok() == work
 }
 
-// Whether ranges that are written before a sync that fails are kept, or none is.
-fn are_as_wanted(alloc: Global, written: &str, wanted: &str) -> Option<bool> {
-    let (synced, sizes) = written.split_once(": ")?;
-    let (ranges, length) = sizes.split_once(" of ")?;
-    let ranges: u64 = ranges.parse().ok()?;
-    let length: usize = length.parse().ok()?;
-    let are_kept = wanted == "kept";
-    let mut disk = fresh(alloc, synced)?;
-    write_apart(&mut disk, ranges, length)?;
-    let work = syncs(&mut disk, are_kept);
-    let want = if are_kept {
-        ranges.saturating_mul(length as u64)
-    } else {
-        0
-    };
-    Some(work && kept(disk)? == want)
+// Whether ranges of a length that are written before a sync that fails are kept, or none is.
+fn are_kept<A: Allocator + Copy>(
+    rt: &impl Abort,
+    alloc: A,
+    mut disk: Kept<A>,
+    (ranges, length, wanted): (u64, u64, bool),
+) -> bool {
+    write_apart(rt, &mut disk, ranges, length);
+    let work = syncs(&mut disk, wanted);
+    let want = ranges
+        .saturating_mul(length)
+        .saturating_mul(u64::from(wanted));
+    kept(rt, alloc, disk) == want && work
+}
+
+/// The same of a row.
+pub fn are_as_wanted<A: Allocator + Copy>(
+    rt: &impl Abort,
+    alloc: A,
+    written: &str,
+    wanted: &str,
+) -> bool {
+    let (synced, sizes) = halves(rt, written, ": ");
+    let (ranges, length) = halves(rt, sizes, " of ");
+    let sizes = (number(rt, ranges), number(rt, length), wanted == "kept");
+    are_kept(rt, alloc, fresh(rt, alloc, synced == "synced"), sizes)
 }
 
 // Whether a sync works first, how many ranges of which length are written before one that fails, and whether they are kept.
@@ -111,10 +102,5 @@ fresh: 1 of 1 -> lost
 
 #[test]
 fn ranges_at_their_bound(rt: HostRuntime) {
-    for line in RANGES.lines() {
-        if let Some((written, wanted)) = row(line) {
-            let is_so = are_as_wanted(rt.alloc(), written, wanted) == Some(true);
-            holds(&rt, is_so, &written);
-        }
-    }
+    rows_hold(&rt, rt.alloc(), Trial::Ranges, RANGES);
 }

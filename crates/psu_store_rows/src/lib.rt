@@ -28,14 +28,20 @@ mod maps;
 #[cfg(test)]
 mod migrations;
 #[cfg(test)]
+mod openings;
+#[cfg(test)]
 mod passing_disk;
 #[cfg(test)]
 mod pools;
+#[cfg(test)]
+mod scenes;
 #[cfg(test)]
 mod spelled;
 #[cfg(test)]
 mod stores;
 #[cfg(test)]
 mod strange;
+#[cfg(test)]
+mod trials;
 
 pub use forgetting_medium::ForgettingMedium;

@@ -1,48 +1,68 @@
-// Losses of power in the midst of a commit and of the opening that follows, and disks that fail once.
-use crate::edits::{assign, assigned, remove};
+// Losses of power during a commit and during the opening that follows, and disks that fail once.
+use crate::edits::copied;
 use crate::holds::holds;
-use crate::images::formatted;
-use crate::stores::{committed, disk_of, empty, is, is_just, one_edit, opened, stored};
+use crate::images::{changed, empty, formatted};
+use crate::scenes::{Counts, Scene};
+use crate::spelled::{bytes_of, remade};
+use crate::stores::{broken_by, committed, disk_of, faults_of, opened, stored, stored_by};
 use psu_disk::{Choice, Disk, FailingDisk, MemDisk};
-use psu_items::{Batch, Broken, Commit, Items, Store, Value};
-use std::alloc::Global;
+use psu_items::{Broken, Store};
+use std::alloc::Allocator;
 use std::process::Abort;
 
-// How many calls of the disk an opening makes of an empty map: a sync, and a read for each root.
-const OPENING: u64 = 3;
-
-// How many calls a commit of one item makes: its head and its value, the root, a gate and the other, with three syncs.
-const COMMIT: u64 = 8;
-
-/// What a power loss leaves of a disk after so many calls of an opening of it and a commit.
-pub fn left_by(
-    alloc: Global,
-    disk: MemDisk<Global>,
-    batch: Batch<Global>,
+// A loss of power: the number of calls before it, and what it makes of the bytes that are not safe.
+#[derive(Clone, Copy, Drop)]
+struct Loss {
     calls: u64,
     choice: Choice,
-) -> Option<MemDisk<Global>> {
-    let mut disk = disk_of(committed(
-        alloc,
-        FailingDisk::from_then_on(disk, calls),
-        batch,
-    )?).into_inner();
-    disk.lose(choice);
-    Some(disk)
 }
 
-/// Whether the target stands, where either it or the map before it does.
-pub fn either(before: bool, target: bool) -> Option<bool> {
-    (before != target).then_some(target)
+// The commit stands on a disk where nothing fails.
+fn is_stored<D: Disk + Drop, A: Allocator + Copy>(
+    rt: &impl Abort,
+    alloc: A,
+    scene: &Scene<A>,
+    disk: D,
+) {
+    let store = stored_by(rt, committed(rt, alloc, disk, &scene.batch));
+    holds(rt, scene.has_target(&store).unwrap_or(false), &"the target");
 }
 
-/// Whether what stands after k calls of a commit can: the map before it where there were none, and the target after all of them.
-pub fn can_stand(target: bool, k: u64, calls: u64) -> bool {
-    (k > 0 || !target) && (k < calls || target)
+// The disk behind an opening of it and a commit, whatever fails in that.
+fn after_commit<D: Disk + Drop, A: Allocator + Copy>(
+    rt: &impl Abort,
+    alloc: A,
+    scene: &Scene<A>,
+    disk: D,
+) -> D {
+    disk_of(committed(rt, alloc, disk, &scene.batch))
 }
 
-/// Old, New, and the byte of a fill.
-pub fn choice_of(n: u16) -> Choice {
+// What a power loss leaves during a commit.
+fn left<A: Allocator + Copy>(
+    rt: &impl Abort,
+    alloc: A,
+    scene: &Scene<A>,
+    loss: Loss,
+) -> MemDisk<A> {
+    let calls = scene.counts.opening.saturating_add(loss.calls);
+    let disk = FailingDisk::from_then_on(remade(rt, alloc, &scene.image), calls);
+    let mut disk = after_commit(rt, alloc, scene, disk).into_inner();
+    disk.lose(loss.choice);
+    disk
+}
+
+// Whether what a loss leaves can stand: the map before where no call was made, and the target where all were.
+fn can_stand<A: Allocator + Copy>(rt: &impl Abort, alloc: A, scene: &Scene<A>, loss: Loss) -> bool {
+    match scene.finds_target(alloc, left(rt, alloc, scene, loss)) {
+        Some(true) => loss.calls > 0,
+        Some(false) => loss.calls < scene.counts.commit,
+        None => false,
+    }
+}
+
+// Old, New, and the byte of a fill.
+fn choice_of(n: u16) -> Choice {
     match n {
         256 => Choice::Old,
         257 => Choice::New,
@@ -50,198 +70,230 @@ pub fn choice_of(n: u16) -> Choice {
     }
 }
 
-// What a power loss leaves after k calls of a commit of the first item.
-fn one_left(alloc: Global, k: u64, choice: Choice) -> Option<MemDisk<Global>> {
-    let calls = OPENING.saturating_add(k);
-    left_by(alloc, empty(alloc)?, one_edit(alloc)?, calls, choice)
-}
-
-// Whether an opening finds the first item, with the value 36 for the key 1; it is that or an empty map.
-fn has_one(alloc: Global, disk: MemDisk<Global>) -> Option<bool> {
-    let store = opened(alloc, disk)?;
-    let items = store.items();
-    either(items.pairs().is_empty(), is_just(items, &[(1, 36)]))
-}
-
-// Whether a loss after k calls leaves a map that can stand.
-fn one_can_stand(alloc: Global, k: u64, choice: Choice) -> Option<bool> {
-    let target = has_one(alloc, one_left(alloc, k, choice)?)?;
-    Some(can_stand(target, k, COMMIT))
-}
-
-#[test]
-fn a_loss_leaves_the_map_before_or_the_target(rt: HostRuntime) {
-    for k in 0..COMMIT + 1 {
+// A loss after each number of calls of a commit, and of each kind, leaves the map before it or the target.
+fn each_loss_leaves_a_map<A: Allocator + Copy>(rt: &impl Abort, alloc: A, scene: &Scene<A>) {
+    for calls in 0..scene.counts.commit.saturating_add(1) {
         for n in 0..258u16 {
-            let is_so = one_can_stand(rt.alloc(), k, choice_of(n)) == Some(true);
-            holds(&rt, is_so, &(k, n));
+            let choice = choice_of(n);
+            let loss = Loss { calls, choice };
+            holds(rt, can_stand(rt, alloc, scene, loss), &(calls, choice));
         }
     }
 }
 
-/// What a further loss leaves after so many calls of an opening.
-pub fn lost_in_opening(
-    alloc: Global,
-    disk: MemDisk<Global>,
-    calls: u64,
-    choice: Choice,
-) -> MemDisk<Global> {
-    let mut disk = match Store::open(alloc, FailingDisk::from_then_on(disk, calls)) {
-        Ok(store) => store.into_disk().into_inner(),
-        Err(refused) => refused.disk.into_inner(),
-    };
-    disk.lose(choice);
-    disk
+// The disk behind an opening, whatever fails in that.
+fn after_opening<D: Disk, A: Allocator + Copy>(alloc: A, disk: D) -> D {
+    match Store::open(alloc, disk) {
+        Ok(store) => store.into_disk(),
+        Err(refused) => refused.disk,
+    }
 }
 
-// What an opening finds after two losses, the first after k calls of a commit, and the second in the opening that follows.
-fn after_two(alloc: Global, k: u64, first: Choice, call: u64, second: Choice) -> Option<bool> {
-    let disk = lost_in_opening(alloc, one_left(alloc, k, first)?, call, second);
-    has_one(alloc, disk)
+// Whether the target is found on an image after a further loss, during its opening.
+fn finds_again<A: Allocator + Copy>(
+    rt: &impl Abort,
+    alloc: A,
+    scene: &Scene<A>,
+    image: &[u8],
+    loss: Loss,
+) -> Option<bool> {
+    let disk = FailingDisk::from_then_on(remade(rt, alloc, image), loss.calls);
+    let mut disk = after_opening(alloc, disk).into_inner();
+    disk.lose(loss.choice);
+    scene.finds_target(alloc, disk)
 }
 
-const CHOICES: [Choice; 4] = [Choice::Old, Choice::New, Choice::Fill(165), Choice::Fill(3)];
+const CHOICES: [Choice; 5] = [
+    Choice::Old,
+    Choice::New,
+    Choice::Fill(165),
+    Choice::Fill(2),
+    Choice::Fill(3),
+];
 
-// What stands after one loss stands after a second. An opening reads the roots, a head and its value, and closes a gate: seven calls at
-// most.
-fn second_changes_nothing(rt: &impl Abort, alloc: Global, k: u64, first: Choice) {
-    let one = one_left(alloc, k, first).expect(rt, "a loss");
-    let want = has_one(alloc, one);
-    assert!(rt; want.is_some());
-    for call in 0..8u64 {
-        for second in CHOICES {
-            holds(
-                rt,
-                after_two(alloc, k, first, call, second) == want,
-                &(k, call),
-            );
+// The target is found on an image that a loss after k calls left, or is not, after a second loss, in each call of the opening and of each
+// kind. An opening reads the roots, a head and its value, and closes a gate: seven calls at most.
+fn each_loss_finds<A: Allocator + Copy>(
+    rt: &impl Abort,
+    alloc: A,
+    scene: &Scene<A>,
+    (image, want, k): (&[u8], bool, u64),
+) {
+    for calls in 0..8u64 {
+        for choice in CHOICES {
+            let found = finds_again(rt, alloc, scene, image, Loss { calls, choice });
+            holds(rt, found == Some(want), &(k, calls, choice, want));
         }
     }
+}
+
+// What stands after one loss stands after a second.
+fn second_changes_nothing<A: Allocator + Copy>(
+    rt: &impl Abort,
+    alloc: A,
+    scene: &Scene<A>,
+    first: Loss,
+) {
+    let image = bytes_of(rt, alloc, left(rt, alloc, scene, first));
+    let found = scene.finds_target(alloc, remade(rt, alloc, &image));
+    let want = found.expect(rt, "a map that can stand");
+    each_loss_finds(rt, alloc, scene, (&image, want, first.calls));
+}
+
+// A loss in the opening that follows a loss changes nothing of what stands.
+fn second_losses_change_nothing<A: Allocator + Copy>(rt: &impl Abort, alloc: A, scene: &Scene<A>) {
+    for calls in 0..scene.counts.commit.saturating_add(1) {
+        for choice in CHOICES {
+            second_changes_nothing(rt, alloc, scene, Loss { calls, choice });
+        }
+    }
+}
+
+/// The commit stands where nothing fails. A loss during it leaves the map before it or the target, and a second loss, during the opening
+/// that follows, changes nothing.
+pub fn losses_leave_a_map<A: Allocator + Copy>(rt: &impl Abort, alloc: A, scene: &Scene<A>) {
+    is_stored(rt, alloc, scene, remade(rt, alloc, &scene.image));
+    each_loss_leaves_a_map(rt, alloc, scene);
+    second_losses_change_nothing(rt, alloc, scene);
+}
+
+// How many calls a commit of one item makes, of its head and its value, the root, a gate and the other, with three syncs. The opening of
+// an empty map makes a sync, and a read for each root.
+const FIRST: Counts = Counts {
+    limit: 4,
+    version: 2,
+    number: 1,
+    opening: 3,
+    commit: 8,
+};
+
+// The first commit of an image: of one item.
+fn first_item<A: Allocator + Copy>(rt: &impl Abort, alloc: A) -> Scene<A> {
+    let disk = empty(rt, alloc);
+    Scene::of(rt, alloc, disk, ["01 = 24", "", "01 = 24"], FIRST)
 }
 
 #[test]
-fn a_loss_in_the_opening_changes_nothing(rt: HostRuntime) {
-    for k in 0..COMMIT + 1 {
-        for first in CHOICES {
-            second_changes_nothing(&rt, rt.alloc(), k, first);
-        }
-    }
+fn losses_in_the_first_commit(rt: HostRuntime) {
+    losses_leave_a_map(&rt, rt.alloc(), &first_item(&rt, rt.alloc()));
 }
 
-// A batch for the keys 1 and 2. It is not a text, as those are read slowly in the thousands of turns of a test.
-fn two_edits(alloc: Global) -> Option<Batch<Global>> {
-    let mut batch = assigned(alloc, 1, 10)?;
-    assign(alloc, &mut batch, 2, 20)?;
-    Some(batch)
-}
+// That opening makes a sync and reads two roots, two heads and two values; that commit writes five pages, a root and two gates, with three
+// syncs.
+const SEVERAL: Counts = Counts {
+    limit: 8,
+    version: 2,
+    number: 2,
+    opening: 7,
+    commit: 11,
+};
 
-// A map of the keys 1 and 2, on an image of limit 8.
-fn two_items(alloc: Global) -> Option<MemDisk<Global>> {
-    let store = opened(alloc, formatted(alloc, 9_216, 8)?)?;
-    Some(stored(alloc, store, two_edits(alloc)?)?.into_disk())
-}
+// A commit that changes the key 1, drops the key 2, and gives the key 3 a value of two pages.
+const THREE_EDITS: [&str; 3] = [
+    "01 = 24; 02; 03 = 07*600",
+    "01 = 0a; 02 = 14",
+    "01 = 24; 03 = 07*600",
+];
 
-// Adds a value of two pages for the key 3.
-fn assign_long(alloc: Global, batch: &mut Batch<Global>) -> Option<()> {
-    let value = vec![in alloc; 7; 600].ok()?;
-    batch
-        .assign([3].to_vec(alloc).ok()?, Value::new(value).ok()?)
-        .ok()
-}
-
-// A batch that changes the key 1, drops the key 2, and gives the key 3 a value of two pages.
-fn three_edits(alloc: Global) -> Option<Batch<Global>> {
-    let mut batch = assigned(alloc, 1, 36)?;
-    remove(alloc, &mut batch, 2)?;
-    assign_long(alloc, &mut batch)?;
-    Some(batch)
-}
-
-// Whether a map is the one after the three edits; it is that or the one before.
-fn is_target(items: &Items<Global>) -> Option<bool> {
-    match items.pairs() {
-        [first, second] => either(
-            is(first, &[1], &[10]) && is(second, &[2], &[20]),
-            is(first, &[1], &[36]) && is(second, &[3], &[7; 600]),
-        ),
-        _ => None,
-    }
-}
-
-// How many calls that opening makes (a sync, two roots, two heads, two values), and that commit (five pages, a root, two gates, three
-// syncs).
-const TWO_OPENED: u64 = 7;
-
-const THREE_EDITS: u64 = 11;
-
-// Whether a loss after k calls of that commit leaves a map that can stand.
-fn several_can_stand(alloc: Global, k: u64, choice: Choice) -> Option<bool> {
-    let calls = TWO_OPENED.saturating_add(k);
-    let disk = left_by(alloc, two_items(alloc)?, three_edits(alloc)?, calls, choice)?;
-    let target = is_target(opened(alloc, disk)?.items())?;
-    Some(can_stand(target, k, THREE_EDITS))
+// That commit on an image of limit 8.
+fn several_items<A: Allocator + Copy>(rt: &impl Abort, alloc: A) -> Scene<A> {
+    let disk = formatted(rt, alloc, 9_216, 8);
+    let disk = changed(rt, alloc, disk, THREE_EDITS[1]);
+    Scene::of(rt, alloc, disk, THREE_EDITS, SEVERAL)
 }
 
 #[test]
-fn a_loss_among_several_items(rt: HostRuntime) {
-    for k in 0..THREE_EDITS + 1 {
-        for n in 0..258u16 {
-            let is_so = several_can_stand(rt.alloc(), k, choice_of(n)) == Some(true);
-            holds(&rt, is_so, &(k, n));
-        }
-    }
-}
-
-type Failing = FailingDisk<FailingDisk<MemDisk<Global>>>;
-
-// A store that broke at a call of its commit, and whose disk is to fail again after so many calls more.
-fn broken(alloc: Global, k: u64, more: u64) -> Option<Broken<Failing, Global>> {
-    let call = TWO_OPENED.saturating_add(k);
-    let once = FailingDisk::once(two_items(alloc)?, call.saturating_add(more));
-    match committed(alloc, FailingDisk::once(once, call), three_edits(alloc)?)? {
-        Commit::Broken(broken) => Some(broken),
-        _ => None,
-    }
+fn losses_among_several_items(rt: HostRuntime) {
+    each_loss_leaves_a_map(&rt, rt.alloc(), &several_items(&rt, rt.alloc()));
 }
 
 // A store that is opened again, by the second trial where the first fails, and whether the first did.
-fn reopened(
-    alloc: Global,
-    broken: Broken<Failing, Global>,
-) -> Option<(Store<Failing, Global>, bool)> {
+fn reopened<D: Disk + Drop, A: Allocator + Copy>(
+    rt: &impl Abort,
+    alloc: A,
+    broken: Broken<D, A>,
+) -> (Store<D, A>, bool) {
     match broken.reopen(alloc) {
-        Ok(store) => Some((store, false)),
-        Err(broken) => Some((broken.reopen(alloc).ok()?, true)),
+        Ok(store) => (store, false),
+        Err(broken) => (
+            broken.reopen(alloc).ok().expect(rt, "the second trial"),
+            true,
+        ),
     }
 }
 
-// Whether the next commit of a store that was opened again stands.
-fn goes_on(alloc: Global, store: Store<Failing, Global>) -> Option<bool> {
-    let disk = stored(alloc, store, three_edits(alloc)?)?.into_disk();
-    let faults = disk.faults();
-    let stands = is_target(opened(alloc, disk.into_inner().into_inner())?.items())?;
-    Some(faults == 2 && stands)
+// The next commit of a store that was opened again stands, on a disk that failed twice. One that failed once is not tried, as it is to fail
+// again.
+fn continues<D: Disk + Drop, A: Allocator + Copy>(
+    rt: &impl Abort,
+    alloc: A,
+    scene: &Scene<A>,
+    (store, again): (Store<D, A>, bool),
+) {
+    if again {
+        let store = stored(rt, alloc, store, copied(rt, alloc, &scene.batch));
+        stands(rt, alloc, scene, store.into_disk());
+    }
 }
 
-// Whether the reopening failed once too, after a commit that failed at its call k; then the store goes on. None where it does not, or
-// where the target is not what has to stand.
-fn fails_twice(alloc: Global, k: u64, more: u64) -> Option<bool> {
-    let (store, again) = reopened(alloc, broken(alloc, k, more)?)?;
-    let target = is_target(store.items())?;
-    let goes_on = !again || goes_on(alloc, store)?;
-    (goes_on && (k.saturating_add(1) < THREE_EDITS || target)).then_some(again)
+// The target stands on a disk that failed twice.
+fn stands<D: Disk + Drop, A: Allocator + Copy>(
+    rt: &impl Abort,
+    alloc: A,
+    scene: &Scene<A>,
+    disk: D,
+) {
+    let store = opened(rt, alloc, disk);
+    holds(
+        rt,
+        scene.is_target(store.items()).unwrap_or(false),
+        &"the target",
+    );
+    holds(rt, faults_of(store) == 2, &"two failed calls");
 }
 
-// Each call of a commit fails once, and then each of the reopening. The store goes on: its next commit stands.
-#[test]
-fn is_opened_again_after_each_failed_call(rt: HostRuntime) {
+// Whether the target stands after a commit that failed, and whether the reopening failed once too; then the store continues.
+fn fails_again<D: Disk + Drop, A: Allocator + Copy>(
+    rt: &impl Abort,
+    alloc: A,
+    scene: &Scene<A>,
+    disk: D,
+) -> (Option<bool>, bool) {
+    let broken = broken_by(rt, committed(rt, alloc, disk, &scene.batch));
+    let (store, again) = reopened(rt, alloc, broken);
+    let target = scene.is_target(store.items());
+    continues(rt, alloc, scene, (store, again));
+    (target, again)
+}
+
+// Whether the reopening failed once too, on a disk that fails at the call k of the commit, and again after so many calls more. None where
+// the target is not what has to stand.
+fn fails_twice<A: Allocator + Copy>(
+    rt: &impl Abort,
+    alloc: A,
+    scene: &Scene<A>,
+    (k, more): (u64, u64),
+) -> Option<bool> {
+    let call = scene.counts.opening.saturating_add(k);
+    let disk = FailingDisk::once(remade(rt, alloc, &scene.image), call.saturating_add(more));
+    let (target, again) = fails_again(rt, alloc, scene, FailingDisk::once(disk, call));
+    (target? || k.saturating_add(1) < scene.counts.commit).then_some(again)
+}
+
+// Each call of a commit fails once, and then each of the reopening. The store continues: its next commit stands.
+fn is_opened_again<A: Allocator + Copy>(rt: &impl Abort, alloc: A, scene: &Scene<A>) {
     let mut twice = 0u32;
-    for k in 0..THREE_EDITS {
+    for k in 0..scene.counts.commit {
         for more in 0..12u64 {
-            let again = fails_twice(rt.alloc(), k, more);
-            holds(&rt, again.is_some(), &(k, more));
-            twice = twice.saturating_add(u32::from(again == Some(true)));
+            let again = fails_twice(rt, alloc, scene, (k, more));
+            holds(rt, again.is_some(), &(k, more));
+            twice = twice.saturating_add(u32::from(again.unwrap_or(false)));
         }
     }
-    holds(&rt, twice >= 77, &twice);
+    holds(rt, twice >= 77, &twice);
+}
+
+#[test]
+fn is_opened_again_after_each_failed_call(rt: HostRuntime) {
+    is_opened_again(&rt, rt.alloc(), &several_items(&rt, rt.alloc()));
 }

@@ -1,47 +1,65 @@
 // The map of items by itself.
+use crate::edits::{copy_of, edits, is_just, value_of};
 use crate::holds::holds;
-use crate::stores::is_just;
-use psu_items::{Items, Value};
-use std::alloc::Global;
+use crate::spelled::number;
+use crate::trials::{Trial, rows_hold};
+use psu_items::{Edit, Items};
+use std::alloc::Allocator;
+use std::process::Abort;
 
-// Puts a value of one byte.
-fn put(alloc: Global, items: &mut Items<Global>, key: u8, value: u8) -> Option<()> {
-    let key = [key].to_vec(alloc).ok()?;
-    let value = [value].to_vec(alloc).ok()?;
-    items.insert(key, Value::new(value).ok()?).ok()
+// Puts the value that an edit assigns.
+fn put<A: Allocator + Copy>(rt: &impl Abort, alloc: A, items: &mut Items<A>, edit: &Edit<A>) {
+    let value = edit.value().expect(rt, "a value");
+    let value = value_of(rt, copy_of(rt, alloc, value));
+    let key = copy_of(rt, alloc, edit.key());
+    items.insert(key, value).expect(rt, "memory for an item");
 }
 
-// A map of items that are put in another order than that of their keys, and one of them twice.
-fn four_put(alloc: Global) -> Option<Items<Global>> {
+// A map of the items that a text has, put in its order.
+fn map_of<A: Allocator + Copy>(rt: &impl Abort, alloc: A, text: &str) -> Items<A> {
     let mut items = Items::new(alloc);
-    for (key, value) in [(5, 10), (1, 20), (3, 30), (1, 40)] {
-        put(alloc, &mut items, key, value)?;
+    for edit in edits(rt, alloc, text).edits() {
+        put(rt, alloc, &mut items, edit);
     }
-    Some(items)
+    items
+}
+
+// A map has this value for a key, or none where that is empty.
+fn has<A: Allocator + Copy>(rt: &impl Abort, items: &Items<A>, key: &[u8], value: &[u8]) {
+    holds(rt, items.get(key).unwrap_or(&[]) == value, &key);
+}
+
+// A map whose items are put in another order than that of their keys, and one of them twice, is in the order of its keys.
+fn is_in_order<A: Allocator + Copy>(rt: &impl Abort, alloc: A) {
+    let items = map_of(rt, alloc, "05 = 0a; 01 = 14; 03 = 1e; 01 = 28");
+    let is_so = is_just(rt, alloc, &items, "01 = 28; 03 = 1e; 05 = 0a");
+    holds(rt, is_so, &"the order of the keys");
+    has(rt, &items, &[3], &[30]);
+    has(rt, &items, &[3, 0], &[]);
 }
 
 #[test]
 fn a_map_is_in_the_order_of_its_keys(rt: HostRuntime) {
-    let items = four_put(rt.alloc()).expect(&rt, "memory");
-    assert!(rt; is_just(&items, &[(1, 40), (3, 30), (5, 10)]));
-    assert!(rt; items.get(&[3]) == Some([30].as_slice()));
-    assert!(rt; items.get(&[3, 0]).is_none());
+    is_in_order(&rt, rt.alloc());
 }
 
-// What a map of one value of this length costs.
-fn cost_of(alloc: Global, length: usize) -> Option<u128> {
-    let mut items = Items::new(alloc);
-    let value = vec![in alloc; 0; length].ok()?;
-    items
-        .insert([5].to_vec(alloc).ok()?, Value::new(value).ok()?)
-        .ok()?;
-    Some(items.cost())
+// What a map of one value costs.
+const COSTS: &str = "
+05 = 00*1 -> 2
+05 = 00*512 -> 2
+05 = 00*513 -> 3
+
+The value of a file of 29,183 bytes, and of one of 32,768.
+05 = 00*29184 -> 58
+05 = 00*32769 -> 66
+";
+
+/// Whether a map of these items costs so many pages.
+pub fn costs<A: Allocator + Copy>(rt: &impl Abort, alloc: A, items: &str, pages: &str) -> bool {
+    map_of(rt, alloc, items).cost() == u128::from(number(rt, pages))
 }
 
-// A file of 32,768 bytes has a value of one byte more, and costs 66; one of 29,183 costs 58.
 #[test]
 fn a_map_costs_pages(rt: HostRuntime) {
-    for (length, pages) in [(1, 2), (512, 2), (513, 3), (29184, 58), (32769, 66)] {
-        holds(&rt, cost_of(rt.alloc(), length) == Some(pages), &length);
-    }
+    rows_hold(&rt, rt.alloc(), Trial::Costs, COSTS);
 }

@@ -1,61 +1,111 @@
 // Images that are spelled byte by byte, as the table of the format has them.
+use crate::edits::bytes_in;
 use psu_disk::{Disk, MemDisk};
-use psu_tables::bytes;
-use std::alloc::Global;
+use std::alloc::Allocator;
+use std::process::Abort;
+
+/// Writes bytes, for which the disk has room there.
+pub fn write<D: Disk>(rt: &impl Abort, disk: &mut D, at: u64, bytes: &[u8]) {
+    let size = disk.size();
+    assert!(rt; at <= size);
+    assert!(rt; bytes.len() as u64 <= size - at);
+    disk.write(at, bytes).expect(rt, "a write");
+}
 
 /// Puts bytes on a disk, and makes sure of them.
-pub fn put(disk: &mut MemDisk<Global>, at: u64, bytes: &[u8]) -> Option<()> {
-    if at > disk.size() || bytes.len() as u64 > disk.size() - at {
-        return None;
-    }
-    disk.write(at, bytes).ok()?;
-    disk.sync().ok()
+pub fn put<D: Disk>(rt: &impl Abort, disk: &mut D, at: u64, bytes: &[u8]) {
+    write(rt, disk, at, bytes);
+    disk.sync().expect(rt, "a sync");
 }
 
 /// Puts a word of two bytes on a disk.
-pub fn put_word(disk: &mut MemDisk<Global>, at: u64, word: u16) -> Option<()> {
-    put(disk, at, &word.to_be_bytes())
+pub fn put_word<D: Disk>(rt: &impl Abort, disk: &mut D, at: u64, word: u16) {
+    put(rt, disk, at, &word.to_be_bytes());
+}
+
+/// The number that a text has.
+pub fn number(rt: &impl Abort, text: &str) -> u64 {
+    text.parse().ok().expect(rt, "a number")
+}
+
+/// The two parts of a text with these letters between them.
+pub fn halves<'t>(rt: &impl Abort, text: &'t str, between: &str) -> (&'t str, &'t str) {
+    text.split_once(between).expect(rt, "two parts")
 }
 
 // Puts a part on a disk: its place, and then the bytes.
-fn put_part(alloc: Global, disk: &mut MemDisk<Global>, part: &str) -> Option<()> {
-    let (at, cell) = part.trim().split_once(": ")?;
-    put(disk, at.parse().ok()?, &bytes(alloc, cell)?)
+fn put_part<D: Disk, A: Allocator>(rt: &impl Abort, alloc: A, disk: &mut D, part: &str) {
+    let (at, cell) = halves(rt, part.trim(), ": ");
+    put(rt, disk, number(rt, at), &bytes_in(rt, alloc, cell));
 }
 
 /// Puts parts on a disk, each with its place: `512: a5 'PSU; 527: 01`.
-pub fn put_all(alloc: Global, disk: &mut MemDisk<Global>, parts: &str) -> Option<()> {
+pub fn put_all<D: Disk, A: Allocator + Copy>(rt: &impl Abort, alloc: A, disk: &mut D, parts: &str) {
     for part in parts.split(";") {
-        put_part(alloc, disk, part)?;
+        put_part(rt, alloc, disk, part);
     }
-    Some(())
+}
+
+/// A disk of so many bytes 00.
+pub fn zeros<A: Allocator + Copy>(rt: &impl Abort, alloc: A, size: u64) -> MemDisk<A> {
+    MemDisk::new(alloc, size).expect(rt, "memory for a disk")
 }
 
 /// A disk of so many bytes 00 but for these parts.
-pub fn spelled(alloc: Global, size: u64, parts: &str) -> Option<MemDisk<Global>> {
-    let mut disk = MemDisk::new(alloc, size).ok()?;
-    put_all(alloc, &mut disk, parts)?;
-    Some(disk)
+pub fn spelled<A: Allocator + Copy>(
+    rt: &impl Abort,
+    alloc: A,
+    size: u64,
+    parts: &str,
+) -> MemDisk<A> {
+    with_parts(rt, alloc, zeros(rt, alloc, size), parts)
+}
+
+/// A disk with these parts put over what it has.
+pub fn with_parts<D: Disk, A: Allocator + Copy>(
+    rt: &impl Abort,
+    alloc: A,
+    mut disk: D,
+    parts: &str,
+) -> D {
+    put_all(rt, alloc, &mut disk, parts);
+    disk
 }
 
 /// All bytes of a disk.
-pub fn bytes_of(alloc: Global, mut disk: MemDisk<Global>) -> Option<Vec<u8>> {
-    let mut bytes = vec![in alloc; 0; disk.size() as usize].ok()?;
-    disk.read(0, &mut bytes).ok()?;
-    Some(bytes)
+pub fn bytes_of<D: Disk + Drop, A: Allocator + Copy>(
+    rt: &impl Abort,
+    alloc: A,
+    mut disk: D,
+) -> Vec<u8, A> {
+    let mut bytes = vec![in alloc; 0; disk.size() as usize].expect(rt, "memory for an image");
+    disk.read(0, &mut bytes).expect(rt, "a read");
+    bytes
 }
 
 /// Whether two disks have the same bytes.
-pub fn are_alike(alloc: Global, one: MemDisk<Global>, other: MemDisk<Global>) -> Option<bool> {
-    Some(bytes_of(alloc, one)? == bytes_of(alloc, other)?)
+pub fn are_alike<D: Disk + Drop, E: Disk + Drop, A: Allocator + Copy>(
+    rt: &impl Abort,
+    alloc: A,
+    one: D,
+    other: E,
+) -> bool {
+    bytes_of(rt, alloc, one) == bytes_of(rt, alloc, other)
+}
+
+/// A disk in memory with these bytes.
+pub fn remade<A: Allocator + Copy>(rt: &impl Abort, alloc: A, bytes: &[u8]) -> MemDisk<A> {
+    let mut disk = zeros(rt, alloc, bytes.len() as u64);
+    put(rt, &mut disk, 0, bytes);
+    disk
 }
 
 /// The word of two bytes at a place of a disk.
-pub fn word_at(disk: &mut MemDisk<Global>, at: u64) -> Option<u16> {
+pub fn word_at<D: Disk>(rt: &impl Abort, disk: &mut D, at: u64) -> u16 {
     let mut word = [0; 2];
-    if at > disk.size() || disk.size() - at < 2 {
-        return None;
-    }
-    disk.read(at, &mut word).ok()?;
-    Some(u16::from_be_bytes(word))
+    let size = disk.size();
+    assert!(rt; at <= size);
+    assert!(rt; 2 <= size - at);
+    disk.read(at, &mut word).expect(rt, "a read");
+    u16::from_be_bytes(word)
 }

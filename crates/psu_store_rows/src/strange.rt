@@ -1,92 +1,94 @@
 // A store on a file that breaks, and in whose file another map lies when it is opened again.
-use crate::edits::assigned;
-use crate::files::{new_disk, set_length};
+use crate::edits::edits;
+use crate::files::{new_disk, remove, set_length};
+use crate::holds::holds;
+use crate::images::{changed, empty, laid_out};
 use crate::spelled::bytes_of;
-use crate::stores::{commit, empty, is_just, one_edit, opened, stored};
-use psu_disk::{Disk, FileDisk};
+use crate::stores::{broken_by, commit, has_map};
+use psu_disk::Disk;
 use psu_items::{Broken, BrokenCause, Commit, Store};
-use std::alloc::Global;
+use std::alloc::Allocator;
 use std::fs::File;
+use std::process::Abort;
 use std::rt::Files;
 
 const NAME: &str = "a_strange_disk_for_a_test.image";
 
-type OnFile = Store<FileDisk, Global>;
-
-type BrokenOnFile = Broken<FileDisk, Global>;
-
-// An empty map of limit 4 in a new file.
-fn formatted(files: &impl Files<File = File>, alloc: Global) -> Option<OnFile> {
-    let disk = new_disk(files, alloc, NAME, 5_120).ok()?;
-    if disk.size() < 5_120 {
-        return None;
-    }
-    Store::format(alloc, disk, 4).ok()
-}
-
 // What a commit of the value 36 gives while the file is cut short.
-fn cut(files: &impl Files<File = File>, alloc: Global) -> Option<Commit<FileDisk, Global>> {
-    let store = formatted(files, alloc)?;
-    set_length(files, NAME, 5_119).ok()?;
-    let ended = commit(alloc, store, one_edit(alloc)?);
-    set_length(files, NAME, 5_120).ok()?;
+fn cut<D: Disk + Drop, A: Allocator + Copy>(
+    rt: &(impl Abort + Files<File = File>),
+    alloc: A,
+    store: Store<D, A>,
+) -> Commit<D, A> {
+    let batch = edits(rt, alloc, "01 = 24");
+    set_length(rt, NAME, 5_119);
+    let ended = commit(rt, alloc, store, batch);
+    set_length(rt, NAME, 5_120);
     ended
 }
 
-// The store that broke by it.
-fn broken(files: &impl Files<File = File>, alloc: Global) -> Option<BrokenOnFile> {
-    match cut(files, alloc)? {
-        Commit::Broken(broken) => Some(broken),
-        _ => None,
-    }
+// Puts bytes in the file.
+fn put(rt: &(impl Abort + Files<File = File>), bytes: &[u8]) {
+    std::fs::write(rt, NAME, bytes).expect(rt, "a file");
 }
 
-// Puts an image in the file whose map has this value under the key 1.
-fn put_map(files: &impl Files<File = File>, alloc: Global, value: u8) -> Option<()> {
-    let store = opened(alloc, empty(alloc)?)?;
-    let disk = stored(alloc, store, assigned(alloc, 1, value)?)?.into_disk();
-    std::fs::write(files, NAME, bytes_of(alloc, disk)?.as_slice()).ok()
+// An image whose map a text has.
+fn image<A: Allocator + Copy>(rt: &impl Abort, alloc: A, map: &str) -> Vec<u8, A> {
+    bytes_of(rt, alloc, changed(rt, alloc, empty(rt, alloc), map))
 }
 
-// Puts zeros in the file.
-fn put_zeros(files: &impl Files<File = File>) -> Option<()> {
-    std::fs::write(files, NAME, [0; 5_120].as_slice()).ok()
+// A store that stays broken where it is opened again, as what is put in its file is strange.
+fn strange<D: Disk + Drop, A: Allocator + Copy>(
+    rt: &(impl Abort + Files<File = File>),
+    alloc: A,
+    broken: Broken<D, A>,
+    image: &[u8],
+) -> Broken<D, A> {
+    put(rt, image);
+    let broken = broken.reopen(alloc).err().expect(rt, "a strange file");
+    holds(
+        rt,
+        broken.cause() == BrokenCause::Strange,
+        &"a strange file",
+    );
+    broken
 }
 
-// A store that stays broken where it is opened again, as what is in its file is strange.
-fn strange(alloc: Global, broken: BrokenOnFile) -> Option<BrokenOnFile> {
-    let broken = broken.reopen(alloc).err()?;
-    if broken.cause() != BrokenCause::Strange {
-        return None;
-    }
-    Some(broken)
+// A store to which zeros and another map in its file are strange.
+fn stays_broken<D: Disk + Drop, A: Allocator + Copy>(
+    rt: &(impl Abort + Files<File = File>),
+    alloc: A,
+    broken: Broken<D, A>,
+) -> Broken<D, A> {
+    let broken = strange(rt, alloc, broken, &[0; 5_120]);
+    strange(rt, alloc, broken, &image(rt, alloc, "01 = 25"))
 }
 
-// The store that finds its target in the file, after zeros and another map were strange to it.
-fn reopened(
-    files: &impl Files<File = File>,
-    alloc: Global,
-    broken: BrokenOnFile,
-) -> Option<OnFile> {
-    put_zeros(files)?;
-    let broken = strange(alloc, broken)?;
-    put_map(files, alloc, 37)?;
-    let broken = strange(alloc, broken)?;
-    put_map(files, alloc, 36)?;
-    broken.reopen(alloc).ok()
+// A store finds its target in the file.
+fn is_found<D: Disk + Drop, A: Allocator + Copy>(
+    rt: &(impl Abort + Files<File = File>),
+    alloc: A,
+    broken: Broken<D, A>,
+) {
+    put(rt, &image(rt, alloc, "01 = 24"));
+    let store = broken.reopen(alloc).ok().expect(rt, "the target");
+    has_map(rt, alloc, &store, "01 = 24");
 }
 
-// Whether it finds it, and broke for its device.
-fn is_found(files: &impl Files<File = File>, alloc: Global) -> Option<bool> {
-    let broken = broken(files, alloc)?;
-    let is_of_the_device = broken.cause() == BrokenCause::Device;
-    let store = reopened(files, alloc, broken)?;
-    Some(is_of_the_device && is_just(store.items(), &[(1, 36)]))
+// A store on a disk in the file breaks for its device, and finds its target after zeros and another map.
+fn is_found_in<D: Disk + Drop, A: Allocator + Copy>(
+    rt: &(impl Abort + Files<File = File>),
+    alloc: A,
+    disk: D,
+) {
+    let broken = broken_by(rt, cut(rt, alloc, laid_out(rt, alloc, disk, 4)));
+    holds(rt, broken.cause() == BrokenCause::Device, &"the device");
+    is_found(rt, alloc, stays_broken(rt, alloc, broken));
 }
 
 // Neither zeros nor another map are the map before the commit or the one after it; the one after it is.
 #[test]
-fn a_strange_file_is_told_as_strange(rt: HostRuntime) {
-    assert!(rt; is_found(&rt, rt.alloc()) == Some(true));
-    assert!(rt; std::fs::remove_file(&rt, NAME).is_ok());
+fn a_strange_file_is_reported_as_strange(rt: HostRuntime) {
+    is_found_in(&rt, rt.alloc(), new_disk(&rt, rt.alloc(), NAME, 5_120));
+    remove(&rt, NAME);
 }

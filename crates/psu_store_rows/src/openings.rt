@@ -1,0 +1,55 @@
+// What an opening finds of images that are spelled: how many items, or why none. Each row of a table puts parts over an image.
+use crate::spelled::{spelled, with_parts};
+use psu_disk::Disk;
+use psu_items::{OpenCause, Store};
+use std::alloc::Allocator;
+use std::process::Abort;
+
+/// How many bytes an image of limit 6 takes.
+pub const SIZE: u64 = 7_168;
+
+/// An image of limit 6 whose first root, of the number 1, names the heads on pages 3 and 5: the key 1 with the value 36 on page 4, and
+/// the key 2, 9 with 600 bytes on pages 7 and 6.
+pub const IMAGE: &str = "
+   0: a5 'PSU 00 02 00 06 00*7 01 00 02 00 03 00 05;
+1536: 01 01 00 00 00 01 00 01 00 04;
+2048: 24;
+2560: 02 02 09 00 00 02 58 00 02 00 07 00 06;
+3584: 08*512;
+3072: 09*88
+";
+
+// Whether what an opening finds is what a table wants, in its words.
+fn is_wanted(found: Result<usize, OpenCause>, wanted: &str) -> bool {
+    match found {
+        Ok(count) => wanted.parse() == Ok(count),
+        Err(OpenCause::NoRoot) => wanted == "no root",
+        Err(OpenCause::BadVersion) => wanted == "bad version",
+        Err(OpenCause::BadRoot) => wanted == "bad root",
+        Err(_) => false,
+    }
+}
+
+// What an opening finds of a disk: how many items, or why none.
+fn found<D: Disk + Drop, A: Allocator + Copy>(alloc: A, disk: D) -> Result<usize, OpenCause> {
+    match Store::open(alloc, disk) {
+        Ok(store) => Ok(store.items().pairs().len()),
+        Err(refused) => Err(refused.cause),
+    }
+}
+
+/// Whether an opening finds a disk as a table wants.
+pub fn is_found<D: Disk + Drop, A: Allocator + Copy>(alloc: A, disk: D, wanted: &str) -> bool {
+    is_wanted(found(alloc, disk), wanted)
+}
+
+/// Whether an opening finds an image of so many bytes as a table wants, with parts put over it: `512: a5 'PSU; 527: 01 -> bad root`.
+pub fn is_spelled<A: Allocator + Copy>(
+    rt: &impl Abort,
+    alloc: A,
+    (size, image, parts): (u64, &str, &str),
+    wanted: &str,
+) -> bool {
+    let disk = spelled(rt, alloc, size, image);
+    is_found(alloc, with_parts(rt, alloc, disk, parts), wanted)
+}

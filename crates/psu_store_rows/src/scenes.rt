@@ -1,0 +1,83 @@
+// Commits in which power is lost: the image before one, its batch, and the maps on both sides of it.
+use crate::edits::{edits, is_map};
+use crate::spelled::bytes_of;
+use psu_disk::Disk;
+use psu_items::{Batch, Items, Store};
+use std::alloc::Allocator;
+use std::process::Abort;
+
+/// Of an image before a commit: what its store says, and how many calls of the disk are made.
+#[derive(Clone, Copy, Drop)]
+pub struct Counts {
+    /// The limit of the image.
+    pub limit: u16,
+    /// The version of its root.
+    pub version: u16,
+    /// The number of its root.
+    pub number: u64,
+    /// The calls of its opening.
+    pub opening: u64,
+    /// The calls of the commit.
+    pub commit: u64,
+}
+
+/// A commit on an image.
+#[derive(Drop)]
+pub struct Scene<A: Allocator + Copy> {
+    /// The bytes of the image.
+    pub image: Vec<u8, A>,
+    /// What the commit is to change.
+    pub batch: Batch<A>,
+    /// What its store says, and how many calls are made.
+    pub counts: Counts,
+    // The maps before it and after it, as the batches that assign their items.
+    before: Batch<A>,
+    after: Batch<A>,
+}
+
+impl<A: Allocator + Copy> Scene<A> {
+    /// The commit of a batch on a disk. The texts are the batch, the map before it, and the map after it.
+    pub fn of<D: Disk + Drop>(
+        rt: &impl Abort,
+        alloc: A,
+        disk: D,
+        texts: [&str; 3],
+        counts: Counts,
+    ) -> Scene<A> {
+        Scene {
+            image: bytes_of(rt, alloc, disk),
+            batch: edits(rt, alloc, texts[0]),
+            counts,
+            before: edits(rt, alloc, texts[1]),
+            after: edits(rt, alloc, texts[2]),
+        }
+    }
+
+    /// Whether a map is the one after the commit; it is that or the one before. None where it is neither.
+    pub fn is_target(&self, items: &Items<A>) -> Option<bool> {
+        let is_after = is_map(items, &self.after);
+        (is_map(items, &self.before) != is_after).then_some(is_after)
+    }
+
+    // Whether a store of either map has the version and the number that are the map's.
+    fn is_numbered<D: Disk>(&self, store: &Store<D, A>, is_target: bool) -> bool {
+        let counts = self.counts;
+        let version = if is_target { 2 } else { counts.version };
+        let number = counts.number.saturating_add(u64::from(is_target));
+        store.limit() == counts.limit && store.version() == version && store.number() == number
+    }
+
+    /// Whether a store has the target; it has that or the map before. None where it has neither.
+    pub fn has_target<D: Disk>(&self, store: &Store<D, A>) -> Option<bool> {
+        let is_target = self.is_target(store.items())?;
+        self.is_numbered(store, is_target).then_some(is_target)
+    }
+
+    /// Whether an opening of a disk finds the target; it finds that or the map before. None where it finds neither.
+    pub fn finds_target<D: Disk + Drop>(&self, alloc: A, disk: D) -> Option<bool> {
+        match Store::open(alloc, disk) {
+            Ok(store) => self.has_target(&store),
+            Err(_) => None,
+        }
+    }
+}
