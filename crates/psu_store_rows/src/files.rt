@@ -1,7 +1,7 @@
 // Disks in files: what is refused, one in use too, and what a file keeps.
 use crate::holds::holds;
 use crate::spelled::{put, word_at};
-use psu_disk::{Disk, FileDisk, OpenFault};
+use psu_disk::{Disk, FileDisk, OpenFault, OsFiles};
 use std::alloc::Global;
 use std::fs::{File, OpenOptions};
 use std::os::unix::fs::MetadataExt;
@@ -16,7 +16,7 @@ pub fn new_disk(
     size: u64,
 ) -> FileDisk {
     let _ = std::fs::remove_file(rt, name);
-    FileDisk::make(rt, alloc, name, size).expect(rt, "a new file")
+    FileDisk::make(&mut OsFiles { files: rt }, alloc, name, size).expect(rt, "a new file")
 }
 
 /// Gives a file another length behind the back of the disk that is in it.
@@ -35,12 +35,12 @@ const NAME: &str = "a_disk_for_a_test.image";
 
 // Why no disk is found in a file; none where one is.
 fn unfound(rt: &impl Files<File = File>, alloc: Global, name: &str) -> Option<OpenFault> {
-    FileDisk::of(rt, alloc, name).err()
+    FileDisk::of(&mut OsFiles { files: rt }, alloc, name).err()
 }
 
 // Why no disk of 4,096 bytes is made in a file; none where one is.
 fn unmade(rt: &impl Files<File = File>, alloc: Global, name: &str) -> Option<OpenFault> {
-    FileDisk::make(rt, alloc, name, 4_096).err()
+    FileDisk::make(&mut OsFiles { files: rt }, alloc, name, 4_096).err()
 }
 
 // A disk is not found or not made, for this cause.
@@ -71,7 +71,10 @@ fn takes_its_last<D: Disk>(rt: &impl Abort, disk: &mut D) {
 
 // A disk is made, is in use, and takes two bytes at its end.
 fn is_made(rt: &(impl Abort + Files<File = File>), alloc: Global) {
-    let mut disk = FileDisk::make(rt, alloc, NAME, 4_096).expect(rt, "a new file");
+    let mut disk = FileDisk::make(&mut OsFiles { files: rt }, alloc, NAME, 4_096).expect(
+        rt,
+        "a new file",
+    );
     is_in_use(rt, alloc);
     takes_its_last(rt, &mut disk);
 }
@@ -87,7 +90,10 @@ fn has_its_last<D: Disk + Drop>(rt: &impl Abort, mut disk: D) {
 fn is_made_once(rt: &(impl Abort + Files<File = File>), alloc: Global) {
     are_not_there(rt, alloc);
     is_made(rt, alloc);
-    has_its_last(rt, FileDisk::of(rt, alloc, NAME).expect(rt, "the file"));
+    has_its_last(
+        rt,
+        FileDisk::of(&mut OsFiles { files: rt }, alloc, NAME).expect(rt, "the file"),
+    );
     remove(rt, NAME);
 }
 

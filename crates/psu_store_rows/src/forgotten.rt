@@ -2,13 +2,13 @@
 // again.
 ghost use Rattle.std.specs.Prelude.{◌≡◌, ℕ, false, slice_index_or};
 
-use crate::ForgettingMedium;
 use crate::edits::each_of;
 use crate::holds::holds;
 use crate::images::laid_out;
 use crate::passing_disk::PassingDisk;
 use crate::stores::{commit, disk_of};
-use psu_disk::{Choice, Disk, KeptDisk};
+use crate::{ForgettingMedium, MediumFile};
+use psu_disk::{Choice, Disk, KeptDisk, SystemFile};
 use psu_items::{Broken, Commit, Items, Store};
 use std::alloc::Allocator;
 use std::process::Abort;
@@ -184,15 +184,15 @@ fn is_lost<D: Disk + Drop, A: Allocator + Copy>(alloc: A, disk: D, values: Value
     }
 }
 
-// A disk that writes again, over a medium.
-fn kept<A: Allocator + Copy>(
-    rt: &impl Abort,
-    alloc: A,
-    medium: ForgettingMedium<A>,
-) -> KeptDisk<ForgettingMedium<A>, A>
+// A disk that writes again, over a file on a medium.
+type OnFile<A> = KeptDisk<SystemFile<MediumFile<ForgettingMedium<A>>>, A>;
+
+// A disk that writes again, in a file on a medium.
+fn kept<A: Allocator + Copy>(rt: &impl Abort, alloc: A, medium: ForgettingMedium<A>) -> OnFile<A>
     requires { (k : ℕ) → slice_index_or medium.forgotten.items k false ≡ false }
 {
-    KeptDisk::new(alloc, medium).expect(rt, "memory for a disk")
+    let file = MediumFile { medium };
+    KeptDisk::new(alloc, SystemFile { file }).expect(rt, "memory for a disk")
 }
 
 // A medium whose syncs of these numbers fail.
@@ -220,7 +220,7 @@ fn is_lost_on_kept<A: Allocator + Copy>(
         case.steps < LAST || values.confirmed == LAST,
         &case.failing,
     );
-    let mut medium = disk.into_inner();
+    let mut medium = disk.into_inner().file.medium;
     medium.lose(choice);
     is_lost(alloc, kept(rt, alloc, medium), values)
 }

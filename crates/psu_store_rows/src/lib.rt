@@ -1,4 +1,4 @@
-//! Tests of the store and what lies below it, each through its crate, and a medium in memory for them. Expected values are worked by hand
+//! Tests of the store and what lies below it, each through its crate, and a medium and a file in memory for them. Expected values are worked by hand
 //! from the format of an image and from what a disk is.
 #![tactic(auto)]
 
@@ -25,6 +25,7 @@ mod kept_ranges;
 mod losses;
 #[cfg(test)]
 mod maps;
+mod medium_file;
 #[cfg(test)]
 mod migrations;
 #[cfg(test)]
@@ -45,3 +46,4 @@ mod strange;
 mod trials;
 
 pub use forgetting_medium::ForgettingMedium;
+pub use medium_file::MediumFile;
