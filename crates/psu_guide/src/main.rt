@@ -42,9 +42,7 @@ fn report<A: Allocator + Copy>(rt: &impl Eprint, name: &str, fault: &GuideFault<
     let _ = match fault {
         GuideFault::Empty => eprintln!(rt; "{name} has no example"),
         GuideFault::Memory => eprintln!(rt; "out of memory"),
-        GuideFault::Ended(line, PlayFault::Memory) => eprintln!(rt;
-            "{name}:{line}: out of memory"
-        ),
+        GuideFault::Ended(line, PlayFault::Memory) => eprintln!(rt; "{name}:{line}: out of memory"),
         GuideFault::Ended(line, PlayFault::Run(cause)) => eprintln!(rt;
             "{name}:{line}: the run ends with {cause}"
         ),

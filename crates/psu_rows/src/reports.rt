@@ -162,10 +162,18 @@ fn images_that_are_none(rt: HostRuntime) {
 fn filling_lines(alloc: Global) -> Option<Vec<u8>> {
     let mut lines = b"VOLT 1\n".to_vec(alloc).ok()?;
     for register in 0..100u8 {
-        add_line(alloc, &mut lines, &format!(in alloc; "*SAV {register}").ok()?)?;
+        add_line(
+            alloc,
+            &mut lines,
+            &format!(in alloc; "*SAV {register}").ok()?,
+        )?;
     }
     for file in 100..240u8 {
-        add_line(alloc, &mut lines, &format!(in alloc; "MMEM:DATA \"F{file}\",#11x").ok()?)?;
+        add_line(
+            alloc,
+            &mut lines,
+            &format!(in alloc; "MMEM:DATA \"F{file}\",#11x").ok()?,
+        )?;
     }
     lines.extend_from_slice(b"*OPC?\n").ok()?;
     Some(lines)
@@ -173,10 +181,15 @@ fn filling_lines(alloc: Global) -> Option<Vec<u8>> {
 
 // The report on an image so filled.
 fn report_of_filled(alloc: Global) -> Option<Vec<u8>> {
-    let head = b"image version 2 root 2\npages 480 of 480\nenables none\nrequest none\nuser 0\nmacros 0\n";
+    let head =
+        b"image version 2 root 2\npages 480 of 480\nenables none\nrequest none\nuser 0\nmacros 0\n";
     let mut report = head.to_vec(alloc).ok()?;
     for file in 100..240u8 {
-        add_line(alloc, &mut report, &format!(in alloc; "file F{file},BIN,1").ok()?)?;
+        add_line(
+            alloc,
+            &mut report,
+            &format!(in alloc; "file F{file},BIN,1").ok()?,
+        )?;
     }
     Some(report)
 }

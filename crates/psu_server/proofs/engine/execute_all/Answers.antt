@@ -84,8 +84,8 @@ returns-clause-early g c =
     ran_front _ (coming c.reading.lines.is_over c.reading.lines.line.items) c.args.powered.exec c.reading.powered.exec c.fault-2.result _ _ _ _ TooLong c.reading.invariant.ran
     (record { told = f.cause; failures = f.failures; extent = f.extent; state = f.state; reason = f.reason; disk = f.same }) (λ w. cc)
     (λ rest last.
-        let full : c.reading.intake.reads + 1 ≤ 1048576 → ⊥ = λ room. let left = c.reading-test.ensures.1 room in absurd cc in
-        (c.reading.intake.reads, c.reading.invariant.seen, c.reading.invariant.has, inr (omega (arith, full, c.reading.intake.few))))
+    let full : c.reading.intake.reads + 1 ≤ 1048576 → ⊥ = λ room. let left = c.reading-test.ensures.1 room in absurd cc in
+    (c.reading.intake.reads, c.reading.invariant.seen, c.reading.invariant.has, inr (omega (arith, full, c.reading.intake.few))))
 
 -- ---- how far it reads
 
