@@ -16,7 +16,8 @@ pub record SameBut (at n : ℕ) (old new : List ℕ) : Type 0 where
   pub below : (k : ℕ) → k < at → slice_index new k ≡ slice_index old k
   pub above : (k : ℕ) → at + n ≤ k → slice_index new k ≡ slice_index old k
 
--- A disk: its bytes, and a flag for each byte in a range written since the last successful sync. A byte with no flag isn't in one.
+-- A disk: its bytes, and a flag for each byte in a range written since the last successful sync. A byte with no flag
+-- isn't in one.
 pub record DiskState : Type 0 where
   pub bytes : List ℕ
   pub unsynced : List Bool

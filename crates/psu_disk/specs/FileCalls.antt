@@ -1,5 +1,5 @@
--- The system's calls on a file, as data: what each asked, and what it returned. The calls are those of POSIX.1-2017: pread, pwrite,
--- fdatasync, fsync, fstat, open, unlink, and flock of the systems that have it.
+-- The system's calls on a file, as data: what each asked, and what it returned. The calls are those of POSIX.1-2017:
+-- pread, pwrite, fdatasync, fsync, fstat, open, unlink, and flock of the systems that have it.
 use Rattle.std.specs.Prelude.{◌≡◌, ◌↔◌, ◌+◌, ◌<◌, IsTrue, ⊤, ℕ, Bool, true, false, List, [], ◌∷◌, length, replicate, Option, Some, None}
 use Rattle.psu_disk.specs.Disk.{DiskState, Range, Holds, IsFlagged, Touches}
 use Rattle.psu_disk.specs.Medium.{NoneMore, IsKnown, Settles}
