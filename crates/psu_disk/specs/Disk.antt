@@ -25,7 +25,7 @@ pub record DiskState : Type 0 where
 abbrev pub is_unsynced : DiskState → ℕ → Bool
 is_unsynced disk k = slice_index_or disk.unsynced k false
 
--- x has the disk's size, and each byte that isn't flagged
+-- x has the disk's size, and is the same as the disk in each byte that isn't flagged
 pub record IsLeft (disk : DiskState) (x : List ℕ) : Type 0 where
   pub size : length x ≡ length disk.bytes
   pub same : (k : ℕ) → is_unsynced disk k ≡ false → slice_index x k ≡ slice_index disk.bytes k

@@ -85,8 +85,8 @@ pub record Leaves (old new : DiskState) (forgotten forgotten' : ℕ → Bool) : 
   pub state : new ≡ old
   pub none_more : NoneMore forgotten forgotten'
 
--- The effect of a write, whether it succeeds or not. A write of the bytes that are read there already, where a power
--- loss may change each of them already, changes nothing.
+-- The effect of a write, whether it succeeds or not. A write of what is read there already, to bytes that a power loss
+-- may change already, changes nothing.
 pub record Writes (at : ℕ) (bytes : List ℕ) (worked : Bool) (old new : DiskState) (forgotten forgotten' : ℕ → Bool) : Type 0 where
   pub written : worked ≡ true → Holds at bytes old.bytes new.bytes
   pub flagged : IsFlagged at (length bytes) new

@@ -27,8 +27,8 @@ impl<F: FileCalls + Drop, A: Allocator + Drop> KeptDisk<SystemFile<F>, A> {
     }
 
     /// Creates a disk of `size` bytes in a new file at a path. Each byte is written as 00, and the bytes and the file's
-    /// name are made durable. A file that exists already is refused and stays unchanged. Where filling the new file or
-    /// a sync fails, as for lack of space, the new file is removed.
+    /// name are made durable. A file that exists already is refused and stays unchanged. If filling the new file or a
+    /// sync fails, for instance for lack of space, the new file is removed.
     pub fn make<S: FileSystem<F>>(
         system: &mut S,
         alloc: A,

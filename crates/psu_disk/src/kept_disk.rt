@@ -27,8 +27,8 @@ pub struct KeptDisk<M: Medium, A: Allocator> {
 }
 
 impl<M: Medium + Drop, A: Allocator + Drop> KeptDisk<M, A> {
-    /// Returns the disk over a medium of which no byte is forgotten. Bytes that are unsynced by then lie in no known
-    /// range, so a sync that fails before one has succeeded is final: no later one succeeds.
+    /// Returns the disk over a medium of which no byte is forgotten. Bytes that are unsynced at that time lie in no
+    /// known range, so a sync that fails before one has succeeded is final: no later one succeeds.
     pub fn new(alloc: A, medium: M) -> Result<KeptDisk<M, A>, AllocError>
         requires { M.honest → (k : ℕ) → M.forgotten medium k ≡ false }
         ensures medium { IfOk result (λ disk. disk.medium ≡ medium) }

@@ -51,8 +51,8 @@ pub trait Medium {
         ensures time { tells → Elapses (moment self.old) (moment self.new) (left_since self.old) (left_since self.new) (Left (state self.new)) };
 
     /// Writes the bytes at `at`. From the start of the call on, a power loss may leave any bytes in the range. A write
-    /// of the bytes that are read there already, where a power loss may change each of them already, leaves the state
-    /// unchanged, whether it succeeds or not. After a successful write no byte of the range is forgotten.
+    /// of what is read there already, to bytes that a power loss may change already, leaves the state unchanged,
+    /// whether it succeeds or not. After a successful write no byte of the range is forgotten.
     fn write(&mut self, at: u64, bytes: &[u8]) -> Result<(), DiskFault>
         requires { at + length bytes.now ≤ extent self.old }
         ensures extent { extent self.new ≡ extent self.old }

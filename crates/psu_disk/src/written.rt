@@ -8,7 +8,7 @@ use std::alloc::{AllocError, Allocator};
 // The maximum number of ranges that are kept: more than a commit writes.
 const ROOM: usize = 1024;
 
-// The spans that are kept. If it is full, others were written too.
+// The spans that are kept. If it is full, there were others.
 #[derive(Drop)]
 pub(crate) struct Written<A: Allocator> {
     pub(crate) spans: Vec<Span, A>,
@@ -40,7 +40,7 @@ impl<A: Allocator> Written<A> {
         }
     }
 
-    // Drops all ranges, for when nothing is written.
+    // Resets the ranges to none.
     pub(crate) fn clear(&mut self)
         ensures spans { self.new.spans.items ≡ [] }
         ensures full { self.new.full ≡ false }

@@ -29,7 +29,7 @@ abbrev pub get : List Item → List ℕ → Option (List ℕ)
 get [] key = None
 get (i ∷ items) key = if bytes_eq i.key key then Some i.value else get items key
 
--- the same items, and this value at this key
+-- the items, with this value at this key
 abbrev pub put : List Item → List ℕ → List ℕ → List Item
 put [] key value = item_of key value ∷ []
 put (i ∷ items) key value =

@@ -43,7 +43,7 @@ impl<A: Allocator + Copy> Plan<A> {
         }
     }
 
-    /// Returns a map with edits that are planned for it; if an allocation fails, both as they were.
+    /// Returns a map with edits that are planned for it, or both as they were if an allocation fails.
     pub fn with(alloc: A, items: Items<A>, edits: Batch<A>) -> Result<Plan<A>, (Items<A>, Batch<A>)>
         ensures ok { IfOk result (λ plan. plan ≡ record { map = items; edits = edits }) }
         ensures err { IfErr result (λ both. (both.0 ≡ items) × (both.1 ≡ edits)) }

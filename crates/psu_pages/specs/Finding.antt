@@ -39,8 +39,8 @@ IsNonePicked first second BadRoot = (number : ℕ) × (first ≡ Some number) ×
 IsNonePicked first second BadVersion = ⊥
 IsNonePicked first second Memory = ⊥
 
--- A root's fields are valid: it is of this format, of a supported version, on a disk that has the room. Its heads are
--- checked elsewhere.
+-- A root's fields are valid: it is of this format, of a supported version, on a disk that is large enough. Its heads
+-- are checked elsewhere.
 pub record HasGoodWords (root : Root) (image : List ℕ) : Type 0 where
   pub marked : mark_in root image ≡ mark
   pub version : IsKnown (version_in root image)
@@ -118,7 +118,7 @@ IsScanCause BadRoot = ⊥
 IsScanCause BadVersion = ⊥
 IsScanCause Memory = ⊤
 
--- the other gate than the current root's is closed, or it is open and that root has a lower number
+-- the gate of the root that isn't current is closed, or it is open and that root has a lower number
 pub record HasGates (root : Root) (number : ℕ) (both : Bool) (image : List ℕ) : Type 0 where
   pub shut : both ≡ false → gate (other root) image ≢ 165
   pub lower : both ≡ true → number_in (other root) image < number

@@ -22,7 +22,7 @@ abbrev pub items_in : Root → List ℕ → List Item
 items_in root image = map (item_in image) (heads_in root image)
 
 -- A root shows its items, whatever the gate: it is of this format, of a supported version and of this limit, on a disk
--- that has the room; no page of its items lies outside the pool or is named twice, and no key occurs twice or is too
+-- that is large enough; no page of its items lies outside the pool or is named twice, and no key occurs twice or is too
 -- long for the version. Other bytes may be any.
 pub record Shows (root : Root) (image : List ℕ) (limit : ℕ) : Type 0 where
   pub marked : mark_in root image ≡ mark
@@ -62,7 +62,7 @@ pub record Stands (image : List ℕ) (limit : ℕ) (items : List Item) : Type 0 
 abbrev pub IsEither : ℕ → List Item → List Item → List ℕ → Type 0
 IsEither limit before target image = Stands image limit before ⊎ Stands image limit target
 
--- in each possible crash image this root is the current one, and encodes this
+-- in each possible crash image this root is the current one, and encodes this version, limit, number, heads and items
 abbrev pub EachBears : DiskState → Root → ℕ → ℕ → ℕ → List Head → List Item → Type 0
 EachBears disk root version limit number heads items = (image : List ℕ) → Left disk image → Bears root version limit number heads items image
 

@@ -20,9 +20,9 @@ use std::alloc::{AllocError, Allocator};
 impl<D: Disk, A: Allocator + Copy> Pages<D, A> {
     ghost use Rattle.psu_pages.specs.Outcome.{formatted_disk, IsFresh};
 
-    /// Formats a disk, whatever it held, so that it has no items. The limit is 4 to 480, and the disk has 512 bytes for
-    /// each of the pages: the two roots, and twice the limit. All memory is allocated before the first call of the
-    /// disk.
+    /// Formats a disk, whatever it held, so that it has no items. The limit is 4 to 480, and the disk has at least 512
+    /// bytes for each of the pages: the two roots, and twice the limit. All memory is allocated before the first call
+    /// of the disk.
     pub fn format(alloc: A, mut disk: D, limit: u16) -> Result<Pages<D, A>, FormatFault<D>>
         requires limit_least { 4 ≤ limit }
         requires limit_most { limit ≤ 480 }

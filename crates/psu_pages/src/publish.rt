@@ -59,8 +59,8 @@ impl<D: Disk, A: Allocator + Copy> Pages<D, A> {
         Ok(())
     }
 
-    /// Publishes a root of version 2 that names these heads. It becomes the current one in the place of the present
-    /// one, whatever the version of that one. The older root's gate stays open.
+    /// Publishes a root of version 2 that names these heads. It becomes the current root in place of the present one,
+    /// whatever the version of that one. The older root's gate stays open.
     pub fn publish_root(&mut self, heads: Vec<Head<A>, A>) -> Result<(), PageFault>
         requires shut { self.old.standing ≡ One }
         requires number { self.old.number + 1 < 2 ^ 64 }

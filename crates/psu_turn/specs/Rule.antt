@@ -56,8 +56,8 @@ module _ {S : Type 0} (ticket serving count : ℕ) (state : S) where
   Stands (Out t x c) = (serving ≡ t) × (t < ticket) × (x ≡ state) × (c ≡ count) × (count ≤ t)
   Stands (Done t x c) = (serving ≡ t) × (t < ticket) × (x ≡ state) × (c ≡ count) × (count ≤ t + 1)
 
--- Under its number seat j has exactly its calls. A seat that has no number yet is younger than the seat that it was
--- split from.
+-- Under the number of seat j the history has exactly its calls. A seat that has no number yet is younger than the seat
+-- that it was split from.
 module _ {S E : Type 0} (opening : S) (log : List (Numbered E)) (j : ℕ) where
   abbrev pub Owns : Option S → List E → Name → Type 0
   Owns o mine Spent = Unit {0}

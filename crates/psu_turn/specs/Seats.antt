@@ -25,7 +25,7 @@ module _ {S E : Type 0} where
     pub seen : v.seen ≡ []
     pub mine : v.mine ≡ []
 
-  -- the same seat, later
+  -- w is the seat v, later
   pub record IsSame (v w : Sight S E) : Type 0 where
     pub turn : w.turn ≡ v.turn
     pub number : w.number ≡ v.number

@@ -82,7 +82,7 @@ module _ {T S E : Type 0} where
   abbrev pub is_out : ℕ → ℕ → Sat T S E → Bool
   is_out ticket count m = is_some m.0.opening && is_named m.0.name && has_taken ticket count m.0.stage && is_alone m.0.inherited && has_slot m.1
 
-  -- the same seat, with the same view and the same slots
+  -- q is the seat p, with the view and the slots of p
   pub record Stays (p q : Seat (Option (Held T)) (View S E)) : Type 0 where
     pub turn : q.table_id ≡ p.table_id
     pub id : q.id ≡ p.id
