@@ -37,7 +37,7 @@ or_left : (a b : Bool) → a ≡ true → (a || b) ≡ true
 or_left true b is = refl
 or_left false b is = absurd cc
 
--- a span in the place of another that covers no more covers at least as much
+-- the list with a span replaced by one that covers at least as much covers each byte that it covered before
 pub covered_still : (spans : List Span) (i : ℕ) (d new : Span) (k : ℕ) → i < length spans → (is_in (get_or spans i d) k ≡ true → is_in new k ≡ true) → is_covered spans k ≡ true → is_covered (set spans i new) k ≡ true
 covered_still [] i d new k lt wider covered = absurd (omega arith)
 covered_still (s ∷ spans) zero d new k lt wider covered =
@@ -45,13 +45,13 @@ covered_still (s ∷ spans) zero d new k lt wider covered =
 covered_still (s ∷ spans) (suc i) d new k lt wider covered =
     ⊎_elim (or_left (is_in s k) (is_covered (set spans i new) k)) (λ there. or_right (is_in s k) (is_covered (set spans i new) k) (covered_still spans i d new k (omega arith) wider there)) (or_true (is_in s k) (is_covered spans k) covered)
 
--- and it covers what it holds itself
+-- it covers each byte of the new span
 pub covered_new : (spans : List Span) (i : ℕ) (new : Span) (k : ℕ) → i < length spans → is_in new k ≡ true → is_covered (set spans i new) k ≡ true
 covered_new [] i new k lt is = absurd (omega arith)
 covered_new (s ∷ spans) zero new k lt is = or_left (is_in new k) (is_covered spans k) is
 covered_new (s ∷ spans) (suc i) new k lt is = or_right (is_in s k) (is_covered (set spans i new) k) (covered_new spans i new k (omega arith) is)
 
--- and nothing else
+-- and it covers no byte but those that it covered before and those of the new span
 pub covered_only : (spans : List Span) (i : ℕ) (new : Span) (k : ℕ) → is_covered (set spans i new) k ≡ true → (is_covered spans k ≡ true) ⊎ (is_in new k ≡ true)
 covered_only [] i new k covered = inl covered
 covered_only (s ∷ spans) zero new k covered =

@@ -1,14 +1,14 @@
--- What the calls on a file come to for the medium over it.
+-- Lists of calls on a file, with one more call appended.
 use Rattle.std.proofs.Common.{◌≡◌, ◌+◌, ℕ, true, false, List, [], ◌∷◌, ◌++◌, length, replicate, refl, sym, ap, subst, arith}
 use Rattle.std.proofs.lemmas.List.{length-replicate}
 use Rattle.psu_disk.specs.FileCalls.{FileCall, Calls, AreZeros}
 
--- one call more behind others
+-- one more call, after others
 pub call_more : {F : Type 0} (made : F → FileCall → F → Type 0) (calls : List FileCall) (call : FileCall) (old mid new : F) → Calls made calls old mid → made mid call new → Calls made (calls ++ call ∷ []) old new
 call_more made [] call old mid new is was = (new, subst (λ f. made f call new) (sym is) was, refl)
 call_more made (first ∷ calls) call old mid new are was = (are.0, are.1, call_more made calls call are.0 mid new are.2 was)
 
--- one write of zeros more
+-- one more write of zeros, after others
 pub zeros_more : (at place n : ℕ) (calls : List FileCall) → AreZeros at place calls → AreZeros at (place + n) (calls ++ FileCall.WriteAt place (replicate n 0) true ∷ [])
 zeros_more at place n [] is =
     let long : length (replicate n 0) ≡ n = length-replicate n 0 in

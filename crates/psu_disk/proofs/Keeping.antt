@@ -20,7 +20,7 @@ out_bounds span k out = elim (cases_lt k span.low) [
   ]
 ]
 
--- a byte outside of what is written over
+-- a byte outside of what is overwritten
 pub kept_out : (at : ℕ) (ys xs new : List ℕ) (span : Span) (k : ℕ) → new ≡ splice at ys xs → at + length ys ≤ length xs → at ≡ span.low → at + length ys ≡ span.high → is_in span k ≡ false → get_or new k 0 ≡ get_or xs k 0
 kept_out at ys xs new span k is fits low high out =
     ap (λ (l : List ℕ). get_or l k 0) is
@@ -34,7 +34,7 @@ ends_within bytes synced unsynced spans i d kept lt some =
     let last = kept.within (span.high - 1) here in
     omega arith
 
--- the bytes of one span are made sure of
+-- the bytes of one span are made durable
 module _ (bytes synced synced' : List ℕ) (unsynced unsynced' : List Bool) (spans : List Span) (i next : ℕ) (d : Span) (kept : IsKeptUp bytes synced unsynced (drop i spans)) (is : next ≡ suc i) (lt : i < length spans)
     (synced_in : (k : ℕ) → is_in (get_or spans i d) k ≡ true → get_or synced' k 0 ≡ get_or bytes k 0) (synced_out : (k : ℕ) → is_in (get_or spans i d) k ≡ false → get_or synced' k 0 ≡ get_or synced k 0)
     (unsynced_in : (k : ℕ) → is_in (get_or spans i d) k ≡ true → get_or unsynced' k false ≡ false) (unsynced_out : (k : ℕ) → is_in (get_or spans i d) k ≡ false → get_or unsynced' k false ≡ get_or unsynced k false) where

@@ -1,4 +1,4 @@
--- One more state joins those that a disk has had.
+-- The states that a disk has had, with one more appended.
 use Rattle.std.proofs.Common.{◌≡◌, ◌⊎◌, inl, inr, ⊎_elim, ℕ, zero, suc, ◌≤◌, List, [], ◌∷◌, ◌++◌, length, drop, refl, sym, subst, arith, length-append}
 use Rattle.psu_disk.specs.Disk.{DiskState, Left, Elapses}
 use Rattle.psu_disk.specs.Past.{HadLeft, LeftSince}

@@ -1,4 +1,4 @@
--- What holds over the calls that write what was written once more, and over the sync behind them.
+-- What the calls that write the written bytes again preserve, and the sync after them.
 use Rattle.std.proofs.Common.{◌≡◌, ◌⊎◌, inl, inr, ⊎_elim, ℕ, ◌+◌, ◌-◌, ◌<◌, ◌≤◌, ◌||◌, List, [], ◌∷◌, ◌++◌, Bool, true, false, length, get_or, refl, sym, ◌∙◌, ap, subst, arith}
 use Rattle.std.proofs.lemmas.Bool.{cases_lt}
 use Rattle.std.proofs.lemmas.Bool.Decides.{nat_tests}
@@ -10,7 +10,7 @@ use Rattle.psu_disk.specs.Ranges.{reads_left}
 use Rattle.psu_disk.proofs.Covered.{covered_at, last_in, is_in_bounds}
 use Rattle.psu_disk.proofs.Images.{synced_only}
 
--- after a sync a power loss leaves what it might have left before
+-- after a sync each possible crash image is one from before it
 pub left_synced : (old new : DiskState) → IsSynced new → new.bytes ≡ old.bytes → (x : List ℕ) → Left new x → Left old x
 left_synced old new synced same x left = subst (Left old) (sym (synced_only new synced x left ∙ same)) (reads_left old)
 
@@ -21,7 +21,7 @@ ends_inside spans i d size within lt some =
     let last = within (span.high - 1) (covered_at spans i d (span.high - 1) lt (last_in span some)) in
     omega arith
 
--- a range more
+-- one more range
 pub covered_push : (spans : List Span) (new : Span) (k : ℕ) → is_covered (spans ++ new ∷ []) k ≡ (is_covered spans k || is_in new k)
 covered_push [] new k = or_false (is_in new k)
   where
@@ -55,7 +55,7 @@ pushed_still spans new k is = covered_push spans new k ∙ or_left (is_covered s
 pub pushed_new : (spans : List Span) (new : Span) (k : ℕ) → is_in new k ≡ true → is_covered (spans ++ new ∷ []) k ≡ true
 pushed_new spans new k is = covered_push spans new k ∙ or_right (is_covered spans k) (is_in new k) is
 
--- what is written is kept, where it finds room and where not
+-- what is written is kept, whether or not there is room for its range
 module _ (old new : DiskState) (forgotten forgotten' : ℕ → Bool) (spans : List Span) (span : Span) (full failed : Bool) (at n : ℕ) (low : span.low ≡ at) (high : span.high ≡ at + n)
     (touches : Touches at n old new) (flagged : IsFlagged at n new) (fewer : NoneMore forgotten forgotten') (kept : IsKept old forgotten spans full failed) where
   still : (k : ℕ) → is_covered spans k ≡ true → is_unsynced new k ≡ true

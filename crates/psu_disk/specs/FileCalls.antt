@@ -1,5 +1,5 @@
--- The system's calls on a file, as data: what each asked, and what it returned. The calls are those of POSIX.1-2017: pread, pwrite,
--- fdatasync, fsync, fstat, open, unlink, and flock of the systems that have it.
+-- The system's calls on a file, as data: what each asked, and what it returned. The calls are those of POSIX.1-2017:
+-- pread, pwrite, fdatasync, fsync, fstat, open, unlink, and flock of the systems that have it.
 use Rattle.std.specs.Prelude.{◌≡◌, ◌↔◌, ◌+◌, ◌<◌, IsTrue, ⊤, ℕ, Bool, true, false, List, [], ◌∷◌, length, replicate, Option, Some, None}
 use Rattle.psu_disk.specs.Disk.{DiskState, Range, Holds, IsFlagged, Touches}
 use Rattle.psu_disk.specs.Medium.{NoneMore, IsKnown, Settles}
@@ -7,9 +7,9 @@ use Rattle.psu_disk.specs.declared.file_calls.FileFacts.{FileFacts}
 use Rattle.psu_disk.specs.declared.file_calls.LockAnswer.{LockAnswer}
 use Rattle.psu_disk.specs.declared.file_calls.LockAnswer.TheVariants.{Locked, InUse, NoLocks}
 
--- A call on an open file. A Bool is whether it worked.
+-- A call on an open file. A Bool says whether it succeeded.
 pub data FileCall : Type 0 where
-  -- bytes were asked for from this place on, and this is what the caller has in their place then
+  -- bytes were requested from this offset on, and these are what the caller's buffer then has
   ReadAt : ℕ → List ℕ → Bool → FileCall
   WriteAt : ℕ → List ℕ → Bool → FileCall
   SyncData : Bool → FileCall
@@ -21,9 +21,9 @@ pub data FileCall : Type 0 where
 pub data PathCall (F : Type 0) : Type 0 where
   -- the file at this path was opened
   Opened : List ℕ → F → PathCall F
-  -- a new file at this path was made, where none was
+  -- a new file was created at this path, where there was none
   Created : List ℕ → F → PathCall F
-  -- the folder of this path was synced, while this file in it was as it is here
+  -- the directory of this path was synced, while the file in it was in this state
   SyncedFolder : List ℕ → F → Bool → PathCall F
   Removed : List ℕ → PathCall F
 
@@ -32,38 +32,38 @@ abbrev pub Calls : {F : Type 0} → (F → FileCall → F → Type 0) → List F
 Calls made [] old new = old ≡ new
 Calls {F} made (call ∷ calls) old new = (next : F) × made old call next × Calls made calls next new
 
--- a file is there as a whole: it has this length, and a name by which it is found again
+-- a file is whole: it has this length, and a name by which it is found again
 abbrev pub IsWhole : ℕ → Option FileFacts → Type 0
 IsWhole size (Some facts) = (facts.length ≡ size) × (0 < facts.names)
 IsWhole size None = ⊥
 
--- the file was looked at, and this is whether it is whole
+-- the file was looked at, and the Bool says whether it is whole
 abbrev pub LooksWhole : {F : Type 0} → (F → FileCall → F → Type 0) → ℕ → F → Bool → F → Type 0
 LooksWhole made size old whole new = (seen : Option FileFacts) × made old (FileCall.Looked seen) new × (IsTrue whole ↔ IsWhole size seen)
 
--- A sync that works made sure of the file's data, and saw the file whole behind that.
+-- A successful sync made the file's data durable, and then saw the file whole.
 abbrev pub IsSync : {F : Type 0} → (F → FileCall → F → Type 0) → ℕ → F → F → Type 0
 IsSync made size old new = (seen : Option FileFacts) × Calls made (FileCall.SyncData true ∷ FileCall.Looked seen ∷ []) old new × IsWhole size seen
 
--- no other open of the file has it locked, as far as the file system has locks
+-- no other opening of the file has it locked, as far as the file system has locks
 abbrev pub IsFree : LockAnswer → Type 0
 IsFree Locked = ⊤
 IsFree InUse = ⊥
 IsFree NoLocks = ⊤
 
--- a lock was tried for, and no other open of the file has it locked
+-- a lock was tried, and no other opening of the file has it locked
 abbrev pub IsLocked : {F : Type 0} → (F → FileCall → F → Type 0) → F → F → Type 0
 IsLocked made old new = (answer : LockAnswer) × made old (FileCall.TriedLock answer) new × IsFree answer
 
--- a file was looked at and is a plain file, and then it was locked
+-- a file was looked at and is a regular file, and then it was locked
 abbrev pub IsTakenUp : {F : Type 0} → (F → FileCall → F → Type 0) → F → F → Type 0
 IsTakenUp {F} made old new = (facts : FileFacts) × (seen : F) × made old (FileCall.Looked (Some facts)) seen × (facts.is_file ≡ true) × IsLocked made seen new
 
--- A file that was there was opened at this path, and taken up.
+-- An existing file was opened at this path, and then checked and locked.
 abbrev pub IsOpened : {S F : Type 0} → (S → PathCall F → S → Type 0) → (F → FileCall → F → Type 0) → List ℕ → S → F → S → Type 0
 IsOpened {S} {F} made_path made path old file new = (first : F) × made_path old (PathCall.Opened path first) new × IsTakenUp made first file
 
--- writes that worked put 00 into each byte from one place to another, in order
+-- successful writes put 00 into each byte from one offset to another, in order
 abbrev pub AreZeros : ℕ → ℕ → List FileCall → Type 0
 AreZeros at end [] = at ≡ end
 AreZeros at end (FileCall.WriteAt place bytes true ∷ calls) = (place ≡ at) × (bytes ≡ replicate (length bytes) 0) × AreZeros (at + length bytes) end calls
@@ -73,18 +73,20 @@ AreZeros at end (call ∷ calls) = ⊥
 abbrev pub IsFilled : {F : Type 0} → (F → FileCall → F → Type 0) → ℕ → F → F → Type 0
 IsFilled {F} made size old new = (calls : List FileCall) × (written : F) × Calls made calls old written × AreZeros 0 size calls × made written (FileCall.SyncAll true) new
 
--- A new file was made at this path and locked, 00 was written into each byte of it, it was synced, and then the folder of the path.
+-- A new file was created at this path and locked, 00 was written into each byte of it, it was synced, and then the
+-- directory of the path was synced.
 abbrev pub IsMade : {S F : Type 0} → (S → PathCall F → S → Type 0) → (F → FileCall → F → Type 0) → List ℕ → ℕ → S → F → S → Type 0
 IsMade {S} {F} made_path made path size old file new = (created : S) × (first locked : F)
     × made_path old (PathCall.Created path first) created × IsLocked made first locked × IsFilled made size locked file
     × made_path created (PathCall.SyncedFolder path file true) new
 
--- A call leaves what is read, and what a power loss may change of it, as they were.
+-- A call leaves what is read, and which of it a power loss may change, as they were.
 pub record Leaves (old new : DiskState) (forgotten forgotten' : ℕ → Bool) : Type 0 where
   pub state : new ≡ old
   pub none_more : NoneMore forgotten forgotten'
 
--- What a write does, whether it works or not. A write over bytes that a power loss may change already, of what they read, changes nothing.
+-- The effect of a write, whether it succeeds or not. A write of what is read there already, to bytes that a power loss
+-- may change already, changes nothing.
 pub record Writes (at : ℕ) (bytes : List ℕ) (worked : Bool) (old new : DiskState) (forgotten forgotten' : ℕ → Bool) : Type 0 where
   pub written : worked ≡ true → Holds at bytes old.bytes new.bytes
   pub flagged : IsFlagged at (length bytes) new
@@ -93,15 +95,16 @@ pub record Writes (at : ℕ) (bytes : List ℕ) (worked : Bool) (old new : DiskS
   pub none_more : NoneMore forgotten forgotten'
   pub known : worked ≡ true → IsKnown at (length bytes) forgotten'
 
--- What a sync does: one that works makes safe what is not forgotten; one that fails may forget, and changes nothing else.
+-- The effect of a sync: a successful one makes the bytes durable that are not forgotten; a failed one may forget bytes,
+-- and changes nothing else.
 pub record Syncs (worked : Bool) (old new : DiskState) (forgotten forgotten' : ℕ → Bool) : Type 0 where
   pub seen : new.bytes ≡ old.bytes
   pub settles : worked ≡ true → Settles old new forgotten
   pub none_more : worked ≡ true → NoneMore forgotten forgotten'
   pub failed : worked ≡ false → new ≡ old
 
--- A file of this length keeps what a sync that worked confirmed: what a call on it does then. Nobody else cuts it short or removes it, and
--- it can be looked at.
+-- The effect of a call on a file of this length that keeps what a successful sync confirmed. No one else truncates or
+-- removes the file, and it can be looked at.
 abbrev pub Keeps : ℕ → FileCall → DiskState → DiskState → (ℕ → Bool) → (ℕ → Bool) → Type 0
 Keeps size (FileCall.ReadAt at bytes worked) old new forgotten forgotten' = (worked ≡ true → bytes ≡ Range at (length bytes) old.bytes) × Leaves old new forgotten forgotten'
 Keeps size (FileCall.WriteAt at bytes worked) old new forgotten forgotten' = Writes at bytes worked old new forgotten forgotten'
@@ -110,7 +113,7 @@ Keeps size (FileCall.SyncAll worked) old new forgotten forgotten' = Syncs worked
 Keeps size (FileCall.Looked seen) old new forgotten forgotten' = IsWhole size seen × Leaves old new forgotten forgotten'
 Keeps size (FileCall.TriedLock answer) old new forgotten forgotten' = Leaves old new forgotten forgotten'
 
--- a call that worked
+-- the call succeeded
 abbrev pub Works : ℕ → FileCall → Type 0
 Works size (FileCall.ReadAt at bytes worked) = worked ≡ true
 Works size (FileCall.WriteAt at bytes worked) = worked ≡ true

@@ -16,7 +16,7 @@ none_left : (past : List DiskState) (x : List ℕ) → HadLeft (drop (length pas
 none_left [] x had = had
 none_left (m ∷ past) x had = none_left past x had
 
--- since the last of them there is what is there now
+-- the possible crash images since the last of them are those of now
 pub only_now : (past : List DiskState) (disk : DiskState) (x : List ℕ) → LeftSince past disk (length past) x → Left disk x
 only_now past disk x (inl now) = now
 only_now past disk x (inr had) = absurd (none_left past x had)

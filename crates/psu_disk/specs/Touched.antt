@@ -11,8 +11,8 @@ abbrev pub is_covered : List Span → ℕ → Bool
 is_covered [] k = false
 is_covered (span ∷ spans) k = is_in span k || is_covered spans k
 
--- What is kept of the last sync: each marked byte lies in one of the spans, these lie in the disk, and where no mark is the last
--- sync made sure of what a read gives.
+-- What is kept of the last sync: each marked byte lies in one of the spans, the spans lie in the disk, and where there
+-- is no mark, the last sync made durable what a read returns.
 pub record IsKeptUp (bytes synced : List ℕ) (unsynced : List Bool) (spans : List Span) : Type 0 where
   pub covered : (k : ℕ) → slice_index_or unsynced k false ≡ true → is_covered spans k ≡ true
   pub within : (k : ℕ) → is_covered spans k ≡ true → k < length bytes

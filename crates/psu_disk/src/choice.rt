@@ -1,20 +1,20 @@
-// What a power loss makes of unsynced bytes.
+// The choice of what unsynced bytes are after a power loss.
 ghost use Rattle.std.specs.Prelude.{◌≡◌};
 ghost use Rattle.psu_disk.specs.Loss.{lost};
 
-/// What a power loss leaves of the bytes written since the last successful sync.
+/// The value that each byte written since the last successful sync has after a power loss.
 #[derive(Clone, Copy, Debug, PartialEq, Eq, Drop)]
 pub enum Choice {
-    /// What the last sync made sure of.
+    /// The byte that the last sync made durable.
     Old,
-    /// What a read gave.
+    /// The byte that a read returned.
     New,
-    /// This byte, in each place.
+    /// This byte, at every position.
     Fill(u8),
 }
 
 impl Choice {
-    // The byte that a loss leaves, by that of the last sync and that which a read gave.
+    // Returns the byte after a power loss, given the byte of the last sync and the byte that a read returned.
     pub(crate) fn after_loss(self, synced: u8, read: u8) -> u8
         ensures { result ≡ lost self synced read }
     {

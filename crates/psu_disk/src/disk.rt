@@ -1,4 +1,4 @@
-// A disk as the layers above see it: what a read gives, and what a power loss may leave.
+// A disk as the layers above see it: the bytes that a read returns, and the possible crash images.
 ghost use Rattle.std.specs.Prelude.{◌≡◌, ◌+◌, ◌≤◌, List, ℕ, length, OnOk, OnErr};
 ghost use Rattle.psu_disk.specs.Disk.{DiskState, Left, Range, Holds, SameBut, IsSynced, IsFlagged, Touches, Only, Follows, Elapses, HasCause};
 
@@ -6,35 +6,35 @@ use crate::DiskFault;
 
 /// A disk of a fixed number of bytes with three calls that may fail: read, write and sync.
 ///
-/// Between two syncs a power loss may leave any bytes in the ranges that were written, and leaves the bytes
-/// outside of them as they were. After a sync that succeeded it leaves what a read gives.
+/// Between two syncs a power loss may leave any bytes in the ranges that were written, and leaves the bytes outside
+/// them unchanged. After a successful sync it leaves what a read returns.
 pub trait Disk {
     /// The premise of every clause on bytes: this kind of disk behaves as they say.
     ghost honest: { Type 0 };
 
-    /// The premise of every clause on past moments: this kind of disk tells them.
+    /// The premise of every clause on past moments: this kind of disk records them.
     ghost tells: { Type 0 };
 
-    /// How many bytes it has.
+    /// The number of bytes that the disk has.
     ghost extent: { Self → ℕ };
 
-    /// The bytes that a read gives, and which of them a power loss may change.
+    /// The bytes that a read returns, and which of them a power loss may change.
     ghost state: { Self → DiskState };
 
-    /// The moment, as a number that doesn't fall.
+    /// The current moment, as a number that never decreases.
     ghost moment: { Self → ℕ };
 
-    /// What a power loss at some moment from that one on might have left.
+    /// The possible crash images at the moments from the given one on.
     ghost left_since: { Self → ℕ → List ℕ → Type 0 };
 
-    /// How often a call failed, up to the last value that the count has.
+    /// The number of calls that failed. The count saturates at its maximum.
     ghost failures: { Self → ℕ };
 
     /// The number of bytes.
     fn size(&self) -> u64
         ensures { result ≡ extent self.now };
 
-    /// How often a call failed. The count stays at its last value once it is reached.
+    /// The number of calls that failed. The count saturates at its maximum.
     fn faults(&self) -> u64
         ensures { result ≡ failures self.now };
 
@@ -47,13 +47,13 @@ pub trait Disk {
         ensures bytes { honest → OnOk result (into.new ≡ Range at (length into.old) (state self.old).bytes) }
         ensures state { honest → state self.new ≡ state self.old }
 
-        // What follows from it, for the proofs above.
+        // Consequences, for the proofs of the layers above.
         ensures seen { honest → (state self.new).bytes ≡ (state self.old).bytes }
         ensures left { honest → (x : List ℕ) → Left (state self.new) x → Left (state self.old) x }
         ensures time { tells → Elapses (moment self.old) (moment self.new) (left_since self.old) (left_since self.new) (Left (state self.new)) };
 
-    /// Puts the bytes at `at`. From its start on a power loss may leave any bytes in the range, until a sync. A failed
-    /// write leaves the range readable as any bytes, and the others as they were.
+    /// Writes the bytes at `at`. From the start of the call until a successful sync, a power loss may leave any bytes
+    /// in the range. After a failed write a read may return any bytes in the range; the bytes outside it are unchanged.
     fn write(&mut self, at: u64, bytes: &[u8]) -> Result<(), DiskFault>
         requires { at + length bytes.now ≤ extent self.old }
         ensures extent { extent self.new ≡ extent self.old }
@@ -63,12 +63,13 @@ pub trait Disk {
         ensures flagged { honest → OnOk result (IsFlagged at (length bytes.now) (state self.new)) }
         ensures state { honest → Touches at (length bytes.now) (state self.old) (state self.new) }
 
-        // What follows from these, for the proofs above.
+        // Consequences of these, for the proofs of the layers above.
         ensures seen { honest → SameBut at (length bytes.now) (state self.old).bytes (state self.new).bytes }
         ensures left { honest → Follows (SameBut at (length bytes.now)) (Left (state self.old)) (Left (state self.new)) }
         ensures time { tells → Elapses (moment self.old) (moment self.new) (left_since self.old) (left_since self.new) (Left (state self.new)) };
 
-    /// Makes what was written last: after it a power loss leaves what a read gives. A failed sync changes nothing.
+    /// Makes the written bytes durable: after a successful sync a power loss leaves what a read returns. A failed sync
+    /// changes nothing.
     fn sync(&mut self) -> Result<(), DiskFault>
         ensures extent { extent self.new ≡ extent self.old }
         ensures cause { HasCause (failures self.old) (failures self.new) result }
@@ -77,17 +78,17 @@ pub trait Disk {
         ensures seen { honest → (state self.new).bytes ≡ (state self.old).bytes }
         ensures err { honest → OnErr result (state self.new ≡ state self.old) }
 
-        // What follows from these, for the proofs above.
+        // Consequences of these, for the proofs of the layers above.
         ensures only { honest → OnOk result (Only (state self.new)) }
         ensures left { honest → (x : List ℕ) → Left (state self.new) x → Left (state self.old) x }
         ensures time { tells → Elapses (moment self.old) (moment self.new) (left_since self.old) (left_since self.new) (Left (state self.new)) };
 
-    /// What a read gives has the disk's size.
+    /// The number of bytes in the state is the disk's size.
     ghost sized: { honest → (d : Self) → length (state d).bytes ≡ extent d };
 
-    /// This moment is one of those since an earlier one.
+    /// The possible crash images now are among those since any moment so far.
     ghost counts_now: { tells → (d : Self) (t : ℕ) (x : List ℕ) → t ≤ moment d → Left (state d) x → left_since d t x };
 
-    /// Since this moment there is no other.
+    /// The possible crash images since the current moment are those of now.
     ghost only_now: { tells → (d : Self) (x : List ℕ) → left_since d (moment d) x → Left (state d) x };
 }

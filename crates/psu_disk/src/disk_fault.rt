@@ -1,5 +1,5 @@
-// The one way in which a disk's call fails.
+// The error of a disk's calls.
 
-/// A call of a disk failed. What it leaves is said at each call of [`Disk`](crate::Disk).
+/// The error of a disk call that failed. Each call of [`Disk`](crate::Disk) says what a failure leaves.
 #[derive(Clone, Copy, Debug, PartialEq, Eq, Drop)]
 pub struct DiskFault;

@@ -1,10 +1,10 @@
 // Which calls of a failing disk fail.
 
-/// Which calls of a disk fail once those are used up that are passed on first.
+/// Which calls of a failing disk fail, once the calls that it passes on first are used up.
 #[derive(Clone, Copy, Debug, PartialEq, Eq)]
 pub enum Failing {
-    /// The next one, and no other.
+    /// The next call, and no other.
     Once,
-    /// Each.
+    /// Every call.
     Always,
 }

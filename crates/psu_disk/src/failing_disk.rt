@@ -1,4 +1,4 @@
-// A disk that fails behind some calls: what a stop in the midst of a run leaves, or what one failure does.
+// A disk that fails after some calls, for tests of what a run that stops midway leaves, and of what one failure does.
 ghost use Rattle.psu_disk.specs.Disk.{Left, Range, Holds, SameBut, IsSynced, IsFlagged, Touches, Only, Follows, Elapses, HasCause};
 ghost use Rattle.psu_disk.specs.Failing.{is_failing};
 ghost use Rattle.psu_disk.specs.declared.failing.Failing.TheVariants.{Always, Once};
@@ -6,7 +6,8 @@ ghost use Rattle.std.specs.Prelude.{◌≡◌, ◌+◌, ◌≤◌, ◌^◌, ◌-
 
 use crate::{Disk, DiskFault, Failing};
 
-/// A disk that passes some calls on, and then fails one, or each, without passing it on.
+/// A disk that passes the first calls on to the disk below it, and then fails one call, or every call, without passing
+/// it on.
 #[derive(Drop)]
 pub struct FailingDisk<D: Disk> {
     inner: D,
@@ -16,7 +17,7 @@ pub struct FailingDisk<D: Disk> {
 }
 
 impl<D: Disk> FailingDisk<D> {
-    /// A disk that passes the first `k` calls on, and fails each after them.
+    /// Returns a disk that passes the first `k` calls on, and fails every call after them.
     pub fn from_then_on(inner: D, k: u64) -> FailingDisk<D>
         ensures inner { result.inner ≡ inner }
         ensures failing { result.failing ≡ Always }
@@ -31,7 +32,7 @@ impl<D: Disk> FailingDisk<D> {
         }
     }
 
-    /// A disk of which the call after the first `k` fails, and no other.
+    /// Returns a disk that fails the call after the first `k`, and no other.
     pub fn once(inner: D, k: u64) -> FailingDisk<D>
         ensures inner { result.inner ≡ inner }
         ensures failing { result.failing ≡ Once }
@@ -46,7 +47,7 @@ impl<D: Disk> FailingDisk<D> {
         }
     }
 
-    /// The disk below it, with what the calls that were passed on left.
+    /// Returns the disk below it, as the calls that were passed on left it.
     pub fn into_inner(self) -> D
         ensures { result ≡ self.inner }
     {
@@ -64,7 +65,7 @@ impl<D: Disk> FailingDisk<D> {
         }
     }
 
-    // Whether the next call is passed on.
+    // Counts the next call: `Ok` if it is passed on, `Err` if it fails.
     fn step(&mut self) -> Result<(), DiskFault>
         ensures inner { self.new.inner ≡ self.old.inner }
         ensures failing { self.new.failing ≡ self.old.failing }
@@ -124,9 +125,9 @@ impl<D: Disk> Disk for FailingDisk<D> {
         ensures time { D.tells → Elapses (D.moment self.old.inner) (D.moment self.new.inner) (D.left_since self.old.inner) (D.left_since self.new.inner) (Left (D.state self.new.inner)) }
         ensures failing { self.new.failing ≡ self.old.failing }
         ensures passes { self.new.passes ≡ self.old.passes - 1 }
-        // A call that fails isn't passed on.
+        // A call that is to fail isn't passed on.
         ensures fails { is_failing self.old.failing self.old.passes self.old.failed ≡ true → IsErr result × (self.new.inner ≡ self.old.inner) × (self.new.failed ≡ min (self.old.failed + 1) (2 ^ 64 - 1)) }
-        // Each other is passed on, and fails only where it fails there.
+        // Every other call is passed on, and fails only if it fails there.
         ensures passed { is_failing self.old.failing self.old.passes self.old.failed ≡ false → (self.new.failed ≡ self.old.failed) × HasCause (D.failures self.old.inner) (D.failures self.new.inner) result }
     {
         self.step()?;
@@ -145,9 +146,9 @@ impl<D: Disk> Disk for FailingDisk<D> {
         ensures time { D.tells → Elapses (D.moment self.old.inner) (D.moment self.new.inner) (D.left_since self.old.inner) (D.left_since self.new.inner) (Left (D.state self.new.inner)) }
         ensures failing { self.new.failing ≡ self.old.failing }
         ensures passes { self.new.passes ≡ self.old.passes - 1 }
-        // A call that fails isn't passed on.
+        // A call that is to fail isn't passed on.
         ensures fails { is_failing self.old.failing self.old.passes self.old.failed ≡ true → IsErr result × (self.new.inner ≡ self.old.inner) × (self.new.failed ≡ min (self.old.failed + 1) (2 ^ 64 - 1)) }
-        // Each other is passed on, and fails only where it fails there.
+        // Every other call is passed on, and fails only if it fails there.
         ensures passed { is_failing self.old.failing self.old.passes self.old.failed ≡ false → (self.new.failed ≡ self.old.failed) × HasCause (D.failures self.old.inner) (D.failures self.new.inner) result }
     {
         self.step()?;
@@ -165,9 +166,9 @@ impl<D: Disk> Disk for FailingDisk<D> {
         ensures time { D.tells → Elapses (D.moment self.old.inner) (D.moment self.new.inner) (D.left_since self.old.inner) (D.left_since self.new.inner) (Left (D.state self.new.inner)) }
         ensures failing { self.new.failing ≡ self.old.failing }
         ensures passes { self.new.passes ≡ self.old.passes - 1 }
-        // A call that fails isn't passed on.
+        // A call that is to fail isn't passed on.
         ensures fails { is_failing self.old.failing self.old.passes self.old.failed ≡ true → IsErr result × (self.new.inner ≡ self.old.inner) × (self.new.failed ≡ min (self.old.failed + 1) (2 ^ 64 - 1)) }
-        // Each other is passed on, and fails only where it fails there.
+        // Every other call is passed on, and fails only if it fails there.
         ensures passed { is_failing self.old.failing self.old.passes self.old.failed ≡ false → (self.new.failed ≡ self.old.failed) × HasCause (D.failures self.old.inner) (D.failures self.new.inner) result }
     {
         self.step()?;

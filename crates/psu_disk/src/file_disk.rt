@@ -1,4 +1,4 @@
-// Disks in files of the system: how one is opened, and how one is made.
+// Disks in files of the system: how one is opened, and how one is created.
 ghost use Rattle.std.specs.Prelude.{◌≡◌, ◌+◌, ◌≤◌, ◌<◌, ◌-◌, ℕ, List, true, false, length, replicate, IfOk, IfErr, OnOk};
 ghost use Rattle.psu_disk.specs.declared.open_fault.OpenFault.TheVariants.{NotOpened};
 ghost use Rattle.psu_disk.specs.FileCalls.{FileCall, PathCall, Calls, AreZeros, IsLocked, IsTakenUp, IsOpened, IsFilled, IsMade};
@@ -7,12 +7,12 @@ use crate::file_calls::{FileCalls, FileSystem, LockAnswer};
 use crate::{DiskFault, KeptDisk, OpenFault, SystemFile};
 use std::alloc::{AllocError, Allocator};
 
-// How many bytes of a new file are written at a time.
+// The number of bytes of a new file that are written at a time.
 const PIECE: u64 = 4_096;
 
 impl<F: FileCalls + Drop, A: Allocator + Drop> KeptDisk<SystemFile<F>, A> {
-    /// The disk in the file that is at a path: its size is the file's, which stays as it is. It is locked while it is open; one that another
-    /// program has locked is refused.
+    /// Opens the disk in the existing file at a path. Its size is the file's, which stays unchanged. The file is locked
+    /// while it is open; a file that another program has locked is refused.
     pub fn of<S: FileSystem<F>>(
         system: &mut S,
         alloc: A,
@@ -26,8 +26,9 @@ impl<F: FileCalls + Drop, A: Allocator + Drop> KeptDisk<SystemFile<F>, A> {
         over(alloc, file)
     }
 
-    /// A disk of `size` bytes in a new file at a path, each of them 00 and written, made to last with the file's name; a file that is there
-    /// already is refused and stays as it is. Where a step after its making fails, as where it can't have its room, the new file is removed.
+    /// Creates a disk of `size` bytes in a new file at a path. Each byte is written as 00, and the bytes and the file's
+    /// name are made durable. A file that exists already is refused and stays unchanged. If filling the new file or a
+    /// sync fails, for instance for lack of space, the new file is removed.
     pub fn make<S: FileSystem<F>>(
         system: &mut S,
         alloc: A,
@@ -48,7 +49,7 @@ impl<F: FileCalls + Drop, A: Allocator + Drop> KeptDisk<SystemFile<F>, A> {
     }
 }
 
-// The disk over a file of which nothing is forgotten.
+// Returns the disk over a file of which no byte is forgotten.
 fn over<F: FileCalls + Drop, A: Allocator + Drop>(
     alloc: A,
     file: F,
@@ -63,7 +64,7 @@ fn over<F: FileCalls + Drop, A: Allocator + Drop>(
     }
 }
 
-// A file that was there and is this program's alone from now on: a plain file that no other open of it has locked.
+// Takes an existing file for this program alone: it has to be a regular file that no other opening of it has locked.
 fn taken_up<F: FileCalls + Drop>(mut file: F) -> Result<F, OpenFault>
     ensures taken { IfOk result (λ taken. IsTakenUp F.made file taken) }
     ensures refused { IfErr result (λ fault. fault ≡ NotOpened) }
@@ -75,7 +76,7 @@ fn taken_up<F: FileCalls + Drop>(mut file: F) -> Result<F, OpenFault>
     }
 }
 
-// A file that no other open of it has locked; this one has it locked from now on, where the file system has locks.
+// Locks a file, where the file system has locks. A file that another opening of it has locked is refused.
 fn locked<F: FileCalls + Drop>(mut file: F) -> Result<F, OpenFault>
     ensures locked { IfOk result (λ locked. IsLocked F.made file locked) }
     ensures refused { IfErr result (λ fault. fault ≡ NotOpened) }
@@ -88,7 +89,7 @@ fn locked<F: FileCalls + Drop>(mut file: F) -> Result<F, OpenFault>
     }
 }
 
-// Writes a new file full of zeros, and makes it and its name last.
+// Fills a new file with zeros, and makes it and its name durable.
 fn make_last<F: FileCalls, S: FileSystem<F>>(
     system: &mut S,
     path: &str,
@@ -104,7 +105,7 @@ fn make_last<F: FileCalls, S: FileSystem<F>>(
     system.sync_folder(path, file)
 }
 
-// Writes 00 into each byte of a file, in order, so that its room is taken.
+// Writes 00 into each byte of a file, in order, so that its space is allocated.
 fn fill<F: FileCalls>(file: &mut F) -> Result<(), DiskFault>
     ensures extent { F.extent file.new ≡ F.extent file.old }
     ensures zeros { OnOk result ((calls : List FileCall) × Calls F.made calls file.old file.new × AreZeros 0 (F.extent file.old) calls) }
@@ -120,7 +121,7 @@ fn fill<F: FileCalls>(file: &mut F) -> Result<(), DiskFault>
     Ok(())
 }
 
-// Writes so many zeros from `at` on.
+// Writes `n` zeros from `at` on.
 fn write_zeros<F: FileCalls>(file: &mut F, at: u64, n: u64) -> Result<(), DiskFault>
     requires within { at + n ≤ F.extent file.old }
     requires piece { n ≤ 4096 }

@@ -1,5 +1,5 @@
-// A disk over a medium that forgets at a failed sync. It keeps the ranges written since the last sync that worked, and after one that
-// failed writes them again, as they read, before the next.
+// A disk over a medium that may forget bytes at a failed sync. It keeps the ranges written since the last successful
+// sync. After a failed sync it writes their bytes again, as they read, before the next sync.
 ghost use Rattle.std.specs.Prelude.{◌≡◌, ℕ, ◌+◌, ◌^◌, ◌<◌, ◌≤◌, List, length, true, false, IfOk, OnOk, OnErr};
 ghost use Rattle.psu_disk.specs.Disk.{Left, IsFlagged, IsSynced, Only, Elapses, HasCause, Holds, Touches, SameBut, Follows, is_unsynced};
 ghost use Rattle.psu_disk.specs.Medium.{NoneMore, IsKnown, IsKept};
@@ -11,10 +11,10 @@ use crate::written::Written;
 use crate::{Disk, DiskFault, Medium};
 use std::alloc::{AllocError, Allocator};
 
-// How many bytes are written again at a time.
+// The number of bytes that are written again at a time.
 const PIECE: usize = 512;
 
-/// A disk over a medium. Its room is taken when it is made: no call takes memory.
+/// A disk over a medium. Its memory is allocated when it is created: no call allocates.
 #[derive(Drop)]
 pub struct KeptDisk<M: Medium, A: Allocator> {
     medium: M,
@@ -27,14 +27,14 @@ pub struct KeptDisk<M: Medium, A: Allocator> {
 }
 
 impl<M: Medium + Drop, A: Allocator + Drop> KeptDisk<M, A> {
-    /// The disk over a medium of which nothing is forgotten. What is unsynced then lies in no range that is known, so that a sync that
-    /// fails before one has worked is final.
+    /// Returns the disk over a medium of which no byte is forgotten. Bytes that are unsynced at that time lie in no
+    /// known range, so a sync that fails before one has succeeded is final: no later one succeeds.
     pub fn new(alloc: A, medium: M) -> Result<KeptDisk<M, A>, AllocError>
         requires { M.honest → (k : ℕ) → M.forgotten medium k ≡ false }
         ensures medium { IfOk result (λ disk. disk.medium ≡ medium) }
         ensures faults { IfOk result (λ disk. disk.faults ≡ 0) }
     {
-        // Its number of bytes is one of the language's.
+        // The size is a `u64`, which bounds the medium's extent.
         let _size = medium.size();
         let written = Written::full(alloc)?;
         Ok(KeptDisk {
@@ -45,7 +45,7 @@ impl<M: Medium + Drop, A: Allocator + Drop> KeptDisk<M, A> {
         })
     }
 
-    /// The medium below it.
+    /// Returns the medium below it.
     pub fn into_inner(self) -> M
         ensures { result ≡ self.medium }
     {
@@ -60,7 +60,7 @@ impl<M: Medium + Drop, A: Allocator + Drop> KeptDisk<M, A> {
 }
 
 impl<M: Medium, A: Allocator> KeptDisk<M, A> {
-    // Where a sync has failed, what it may have forgotten is written again.
+    // If a sync has failed, writes again what it may have forgotten.
     fn recover(&mut self) -> Result<(), DiskFault>
         ensures extent { M.extent self.new.medium ≡ M.extent self.old.medium }
         ensures faults { self.new.faults ≡ self.old.faults }
@@ -79,7 +79,7 @@ impl<M: Medium, A: Allocator> KeptDisk<M, A> {
         Ok(())
     }
 
-    // A sync of the medium, once nothing is forgotten. What is kept of the ranges goes only where it works.
+    // Syncs the medium once nothing is forgotten. The kept ranges are dropped only if the sync succeeds.
     #[tactic(auto, using(crate::proofs::Images::synced_only, crate::proofs::Rewriting::left_synced))]
     fn settle(&mut self) -> Result<(), DiskFault>
         ensures extent { M.extent self.new.medium ≡ M.extent self.old.medium }
@@ -103,7 +103,7 @@ impl<M: Medium, A: Allocator> KeptDisk<M, A> {
     }
 }
 
-// The answer of a call. One that failed is counted, up to the last value of the count.
+// Returns the result of a call. A call that failed is counted; the count saturates at its maximum.
 fn counted(faults: &mut u64, answer: Result<(), DiskFault>) -> Result<(), DiskFault>
     ensures same { result ≡ answer }
     ensures cause { HasCause faults.old faults.new answer }
@@ -152,7 +152,7 @@ fn write_span<M: Medium>(medium: &mut M, span: Span) -> Result<(), DiskFault>
     Ok(())
 }
 
-// Writes as many bytes from `at` on again as the piece has.
+// Writes the bytes from `at` on again, as many as the piece has.
 fn write_piece<M: Medium>(medium: &mut M, at: u64, piece: &mut [u8]) -> Result<(), DiskFault>
     requires within { at + length piece.old ≤ M.extent medium.old }
     requires flagged { M.honest → IsFlagged at (length piece.old) (M.state medium.old) }
@@ -201,7 +201,7 @@ impl<M: Medium, A: Allocator> Disk for KeptDisk<M, A> {
         counted(&mut self.faults, answer)
     }
 
-    /// Also: while fewer than 1,024 ranges were written since the last good sync, each of them is known.
+    /// Also: while fewer than 1,024 ranges were written since the last successful sync, each of them is known.
     fn write(&mut self, at: u64, bytes: &[u8]) -> Result<(), DiskFault>
         requires { at + length bytes.now ≤ M.extent self.old.medium }
         ensures extent { M.extent self.new.medium ≡ M.extent self.old.medium }
@@ -223,8 +223,8 @@ impl<M: Medium, A: Allocator> Disk for KeptDisk<M, A> {
         counted(&mut self.faults, answer)
     }
 
-    /// Also: where the medium works from here on, and each range that was written since the last good sync is known, it succeeds, after
-    /// however many failed syncs.
+    /// Also: if the medium works from here on, and each range that was written since the last successful sync is known,
+    /// the sync succeeds, after any number of failed ones.
     fn sync(&mut self) -> Result<(), DiskFault>
         ensures extent { M.extent self.new.medium ≡ M.extent self.old.medium }
         ensures cause { HasCause self.old.faults self.new.faults result }

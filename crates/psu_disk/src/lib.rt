@@ -1,4 +1,4 @@
-//! A disk of a fixed size: what its calls do, and what a power loss may leave of it.
+//! A disk of a fixed size: the effect of its calls, and its possible crash images.
 #![tactic(auto)]
 
 mod choice;

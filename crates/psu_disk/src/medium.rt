@@ -1,37 +1,39 @@
-// A file as a system with a page cache keeps it.
+// What a disk is built on: a file as an operating system with a page cache keeps it.
 ghost use Rattle.std.specs.Prelude.{◌≡◌, ◌+◌, ◌≤◌, List, ℕ, Bool, true, length, OnOk, OnErr};
 ghost use Rattle.psu_disk.specs.Disk.{DiskState, Left, Range, Holds, IsFlagged, Touches, Elapses, is_unsynced};
 ghost use Rattle.psu_disk.specs.Medium.{NoneMore, IsKnown, Settles};
 
 use crate::DiskFault;
 
-/// What a [`KeptDisk`](crate::KeptDisk) lies on: a fixed number of bytes with three calls that may fail, read, write and sync.
+/// What a [`KeptDisk`](crate::KeptDisk) is built on: a fixed number of bytes with three calls that may fail, read,
+/// write and sync.
 ///
-/// A sync that fails may forget: what it was to make safe reads as it was written, and no later sync makes it safe until it is
-/// written again.
+/// A sync that fails may forget bytes that it was to make durable: they read as they were written, and no later sync
+/// makes them durable until they are written again.
 pub trait Medium {
     /// The premise of every clause on bytes: this kind of medium behaves as they say.
     ghost honest: { Type 0 };
 
-    /// The premise of every clause on past moments: this kind of medium tells them.
+    /// The premise of every clause on past moments: this kind of medium records them.
     ghost tells: { Type 0 };
 
-    /// How many bytes it has.
+    /// The number of bytes that the medium has.
     ghost extent: { Self → ℕ };
 
-    /// The bytes that a read gives, and which of them a power loss may change: those that are unsynced and those that are forgotten.
+    /// The bytes that a read returns, and which of them a power loss may change: those that are unsynced and those that
+    /// are forgotten.
     ghost state: { Self → DiskState };
 
-    /// Which of these no sync makes safe until they are written again.
+    /// Which of these bytes no sync makes durable until they are written again.
     ghost forgotten: { Self → ℕ → Bool };
 
     /// From here on each of its calls succeeds.
     ghost works: { Self → Type 0 };
 
-    /// The moment, as a number that doesn't fall.
+    /// The current moment, as a number that never decreases.
     ghost moment: { Self → ℕ };
 
-    /// What a power loss at some moment from that one on might have left.
+    /// The possible crash images at the moments from the given one on.
     ghost left_since: { Self → ℕ → List ℕ → Type 0 };
 
     /// The number of bytes.
@@ -48,8 +50,9 @@ pub trait Medium {
         ensures works { works self.old → OnErr result ⊥ × works self.new }
         ensures time { tells → Elapses (moment self.old) (moment self.new) (left_since self.old) (left_since self.new) (Left (state self.new)) };
 
-    /// Puts the bytes at `at`. From its start on a power loss may leave any bytes in the range. A write over bytes that a power loss
-    /// may change already, of what they read, changes nothing that is read, whether it works or not; one that works is remembered.
+    /// Writes the bytes at `at`. From the start of the call on, a power loss may leave any bytes in the range. A write
+    /// of what is read there already, to bytes that a power loss may change already, leaves the state unchanged,
+    /// whether it succeeds or not. After a successful write no byte of the range is forgotten.
     fn write(&mut self, at: u64, bytes: &[u8]) -> Result<(), DiskFault>
         requires { at + length bytes.now ≤ extent self.old }
         ensures extent { extent self.new ≡ extent self.old }
@@ -63,7 +66,8 @@ pub trait Medium {
         ensures works { works self.old → OnErr result ⊥ × works self.new }
         ensures time { tells → Elapses (moment self.old) (moment self.new) (left_since self.old) (left_since self.new) (Left (state self.new)) };
 
-    /// Makes safe what isn't forgotten. A failed sync may forget any byte that it was to make safe, and changes nothing else.
+    /// Makes the bytes durable that aren't forgotten. A failed sync may forget any byte that it was to make durable,
+    /// and changes nothing else.
     fn sync(&mut self) -> Result<(), DiskFault>
         ensures extent { extent self.new ≡ extent self.old }
         ensures seen { honest → (state self.new).bytes ≡ (state self.old).bytes }
@@ -73,15 +77,15 @@ pub trait Medium {
         ensures works { works self.old → OnErr result ⊥ × works self.new }
         ensures time { tells → Elapses (moment self.old) (moment self.new) (left_since self.old) (left_since self.new) (Left (state self.new)) };
 
-    /// What a read gives has the medium's size.
+    /// The number of bytes in the state is the medium's size.
     ghost sized: { honest → (m : Self) → length (state m).bytes ≡ extent m };
 
-    /// What is forgotten a power loss may change.
+    /// A power loss may change each forgotten byte.
     ghost at_risk: { honest → (m : Self) (k : ℕ) → forgotten m k ≡ true → is_unsynced (state m) k ≡ true };
 
-    /// This moment is one of those since an earlier one.
+    /// The possible crash images now are among those since any moment so far.
     ghost counts_now: { tells → (m : Self) (t : ℕ) (x : List ℕ) → t ≤ moment m → Left (state m) x → left_since m t x };
 
-    /// Since this moment there is no other.
+    /// The possible crash images since the current moment are those of now.
     ghost only_now: { tells → (m : Self) (x : List ℕ) → left_since m (moment m) x → Left (state m) x };
 }

@@ -1,4 +1,5 @@
-// A disk in memory. It keeps what the last sync made sure of beside what a read gives, and a mark for each unsynced byte.
+// A disk in memory. It keeps the bytes that a read returns, the bytes that the last sync made durable, and a mark for
+// each unsynced byte.
 ghost use Rattle.std.specs.Prelude.{◌≡◌, ℕ, ◌+◌, ◌<◌, ◌≤◌, List, length, replicate, IsTrue, true, false, slice_index, slice_index_or, IfOk, IsOk, OnOk, OnErr};
 ghost use Rattle.psu_disk.specs.Disk.{Left, Range, Holds, SameBut, IsSynced, IsFlagged, Touches, Only, Follows, HasCause};
 ghost use Rattle.psu_disk.specs.Loss.{lost};
@@ -10,7 +11,7 @@ use crate::touched::{Span, Touched};
 use crate::{Choice, Disk, DiskFault};
 use std::alloc::{AllocError, Allocator};
 
-/// A disk in memory. No call of it fails, and none takes memory.
+/// A disk in memory. None of its calls fails, and none allocates.
 #[derive(Drop)]
 pub struct MemDisk<A: Allocator + Copy> {
     bytes: Vec<u8, A>,
@@ -23,7 +24,7 @@ pub struct MemDisk<A: Allocator + Copy> {
 }
 
 impl<A: Allocator + Copy> MemDisk<A> {
-    /// A disk of `size` bytes 00 with nothing unsynced, and with the room for all later calls.
+    /// Returns a disk of `size` bytes 00, none of them unsynced. Allocates the memory for all later calls.
     pub fn new(alloc: A, size: u64) -> Result<MemDisk<A>, AllocError>
         ensures bytes { IfOk result (λ disk. disk.bytes.items ≡ replicate size 0) }
         ensures synced { IfOk result (λ disk. disk.unsynced.items ≡ replicate size false) }
@@ -37,7 +38,7 @@ impl<A: Allocator + Copy> MemDisk<A> {
         })
     }
 
-    /// Power is lost: the unsynced bytes become as chosen, and none is unsynced any more.
+    /// Simulates a power loss: the unsynced bytes become as chosen, and none is unsynced any more.
     #[tactic(auto, unfolding(crate::specs::Disk::Left))]
     pub fn lose(&mut self, choice: Choice)
         ensures size { length self.new.bytes.items ≡ length self.old.bytes.items }
@@ -66,7 +67,7 @@ fn lose_bytes(bytes: &mut [u8], synced: &[u8], unsynced: &[bool], choice: Choice
     }
 }
 
-// Writes over the bytes from `at` on.
+// Overwrites the bytes from `at` on.
 pub(crate) fn put(all: &mut [u8], at: usize, bytes: &[u8])
     requires { at + length bytes.now ≤ length all.old }
     ensures { Holds at bytes.now all.old all.new }
@@ -74,7 +75,7 @@ pub(crate) fn put(all: &mut [u8], at: usize, bytes: &[u8])
     all[at..at + bytes.len()].copy_from_slice(bytes);
 }
 
-// Marks n bytes from `at` on, as unsynced or not.
+// Marks `n` bytes from `at` on, as unsynced or not.
 pub(crate) fn mark(unsynced: &mut [bool], at: usize, n: usize, with: bool)
     requires { at + n ≤ length unsynced.old }
     ensures { unsynced.new ≡ marked with at n unsynced.old }
@@ -82,7 +83,7 @@ pub(crate) fn mark(unsynced: &mut [bool], at: usize, n: usize, with: bool)
     unsynced[at..at + n].fill(with);
 }
 
-// Makes sure of the bytes of the spans, in which all that is marked lies.
+// Makes the bytes of the spans durable. Each marked byte lies in one of the spans.
 fn settle(bytes: &[u8], synced: &mut [u8], unsynced: &mut [bool], spans: &[Span])
     requires synced { length synced.old ≡ length bytes.now }
     requires unsynced { length unsynced.old ≡ length bytes.now }
@@ -95,7 +96,7 @@ fn settle(bytes: &[u8], synced: &mut [u8], unsynced: &mut [bool], spans: &[Span]
     }
 }
 
-// Makes sure of the bytes of one span.
+// Makes the bytes of one span durable.
 fn settle_span(bytes: &[u8], synced: &mut [u8], unsynced: &mut [bool], span: Span)
     requires synced { length synced.old ≡ length bytes.now }
     requires unsynced { length unsynced.old ≡ length bytes.now }
@@ -151,7 +152,7 @@ impl<A: Allocator + Copy> Disk for MemDisk<A> {
         ensures state { Unit {0} → memory self.new.bytes.items self.new.unsynced.items ≡ memory self.old.bytes.items self.old.unsynced.items }
         ensures seen { Unit {0} → self.new.bytes.items ≡ self.old.bytes.items }
         ensures left { Unit {0} → (x : List ℕ) → Left (memory self.new.bytes.items self.new.unsynced.items) x → Left (memory self.old.bytes.items self.old.unsynced.items) x }
-        // It works, and what the last sync made sure of stays.
+        // The call succeeds, and the bytes that the last sync made durable stay.
         ensures works { IsOk result }
         ensures made_sure { self.new.synced.items ≡ self.old.synced.items }
     {
@@ -169,7 +170,7 @@ impl<A: Allocator + Copy> Disk for MemDisk<A> {
         ensures state { Unit {0} → Touches at (length bytes.now) (memory self.old.bytes.items self.old.unsynced.items) (memory self.new.bytes.items self.new.unsynced.items) }
         ensures seen { Unit {0} → SameBut at (length bytes.now) self.old.bytes.items self.new.bytes.items }
         ensures left { Unit {0} → Follows (SameBut at (length bytes.now)) (Left (memory self.old.bytes.items self.old.unsynced.items)) (Left (memory self.new.bytes.items self.new.unsynced.items)) }
-        // It works, and what the last sync made sure of stays.
+        // The call succeeds, and the bytes that the last sync made durable stay.
         ensures works { IsOk result }
         ensures made_sure { self.new.synced.items ≡ self.old.synced.items }
     {
@@ -179,7 +180,7 @@ impl<A: Allocator + Copy> Disk for MemDisk<A> {
         Ok(())
     }
 
-    /// Costs what was written since the last sync.
+    /// Its cost grows with the ranges written since the last sync.
     #[tactic(auto, unfolding(crate::specs::Disk::Left))]
     fn sync(&mut self) -> Result<(), DiskFault>
         ensures extent { length self.new.bytes.items ≡ length self.old.bytes.items }
@@ -189,7 +190,7 @@ impl<A: Allocator + Copy> Disk for MemDisk<A> {
         ensures err { Unit {0} → OnErr result (memory self.new.bytes.items self.new.unsynced.items ≡ memory self.old.bytes.items self.old.unsynced.items) }
         ensures only { Unit {0} → OnOk result (Only (memory self.new.bytes.items self.new.unsynced.items)) }
         ensures left { Unit {0} → (x : List ℕ) → Left (memory self.new.bytes.items self.new.unsynced.items) x → Left (memory self.old.bytes.items self.old.unsynced.items) x }
-        // It works, and makes sure of what a read gives.
+        // The call succeeds, and makes the bytes durable that a read returns.
         ensures works { IsOk result }
         ensures made_sure { self.new.synced.items ≡ self.old.bytes.items }
     {

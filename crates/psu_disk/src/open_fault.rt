@@ -1,18 +1,18 @@
-// Why a file is not opened as a disk.
+// The error of opening or creating a file as a disk.
 use thiserror::Error;
 
-/// Why a file is not opened or made as a disk.
+/// Why a file is not opened or created as a disk.
 #[derive(Clone, Copy, Debug, PartialEq, Eq, Error)]
 pub enum OpenFault {
-    /// There is no file at the path, or no folder to make it in.
+    /// There is no file at the path, or no directory to create it in.
     #[error("no such file")]
     NoFile,
-    /// It is no file, can't be read and written, or another disk is in it.
+    /// It isn't a regular file, can't be read and written, or is open as another disk.
     #[error("device fault")]
     NotOpened,
     #[error("out of memory")]
     Memory,
-    /// A file that was to be made is there already.
+    /// The file that was to be created exists already.
     #[error("file exists")]
     Exists,
 }

@@ -1,5 +1,5 @@
-// The files of the operating system. Here is what is trusted of them and not proved: that each method is the calls that it is named for, and
-// that the system does what POSIX says of these.
+// The files of the operating system. This is trusted and not proved: that each method makes the calls that it is named
+// for, and that the system does what POSIX says about them.
 ghost use Rattle.std.specs.Prelude.{◌≡◌, ◌↔◌, IfOk};
 ghost use Rattle.std.specs.IoError.{error_kind};
 ghost use Rattle.psu_disk.specs.declared.open_fault.OpenFault.TheVariants.{Memory};
@@ -15,13 +15,15 @@ use std::os::unix::fs::{FileExt, MetadataExt};
 use std::path::Path;
 use std::rt::Files;
 
-/// A disk in a file of the operating system. A sync is the system's own, of the file's data (fdatasync), and works only where the file
-/// behind it has the disk's length and a name still. After one that failed what was written since the last that worked is written again
-/// before the next. The file is locked while it is open, so that no other disk is in it.
+/// A disk in a file of the operating system. A sync is the system's own sync of the file's data (fdatasync). It
+/// succeeds only if the file, looked at after it, still has the disk's length and a name. After a failed sync, what was
+/// written since the last successful one is written again before the next. The file is locked while it is open, so that
+/// it isn't open as another disk.
 pub type FileDisk = KeptDisk<SystemFile<OsFile>, Global>;
 
-/// An open file of the operating system. What its calls do is not known: the premise `keeps` is not met. What a disk over it promises
-/// without that premise is which calls it makes; the README's first assumption is that they keep what a successful sync confirmed.
+/// An open file of the operating system. The effect of its calls is not known: the premise `keeps` is not met. Without
+/// that premise a disk over it promises which calls it makes. The README's first assumption is that they keep what a
+/// successful sync confirmed.
 #[derive(Drop)]
 pub struct OsFile {
     file: File,
@@ -90,7 +92,7 @@ impl FileCalls for OsFile {
     }
 }
 
-// What a call of the system came to.
+// Converts the result of a system call.
 fn answered(came: io::Result<()>) -> Result<(), DiskFault> {
     match came {
         Ok(()) => Ok(()),
@@ -98,7 +100,7 @@ fn answered(came: io::Result<()>) -> Result<(), DiskFault> {
     }
 }
 
-/// The files of the operating system, by the program's handle of them.
+/// The files of the operating system, through the program's handle to them.
 #[derive(Drop)]
 pub struct OsFiles<'a, R> {
     /// The handle.
@@ -139,7 +141,8 @@ impl<R: Files<File = File>> FileSystem<OsFile> for OsFiles<'_, R> {
     }
 }
 
-// A file, unless it stands under the number of a standard stream that was closed: what is printed would be written into it.
+// Returns the file, unless its descriptor has the number of a standard stream that was closed: what is printed would be
+// written into the file.
 fn numbered(file: OsFile) -> Result<OsFile, OpenFault>
     ensures size { IfOk result (λ numbered. numbered.size ≡ file.size) }
 {
@@ -150,7 +153,7 @@ fn numbered(file: OsFile) -> Result<OsFile, OpenFault>
     }
 }
 
-// Why the system did not open a file. Want of memory is answered exactly where the system told it.
+// Returns why the system did not open a file: `Memory` exactly if the system reported that it is out of memory.
 fn fault_of(error: Error) -> OpenFault
     ensures memory { result ≡ Memory ↔ error_kind error ≡ ErrorKind.OutOfMemory }
 {

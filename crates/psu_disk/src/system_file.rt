@@ -6,8 +6,8 @@ ghost use Rattle.psu_disk.specs.FileCalls.{FileCall, IsSync, LooksWhole};
 
 use crate::{DiskFault, FileCalls, Medium};
 
-/// A file of the system as a medium: a write is the system's own, and a sync is its fdatasync, which works only where the file behind it has
-/// its length and a name still.
+/// A file of the system as a medium. A write is the system's own. A sync is the system's fdatasync; it succeeds only if
+/// the file, looked at after that, still has its length and a name.
 #[derive(Drop)]
 pub struct SystemFile<F: FileCalls> {
     /// The open file.
@@ -15,7 +15,7 @@ pub struct SystemFile<F: FileCalls> {
 }
 
 impl<F: FileCalls> SystemFile<F> {
-    // Whether the file is there as a whole: it has its length, and a name by which it is found again.
+    // Whether the file is whole: it has its length, and a name by which it is found again.
     fn is_whole(&mut self) -> bool
         ensures extent { F.extent self.new.file ≡ F.extent self.old.file }
         ensures looked { LooksWhole F.made (F.extent self.old.file) self.old.file result self.new.file }
@@ -61,7 +61,7 @@ impl<F: FileCalls> Medium for SystemFile<F> {
         self.file.read_at(at, into)
     }
 
-    /// Also: it made just that write, which answered as it does.
+    /// Also: exactly that write was made on the file, with the same result.
     fn write(&mut self, at: u64, bytes: &[u8]) -> Result<(), DiskFault>
         requires { at + length bytes.now ≤ F.extent self.old.file }
         ensures extent { F.extent self.new.file ≡ F.extent self.old.file }
@@ -78,7 +78,7 @@ impl<F: FileCalls> Medium for SystemFile<F> {
         self.file.write_at(at, bytes)
     }
 
-    /// Also: one that works made the file's data last, and then saw the file whole.
+    /// Also: a successful sync made the file's data durable, and then saw the file whole.
     fn sync(&mut self) -> Result<(), DiskFault>
         ensures extent { F.extent self.new.file ≡ F.extent self.old.file }
         ensures seen { F.keeps → (F.state self.new.file).bytes ≡ (F.state self.old.file).bytes }
@@ -89,7 +89,7 @@ impl<F: FileCalls> Medium for SystemFile<F> {
         ensures made { OnOk result (IsSync F.made (F.extent self.old.file) self.old.file self.new.file) }
     {
         self.file.sync_data()?;
-        // The file is looked at last: a call that works has made sure of a file that was whole behind it.
+        // The file is looked at last: a successful call has synced a file that was still whole afterwards.
         if self.is_whole() {
             Ok(())
         } else {

@@ -1,4 +1,4 @@
-// A disk in memory that keeps what it was at each past moment, so that every clause on moments holds of it.
+// A disk in memory that keeps its state at each past moment, so that every clause on moments holds for it.
 ghost use Rattle.std.specs.Prelude.{◌≡◌, ◌∷◌, ◌++◌, [], false, length, replicate, IfOk, OnOk, OnErr};
 ghost use Rattle.psu_disk.specs.Memory.{memory};
 
@@ -7,7 +7,7 @@ use crate::{Disk, DiskFault};
 use std::alloc::{AllocError, Allocator};
 use std::marker::Model;
 
-// What a disk was at a moment.
+// The state of a disk at a moment.
 #[derive(Drop)]
 struct Moment<A: Allocator + Copy> {
     bytes: Vec<u8, A>,
@@ -23,8 +23,8 @@ impl<A: Allocator + Copy> Model for Moment<A> {
     ghost view = { λ m. memory m.bytes.items m.unsynced.items };
 }
 
-/// A disk in memory that tells its past moments. Each write and each sync copies the whole disk, and fails where memory is
-/// refused.
+/// A disk in memory that records its past moments. Each write and each sync copies the whole disk, and fails if an
+/// allocation fails.
 #[derive(Drop)]
 pub struct TellingDisk<A: Allocator + Copy> {
     alloc: A,
@@ -36,7 +36,7 @@ pub struct TellingDisk<A: Allocator + Copy> {
 }
 
 impl<A: Allocator + Copy> TellingDisk<A> {
-    /// A disk of `size` bytes 00 with nothing unsynced and no past moment.
+    /// Returns a disk of `size` bytes 00, none of them unsynced, with no past moment.
     pub fn new(alloc: A, size: u64) -> Result<TellingDisk<A>, AllocError>
         ensures bytes { IfOk result (λ disk. disk.bytes.items ≡ replicate size 0) }
         ensures synced { IfOk result (λ disk. disk.unsynced.items ≡ replicate size false) }
@@ -53,7 +53,7 @@ impl<A: Allocator + Copy> TellingDisk<A> {
     }
 }
 
-// Keeps a copy of what is there.
+// Appends a copy of the present state to the past ones.
 fn remember<A: Allocator + Copy>(
     alloc: A,
     bytes: &[u8],

@@ -1,8 +1,8 @@
-// The ranges written since the last sync, in room for a few of them.
+// The ranges written since the last sync, covered by a fixed number of spans.
 ghost use Rattle.std.specs.Prelude.{◌≡◌, ℕ, ◌<◌, ◌≤◌, true, false, length};
 ghost use Rattle.psu_disk.specs.declared.touched.TheConstants.{SPANS};
 
-// How many ranges are kept apart. Where more are written, the last of them grows over those.
+// The number of ranges that are kept apart. Where more are written, the last span grows to cover them.
 const SPANS: usize = 8;
 
 // The bytes from `low` on, and below `high`.
@@ -15,7 +15,7 @@ pub(crate) struct Span {
 impl Span {
     ghost use Rattle.psu_disk.specs.Touched.{is_in};
 
-    // The least span over this one and the bytes from `low` on and below `high`.
+    // Returns the smallest span that covers this one and the bytes from `low` on and below `high`.
     fn joined(self, low: usize, high: usize) -> Span
         ensures own { (k : ℕ) → is_in self k ≡ true → is_in result k ≡ true }
         ensures others { (k : ℕ) → low ≤ k → k < high → is_in result k ≡ true }
@@ -46,7 +46,7 @@ pub(crate) struct Touched {
 impl Touched {
     ghost use Rattle.psu_disk.specs.Touched.{is_covered};
 
-    // Nothing was written.
+    // Returns spans that cover nothing.
     pub(crate) fn new() -> Touched
         ensures { (k : ℕ) → is_covered result.spans k ≡ false }
     {
@@ -56,7 +56,7 @@ impl Touched {
         }
     }
 
-    // The bytes from `low` on and below `high` are written.
+    // Adds the bytes from `low` on and below `high`, which are written.
     pub(crate) fn add(&mut self, low: usize, high: usize)
         ensures own { (k : ℕ) → is_covered self.old.spans k ≡ true → is_covered self.new.spans k ≡ true }
         ensures others { (k : ℕ) → low ≤ k → k < high → is_covered self.new.spans k ≡ true }

@@ -1,14 +1,14 @@
-// The ranges written since the last sync that worked, in room for so many of them.
+// The ranges written since the last successful sync, up to a maximum number of them.
 ghost use Rattle.std.specs.Prelude.{◌≡◌, ◌<◌, ◌≤◌, ◌∷◌, ◌++◌, [], length, false, true, vec_capacity, IfOk};
 ghost use Rattle.psu_disk.specs.Medium.{KeepsRange};
 
 use crate::touched::Span;
 use std::alloc::{AllocError, Allocator};
 
-// How many ranges are kept apart: more than a commit writes.
+// The maximum number of ranges that are kept: more than a commit writes.
 const ROOM: usize = 1024;
 
-// The spans. Where it is full, there were others.
+// The spans that are kept. If it is full, there were others.
 #[derive(Drop)]
 pub(crate) struct Written<A: Allocator> {
     pub(crate) spans: Vec<Span, A>,
@@ -17,7 +17,7 @@ pub(crate) struct Written<A: Allocator> {
 }
 
 impl<A: Allocator> Written<A> {
-    // Ranges of which none is known. All the room is taken now, so that none is wanted later.
+    // Returns ranges of which none is known. All the memory is allocated now, so that none is needed later.
     pub(crate) fn full(alloc: A) -> Result<Written<A>, AllocError>
         ensures spans { IfOk result (λ written. written.spans.items ≡ []) }
         ensures full { IfOk result (λ written. written.full ≡ true) }
@@ -28,7 +28,7 @@ impl<A: Allocator> Written<A> {
         })
     }
 
-    // A range is written: it finds room where there are fewer than 1,024, and else they are full.
+    // Adds a written range if fewer than 1,024 are kept; otherwise they are full.
     pub(crate) fn add(&mut self, span: Span)
         ensures keeps { KeepsRange span self.old.spans.items self.new.spans.items self.old.full self.new.full }
         ensures room { length self.old.spans.items < 1024 → (self.new.spans.items ≡ self.old.spans.items ++ span ∷ []) × (self.new.full ≡ self.old.full) }
@@ -40,7 +40,7 @@ impl<A: Allocator> Written<A> {
         }
     }
 
-    // Nothing is written.
+    // Resets the ranges to none.
     pub(crate) fn clear(&mut self)
         ensures spans { self.new.spans.items ≡ [] }
         ensures full { self.new.full ≡ false }

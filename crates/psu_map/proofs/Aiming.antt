@@ -38,8 +38,7 @@ all_remove P [] (suc i) all = tt
 all_remove P (y ∷ xs) zero all = all.1
 all_remove P (y ∷ xs) (suc i) all = (all.0, all_remove P xs i all.1)
 
--- one entry more
--- the entries of a map that stands are of it
+-- entries whose items the map before has are of it
 entries_of : (before : List Item) (entries : List Entry) → AllByRecursion (λ (i : Item). get before i.key ≡ Some i.value) (items_in entries) → AllByRecursion (IsOf before) entries
 entries_of before [] own = tt
 entries_of before (e ∷ entries) own = (λ stands. own.0, entries_of before entries own.1)
@@ -47,7 +46,7 @@ entries_of before (e ∷ entries) own = (λ stands. own.0, entries_of before ent
 pub all_stand : (before : List Item) (entries : List Entry) → IsSorted before → items_in entries ≡ before → AllByRecursion (IsOf before) entries
 all_stand before entries sorted are = entries_of before entries (subst (AllByRecursion (λ (i : Item). get before i.key ≡ Some i.value)) (sym are) (all_own before sorted))
 
--- ---- an edit at the place of its key
+-- ---- an edit at the index of its key
 
 pub key_there : (entries : List Entry) (at : ℕ) (d : Entry) → at < length entries → key_at (items_in entries) at ≡ (let e = get_or entries at d in e.key)
 key_there [] at d within = absurd (omega (arith, within))
@@ -57,7 +56,7 @@ key_there (e ∷ entries) (suc at) d within = key_there entries at d (omega (ari
 pub in_entries : (entries : List Entry) (key : List ℕ) (at : ℕ) → IsAt (items_in entries) key at → at < length entries
 in_entries entries key at found = let within = found.in_range in omega (arith, within, length-map entries item_in)
 
--- the item of the entry at a place
+-- the item of the entry at an index
 pub item_there : (entries : List Entry) (n : ℕ) (e : Entry) → n < length (items_in entries) → e ≡ get_or entries n e → item_in e ≡ get_or (items_in entries) n (item_in e)
 item_there entries n e within is = ap item_in is ∙ sym (there entries n e)
   where
@@ -72,13 +71,13 @@ its_own before entries n e within is all = subst (IsOf before) (sym is) (all_at 
 abbrev pub value_in : Entry → Option (List ℕ)
 value_in e = Some e.value
 
--- the entry at the place of its key
+-- the entry at the index of its key
 pub got_at : (entries : List Entry) (key : List ℕ) (at : ℕ) (d : Entry) → IsAt (items_in entries) key at → d ≡ get_or entries at d → get (items_in entries) key ≡ value_in d
 got_at entries key at d found is =
     get-at (items_in entries) key at (item_in d) found ∙ ap (λ (i : Item). Some i.value) (sym (item_there entries at d found.in_range is))
 
 module _ (before : List Item) (entries : List Entry) (sorted : IsSorted (items_in entries)) (all : AllByRecursion (IsOf before) entries) (key : List ℕ) (at : ℕ) where
-  -- it stands where it stood with this value
+  -- it is unchanged if it was unchanged and had this value
   set_stands : (value : List ℕ) (old : Entry) (stands : Bool) → IsAt (items_in entries) key at → old ≡ get_or entries at old → (stands ≡ true → (old.stands ≡ true) × (old.value ≡ value))
       → IsOf before (record { key = key; value = value; stands = stands })
   set_stands value old stands found is same e =

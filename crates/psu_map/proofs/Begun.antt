@@ -47,7 +47,7 @@ pub record IsBegun (before : List Item) (key : List ℕ) (value : Option (List �
   pub aimed : items_in entries ≡ edited before key value
   pub stands : (other its : List ℕ) → get before other ≡ Some its → (key ≡ other → value ≡ Some its) → standing entries other ≡ Some its
 
--- the items from a place on, as a slice has them
+-- the items from an index on, as a slice has them
 pub from_place : (before : List Item) (n : ℕ) → take (length before - n) (drop n before) ≡ drop n before
 from_place before n = take_all (length before - n) (drop n before) (omega (arith, length-drop n before))
 

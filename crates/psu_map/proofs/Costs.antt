@@ -1,4 +1,4 @@
--- The cost of the items that are left.
+-- The cost of the remaining items.
 use Rattle.std.proofs.Common.{◌≡◌, ℕ, zero, suc, ◌+◌, ◌/◌, ◌<◌, ◌≤◌, List, [], ◌∷◌, length, get_or, drop, refl, arith}
 use Rattle.psu_map.specs.Map.{Item, cost}
 

@@ -9,17 +9,17 @@ use Rattle.psu_map.proofs.Aiming.{key_there, in_entries}
 use Rattle.psu_map.proofs.Keys.{same_key, other_key}
 use Rattle.psu_map.proofs.Sorted.{get-gap}
 
--- what an entry says of its key
+-- the value of an entry, if it is unchanged
 abbrev said : Entry → Option (List ℕ)
 said e = cond e.stands (Some e.value) None
 
--- where all entries stand, all items do
+-- if all entries are unchanged, all items are
 pub all_standing : (entries : List Entry) → AllByRecursion (λ (e : Entry). e.stands ≡ true) entries → (key : List ℕ) → standing entries key ≡ get (items_in entries) key
 all_standing [] all key = refl
 all_standing (e ∷ entries) all key =
     ap (λ (b : Bool). cond (bytes_eq e.key key) (cond b (Some e.value) None) (standing entries key)) all.0 ∙ ap (λ (rest : Option (List ℕ)). cond (bytes_eq e.key key) (Some e.value) rest) (all_standing entries all.1 key)
 
--- what stands is an item
+-- what is unchanged is an item
 stands_in : (entries : List Entry) (key value : List ℕ) → standing entries key ≡ Some value → get (items_in entries) key ≡ None → ⊥
 stands_in [] key value stands none = cc
 stands_in (e ∷ entries) key value stands none = by_test (bytes_eq e.key key) stands none (stands_in entries key value)
@@ -29,7 +29,7 @@ stands_in (e ∷ entries) key value stands none = by_test (bytes_eq e.key key) s
     by_test true stands none rest = cc
     by_test false stands none rest = rest stands none
 
--- an entry in the place of one with its key
+-- an entry in place of one with its key
 module _ (e : Entry) (other its : List ℕ) (same : e.key ≡ other → e.value ≡ its) where
   replaced : (old : Entry) (b : Bool) (rest : Option (List ℕ)) → bytes_eq e.key other ≡ b → (old.stands ≡ true → old.value ≡ e.value → e.stands ≡ true) → cond b (said old) rest ≡ Some its → cond b (said e) rest ≡ Some its
   replaced old false rest test stays was = was
@@ -86,7 +86,7 @@ module _ (entries : List Entry) (key : List ℕ) (at : ℕ) (other its : List �
       let there : (let one = get_or entries at old in one.key) ≡ key = sym (key_there entries at old within) ∙ found.same in
       standing_remove entries at old other within (other_key (let one = get_or entries at old in one.key) other (λ same. differs (sym there ∙ same))) ∙ stood
 
--- what stands once there is one entry more stood before, or is that entry's
+-- what is unchanged once there is one more entry was unchanged before, or is that entry's
 abbrev pub IsSaid : Entry → List ℕ → List ℕ → Type 0
 IsSaid e key value = (e.stands ≡ true) × (e.key ≡ key) × (e.value ≡ value)
 

@@ -1,4 +1,4 @@
--- Keys compared: in order, and whether they are the same.
+-- Comparing keys: their order, and whether they are the same.
 use Rattle.std.proofs.Common.{◌≡◌, ℕ, true, false, List, refl, sym, ◌∙◌, ap, subst, arith}
 use Rattle.std.specs.Str.{bytes_eq}
 use Rattle.std.specs.Ordering.{nat_cmp, ordering_reverse, is_eq, is_lt}
@@ -35,7 +35,7 @@ same_by_order a b e = same_key a b (sym (is_eq-slice_cmp a b) ∙ ap is_eq e)
 pub other_by_order : (a b : List ℕ) → (slice_cmp nat_cmp a b ≡ Equal → ⊥) → a ≡ b → ⊥
 other_by_order a b n e = n (subst (λ x. slice_cmp nat_cmp a x ≡ Equal) e (tied_itself nat_list_cmp_total a))
 
--- one that doesn't come before and isn't the same comes after
+-- a key that doesn't come before another and isn't the same comes after it
 pub turned : (a b : List ℕ) → (Before a b → ⊥) → (a ≡ b → ⊥) → Before b a
 turned a b not_less not_same = by_order (slice_cmp nat_cmp a b) refl
   where
@@ -63,7 +63,7 @@ before-is_lt a b test = by_order (slice_cmp nat_cmp a b) refl
     by_order Equal e = let no : true ≡ false = sym test ∙ ap is_lt e in absurd cc
     by_order Greater e = let no : true ≡ false = sym test ∙ ap is_lt e in absurd cc
 
--- a key that is another and doesn't come before another comes after it
+-- a key that differs from another and doesn't come before it comes after it
 pub after-tests : (a b : List ℕ) → bytes_eq a b ≡ false → is_lt (slice_cmp nat_cmp a b) ≡ false → Before b a
 after-tests a b other not_less =
     turned a b (λ lt. let no : true ≡ false = sym (is_lt-before a b lt) ∙ not_less in absurd cc) (λ same. let no : true ≡ false = sym (same_true a b same) ∙ other in absurd cc)

@@ -1,4 +1,4 @@
--- The laws of the map: what `get` finds after each change, and that `get` says all of it.
+-- The laws of the map: what `get` finds after each change, and that `get` determines the map.
 use Rattle.std.proofs.Common.{◌≡◌, ℕ, zero, suc, ◌≤◌, drop, Bool, true, false, cond, List, [], ◌∷◌, ◌++◌, length, Option, Some, None, refl, sym, ◌∙◌, ap, subst, arith}
 use Rattle.std.specs.List.{AllByRecursion}
 use Rattle.std.specs.Str.{bytes_eq}
@@ -71,7 +71,7 @@ pub changed-append : (items : List Item) (edits more : List Edit) → changed it
 changed-append items [] more = refl
 changed-append items (e ∷ edits) more = changed-append (edited items e.key e.value) edits more
 
--- a new key makes one item more
+-- a new key adds one item
 pub length-put : (items : List Item) (key value : List ℕ) → get items key ≡ None → length (put items key value) ≡ suc (length items)
 length-put [] key value none = refl
 length-put (i ∷ items) key value none = by_tests (bytes_eq i.key key) (is_lt (slice_cmp nat_cmp i.key key)) none (length-put items key value)
@@ -110,7 +110,7 @@ pub get_before : (items : List Item) (k : List ℕ) → AllByRecursion (λ (j : 
 get_before [] k all = refl
 get_before (i ∷ items) k all = rw (after_not_same k i.key all.0) (get_before items k all.1)
 
--- the order is kept by each change
+-- each change keeps the order
 pub sorted-put : (items : List Item) (key value : List ℕ) → IsSorted items → IsSorted (put items key value)
 sorted-put [] key value sorted = (tt, tt)
 sorted-put (i ∷ items) key value sorted = by_tests (bytes_eq i.key key) (is_lt (slice_cmp nat_cmp i.key key)) refl refl (sorted-put items key value sorted.1) (all-put (λ (j : Item). Before i.key j.key) items key value sorted.0)
@@ -138,7 +138,7 @@ pub sorted-changed : (items : List Item) (edits : List Edit) → IsSorted items 
 sorted-changed items [] sorted = sorted
 sorted-changed items (e ∷ edits) sorted = sorted-changed (edited items e.key e.value) edits (sorted-edited items e.key e.value sorted)
 
--- where no edit is left, all are made
+-- if no edit remains, all are made
 pub all_made : (items now : List Item) (batch edits : List Edit) (n : ℕ) → edits ≡ batch → length edits ≤ n → changed now (drop n edits) ≡ changed items edits → Assigns items batch now
 all_made items now batch edits n same over made k =
     let none : drop n edits ≡ [] = drop-none n edits over in
@@ -174,7 +174,7 @@ first_key i j a b sorted_a sorted_b same = by_tests (bytes_eq i.key j.key) (is_l
     by_tests false true e f = absurd (below_first i j a b sorted_b same (before-is_lt i.key j.key f))
     by_tests false false e f = absurd (below_first j i b a sorted_a (λ k. sym (same k)) (after-tests i.key j.key e f))
 
--- sorted lists in which each key has the same are the same
+-- sorted lists in which each key has the same value are the same
 pub same_map : (a b : List Item) → IsSorted a → IsSorted b → IsMapOf a b → a ≡ b
 same_map [] [] sa sb same = refl
 same_map [] (j ∷ b) sa sb same = let some : had j.value ≡ None = sym (get_own j b) ∙ sym (same j.key) in absurd cc

@@ -1,4 +1,4 @@
--- What stands at the place of a key, and what a change there does to the map.
+-- The item at the index of a key, and the effect of a change there on the map.
 use Rattle.std.proofs.Common.{◌≡◌, ℕ, zero, suc, ◌+◌, ◌<◌, ◌⊎◌, inl, inr, length, List, [], ◌∷◌, get_or, set, Some, None, true, false, refl, sym, ◌∙◌, ap, subst, arith, ◌++◌}
 use Rattle.std.specs.List.{insert, remove, AllByRecursion}
 use Rattle.std.proofs.Math.Nat.{eq-or-lt_of_le}
@@ -10,7 +10,7 @@ use Rattle.std.specs.Str.{bytes_eq}
 use Rattle.psu_map.proofs.Keys.{other_key, same_key, same_true, before_not_same, after_not_same, turned, is_lt-before, is_lt-not_before}
 use Rattle.psu_map.proofs.Maps.{all_after, get_before, get-put, sorted-put, sorted-without}
 
--- of two places the former has the smaller key
+-- of two indices the smaller one has the smaller key
 pub key_before : (items : List Item) (i j : ℕ) → IsSorted items → i < j → j < length items → Before (key_at items i) (key_at items j)
 key_before [] i j sorted lt within = absurd (omega (arith, within))
 key_before (x ∷ items) zero zero sorted lt within = absurd (omega (arith, lt))
@@ -18,7 +18,7 @@ key_before (x ∷ items) zero (suc j) sorted lt within = all_at (λ (y : Item). 
 key_before (x ∷ items) (suc i) zero sorted lt within = absurd (omega (arith, lt))
 key_before (x ∷ items) (suc i) (suc j) sorted lt within = key_before items i j sorted.1 (omega (arith, lt)) (omega (arith, within))
 
--- where a key comes after one of a map, it comes after those before it
+-- a key that comes after one of a map comes after those before it
 pub below_too : (items : List Item) (key : List ℕ) (at : ℕ) → IsSorted items → at < length items → Before (key_at items at) key → (j : ℕ) → j < at + 1 → Before (key_at items j) key
 below_too items key at sorted within here j lt = by (eq-or-lt_of_le (omega (arith, lt)))
   where
@@ -39,7 +39,7 @@ is_at-tail i items key at is = record { place = at-tail i items key at is.place;
 is_gap-tail : (i : Item) (items : List Item) (key : List ℕ) (at : ℕ) → IsGap (i ∷ items) key (suc at) → IsGap items key at
 is_gap-tail i items key at gap = record { place = at-tail i items key at gap.place; misses = λ lt. gap.misses (omega arith) }
 
--- where a key comes before those of all items, nothing is without it
+-- removing a key that comes before those of all items removes nothing
 without_before : (items : List Item) (k : List ℕ) → AllByRecursion (λ (j : Item). Before k j.key) items → without items k ≡ items
 without_before [] k all = refl
 without_before (i ∷ items) k all = rw (after_not_same k i.key all.0) (ap (λ (l : List Item). i ∷ l) (without_before items k all.1))
@@ -49,7 +49,7 @@ key_of_place [] at d lt = absurd (omega (arith, lt))
 key_of_place (x ∷ items) zero d lt = refl
 key_of_place (x ∷ items) (suc at) d lt = key_of_place items at d (omega (arith, lt))
 
--- an item that has the key stands at its place
+-- an item that has the key is at the key's index
 at_key : (items : List Item) (key : List ℕ) (at : ℕ) → IsSorted items → at < length items → key_at items at ≡ key → IsAt items key at
 at_key items key at sorted within same = record {
   place = record {
@@ -65,7 +65,7 @@ pub key_found : (items : List Item) (key : List ℕ) (at : ℕ) (found : Item) �
 key_found items key at found sorted within there same =
     at_key items key at sorted within (key_of_place items at found within ∙ (ap (λ (i : Item). i.key) (sym there) ∙ same_key found.key key same))
 
--- the item at the place of its key
+-- the item at the index of its key
 pub get-at : (items : List Item) (key : List ℕ) (at : ℕ) (d : Item) → IsAt items key at → get items key ≡ Some (get_or items at d).value
 get-at [] key at d is = absurd (omega (arith, is.in_range))
 get-at (i ∷ items) key zero d is = rw (same_true i.key key is.same) refl
@@ -84,13 +84,13 @@ remove-without (i ∷ items) key zero sorted is = rw (same_true i.key key is.sam
 remove-without (i ∷ items) key (suc at) sorted is =
     rw (before_not_same i.key key (is.place.below 0 (omega arith))) (ap (λ (l : List Item). i ∷ l) (remove-without items key at sorted.1 (is_at-tail i items key at is)))
 
--- what the item after a gap says: its key comes after
+-- the key of the item after a gap comes after the key that would be inserted
 gap_before : (i : Item) (items : List Item) (key : List ℕ) → IsSorted (i ∷ items) → IsGap (i ∷ items) key 0 → AllByRecursion (λ (j : Item). Before key j.key) (i ∷ items)
 gap_before i items key sorted gap =
     let lt : Before key i.key = turned i.key key (gap.place.end (omega arith)) (gap.misses (omega arith)) in
     (lt, all_after key i.key items lt sorted.0)
 
--- the gap where a key would go
+-- the gap at which a key would be inserted
 pub get-gap : (items : List Item) (key : List ℕ) (at : ℕ) → IsSorted items → IsGap items key at → get items key ≡ None
 get-gap [] key at sorted gap = refl
 get-gap (i ∷ items) key zero sorted gap = get_before (i ∷ items) key (gap_before i items key sorted gap)
@@ -109,7 +109,7 @@ without-gap [] key at sorted gap = refl
 without-gap (i ∷ items) key zero sorted gap = without_before (i ∷ items) key (gap_before i items key sorted gap)
 without-gap (i ∷ items) key (suc at) sorted gap = rw (before_not_same i.key key (gap.place.below 0 (omega arith))) (ap (λ (l : List Item). i ∷ l) (without-gap items key at sorted.1 (is_gap-tail i items key at gap)))
 
--- the fields of a map after a change at the place of a key
+-- the fields of a map after a change at the index of a key
 module _ (fields items : List Item) (seen : fields ≡ items) (found key value : List ℕ) (has : found ≡ key) (at : ℕ) (new : Item) (made : new ≡ item_of key value) where
   pub set-is_put : IsAt items found at → set fields at new ≡ put items key value
   set-is_put is = rw (seen, made) (set-put items key value at (subst (λ (k : List ℕ). IsAt items k at) has is))
@@ -117,14 +117,14 @@ module _ (fields items : List Item) (seen : fields ≡ items) (found key value :
   pub insert-is_put : IsGap items found at → insert fields at new ≡ put items key value
   insert-is_put gap = rw (seen, made) (insert-put items key value at (subst (λ (k : List ℕ). IsGap items k at) has gap))
 
--- what follows where the fields hold the items with the new value
+-- consequences if the fields hold the items with the new value
 pub put_sorted : (fields items after : List Item) (key value : List ℕ) → fields ≡ items → IsSorted fields → after ≡ put items key value → IsSorted after
 put_sorted fields items after key value seen sorted is = subst IsSorted (sym is) (sorted-put items key value (subst IsSorted seen sorted))
 
 pub put_sets : (items after : List Item) (key value : List ℕ) → after ≡ put items key value → Sets items after key value
 put_sets items after key value is k = ap (λ (l : List Item). get l k) is ∙ get-put items key value k
 
--- the fields of a map without the item at the place of a key
+-- the fields of a map without the item at the index of a key
 pub remove-is_without : (fields items : List Item) (key : List ℕ) (at : ℕ) → fields ≡ items → IsSorted fields → IsAt items key at → remove fields at ≡ without items key
 remove-is_without fields items key at seen sorted is = rw seen (remove-without items key at (subst IsSorted seen sorted) is)
 

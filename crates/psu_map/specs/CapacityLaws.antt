@@ -1,5 +1,5 @@
--- These facts have one proof at most, so a ghost field or an invariant may hold them. (They stand here, and not in proofs/, since the
--- proof beside a ghost field may cite nothing else.)
+-- These facts are propositions (they have one proof at most), so a ghost field or an invariant may hold them. (They are
+-- here, and not in proofs/, since the proof beside a ghost field may cite nothing else.)
 use Rattle.std.specs.Prelude.{ℕ, List, [], ◌∷◌}
 use Rattle.std.specs.List.{AllByRecursion}
 use Rattle.std.proofs.Props.{props}

@@ -19,7 +19,7 @@ item_of key value = record { key = key; value = value }
 abbrev pub Before : List ℕ → List ℕ → Type 0
 Before a b = slice_cmp nat_cmp a b ≡ Less
 
--- the keys rise, so none comes twice
+-- the keys are strictly ascending, so none occurs twice
 abbrev pub IsSorted : List Item → Type 0
 IsSorted [] = ⊤
 IsSorted (i ∷ items) = AllByRecursion (λ (j : Item). Before i.key j.key) items × IsSorted items
@@ -29,7 +29,7 @@ abbrev pub get : List Item → List ℕ → Option (List ℕ)
 get [] key = None
 get (i ∷ items) key = if bytes_eq i.key key then Some i.value else get items key
 
--- the same items, and this value at this key
+-- the items, with this value at this key
 abbrev pub put : List Item → List ℕ → List ℕ → List Item
 put [] key value = item_of key value ∷ []
 put (i ∷ items) key value =
@@ -42,7 +42,7 @@ abbrev pub without : List Item → List ℕ → List Item
 without [] key = []
 without (i ∷ items) key = if bytes_eq i.key key then without items key else i ∷ without items key
 
--- what the map costs: one page for each item, and one for each 512 bytes begun of its value
+-- the number of pages that the map costs: one for each item, and one for each started 512 bytes of its value
 abbrev pub cost : List Item → ℕ
 cost [] = 0
 cost (i ∷ items) = (1 + (length i.value + 511) / 512) + cost items

@@ -5,7 +5,7 @@ use crate::{Edit, Value};
 use std::alloc::{AllocError, Allocator};
 use std::marker::Model;
 
-/// Edits in the order in which they were added; of two edits of one key the later one counts.
+/// Edits in the order in which they were added; of two edits of one key the later one takes effect.
 #[derive(Drop)]
 pub struct Batch<A: Allocator + Copy> {
     pub(crate) edits: Vec<Edit<A>, A>,
@@ -21,7 +21,7 @@ impl<A: Allocator + Copy> Model for Batch<A> {
 }
 
 impl<A: Allocator + Copy> Batch<A> {
-    /// No edits.
+    /// Returns a batch with no edits.
     pub fn new(alloc: A) -> Self
         ensures { result ≡ [] }
     {
@@ -30,7 +30,7 @@ impl<A: Allocator + Copy> Batch<A> {
         }
     }
 
-    /// Adds the edit that gives a key a value.
+    /// Adds the edit that assigns a value to a key.
     pub fn assign(&mut self, key: Vec<u8, A>, value: Value<A>) -> Result<(), AllocError>
         ensures ok { OnOk result (self.new ≡ self.old ++ record { key = key.items; value = Some value } ∷ []) }
         ensures err { OnErr result (self.new ≡ self.old) }
@@ -55,7 +55,7 @@ impl<A: Allocator + Copy> Batch<A> {
         &self.edits
     }
 
-    /// The same edits: the keys in memory of their own, the values shared.
+    /// Returns a copy of the batch: its keys are in memory of their own, its values are shared.
     pub fn copy(&self, alloc: A) -> Result<Self, AllocError>
         ensures { IfOk result (λ copy. copy ≡ self.now) }
     {

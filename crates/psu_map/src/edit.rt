@@ -5,8 +5,7 @@ use crate::Value;
 use std::alloc::{AllocError, Allocator};
 use std::marker::Model;
 
-/// A key, with the value that it is given, or with none where its item is removed. Contracts see an
-/// `Edit` of `specs/`.
+/// A key, with the value that it is assigned, or with none if its item is removed. Contracts see an `Edit` of `specs/`.
 #[derive(Drop)]
 pub struct Edit<A: Allocator + Copy> {
     pub(crate) key: Vec<u8, A>,
@@ -36,7 +35,7 @@ impl<A: Allocator + Copy> Edit<A> {
         &self.key
     }
 
-    /// The bytes of the value that the key is given; none where its item is removed.
+    /// The bytes of the value that the key is assigned; `None` if its item is removed.
     pub fn value(&self) -> Option<&[u8]>
         ensures { option_map (λ v. v.now) result ≡ self.now.value }
     {
@@ -46,7 +45,7 @@ impl<A: Allocator + Copy> Edit<A> {
         }
     }
 
-    /// The same edit: the key in memory of its own, the value shared.
+    /// Returns a copy of the edit: its key is in memory of its own, its value is shared.
     pub(crate) fn copy(&self, alloc: A) -> Result<Self, AllocError>
         ensures { IfOk result (λ copy. copy ≡ self.now) }
     {

@@ -1,4 +1,4 @@
-//! An item of the map that a commit aims at.
+//! An item of the map that a commit is to store.
 ghost use Rattle.std.specs.Prelude.{◌≡◌, ◌↔◌, IsTrue, true};
 ghost use Rattle.psu_map.specs.Target.{item_in};
 
@@ -7,14 +7,14 @@ use crate::keyed::Keyed;
 use std::alloc::Allocator;
 use std::marker::Model;
 
-/// An item, where its bytes lie. Contracts see an `Entry` of `specs/`.
+/// An item, as references to its bytes. Contracts see an `Entry` of `specs/`.
 #[derive(Drop)]
 pub struct Entry<'t> {
     /// The bytes of the key.
     pub key: &'t [u8],
     /// The bytes of the value.
     pub value: &'t [u8],
-    /// The map that stands has it, with this value.
+    /// Whether it is marked as unchanged: the current map has it, with this value.
     pub stands: bool,
 }
 
@@ -35,7 +35,7 @@ impl<'t> Keyed for Entry<'t> {
 }
 
 impl<'t> Entry<'t> {
-    /// An item that stands.
+    /// Returns an item that is unchanged.
     pub(crate) fn standing<A: Allocator + Copy>(pair: &'t Pair<A>) -> Entry<'t>
         ensures item { item_in result ≡ pair.now }
         ensures stands { result.stands ≡ true }
@@ -47,7 +47,7 @@ impl<'t> Entry<'t> {
         }
     }
 
-    /// Whether it stands with this value.
+    /// Whether it is unchanged and has this value.
     pub(crate) fn stands_with(&self, value: &[u8]) -> bool
         ensures { IsTrue result ↔ ((self.now.stands ≡ true) × (self.now.value ≡ value.now)) }
     {

@@ -30,7 +30,7 @@ impl<A: Allocator + Copy> Model for Items<A> {
 }
 
 impl<A: Allocator + Copy> Items<A> {
-    /// An empty map.
+    /// Returns an empty map.
     pub fn new(alloc: A) -> Self
         ensures { result ≡ [] }
     {
@@ -39,15 +39,15 @@ impl<A: Allocator + Copy> Items<A> {
         }
     }
 
-    /// The value of a key; none where no item has the key.
+    /// Returns the value of a key; `None` if no item has the key.
     pub fn get(&self, key: &[u8]) -> Option<&[u8]>
         ensures { option_map (λ v. v.now) result ≡ get self.now key.now }
     {
         value_of(&self.pairs, key)
     }
 
-    /// The same. The key is looked for first at the place `next`, which then moves behind it: where keys come in their order, each is
-    /// found at once.
+    /// Returns the value of a key, as `get` does. The key is looked for first at the index `next`, which then moves
+    /// past it: if keys are looked up in their order, each is found at once.
     #[inline(always)]
     pub fn get_near(&self, next: &mut usize, key: &[u8]) -> Option<&[u8]>
         ensures { option_map (λ v. v.now) result ≡ get self.now key.now }
@@ -55,12 +55,12 @@ impl<A: Allocator + Copy> Items<A> {
         value_near(&self.pairs, next, key)
     }
 
-    /// Gives a key a value, in place of the one that it has. The only error is a want of memory.
+    /// Assigns a value to a key, in place of the one that it has. Fails only if an allocation fails.
     pub fn insert(&mut self, key: Vec<u8, A>, value: Value<A>) -> Result<(), AllocError>
         ensures ok { OnOk result (self.new ≡ put self.old key.items value) }
         ensures err { OnErr result (self.new ≡ self.old) }
 
-        // What follows: every other key has what it had.
+        // A consequence: every other key has what it had.
         ensures sets { OnOk result (Sets self.old self.new key.items value) }
     {
         match self.search(&key) {
@@ -72,7 +72,7 @@ impl<A: Allocator + Copy> Items<A> {
         }
     }
 
-    /// Adds an item behind all others: its key comes after theirs. The only error is a want of memory.
+    /// Appends an item after all others: its key comes after theirs. Fails only if an allocation fails.
     pub fn append(&mut self, key: Vec<u8, A>, value: Value<A>) -> Result<(), AllocError>
         requires { AllByRecursion (λ (i : Item). Before i.key key.items) self.old }
         ensures ok { OnOk result (self.new ≡ self.old ++ item_of key.items value ∷ []) }
@@ -91,7 +91,7 @@ impl<A: Allocator + Copy> Items<A> {
         }
     }
 
-    /// The same map: the keys in memory of their own, the values shared.
+    /// Returns a copy of the map: its keys are in memory of their own, its values are shared.
     pub fn copy(&self, alloc: A) -> Result<Self, AllocError>
         ensures { IfOk result (λ copy. copy ≡ self.now) }
     {
@@ -110,8 +110,7 @@ impl<A: Allocator + Copy> Items<A> {
         &self.pairs
     }
 
-    /// The pages that the map costs: one for each item, and one for each 512 bytes begun of its
-    /// value.
+    /// The number of pages that the map costs: one for each item, and one for each started 512 bytes of its value.
     pub fn cost(&self) -> u128
         ensures value { result ≡ cost self.now }
         ensures most { result < 2 ^ 124 }
@@ -123,11 +122,11 @@ impl<A: Allocator + Copy> Items<A> {
         pages
     }
 
-    /// A new map: this one after the edits of a batch.
+    /// Returns a new map: this one after the edits of a batch.
     pub fn changed(&self, alloc: A, batch: &Batch<A>) -> Result<Self, AllocError>
         ensures value { IfOk result (λ map. map ≡ changed self.now batch.now) }
 
-        // What follows: each key has what its last edit says.
+        // A consequence: each key has what its last edit assigns.
         ensures assigns { IfOk result (Assigns self.now batch.now) }
     {
         let mut map = self.copy(alloc)?;
@@ -155,7 +154,7 @@ impl<A: Allocator + Copy> Items<A> {
         Ok(())
     }
 
-    // Where the key is, or where it would go.
+    // Returns the index of the key, or the index at which it would be inserted.
     fn search(&self, key: &[u8]) -> Result<usize, usize>
         ensures found { IfOk result (IsAt self.now key.now) }
         ensures absent { IfErr result (IsGap self.now key.now) }

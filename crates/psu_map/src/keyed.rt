@@ -1,11 +1,11 @@
-//! Things that stand in the order of their keys.
+//! Elements that are in the order of their keys.
 ghost use Rattle.std.specs.Prelude.{◌≡◌};
 ghost use Rattle.psu_map.specs.Map.{Item};
 
 use crate::Pair;
 use std::alloc::Allocator;
 
-/// A thing that is looked for by its key.
+/// An element that is looked up by its key.
 pub trait Keyed {
     ghost item: { Self → Item };
 

@@ -1,4 +1,5 @@
-//! An ordered map from byte keys to byte values, the batches that change it, and the items that it then has: no disk is in it.
+//! An ordered map from byte keys to byte values, the batches that change it, and the items that it then has. It uses no
+//! disk.
 #![tactic(auto)]
 
 mod batch;

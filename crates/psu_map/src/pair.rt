@@ -42,14 +42,14 @@ impl<A: Allocator + Copy> Pair<A> {
         self.value.bytes()
     }
 
-    /// The value, to be shared.
+    /// Returns another handle to the value, which shares it.
     pub fn share_value(&self) -> Result<Value<A>, AllocError>
         ensures { IfOk result (λ value. value ≡ self.now.value) }
     {
         self.value.share()
     }
 
-    /// The same key and value: the key in memory of its own, the value shared.
+    /// Returns a copy of the pair: its key is in memory of its own, its value is shared.
     pub(crate) fn copy(&self, alloc: A) -> Result<Self, AllocError>
         ensures { IfOk result (λ copy. copy ≡ self.now) }
     {

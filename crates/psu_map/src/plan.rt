@@ -1,4 +1,4 @@
-//! A map, and edits that are yet to be made of it in place.
+//! A map, and edits that are still to be made to it in place.
 ghost use Rattle.std.specs.Prelude.{◌≡◌, ◌<◌, ◌≤◌, ◌+◌, [], OnOk, OnErr, IfOk, IfErr, option_map, vec_len, vec_capacity};
 ghost use Rattle.psu_map.specs.Map.{get, put, without, IsSorted};
 ghost use Rattle.psu_map.specs.Batch.{changed, edited};
@@ -9,8 +9,8 @@ use std::alloc::{AllocError, Allocator};
 use std::marker::Model;
 use std::mem;
 
-/// A map with edits that are planned for it. What memory they want is taken when they are planned, so that nothing can be refused
-/// when they are made. Contracts see a `Planned`.
+/// A map with edits that are planned for it. The memory that they need is allocated when they are planned, so that no
+/// allocation can fail when they are made. Contracts see a `Planned`.
 #[derive(Drop)]
 pub struct Plan<A: Allocator + Copy> {
     alloc: A,
@@ -31,7 +31,7 @@ impl<A: Allocator + Copy> Model for Plan<A> {
 }
 
 impl<A: Allocator + Copy> Plan<A> {
-    /// No edits of a map.
+    /// Returns a map with no edits planned for it.
     pub fn of(alloc: A, items: Items<A>) -> Plan<A>
         ensures { result ≡ record { map = items; edits = [] } }
     {
@@ -43,7 +43,7 @@ impl<A: Allocator + Copy> Plan<A> {
         }
     }
 
-    /// A map with edits that are planned for it; both as they were where memory is refused.
+    /// Returns a map with edits that are planned for it, or both as they were if an allocation fails.
     pub fn with(alloc: A, items: Items<A>, edits: Batch<A>) -> Result<Plan<A>, (Items<A>, Batch<A>)>
         ensures ok { IfOk result (λ plan. plan ≡ record { map = items; edits = edits }) }
         ensures err { IfErr result (λ both. (both.0 ≡ items) × (both.1 ≡ edits)) }
@@ -59,7 +59,7 @@ impl<A: Allocator + Copy> Plan<A> {
         })
     }
 
-    /// The map, and the edits that are planned for it.
+    /// Returns the map, and the edits that are planned for it.
     pub fn into_parts(self) -> (Items<A>, Batch<A>)
         ensures map { result.0 ≡ self.map }
         ensures edits { result.1 ≡ self.edits }
@@ -68,7 +68,7 @@ impl<A: Allocator + Copy> Plan<A> {
         (Items { pairs }, edits)
     }
 
-    /// The map once the edits are made.
+    /// Makes the edits, and returns the map.
     pub fn made(mut self) -> Items<A>
         ensures { result ≡ changed self.map self.edits }
     {
@@ -84,15 +84,15 @@ impl<A: Allocator + Copy> Plan<A> {
         &self.pairs
     }
 
-    /// The value that the map has at a key; none where no item has the key.
+    /// Returns the value that the map has at a key; `None` if no item has the key.
     pub fn get(&self, key: &[u8]) -> Option<&[u8]>
         ensures { option_map (λ v. v.now) result ≡ get self.now.map key.now }
     {
         value_of(&self.pairs, key)
     }
 
-    /// The same. The key is looked for first at the place `next`, which then moves behind it: where keys come in their order, each is
-    /// found at once.
+    /// Returns the value that the map has at a key, as `get` does. The key is looked for first at the index `next`,
+    /// which then moves past it: if keys are looked up in their order, each is found at once.
     #[inline(always)]
     pub fn get_near(&self, next: &mut usize, key: &[u8]) -> Option<&[u8]>
         ensures { option_map (λ v. v.now) result ≡ get self.now.map key.now }
@@ -107,7 +107,7 @@ impl<A: Allocator + Copy> Plan<A> {
         &self.edits
     }
 
-    /// Plans these edits in place of those before. The only error is a want of memory.
+    /// Plans these edits in place of the previous ones. Fails only if an allocation fails.
     pub fn set(&mut self, edits: Batch<A>) -> Result<(), AllocError>
         ensures ok { OnOk result (self.new ≡ record { map = self.old.map; edits = edits }) }
         ensures err { OnErr result (self.new ≡ self.old) }
@@ -129,7 +129,7 @@ impl<A: Allocator + Copy> Plan<A> {
     }
 }
 
-// Makes one edit, with no memory.
+// Makes one edit, without allocating.
 fn make_one<A: Allocator + Copy>(pairs: &mut Vec<Pair<A>, A>, edit: Edit<A>)
     requires sorted { IsSorted pairs.old.items }
     requires room { vec_len pairs.old < vec_capacity pairs.old }
@@ -158,7 +158,7 @@ fn take_out<A: Allocator + Copy>(pairs: &mut Vec<Pair<A>, A>, key: &[u8])
     }
 }
 
-// Gives a key a value, with no memory.
+// Assigns a value to a key, without allocating.
 fn put_within<A: Allocator + Copy>(pairs: &mut Vec<Pair<A>, A>, key: Vec<u8, A>, value: Value<A>)
     requires sorted { IsSorted pairs.old.items }
     requires room { vec_len pairs.old < vec_capacity pairs.old }

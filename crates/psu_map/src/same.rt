@@ -1,4 +1,4 @@
-//! Whether two maps are the same.
+//! Comparing two maps.
 ghost use Rattle.std.specs.Prelude.{◌≡◌, ◌↔◌, IsTrue};
 
 use crate::{Items, Pair};

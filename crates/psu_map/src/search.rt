@@ -1,4 +1,4 @@
-//! Where a key stands among things in order.
+//! Finding a key among elements in order.
 ghost use Rattle.std.specs.Prelude.{◌≡◌, ◌<◌, length, map, IfOk, IfErr, IsTrue, option_map};
 ghost use Rattle.std.specs.Ordering.{nat_cmp};
 ghost use Rattle.std.specs.Cmp.Lexicographic.{slice_cmp};
@@ -10,7 +10,7 @@ use crate::keyed::Keyed;
 use std::alloc::Allocator;
 use std::cmp::Ordering;
 
-/// The value of a key; none where no pair has it.
+/// Returns the value of a key; `None` if no pair has it.
 pub fn value_of<'p, A: Allocator + Copy>(pairs: &'p [Pair<A>], key: &[u8]) -> Option<&'p [u8]>
     requires { IsSorted pairs.now }
     ensures { option_map (λ v. v.now) result ≡ get pairs.now key.now }
@@ -21,8 +21,8 @@ pub fn value_of<'p, A: Allocator + Copy>(pairs: &'p [Pair<A>], key: &[u8]) -> Op
     }
 }
 
-/// The same, where keys come in their order: looked for first behind the place of the key before, which `next` tells, and which
-/// moves behind the place of this one.
+/// Returns the value of a key, for keys that are looked up in their order. The key is looked for first at the index
+/// `next`, which is the one after the previous key; `next` then moves past this key.
 #[inline(always)]
 pub fn value_near<'p, A: Allocator + Copy>(
     pairs: &'p [Pair<A>],
@@ -40,7 +40,7 @@ pub fn value_near<'p, A: Allocator + Copy>(
     value_far(pairs, next, key)
 }
 
-// The same where it is not there.
+// Returns the value of a key that isn't at the index `next`, and moves `next`.
 #[inline(never)]
 fn value_far<'p, A: Allocator + Copy>(
     pairs: &'p [Pair<A>],
@@ -62,7 +62,7 @@ fn value_far<'p, A: Allocator + Copy>(
     }
 }
 
-// Whether the pair of a place has the key.
+// Whether the pair at an index has the key.
 #[inline(always)]
 fn is_there<A: Allocator + Copy>(pairs: &[Pair<A>], at: usize, key: &[u8]) -> bool
     requires { IsSorted pairs.now }
@@ -71,7 +71,7 @@ fn is_there<A: Allocator + Copy>(pairs: &[Pair<A>], at: usize, key: &[u8]) -> bo
     at < pairs.len() && pairs[at].key() == key
 }
 
-/// Where the key is among pairs, or where it would go.
+/// Returns the index of the key among pairs, or the index at which it would be inserted.
 pub fn search<A: Allocator + Copy>(pairs: &[Pair<A>], key: &[u8]) -> Result<usize, usize>
     requires { IsSorted pairs.now }
     ensures found { IfOk result (IsAt pairs.now key.now) }
@@ -80,7 +80,7 @@ pub fn search<A: Allocator + Copy>(pairs: &[Pair<A>], key: &[u8]) -> Result<usiz
     find(pairs, key)
 }
 
-/// Where the key is among things in order, or where it would go.
+/// Returns the index of the key among elements in order, or the index at which it would be inserted.
 #[tactic(auto, using(crate::proofs::Keys::same_by_order, crate::proofs::Keys::other_by_order))]
 pub fn find<T: Keyed>(things: &[T], key: &[u8]) -> Result<usize, usize>
     requires { IsSorted (map T.item things.now) }
@@ -97,7 +97,7 @@ pub fn find<T: Keyed>(things: &[T], key: &[u8]) -> Result<usize, usize>
     }
 }
 
-// How the key of a thing compares with a key.
+// Compares the key of an element with a key.
 fn order<T: Keyed>(things: &[T], at: usize, key: &[u8]) -> Ordering
     requires { at < length things.now }
     ensures { result ≡ slice_cmp nat_cmp (key_at (map T.item things.now) at) key.now }
@@ -105,7 +105,7 @@ fn order<T: Keyed>(things: &[T], at: usize, key: &[u8]) -> Ordering
     things[at].its_key().cmp(key)
 }
 
-// How many things have a smaller key, found by halving.
+// Returns how many elements have a smaller key, found by binary search.
 fn place<T: Keyed>(things: &[T], key: &[u8]) -> usize
     requires { IsSorted (map T.item things.now) }
     ensures { IsPlace (map T.item things.now) key.now result }

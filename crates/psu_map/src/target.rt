@@ -1,4 +1,4 @@
-//! The map that a commit aims at: that before, after a batch.
+//! The map that a commit is to store: the current map after a batch.
 ghost use Rattle.std.specs.Prelude.{◌≡◌, ◌++◌, ◌∷◌, ℕ, List, OnOk, Some, None, IfOk, map, option_map};
 ghost use Rattle.std.specs.List.{AllByRecursion};
 ghost use Rattle.psu_map.specs.Map.{get, IsSorted};
@@ -11,7 +11,8 @@ use crate::{Batch, Edit, Pair};
 use std::alloc::{AllocError, Allocator};
 use std::marker::Model;
 
-/// The items of the map after a batch, none of them copied: they lie in the map before and in the batch. Contracts see an `Aim`.
+/// The items of the map after a batch, none of them copied: they are in the current map and in the batch. Contracts see
+/// an `Aim`.
 #[derive(Drop)]
 pub struct Target<'t, A: Allocator + Copy> {
     before: &'t [Pair<A>],
@@ -31,7 +32,7 @@ impl<'t, A: Allocator + Copy> Model for Target<'t, A> {
 }
 
 impl<'t, A: Allocator + Copy> Target<'t, A> {
-    /// The map after a batch. The only error is a want of memory.
+    /// Returns the map after a batch. Fails only if an allocation fails.
     pub fn of(alloc: A, before: &'t [Pair<A>], batch: &'t Batch<A>) -> Result<Self, AllocError>
         requires { IsSorted before.now }
         ensures before { IfOk result (λ target. target.before ≡ before.now) }
@@ -57,7 +58,7 @@ impl<'t, A: Allocator + Copy> Target<'t, A> {
         &self.entries
     }
 
-    /// The value of a key; none where no item has the key.
+    /// Returns the value of a key; `None` if no item has the key.
     pub fn get(&self, key: &[u8]) -> Option<&[u8]>
         ensures { option_map (λ v. v.now) result ≡ get (aimed self.now) key.now }
     {
@@ -67,7 +68,7 @@ impl<'t, A: Allocator + Copy> Target<'t, A> {
         }
     }
 
-    // The map before, as it stands.
+    // Returns the current map, with each item unchanged.
     fn standing(alloc: A, before: &'t [Pair<A>]) -> Result<Self, AllocError>
         requires { IsSorted before.now }
         ensures before { IfOk result (λ target. target.before ≡ before.now) }
@@ -81,7 +82,7 @@ impl<'t, A: Allocator + Copy> Target<'t, A> {
         Ok(Target { before, entries })
     }
 
-    // The map before after one edit, with room for so many more items. Nothing is moved for it.
+    // Returns the current map after one edit, with room for so many more items. No item is moved for the edit.
     fn begun(
         alloc: A,
         before: &'t [Pair<A>],
@@ -99,7 +100,7 @@ impl<'t, A: Allocator + Copy> Target<'t, A> {
         }
     }
 
-    // The same of an assignment.
+    // Returns the current map after an assignment, with room for so many more items.
     fn begun_with(
         alloc: A,
         before: &'t [Pair<A>],
@@ -128,7 +129,7 @@ impl<'t, A: Allocator + Copy> Target<'t, A> {
         }
     }
 
-    // The same of a removal.
+    // Returns the current map after a removal, with room for so many more items if an item is removed.
     fn begun_without(
         alloc: A,
         before: &'t [Pair<A>],
@@ -176,7 +177,7 @@ impl<'t, A: Allocator + Copy> Target<'t, A> {
         }
     }
 
-    // Gives a key a value. It stands where it stood with this value.
+    // Assigns a value to a key. The item is unchanged if it was unchanged and had this value.
     fn put(&mut self, key: &'t [u8], value: &'t [u8]) -> Result<(), AllocError>
         ensures before { self.new.before ≡ self.old.before }
         ensures aimed { OnOk result (aimed self.new ≡ edited (aimed self.old) key.now (Some value.now)) }
@@ -207,7 +208,7 @@ impl<'t, A: Allocator + Copy> Target<'t, A> {
     }
 }
 
-// Items that stand, an entry between them, and room for so many more.
+// Returns unchanged items with an entry between them, and room for so many more.
 fn list_with<'t, A: Allocator + Copy>(
     alloc: A,
     front: &'t [Pair<A>],
@@ -225,7 +226,7 @@ fn list_with<'t, A: Allocator + Copy>(
     Ok(entries)
 }
 
-// Items that stand, those in front and those behind, and room for so many more.
+// Returns unchanged items, those of `front` and then those of `back`, and room for so many more.
 fn list<'t, A: Allocator + Copy>(
     alloc: A,
     front: &'t [Pair<A>],
@@ -241,7 +242,7 @@ fn list<'t, A: Allocator + Copy>(
     Ok(entries)
 }
 
-// Adds items that stand.
+// Appends unchanged items.
 fn stand<'t, A: Allocator + Copy>(
     entries: &mut Vec<Entry<'t>, A>,
     pairs: &'t [Pair<A>],

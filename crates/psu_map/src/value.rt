@@ -5,7 +5,8 @@ use std::alloc::{AllocError, Allocator};
 use std::marker::Model;
 use std::sync::Arc;
 
-/// The bytes of a value. They never change: the maps and batches that have the value share them. Contracts see the bytes.
+/// The bytes of a value. They never change: the maps and batches that have the value share them. Contracts see the
+/// bytes.
 #[derive(Drop)]
 pub struct Value<A: Allocator + Copy> {
     bytes: Arc<Vec<u8, A>, A>,
@@ -21,7 +22,7 @@ impl<A: Allocator + Copy> Model for Value<A> {
 }
 
 impl<A: Allocator + Copy> Value<A> {
-    /// A value of these bytes. The only error is a want of memory.
+    /// Returns a value of these bytes. Fails only if an allocation fails.
     pub fn new(bytes: Vec<u8, A>) -> Result<Self, AllocError>
         ensures { IfOk result (λ value. value ≡ bytes.items) }
     {
@@ -38,7 +39,8 @@ impl<A: Allocator + Copy> Value<A> {
         self.bytes.as_slice()
     }
 
-    /// The same, in the same memory. It is refused only where more share it than are counted.
+    /// Returns another handle to the value, in the same memory. Fails only if more handles share it than can be
+    /// counted.
     pub fn share(&self) -> Result<Self, AllocError>
         ensures { IfOk result (λ value. value ≡ self.now) }
     {

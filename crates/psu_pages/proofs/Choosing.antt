@@ -1,4 +1,4 @@
--- Which root counts, what it says, and what an image is refused for.
+-- Which root is the current one, its contents, and why an image is refused.
 use Rattle.std.proofs.Common.{◌≡◌, inl, inr, ℕ, ◌+◌, ◌<◌, ◌≤◌, Bool, true, false, List, length, get_or, Option, Some, None, refl, sym, ◌∙◌, ap, subst, arith}
 use Rattle.std.specs.Prelude.{◌==◌, if◌then◌else◌, IfSome, is_some, slice_index}
 use Rattle.std.specs.Int.{w16, w64, from_be_bytes}
@@ -62,7 +62,7 @@ module _ (root : Root) (n : ℕ) (both : Bool) (x : List ℕ) (picked : IsPicked
         absurd (cc)
   ]
 
--- no root counts where none is picked
+-- no root is the current one where two open ones have the same number
 none_counts : (x : List ℕ) (n : ℕ) → open_number First x ≡ Some n → open_number Second x ≡ Some n → (root : Root) → Counts root x → ⊥
 none_counts x n first second root counts = by_root root counts
   where
@@ -82,7 +82,7 @@ some_root x root size is_open (inl short) = omega (arith, size, short)
 some_root x First size is_open (inr shut) = shut.0 is_open
 some_root x Second size is_open (inr shut) = shut.1 is_open
 
--- refused since no root counts
+-- refused because there is no current root
 pub unpicked : (x : List ℕ) (cause : OpenCause) → 1024 ≤ length x → IsNonePicked (open_number First x) (open_number Second x) cause → IsChoiceRefusal x cause
 unpicked x Device size none = absurd none
 unpicked x NoRoot size none = inr (number_shut First x none.0, number_shut Second x none.1)
@@ -94,7 +94,7 @@ unpicked x BadRoot size none = record {
 unpicked x BadVersion size none = absurd none
 unpicked x Memory size none = absurd none
 
--- what a root's page says
+-- the contents of a root's page
 module _ (root : Root) (x page : List ℕ) (size : 1024 ≤ length x) (is : page ≡ page_of root x) where
   pub on_page : (from m : ℕ) → from + m ≤ 512 → Range from m page ≡ Range (gate_at root + from) m x
   on_page from m fits = ap (Range from m) is ∙ sym (range_inside (gate_at root) 512 from m x (omega (arith, gate_low root, size)) fits)
@@ -130,7 +130,7 @@ module _ (root : Root) (x page : List ℕ) (size : 1024 ≤ length x) (is : page
       count = omega (arith, sound.count, count_is);
     }
 
-    -- refused since its words are bad
+    -- refused because its fields are invalid
     pub unsound : (cause : OpenCause) → Counts root x → IsUnsound words (length x) cause → IsChoiceRefusal x cause
     unsound Device counts none = absurd none
     unsound NoRoot counts none = absurd none

@@ -9,7 +9,7 @@ use Rattle.psu_pages.proofs.Keeping.{agrees_gate, says_same}
 use Rattle.psu_pages.proofs.Making.{ready}
 use Rattle.psu_pages.proofs.Bearing.{its_pages, room}
 
--- the second gate is closed in x, the first root says what is told in y, and its gate is open in z
+-- the second gate is closed in x, the first root's contents are written in y, and its gate is open in z
 module _ (limit number : ℕ) (told x y z : List ℕ) (is_told : IsTold limit number [] told x) (least : 4 ≤ limit) (most : limit ≤ 480) (fits : 512 * (2 + 2 * limit) ≤ length x) (shut : gate Second x ≡ 0)
     (said : SameBut (gate_at First + 1) 511 x y) (says : Range (gate_at First + 1) 511 y ≡ told) (gated : SameBut (gate_at First) 1 y z) (is_open : gate First z ≡ 165) where
   says_y : Says First 2 limit number [] [] y

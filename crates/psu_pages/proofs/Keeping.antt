@@ -1,4 +1,4 @@
--- What a root says and shows stays while its own pages do.
+-- The contents of a root, and the items that it shows, stay the same while its own pages do.
 use Rattle.std.proofs.Common.{◌≡◌, inl, ⊎_elim, ℕ, ◌+◌, ◌*◌, ◌<◌, ◌≤◌, List, [], ◌∷◌, ◌++◌, length, get_or, take, map, refl, sym, ◌∙◌, ap, subst, arith}
 use Rattle.std.specs.List.{AllByRecursion}
 use Rattle.std.specs.Int.{w16, w64, from_be_bytes}
@@ -12,7 +12,7 @@ use Rattle.psu_pages.proofs.Lists.{all_left, all_right}
 use Rattle.psu_pages.proofs.Places.{gate_low, gates_apart}
 use Rattle.psu_pages.proofs.Steps.{page_stays}
 
--- y is x in what a root says after its gate, and on these pages
+-- y is x in the contents of a root after its gate, and on these pages
 pub record Agrees (root : Root) (kept : List ℕ) (x y : List ℕ) : Type 0 where
   pub size : length y ≡ length x
   pub says : (k : ℕ) → gate_at root + 1 ≤ k → k < gate_at root + 512 → get_or y k 0 ≡ get_or x k 0
@@ -127,7 +127,7 @@ module _ (written x y : List ℕ) (pool : AllByRecursion (λ (page : ℕ). 2 ≤
     pages = pages_missed kept fits clear;
   }
 
--- a range of one root's page is written, which is none of the other's
+-- a range of one root's page is written, which has no byte of the other's
 module _ (moved : Root) (at n : ℕ) (low : gate_at moved ≤ at) (high : at + n ≤ gate_at moved + 512) (x y : List ℕ) (but : SameBut at n x y) where
   pub pages_moved : (kept : List ℕ) → AreOn (length x) kept → AllByRecursion (λ (page : ℕ). page_in page y ≡ page_in page x) kept
   pages_moved [] fits = tt
@@ -143,7 +143,7 @@ module _ (moved : Root) (at n : ℕ) (low : gate_at moved ≤ at) (high : at + n
     pages = pages_moved kept fits;
   }
 
-  -- where it is the gate alone, what its own root says stays too
+  -- where it is only the gate, the contents of its own root stay too
   pub agrees_gate : at + n ≤ gate_at moved + 1 → (kept : List ℕ) → AreOn (length x) kept → Agrees moved kept x y
   agrees_gate gate_only kept fits = record {
     size = but.size;

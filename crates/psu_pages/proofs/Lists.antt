@@ -1,4 +1,4 @@
--- Lists whose elements are apart, and what holds of all of them.
+-- Lists of distinct elements, and what holds of all of them.
 use Rattle.std.proofs.Common.{◌≡◌, ◌≢◌, ℕ, zero, suc, ◌<◌, List, [], ◌∷◌, ◌++◌, length, get_or, take, sym, ◌∙◌, ap, arith}
 use Rattle.std.specs.List.{AllByRecursion}
 use Rattle.psu_pages.specs.Image.{IsNone, AreApart, AreClear}
@@ -58,7 +58,7 @@ pub apart_more : {X : Type 0} (xs : List X) (x : X) → AreApart xs → IsNone x
 apart_more [] x apart none = (tt, tt)
 apart_more {X} (y ∷ xs) x apart none = (all_join (λ (z : X). y ≢ z) xs (x ∷ []) apart.0 (λ same. none.0 (sym same), tt), apart_more xs x apart.1 none.1)
 
--- none of the one is one of the other: the first of them, the rest, and either way round
+-- two lists with no element in common: the first element, the rest, and the two lists exchanged
 clear_first : (x : ℕ) (xs ys : List ℕ) → AreClear (x ∷ xs) ys → IsNone ys x
 clear_first x xs = all_map (IsNone (x ∷ xs)) (λ (y : ℕ). x ≢ y) (λ y none same. none.0 (sym same))
 
@@ -73,7 +73,7 @@ pub clear_none : (pages : List ℕ) → AreClear [] pages
 clear_none [] = tt
 clear_none (p ∷ pages) = (tt, clear_none pages)
 
--- two lists, of which none of the one is one of the other, and back
+-- two lists of distinct elements with none in common, appended, and back
 pub apart_join : (xs ys : List ℕ) → AreApart xs → AreApart ys → AreClear xs ys → AreApart (xs ++ ys)
 apart_join [] ys a b clear = b
 apart_join (x ∷ xs) ys a b clear = (all_join (λ (z : ℕ). x ≢ z) xs ys a.0 (clear_first x xs ys clear), apart_join xs ys a.1 b (clear_rest x xs ys clear))
@@ -82,7 +82,7 @@ pub apart_clear : (xs ys : List ℕ) → AreApart (xs ++ ys) → AreClear xs ys
 apart_clear [] ys apart = clear_none ys
 apart_clear (x ∷ xs) ys apart = clear_swap ys (x ∷ xs) (all_right (λ (z : ℕ). x ≢ z) xs ys apart.0, clear_swap xs ys (apart_clear xs ys apart.1))
 
--- elements that differ in what a test says of them are apart
+-- elements for which a function has different results are distinct
 pub none_by : {X B : Type 0} (f : X → B) (a b : B) → (a ≡ b → ⊥) → (xs : List X) (x : X) → AllByRecursion (λ (y : X). f y ≡ a) xs → f x ≡ b → IsNone xs x
 none_by f a b differ [] x all is = tt
 none_by f a b differ (y ∷ xs) x all is = (λ same. differ (sym all.0 ∙ ap f (sym same) ∙ is), none_by f a b differ xs x all.1 is)

@@ -1,4 +1,4 @@
--- A root whose pages are written shows what was spelled.
+-- A root whose pages are written shows what was encoded.
 use Rattle.std.proofs.Common.{◌≡◌, ◌⊎◌, inl, inr, ℕ, ◌+◌, ◌*◌, ◌-◌, ◌^◌, ◌<◌, ◌≤◌, List, [], ◌∷◌, ◌++◌, length, take, drop, map, replicate, refl, sym, ◌∙◌, ap, subst, append_assoc, arith, length-drop}
 use Rattle.std.specs.List.{AllByRecursion}
 use Rattle.std.specs.Int.{w16, w64, from_be_bytes}
@@ -15,7 +15,7 @@ use Rattle.psu_pages.specs.Spelling.{spelled_words, filled, names, said, spelled
 use Rattle.psu_pages.proofs.Places.{gate_low, range_inside}
 use Rattle.psu_pages.proofs.Spelling.{words_again, length-spelled_words, head_again}
 
--- a value in its pages
+-- a value is decoded from its pages
 pub value_again : (x pages value : List ℕ) → AllByRecursion (λ (draft : Draft). page_in draft.page x ≡ draft.bytes) (value_drafts pages value) → length value ≤ 512 * length pages → take (length value) (bytes_in x pages) ≡ value
 value_again x [] [] written fits = refl
 value_again x [] (b ∷ value) written fits = absurd (omega (arith, fits))
@@ -53,17 +53,17 @@ module _ (x : List ℕ) (head : Head) (value : List ℕ) (is : IsHead head) (fit
   pub drafted_item : item_in x head ≡ item_of head.key value
   drafted_item = ap (item_of head.key) (ap (λ (n : ℕ). take n (bytes_in x head.pages)) size ∙ value_again x head.pages value written.1 (omega (arith, is.count, size)))
 
--- the same as one fact
+-- a head and its item as one fact
 pub item_written : (x : List ℕ) (head : Head) (value : List ℕ) → IsHead head → AllByRecursion (λ (n : ℕ). n < 2 ^ 16) head.pages → head.size ≡ length value
     → AllByRecursion (λ (draft : Draft). page_in draft.page x ≡ draft.bytes) (head_drafts head value) → IsWritten x head value
 item_written x head value is fits size written = record { head_is = drafted_head x head value is fits size written; item_is = drafted_item x head value is fits size written }
 
--- heads have keys that version 2 lets them have
+-- valid heads have keys that version 2 allows
 all_short : (heads : List Head) → AllByRecursion IsHead heads → AreShort 2 heads
 all_short [] are = tt
 all_short (head ∷ heads) are = (let is = are.0 in is.key_most, all_short heads are.1)
 
--- a root that says it names heads, which are there
+-- a root whose contents name heads, which are on their pages
 module _ (root : Root) (limit number : ℕ) (heads : List Head) (items : List Item) (x : List ℕ) (least : 4 ≤ limit) (most : limit ≤ 480) (fits : number < 2 ^ 64) (room : 512 * (2 + 2 * limit) ≤ length x)
     (count : length (names heads) ≤ 240) (low : AllByRecursion (λ (n : ℕ). n < 2 ^ 16) (names heads)) (are : AllByRecursion IsHead heads) (pool : AllByRecursion (IsInPool limit) (taken heads)) (apart : AreApart (taken heads)) (cost : length (taken heads) ≤ limit) (distinct : AreApart (keys heads))
     (says : Range (gate_at root + 1) 511 x ≡ filled 511 (said limit number (names heads))) (there : map (head_at x) (names heads) ≡ heads) (shown : map (item_in x) heads ≡ items) where

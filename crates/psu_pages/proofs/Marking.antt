@@ -1,4 +1,4 @@
--- Pages are claimed and given up one by one.
+-- Pages are claimed and released one by one.
 use Rattle.std.proofs.Common.{◌≡◌, ◌≢◌, ◌⊎◌, inl, inr, ℕ, zero, suc, ◌+◌, ◌<◌, ◌≤◌, Bool, true, false, List, [], ◌∷◌, ◌++◌, length, get_or, set, take, refl, sym, ◌∙◌, ap, subst, arith, length-append}
 use Rattle.std.specs.Prelude.{slice_set}
 use Rattle.std.specs.List.{AllByRecursion}
@@ -32,7 +32,7 @@ marks_more mark pages i d page old mid new lt is within next so =
     last : (p : ℕ) → IsNone (take i pages ++ page ∷ []) p → p ≢ page
     last p none = (all_right (λ (q : ℕ). p ≢ q) (take i pages) (page ∷ []) none).0
 
--- the free pages of one mark more
+-- the free pages, with one more mark
 pub free_more : (at i : ℕ) (d : Bool) (free : List Bool) → i < length free → get_or free i d ≡ true → free_from at (take (i + 1) free) ≡ free_from at (take i free) ++ (at + i) ∷ []
 free_more at i d free lt is = ap (free_from at) (take_more free i d lt) ∙ at_end at (take i free) (get_or free i d) is ∙ ap (λ (n : ℕ). free_from at (take i free) ++ (at + n) ∷ []) (length_take i free lt)
   where
@@ -71,7 +71,7 @@ first_same zero (x ∷ xs) ys le = refl
 first_same (suc n) [] ys le = absurd (omega (arith, le))
 first_same (suc n) (x ∷ xs) ys le = ap (λ (l : List ℕ). x ∷ l) (first_same n xs ys (omega (arith, le)))
 
--- free pages are free, there, and apart
+-- free pages are free, exist, and are distinct
 free_low : (at : ℕ) (free : List Bool) → AllByRecursion (λ (p : ℕ). at ≤ p) (free_from at free)
 free_low at [] = tt
 free_low at (true ∷ free) = (omega arith, all_map (λ (p : ℕ). at + 1 ≤ p) (λ (p : ℕ). at ≤ p) (λ p le. omega (arith, le)) (free_from (at + 1) free) (free_low (at + 1) free))
@@ -82,7 +82,7 @@ free_apart at [] = tt
 free_apart at (true ∷ free) = (all_map (λ (p : ℕ). at + 1 ≤ p) (λ (p : ℕ). at ≢ p) (λ p le same. omega (arith, le, same)) (free_from (at + 1) free) (free_low (at + 1) free), free_apart (at + 1) free)
 free_apart at (false ∷ free) = free_apart (at + 1) free
 
--- a place from the start of a list
+-- an index from the start of a list
 abbrev HasAt : ℕ → List Bool → ℕ → Type 0
 HasAt at free p = (k : ℕ) × (p ≡ at + k) × (k < length free) × (get_or free k false ≡ true)
 
@@ -99,14 +99,14 @@ free_are free = all_map (HasAt 0 free) (λ (p : ℕ). (is_free free p ≡ true) 
     (λ p has. let same : p ≡ has.0 = omega (arith, has.1) in (ap (is_free free) same ∙ has.3, omega (arith, same, has.2)))
     (free_pages free) (free_there 0 free)
 
--- a page that is free is there
+-- a page that is free exists
 pub free_within : (free : List Bool) (page : ℕ) → is_free free page ≡ true → page < length free
 free_within [] zero is = absurd (cc)
 free_within [] (suc page) is = absurd (cc)
 free_within (m ∷ free) zero is = omega arith
 free_within (m ∷ free) (suc page) is = omega (arith, free_within free page is)
 
--- the first free pages, when one mark more is looked at
+-- the first free pages, when one more mark is looked at
 module _ (n i : ℕ) (d : Bool) (free : List Bool) (lt : i < length free) (pages : List ℕ) (so : pages ≡ take n (free_pages (take i free))) where
   pub picked : get_or free i d ≡ true → length pages < n → pages ++ i ∷ [] ≡ take n (free_pages (take (i + 1) free))
   picked is room =
@@ -117,7 +117,7 @@ module _ (n i : ℕ) (d : Bool) (free : List Bool) (lt : i < length free) (pages
   pub left_out : get_or free i d ≡ false → pages ≡ take n (free_pages (take (i + 1) free))
   left_out is = so ∙ ap (take n) (sym (free_same 0 i d free lt is))
 
--- what is free behind the first marks comes after what is free among them
+-- the free pages after the first marks follow those among them
 free_behind : (at i : ℕ) (free : List Bool) → (rest : List ℕ) × (free_from at free ≡ free_from at (take i free) ++ rest)
 free_behind at zero [] = ([], refl)
 free_behind at (suc i) [] = ([], refl)
@@ -125,7 +125,7 @@ free_behind at zero (m ∷ free) = (free_from at (m ∷ free), refl)
 free_behind at (suc i) (true ∷ free) = let more = free_behind (at + 1) i free in (more.0, ap (λ (l : List ℕ). at ∷ l) more.1)
 free_behind at (suc i) (false ∷ free) = free_behind (at + 1) i free
 
--- the first free pages, where the first marks have as many as are wanted
+-- the first free pages, where the first marks have as many as requested
 pub enough : (n i : ℕ) (free : List Bool) (pages : List ℕ) → pages ≡ take n (free_pages (take i free)) → n ≤ length pages → pages ≡ take n (free_pages free)
 enough n i free pages so full =
     let more = free_behind 0 i free in
@@ -135,7 +135,7 @@ enough n i free pages so full =
 pub no_more : (i : ℕ) (free : List Bool) → length (free_pages (take i free)) ≤ length (free_pages free)
 no_more i free = let more = free_behind 0 i free in omega (arith, ap (λ (l : List ℕ). length l) more.1, length-append (free_pages (take i free)) more.0)
 
--- how many are free, when one mark more is looked at
+-- how many pages are free, when one more mark is looked at
 module _ (i : ℕ) (d : Bool) (free : List Bool) (lt : i < length free) where
   pub counted : get_or free i d ≡ true → length (free_pages (take (i + 1) free)) ≡ length (free_pages (take i free)) + 1
   counted is = ap (λ (l : List ℕ). length l) (free_more 0 i d free lt is) ∙ length-append (free_pages (take i free)) ((0 + i) ∷ [])
@@ -143,11 +143,11 @@ module _ (i : ℕ) (d : Bool) (free : List Bool) (lt : i < length free) where
   pub not_counted : get_or free i d ≡ false → length (free_pages (take (i + 1) free)) ≡ length (free_pages (take i free))
   not_counted is = ap (λ (l : List ℕ). length l) (free_same 0 i d free lt is)
 
--- what a page that comes next among pages is still marked
+-- the next of the pages is still marked as it was
 pub still : (mark other : Bool) (pages : List ℕ) (i d : ℕ) (old mid : List Bool) → i < length pages → AllByRecursion (λ (p : ℕ). is_free old p ≡ mark) pages → AreApart pages → Marks other (take i pages) old mid → is_free mid (get_or pages i d) ≡ mark
 still mark other pages i d old mid lt all apart so = so.others (get_or pages i d) (none_before pages i d lt apart) ∙ all_at (λ (p : ℕ). is_free old p ≡ mark) pages i d lt all
 
--- a number is none of these, or what holds of all of them holds of it
+-- a number is not in the list, or what holds of all of the list holds of it
 pub none_or : (p : ℕ) (ys : List ℕ) → IsNone ys p ⊎ ((P : ℕ → Type 0) → AllByRecursion P ys → P p)
 none_or p [] = inl tt
 none_or p (y ∷ ys) = elim (cases_eq p y) [
@@ -170,7 +170,7 @@ marks_both mark xs ys old mid new first second = record {
     kept p was (inl none) = second.others p none ∙ was
     kept p was (inr holds) = holds (λ (q : ℕ). is_free new q ≡ mark) second.marked
 
--- an older root's pages are given up, and then those of the one that counts are claimed
+-- an older root's pages are released, and then those of the current one are claimed
 pub handed_over : (older pages : List ℕ) (old mid new : List Bool) → AreClaimed old pages → Marks true older old mid → Marks false pages mid new → HandsOver older pages old new
 handed_over older pages old mid new claimed first second = record {
   size = second.size ∙ first.size;
@@ -191,11 +191,11 @@ pub claimed_still : (mark : Bool) (marked pages : List ℕ) (old new : List Bool
 claimed_still mark marked [] old new so claimed clear = tt
 claimed_still mark marked (p ∷ pages) old new so claimed clear = (so.others p clear.0 ∙ claimed.0, claimed_still mark marked pages old new so claimed.1 clear.1)
 
--- what a page that is claimed with others before it was
+-- a page that is free after others were claimed is not one of them
 pub was_free : (pages : List ℕ) (page : ℕ) (old mid : List Bool) → Marks false pages old mid → is_free mid page ≡ true → IsNone pages page
 was_free pages page old mid so is = none_by (is_free mid) false true (λ same. cc) pages page so.marked is
 
--- one page more was free, and none of those before it
+-- one more page was free, as those before it were
 pub free_one_more : (pages : List ℕ) (i d : ℕ) (old mid : List Bool) → i < length pages → Marks false (take i pages) old mid → is_free mid (get_or pages i d) ≡ true
     → AllByRecursion (λ (p : ℕ). is_free old p ≡ true) (take i pages) → AllByRecursion (λ (p : ℕ). is_free old p ≡ true) (take (i + 1) pages)
 free_one_more pages i d old mid lt so is before =
@@ -208,17 +208,17 @@ apart_one_more pages i d old mid lt so is before =
     let page = get_or pages i d in
     subst AreApart (sym (take_more pages i d lt)) (apart_more (take i pages) page before (was_free (take i pages) page old mid so is))
 
--- pages beside those that change stay claimed
+-- pages other than those that change stay claimed
 pub claimed_beside : (changed pages : List ℕ) (old new : List Bool) → ((page : ℕ) → IsNone changed page → is_free new page ≡ is_free old page) → AreClaimed old pages → AllByRecursion (IsNone changed) pages → AreClaimed new pages
 claimed_beside changed [] old new same claimed apart = tt
 claimed_beside changed (p ∷ pages) old new same claimed apart = (same p apart.0 ∙ claimed.0, claimed_beside changed pages old new same claimed.1 apart.1)
 
--- no number of a list is none of it
+-- each number of a list is in it
 named : (xs : List ℕ) → AllByRecursion (λ (x : ℕ). IsNone xs x → ⊥) xs
 named [] = tt
 named (x ∷ xs) = (λ none. none.0 refl, all_map (λ (y : ℕ). IsNone xs y → ⊥) (λ (y : ℕ). IsNone (x ∷ xs) y → ⊥) (λ y no none. no none.1) xs (named xs))
 
--- pages that both roots name stay claimed, before and behind those that are handed over
+-- pages that both roots name stay claimed, before and after those that are handed over
 pub handed_between : (first older pages last : List ℕ) (old new : List Bool) → AreClaimed old first → AreClaimed old last → AreApart (first ++ (older ++ last)) → HandsOver older pages old new
     → HandsOver (first ++ (older ++ last)) (first ++ (pages ++ last)) old new
 handed_between first older pages last old new claimed claimed_last apart so = record {

@@ -14,7 +14,7 @@ words_more (suc i) zero (a ∷ b ∷ rest) is le = absurd (omega (arith, is))
 words_more (suc i) (suc zero) (a ∷ b ∷ rest) is le = absurd (omega (arith, is))
 words_more (suc i) (suc (suc p)) (a ∷ b ∷ rest) is le = ap (λ (l : List ℕ). from_be_bytes w16 (a ∷ b ∷ []) ∷ l) (words_more i p rest (omega (arith, is)) (omega (arith, le)))
 
--- the same of numbers that are told by equations
+-- `words_more` with its numbers given by equations
 pub words_at : (i p q n : ℕ) (bytes : List ℕ) → p ≡ 2 * i → q ≡ suc p → n ≡ suc i → p + 2 ≤ length bytes → words n bytes ≡ words i bytes ++ from_be_bytes w16 (get_or bytes p 0 ∷ get_or bytes q 0 ∷ []) ∷ []
 words_at i p q n bytes is next more le =
     ap (λ (m : ℕ). words m bytes) more
@@ -25,7 +25,7 @@ pub length_words : (n : ℕ) (bytes : List ℕ) → length (words n bytes) ≡ n
 length_words zero bytes = refl
 length_words (suc n) bytes = ap suc (length_words n (drop 2 bytes))
 
--- one number more is spelled
+-- one more number is encoded
 spelled-append : (ns : List ℕ) (n : ℕ) → spelled_words (ns ++ n ∷ []) ≡ spelled_words ns ++ to_be_bytes w16 n
 spelled-append [] n = append-nil (to_be_bytes w16 n)
 spelled-append (m ∷ ns) n = ap (λ (l : List ℕ). to_be_bytes w16 m ++ l) (spelled-append ns n) ∙ sym (append_assoc (to_be_bytes w16 m) (spelled_words ns) (to_be_bytes w16 n))

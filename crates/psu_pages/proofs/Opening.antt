@@ -1,4 +1,4 @@
--- What is found at an opening.
+-- What opening an image finds.
 use Rattle.std.proofs.Common.{◌≡◌, ℕ, ◌+◌, ◌≤◌, List, length, refl, sym, ◌∙◌, ap, subst, arith}
 use Rattle.std.specs.List.{AllByRecursion}
 use Rattle.psu_disk.specs.Disk.{Range}
@@ -11,7 +11,7 @@ use Rattle.psu_pages.specs.Finding.{IsChosen, HasGates, HasGoodWords, HasReadabl
 use Rattle.psu_pages.proofs.Bearing.{counting_is}
 use Rattle.psu_pages.proofs.Choosing.{picked_counts, picked_number, picked_shut, picked_lower, some_root, on_page}
 
--- heads that are fit, few, cheap and of distinct keys
+-- heads that one image may have together, few enough, within the limit, and of distinct keys
 pub roster_of : (limit : ℕ) (heads : List Head) → CanStand limit heads → length heads ≤ 240 → length (taken heads) ≤ limit → AreApart (keys heads) → IsRoster limit heads
 roster_of limit heads can count cost distinct = record { each = can.each; pool = can.pool; apart = can.apart; count = count; cost = cost; distinct = distinct }
 
@@ -38,7 +38,7 @@ module _ {image : List ℕ} {chosen : Chosen} (has : HasChosen image chosen) whe
         words = subst (λ (r : Root). HasGoodWords r image) same has.is.words;
       }
 
-  -- refused since what its heads are does not fit
+  -- refused because its heads are invalid
   pub bad_root : (Shows chosen.root image chosen.limit → ⊥) → HasBadRoot image
   bad_root none = record {
     some_root = some_root image root has.size counts.open_gate;
@@ -78,6 +78,6 @@ module _ {image : List ℕ} {chosen : Chosen} (has : HasChosen image chosen) whe
     };
   }
 
--- what heads have together that stand
+-- the heads of a root that shows its items can be on an image together
 pub stand : (root : Root) (image : List ℕ) (limit : ℕ) → Shows root image limit → CanStand limit (heads_in root image)
 stand root image limit shows = record { each = shows.heads; pool = shows.pool; apart = shows.apart }

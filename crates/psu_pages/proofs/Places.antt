@@ -1,4 +1,4 @@
--- Where roots lie, and ranges of a page.
+-- Where roots are, and ranges of a page.
 use Rattle.std.proofs.Common.{◌≡◌, ◌⊎◌, inl, inr, ℕ, suc, ◌+◌, ◌<◌, ◌≤◌, List, ◌∷◌, length, get_or, take, refl, sym, ◌∙◌, ap, arith, drop-cons}
 use Rattle.std.proofs.lemmas.List.{same_lists, get_or_default}
 use Rattle.psu_disk.specs.Disk.{Range, SameBut}

@@ -1,4 +1,4 @@
--- Pages are claimed for a head, or given up.
+-- Pages are claimed for a head, or released.
 use Rattle.std.proofs.Common.{◌≡◌, ℕ, zero, suc, ◌+◌, ◌*◌, ◌<◌, ◌≤◌, Bool, true, false, List, [], ◌∷◌, length, get_or, take, length-take-le, sym, ◌∙◌, ap, subst, arith}
 use Rattle.std.specs.List.{AllByRecursion, remove}
 use Rattle.psu_pages.specs.Image.{Head, IsInPool, IsNone, AreApart, head_of, pages_of}
@@ -6,7 +6,7 @@ use Rattle.psu_pages.specs.Free.{is_free, free_pages, Marks, AreClaimed}
 use Rattle.psu_pages.proofs.Lists.{all_map, all_take, apart_take, clear_by}
 use Rattle.psu_pages.proofs.Marking.{free_apart, free_are, claimed_still}
 
--- a free page is none of the roots'
+-- a free page is not a root's
 pub two_least : (free : List Bool) → is_free free 0 ≡ false → is_free free 1 ≡ false → (p : ℕ) → is_free free p ≡ true → 2 ≤ p
 two_least free first second zero is = let no : false ≡ true = sym first ∙ is in absurd (cc)
 two_least free first second (suc zero) is = let no : false ≡ true = sym second ∙ is in absurd (cc)
@@ -42,7 +42,7 @@ module _ (pages : List ℕ) (old new : List Bool) (free : AllByRecursion (λ (p 
   pub kept_claimed : (others : List ℕ) → AreClaimed old others → AreClaimed new others
   kept_claimed others were = claimed_still false pages others old new claims were (clear_by (is_free old) true false (λ same. cc) pages others free were)
 
--- pages of the pool are none of the roots'
+-- pages of the pool are not the roots'
 pub none_root : (limit : ℕ) (pages : List ℕ) (root : ℕ) → root < 2 → AllByRecursion (IsInPool limit) pages → IsNone pages root
 none_root limit [] root low pool = tt
 none_root limit (p ∷ pages) root low pool = (λ same. omega (arith, same, low, pool.0.0), none_root limit pages root low pool.1)

@@ -1,4 +1,4 @@
--- What stands on pages goes on to stand, or gives way to what is published.
+-- What is on pages stays, or is replaced by what is published.
 use Rattle.std.proofs.Common.{◌≡◌, ℕ, suc, ◌+◌, ◌-◌, ◌*◌, ◌^◌, ◌<◌, ◌≤◌, List, [], ◌∷◌, ◌++◌, length, take, drop, replicate, sym, ◌∙◌, ap, subst, arith}
 use Rattle.std.specs.List.{AllByRecursion}
 use Rattle.psu_disk.specs.Disk.{DiskState, Left, SameBut, Only, Follows, LeavesOnly}
@@ -13,12 +13,12 @@ use Rattle.psu_pages.proofs.Places.{other_other}
 use Rattle.psu_pages.proofs.Keeping.{on_disk, bytes_same, gate_missed, pages_missed}
 use Rattle.psu_pages.proofs.Bearing.{room, bears_missed, number_missed, number_gate, bears_lower}
 
--- pages of the pool are none of the first two
+-- pages of the pool are not among the first two
 pub pool_low : (limit : ℕ) (pages : List ℕ) → AllByRecursion (IsInPool limit) pages → AllByRecursion (λ (page : ℕ). 2 ≤ page) pages
 pool_low limit [] pool = tt
 pool_low limit (page ∷ pages) pool = (pool.0.0, pool_low limit pages pool.1)
 
--- and numbers of two bytes
+-- their numbers fit into two bytes
 pub pool_words : (limit : ℕ) (pages : List ℕ) → limit ≤ 480 → AllByRecursion (IsInPool limit) pages → AllByRecursion (λ (page : ℕ). page < 2 ^ 16) pages
 pool_words limit [] most pool = tt
 pool_words limit (page ∷ pages) most pool = (omega (arith, pool.0.1, most), pool_words limit pages most pool.1)
@@ -37,7 +37,7 @@ written_still limit pages x y head value fits pool its clear misses written =
       item_is = ap (λ (b : List ℕ). item_of head.key (take head.size b)) (bytes_same x y head.pages same.1) ∙ written.item_is;
     }
 
--- each image that a call may leave shows the items from before it
+-- each possible crash image of a call shows the items from before it
 pub record Keeps {D : Type 0} (state : D → DiskState) (root : Root) (version limit number : ℕ) (heads : List Head) (change : List ℕ → List ℕ → Type 0) (old new : D) : Type 0 where
   pub each : (x y : List ℕ) → Left (state old) x → change x y → Bears root version limit number heads (items_in root (state old).bytes) y
   pub step : Follows change (Left (state old)) (Left (state new))
@@ -57,7 +57,7 @@ module _ {D : Type 0} {state : D → DiskState} {root : Root} {version limit num
   pub still_bears : EachBears (state new) root version limit number heads (items_in root (state new).bytes)
   still_bears x l = subst (λ (items : List Item). Bears root version limit number heads items x) (sym still_shown) (still_left x l)
 
--- pages are written that the root that counts doesn't name
+-- pages are written that the current root doesn't name
 module _ {D : Type 0} (state : D → DiskState) (root : Root) (version limit number : ℕ) (heads : List Head) (pages : List ℕ) (old : D) (pool : AllByRecursion (IsInPool limit) pages) (clear : AreClear pages (taken heads))
     (bears : EachBears (state old) root version limit number heads (items_in root (state old).bytes)) where
   pub missed : (x y : List ℕ) → Left (state old) x → Misses pages x y → Bears root version limit number heads (items_in root (state old).bytes) y
@@ -72,7 +72,7 @@ module _ {D : Type 0} (state : D → DiskState) (root : Root) (version limit num
 pub shut_missed : (limit : ℕ) (pages : List ℕ) (old new : DiskState) → AllByRecursion (IsInPool limit) pages → Follows (Misses pages) (Left old) (Left new) → (r : Root) → EachShut old r → EachShut new r
 shut_missed limit pages old new pool step r shut x l is = let from = step x l in shut from.0 from.1 (sym (gate_missed pages from.0 x (pool_low limit pages pool) from.2 r) ∙ is)
 
--- what is told begins after the gate
+-- `told`, the contents to be written, begins after the gate
 pub told_filled : (bytes : List ℕ) → drop 1 (filled 512 (0 ∷ bytes)) ≡ filled 511 bytes
 told_filled bytes = ap (λ (n : ℕ). bytes ++ replicate n 0) (let same : 512 - suc (length bytes) ≡ 511 - length bytes = omega arith in same)
 

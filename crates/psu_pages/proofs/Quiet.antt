@@ -10,7 +10,7 @@ bytes-append : (image pages : List ℕ) (page : ℕ) → bytes_in image (pages +
 bytes-append image [] page = append-nil (page_in page image)
 bytes-append image (p ∷ pages) page = ap (λ (b : List ℕ). page_in p image ++ b) (bytes-append image pages page) ∙ sym (append_assoc (page_in p image) (bytes_in image pages) (page_in page image))
 
--- one page more is read
+-- one more page is read
 pub bytes_more : (image pages : List ℕ) (i d : ℕ) → i < length pages → bytes_in image (take (i + 1) pages) ≡ bytes_in image (take i pages) ++ page_in (get_or pages i d) image
 bytes_more image pages i d lt = ap (bytes_in image) (take_more pages i d lt) ∙ bytes-append image (take i pages) (get_or pages i d)
 
@@ -22,7 +22,7 @@ pub quiet_runs : {D : Type 0} {moment : D → ℕ} {left_since : D → ℕ → L
     → LeavesOnly moment left_since old mid first → ((x : List ℕ) → second x → first x) → LeavesOnly moment left_since mid new second → LeavesOnly moment left_since old new first
 quiet_runs {D} {moment} {left_since} {old} {mid} {new} {first} {second} run fewer more = and_then moment left_since old mid new first second run more fewer
 
--- the name of one head more
+-- the names of heads: their number, and each by its index
 pub length-names : (heads : List Head) → length (names heads) ≡ length heads
 length-names [] = refl
 length-names (head ∷ heads) = ap suc (length-names heads)

@@ -25,7 +25,7 @@ module _ (name : ℕ) (pages : List ℕ) (old mid new : List Bool) (is : is_free
   pub head_claimed : Marks false pages mid new → Marks false (name ∷ pages) old new
   head_claimed so = marks_both false (name ∷ []) pages old mid new first so
 
--- the other pages of a head are free once its own is claimed
+-- the other pages of a head are still free once its own is claimed
 pub head_still_free : (name : ℕ) (pages : List ℕ) (old mid : List Bool) → mid ≡ slice_set old name false → IsNone pages name → AllByRecursion (λ (p : ℕ). is_free old p ≡ true) pages → AllByRecursion (λ (p : ℕ). is_free mid p ≡ true) pages
 head_still_free name [] old mid next none free = tt
 head_still_free name (p ∷ pages) old mid next none free = (ap (λ (marks : List Bool). is_free marks p) next ∙ kept ∙ free.0, head_still_free name pages old mid next none.1 free.1)
@@ -44,7 +44,7 @@ fit_none limit free pool = record {
   rest = λ page within none. pool.rest page within;
 }
 
--- one head more
+-- one more head
 pub fit_more : (limit : ℕ) (heads : List Head) (head : Head) (free new : List Bool) → AreFit limit heads free → IsFit free head → Marks false (pages_of head) free new → AreFit limit (heads ++ head ∷ []) new
 fit_more limit heads head free new so fit marks =
     let whole : taken (heads ++ head ∷ []) ≡ taken heads ++ pages_of head = taken-append heads (head ∷ []) ∙ ap (λ (l : List ℕ). taken heads ++ l) (append-nil (pages_of head)) in
@@ -65,7 +65,7 @@ fit_more limit heads head free new so fit marks =
           marks.others page (all_right (λ (q : ℕ). page ≢ q) (taken heads) (pages_of head) apart) ∙ so.rest page within (all_left (λ (q : ℕ). page ≢ q) (taken heads) (pages_of head) apart);
     }
 
--- the next of heads that can stand is fit
+-- the next head is fit, of heads that one image may have together
 pub fit_next : (limit : ℕ) (heads : List Head) (i : ℕ) (d : Head) (free : List Bool) → i < length heads → CanStand limit heads → AreFit limit (take i heads) free → IsFit free (get_or heads i d)
 fit_next limit heads i d free lt can so = record {
   is_head = all_at IsHead heads i d lt can.each;
@@ -77,6 +77,6 @@ fit_next limit heads i d free lt can so = record {
     both [] pool clear = tt
     both (p ∷ pages) pool clear = (so.rest p pool.0 clear.0, both pages pool.1 clear.1)
 
--- of a list that is mapped
+-- a mapped list, with one more element
 pub map_more : {X Y : Type 0} (f : X → Y) (xs : List X) (i : ℕ) (d : X) → i < length xs → map f (take (i + 1) xs) ≡ map f (take i xs) ++ f (get_or xs i d) ∷ []
 map_more f xs i d lt = ap (map f) (take_more xs i d lt) ∙ map-append f (take i xs) (get_or xs i d ∷ [])

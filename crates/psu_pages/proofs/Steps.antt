@@ -1,4 +1,4 @@
--- One page more is written.
+-- One more page is written.
 use Rattle.std.proofs.Common.{◌≡◌, ⊎_elim, inl, inr, ℕ, zero, suc, ◌+◌, ◌*◌, ◌<◌, ◌≤◌, ◌⊎◌, List, [], ◌∷◌, ◌++◌, length, get_or, take, drop, refl, sym, ◌∙◌, ap, subst, arith}
 use Rattle.std.specs.List.{AllByRecursion}
 use Rattle.std.proofs.lemmas.Bool.{cases_lt}
@@ -88,7 +88,7 @@ drafts_stay [] value page x y fits none misses written = tt
 drafts_stay (p ∷ pages) value page x y fits none misses written =
     (page_stays (page ∷ []) p x y fits.0 (λ same. none.0 (sym same), tt) misses ∙ written.0, drafts_stay pages (drop 512 value) page x y fits.1 none.1 misses written.1)
 
--- one page more of a value
+-- one more page of a value
 drafts_end : (pages value : List ℕ) (page n : ℕ) → n ≡ length pages → value_drafts (pages ++ page ∷ []) value ≡ value_drafts pages value ++ draft_of page (take 512 (drop (512 * n) value)) ∷ []
 drafts_end [] value page n is = ap (λ (v : List ℕ). draft_of page (take 512 v) ∷ []) (sym (ap (λ (m : ℕ). drop m value) (let none : 512 * n ≡ 0 = omega (arith, is) in none)))
 drafts_end (p ∷ pages) value page zero is = absurd (omega (arith, is))

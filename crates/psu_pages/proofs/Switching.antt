@@ -1,4 +1,4 @@
--- What each moment of a switch leaves.
+-- The possible crash images at each moment of a switch.
 use Rattle.std.proofs.Common.{◌≡◌, inl, ℕ, suc, ◌+◌, ◌*◌, ◌^◌, ◌<◌, ◌≤◌, List, [], ◌∷◌, length, map, refl, sym, ◌∙◌, ap, subst, arith}
 use Rattle.std.specs.List.{AllByRecursion}
 use Rattle.psu_disk.specs.Disk.{DiskState, Left, Range, SameBut, Only, Follows, LeavesOnly}
@@ -14,7 +14,7 @@ use Rattle.psu_pages.proofs.Keeping.{on_disk, pages_moved, shown_same}
 use Rattle.psu_pages.proofs.Making.{ready as root_says}
 use Rattle.psu_pages.proofs.Bearing.{bears_shut, bears_opened, lower_opened, opens}
 
--- heads that stand on their pages, read by name
+-- heads that are on their pages, decoded from the pages that are named
 there_by_name : (x y : List ℕ) (heads : List Head) → AllByRecursion (λ (page : ℕ). page_in page y ≡ page_in page x) (taken heads) → AllByRecursion (λ (head : Head). head_at x head.at ≡ head) heads → map (head_at y) (names heads) ≡ heads
 there_by_name x y [] same there = refl
 there_by_name x y (head ∷ heads) same there =
@@ -29,14 +29,14 @@ names_low : (limit : ℕ) (heads : List Head) → limit ≤ 480 → AllByRecursi
 names_low limit [] most pool = tt
 names_low limit (h ∷ heads) most pool = (omega (arith, pool.0.1, most), names_low limit heads most (all_right (IsInPool limit) (pages_of h) (taken heads) pool))
 
--- a smaller range of a page than all of it
+-- what changes in a range changes in a larger one
 wider : (at from n m : ℕ) (x y : List ℕ) → at ≤ from → from + n ≤ at + m → SameBut from n x y → SameBut at m x y
 wider at from n m x y low high but = record { size = but.size; below = λ k lt. but.below k (omega (arith, lt, low)); above = λ k le. but.above k (omega (arith, le, high)) }
 
 page_trans : (at n : ℕ) (x y z : List ℕ) → SameBut at n x y → SameBut at n y z → SameBut at n x z
 page_trans at n x y z first second = record { size = second.size ∙ first.size; below = λ k lt. second.below k lt ∙ first.below k lt; above = λ k le. second.above k le ∙ first.above k le }
 
--- what a root says was written and made sure of, and then its gate
+-- a root's contents were written and made durable, and then its gate
 pub record HasSaid (next : Root) (told : List ℕ) (start one : DiskState) : Type 0 where
   pub but : SameBut (gate_at next + 1) 511 start.bytes one.bytes
   pub says : Range (gate_at next + 1) 511 one.bytes ≡ told
@@ -70,11 +70,11 @@ module _ (next : Root) {old : List ℕ → Type 0} where
     run_touched_opened {mid} {two} step second = and_then moment left_since start one two (Reaches (SameBut (gate_at next) 512) old) (Reaches (SameBut (gate_at next) 1) mid) run_touched second (also step)
 
 module _ {start : DiskState} {next : Root} {version limit n : ℕ} {before heads : List Head} {items : List Item} {told : List ℕ} (ready : IsReady start next version limit n before heads items told) where
-  -- what holds of each moment of a switch
+  -- what holds of each possible crash image of a switch
   abbrev pub IsEach : List ℕ → Type 0
   IsEach = BearsEither next version limit n before items heads (map (item_in start.bytes) heads)
 
-  -- while what the next root says is written
+  -- while the next root's contents are written
   still : (y x : List ℕ) → Left start y → SameBut (gate_at next + 1) 511 y x → Bears (other next) version limit n before items x
   still y x l but = bears_shut next version limit n before items (gate_at next + 1) 511 (omega arith) (omega arith) y x but (λ is. ready.shut y l (sym (but.below (gate_at next) (omega arith)) ∙ is)) (ready.bears y l)
 
@@ -84,7 +84,7 @@ module _ {start : DiskState} {next : Root} {version limit n : ℕ} {before heads
   pub run_said : {D : Type 0} {moment : D → ℕ} {left_since : D → ℕ → List ℕ → Type 0} {old one : D} → LeavesOnly moment left_since old one (Reaches (SameBut (gate_at next + 1) 511) (Left start)) → LeavesOnly moment left_since old one IsEach
   run_said {D} {moment} {left_since} {old} {one} run = weaken moment left_since old one (Reaches (SameBut (gate_at next + 1) 511) (Left start)) IsEach run (λ x reach. inl (still reach.0 x reach.1 reach.2))
 
-  -- once it is made sure of
+  -- once they are durable
   module _ {one : DiskState} (said : HasSaid next told start one) where
     at_start : Bears (other next) version limit n before items start.bytes
     at_start = ready.bears start.bytes (reads_left start)

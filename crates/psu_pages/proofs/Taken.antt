@@ -61,7 +61,7 @@ taken_few [] (suc n) = omega arith
 taken_few (h ∷ heads) zero = omega arith
 taken_few (h ∷ heads) (suc n) = omega (arith, taken_few heads n, length-append (pages_of h) (taken (take n heads)), length-append (pages_of h) (taken heads))
 
--- the key of a head
+-- the keys of heads with one more
 pub keys-append : (xs : List Head) (h : Head) → keys (xs ++ h ∷ []) ≡ keys xs ++ h.key ∷ []
 keys-append [] h = refl
 keys-append (x ∷ xs) h = ap (λ (l : List (List ℕ)). x.key ∷ l) (keys-append xs h)
@@ -69,7 +69,7 @@ keys-append (x ∷ xs) h = ap (λ (l : List (List ℕ)). x.key ∷ l) (keys-appe
 pub keys_more : (heads : List Head) (i : ℕ) (d : Head) → i < length heads → keys (take (i + 1) heads) ≡ keys (take i heads) ++ (let h = get_or heads i d in h.key) ∷ []
 keys_more heads i d lt = ap keys (take_more heads i d lt) ∙ keys-append (take i heads) (get_or heads i d)
 
--- and is none of all of them only where it is no head's
+-- a key that is not among the keys of heads differs from each head's key
 pub key_differs : (key : List ℕ) (heads : List Head) (i : ℕ) (d : Head) → i < length heads → IsNone (keys heads) key → key ≢ (let one = get_or heads i d in one.key)
 key_differs key [] i d lt none = absurd (omega (arith, lt))
 key_differs key (x ∷ heads) zero d lt none = none.0

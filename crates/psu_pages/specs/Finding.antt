@@ -1,4 +1,4 @@
--- What is found at an opening, and why an image is refused.
+-- What opening an image finds, and why an image is refused.
 use Rattle.std.specs.Prelude.{◌≡◌, ◌≢◌, ℕ, ◌+◌, ◌*◌, ◌<◌, ◌≤◌, ◌==◌, ◌⊎◌, List, length, Bool, true, false, if◌then◌else◌, Option, Some, None, IfSome, is_some, ⊤}
 use Rattle.std.specs.List.{AllByRecursion}
 use Rattle.psu_disk.specs.Disk.{Range}
@@ -21,17 +21,17 @@ abbrev pub of_root : Root → Option ℕ → Option ℕ → Option ℕ
 of_root First first second = first
 of_root Second first second = second
 
--- a root counts, by the numbers of the roots with an open gate
+-- a root is the current one, by the numbers of the roots with an open gate
 pub record IsPicked (first second : Option ℕ) (root : Root) (number : ℕ) (both : Bool) : Type 0 where
   pub own : of_root root first second ≡ Some number
   pub lower : IfSome (of_root (other root) first second) (λ n. n < number)
   pub both_open : both ≡ is_some (of_root (other root) first second)
 
--- a root counts in an image, with this number, beside another open gate or alone
+-- a root is the current one of an image and has this number; `both` says whether the other gate is open too
 abbrev pub IsPickedIn : List ℕ → Root → ℕ → Bool → Type 0
 IsPickedIn image root number both = IsPicked (open_number First image) (open_number Second image) root number both
 
--- no gate is open, or both are and have one number
+-- why no root is picked: no gate is open, or both are open and have the same number
 abbrev pub IsNonePicked : Option ℕ → Option ℕ → OpenCause → Type 0
 IsNonePicked first second Device = ⊥
 IsNonePicked first second NoRoot = (first ≡ None) × (second ≡ None)
@@ -39,7 +39,8 @@ IsNonePicked first second BadRoot = (number : ℕ) × (first ≡ Some number) ×
 IsNonePicked first second BadVersion = ⊥
 IsNonePicked first second Memory = ⊥
 
--- A root says what one of ours says, of a version that is read, on a disk that has the room. What its heads are is another matter.
+-- A root's fields are valid: it is of this format, of a supported version, on a disk that is large enough. Its heads
+-- are checked elsewhere.
 pub record HasGoodWords (root : Root) (image : List ℕ) : Type 0 where
   pub marked : mark_in root image ≡ mark
   pub version : IsKnown (version_in root image)
@@ -48,7 +49,7 @@ pub record HasGoodWords (root : Root) (image : List ℕ) : Type 0 where
   pub room : 512 * (2 + 2 * limit_in root image) ≤ length image
   pub count : count_in root image ≤ 240
 
--- the words of a root of ours, of a version that is read, on a disk of this size
+-- the fields of a root of this format, of a supported version, on a disk of this size
 pub record IsSound (words : Words) (size : ℕ) : Type 0 where
   pub marked : words.mark ≡ mark
   pub version : IsKnown words.version
@@ -57,7 +58,7 @@ pub record IsSound (words : Words) (size : ℕ) : Type 0 where
   pub room : 512 * (2 + 2 * words.limit) ≤ size
   pub count : words.count ≤ 240
 
--- they aren't, and why
+-- why fields are not sound
 abbrev pub IsUnsound : Words → ℕ → OpenCause → Type 0
 IsUnsound words size Device = ⊥
 IsUnsound words size NoRoot = ⊥
@@ -75,7 +76,7 @@ pub record AreRoots (roots : Roots) (image : List ℕ) : Type 0 where
   pub first : roots.first ≡ page_of First image
   pub second : roots.second ≡ page_of Second image
 
--- the root that counts, and what it says
+-- the current root, and its contents
 pub record IsChosen (image : List ℕ) (chosen : Chosen) : Type 0 where
   pub picked : IsPickedIn image chosen.root chosen.number chosen.both
   pub words : HasGoodWords chosen.root image
@@ -83,24 +84,24 @@ pub record IsChosen (image : List ℕ) (chosen : Chosen) : Type 0 where
   pub limit : limit_in chosen.root image ≡ chosen.limit
   pub count : count_in chosen.root image ≡ chosen.count
 
--- A root counts, and its words are good. So far no memory is asked for; its heads are read next.
+-- There is a current root, and its fields are valid. Up to here no memory is allocated; its heads are read next.
 pub record HasReadableRoot (image : List ℕ) : Type 0 where
   pub counts : Counts (counting image) image
   pub words : HasGoodWords (counting image) image
 
--- a head stands on its page that may stand there beside the pages that aren't free
+-- a head is valid, and its pages are distinct and all free
 pub record IsFit (free : List Bool) (head : Head) : Type 0 where
   pub is_head : IsHead head
   pub were_free : AllByRecursion (λ (page : ℕ). is_free free page ≡ true) (pages_of head)
   pub apart : AreApart (pages_of head)
 
--- heads that may stand beside one another: each with pages of its own, within the pool
+-- heads that one image may have together: each valid, with pages of its own, within the pool
 pub record CanStand (limit : ℕ) (heads : List Head) : Type 0 where
   pub each : AllByRecursion IsHead heads
   pub pool : AllByRecursion (IsInPool limit) (taken heads)
   pub apart : AreApart (taken heads)
 
--- they do, and of the pool's pages theirs are claimed, and no others
+-- such heads, and of the pool's pages theirs are claimed, and no others
 pub record AreFit (limit : ℕ) (heads : List Head) (free : List Bool) : Type 0 where
   pub can_stand : CanStand limit heads
   pub sized : length free ≡ 2 + 2 * limit
@@ -109,7 +110,7 @@ pub record AreFit (limit : ℕ) (heads : List Head) (free : List Bool) : Type 0 
   pub claimed : AreClaimed free (taken heads)
   pub rest : (page : ℕ) → IsInPool limit page → IsNone (taken heads) page → is_free free page ≡ true
 
--- why heads that are good may not be read
+-- why valid heads may not be read
 abbrev pub IsScanCause : OpenCause → Type 0
 IsScanCause Device = ⊤
 IsScanCause NoRoot = ⊥
@@ -117,29 +118,29 @@ IsScanCause BadRoot = ⊥
 IsScanCause BadVersion = ⊥
 IsScanCause Memory = ⊤
 
--- beside the root that counts the other's gate is closed, or is open over a lower number
+-- the gate of the root that isn't current is closed, or it is open and that root has a lower number
 pub record HasGates (root : Root) (number : ℕ) (both : Bool) (image : List ℕ) : Type 0 where
   pub shut : both ≡ false → gate (other root) image ≢ 165
   pub lower : both ≡ true → number_in (other root) image < number
 
--- there are no two roots, or no gate is open
+-- the image is too short for two roots, or no gate is open
 abbrev pub HasNoRoot : List ℕ → Type 0
 HasNoRoot image = (length image < 1024) ⊎ ((gate First image ≢ 165) × (gate Second image ≢ 165))
 
--- a root counts that is one of ours, but of a version that isn't read
+-- the current root is of this format, but of a version that isn't supported
 pub record HasOtherVersion (image : List ℕ) : Type 0 where
   pub size : 1024 ≤ length image
   pub counts : Counts (counting image) image
   pub marked : mark_in (counting image) image ≡ mark
   pub version : IsKnown (version_in (counting image) image) → ⊥
 
--- there are two roots, and what they say is wrong in another way
+-- there are two roots with an open gate, and the image represents no items for another reason than its version
 pub record HasBadRoot (image : List ℕ) : Type 0 where
   pub some_root : HasNoRoot image → ⊥
   pub same_version : HasOtherVersion image → ⊥
   pub none_stands : (limit : ℕ) (items : List Item) → Stands image limit items → ⊥
 
--- The cause for which an image is refused. A failed disk call and a want of memory say nothing of the image.
+-- The cause for which an image is refused. A failed disk call and a failed allocation say nothing about the image.
 abbrev pub IsRefusal : List ℕ → OpenCause → Type 0
 IsRefusal image Device = ⊤
 IsRefusal image NoRoot = HasNoRoot image
@@ -147,7 +148,7 @@ IsRefusal image BadRoot = HasBadRoot image
 IsRefusal image BadVersion = HasOtherVersion image
 IsRefusal image Memory = ⊤
 
--- no root counts whose heads can be read, and why
+-- why there is no current root whose heads can be read
 abbrev pub IsChoiceRefusal : List ℕ → OpenCause → Type 0
 IsChoiceRefusal image Device = ⊥
 IsChoiceRefusal image NoRoot = HasNoRoot image
@@ -155,7 +156,7 @@ IsChoiceRefusal image BadRoot = HasBadRoot image
 IsChoiceRefusal image BadVersion = HasOtherVersion image
 IsChoiceRefusal image Memory = ⊥
 
--- what a choice may be refused for
+-- the causes for which a choice may be refused
 abbrev pub IsChoiceCause : OpenCause → Type 0
 IsChoiceCause Device = ⊥
 IsChoiceCause NoRoot = ⊤

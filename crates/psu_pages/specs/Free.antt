@@ -3,7 +3,7 @@ use Rattle.std.specs.Prelude.{◌≡◌, ℕ, ◌+◌, ◌*◌, ◌≤◌, Bool,
 use Rattle.std.specs.List.{AllByRecursion}
 use Rattle.psu_pages.specs.Image.{Head, IsHead, taken, keys, IsInPool, IsNone, AreApart}
 
--- a page is free; one that there isn't is not
+-- a page is free; a page that doesn't exist is not
 abbrev pub is_free : List Bool → ℕ → Bool
 is_free free page = slice_index_or free page false
 
@@ -15,7 +15,7 @@ free_from page (mark ∷ free) = if mark then page ∷ free_from (page + 1) free
 abbrev pub free_pages : List Bool → List ℕ
 free_pages free = free_from 0 free
 
--- each of these pages has this mark in new, and every other the one that it had
+-- each of these pages has this mark in new, and every other page the one that it had in old
 pub record Marks (mark : Bool) (pages : List ℕ) (old new : List Bool) : Type 0 where
   pub size : length new ≡ length old
   pub marked : AllByRecursion (λ (page : ℕ). is_free new page ≡ mark) pages
@@ -32,7 +32,7 @@ pub record IsPool (limit : ℕ) (free : List Bool) : Type 0 where
   pub second : is_free free 1 ≡ false
   pub rest : (page : ℕ) → IsInPool limit page → is_free free page ≡ true
 
--- the pages of an older root become free that another doesn't name; every other page stays as it was
+-- the pages of an older root that another root doesn't name become free; every other page stays as it was
 pub record HandsOver (older pages : List ℕ) (old new : List Bool) : Type 0 where
   pub size : length new ≡ length old
   pub kept : AreClaimed new pages

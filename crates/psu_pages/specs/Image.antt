@@ -1,6 +1,6 @@
--- What the bytes of an image say, of version 1 or of version 2, which differ in how long a key may be. Pages have 512 bytes: pages 0
--- and 1 are the roots, and the pool of twice the limit comes after them. A root names pages with the heads of items, and a head names
--- the pages of its value.
+-- The format of an image, of version 1 or of version 2, which differ in the maximum length of a key. Pages have 512
+-- bytes: pages 0 and 1 are the roots, and the pool of twice the limit comes after them. A root names the pages with the
+-- heads (header pages) of items, and a head names the pages of its value.
 use Rattle.std.specs.Prelude.{◌≡◌, ◌≢◌, ℕ, zero, suc, ◌+◌, ◌*◌, ◌/◌, ◌<◌, ◌≤◌, ◌==◌, ◌&&◌, ◌||◌, not, nat_lt, List, [], ◌∷◌, ◌++◌, length, take, drop, map, slice_index, if◌then◌else◌, ⊤}
 use Rattle.std.specs.List.{AllByRecursion}
 use Rattle.std.specs.Int.{w16, w32, w64, from_be_bytes}
@@ -17,11 +17,11 @@ abbrev pub gate_at : Root → ℕ
 gate_at First = 0
 gate_at Second = 512
 
--- a5 alone is open
+-- the byte of a root's gate; the gate is open only if it is a5
 abbrev pub gate : Root → List ℕ → ℕ
 gate root image = slice_index image (gate_at root)
 
--- after the gate come `PSU`, the version, the limit, the number, how many items there are, and the page of each item's head
+-- after the gate come `PSU`, the version, the limit, the number, the number of items, and the page of each item's head
 abbrev pub mark_in : Root → List ℕ → List ℕ
 mark_in root image = Range (gate_at root + 1) 3 image
 
@@ -45,12 +45,13 @@ words (suc n) bytes = from_be_bytes w16 (take 2 bytes) ∷ words n (drop 2 bytes
 abbrev pub names_in : Root → List ℕ → List ℕ
 names_in root image = words (count_in root image) (Range (gate_at root + 18) 480 image)
 
--- its gate is open, and so is no other of a number as high: of two open roots the one with the higher number counts
+-- the root is the current one: its gate is open, and the other's is not open with a number as high. Of two open roots
+-- the one with the higher number is the current one.
 pub record Counts (root : Root) (image : List ℕ) : Type 0 where
   pub open_gate : gate root image ≡ 165
   pub highest : gate (other root) image ≡ 165 → number_in (other root) image < number_in root image
 
--- the root that counts, where one does
+-- the current root, if there is one
 abbrev pub counting : List ℕ → Root
 counting image = if gate Second image == 165 && (not (gate First image == 165) || nat_lt (number_in First image) (number_in Second image)) then Second else First
 
@@ -62,7 +63,8 @@ mark = 80 ∷ 83 ∷ 85 ∷ []
 abbrev pub page_in : ℕ → List ℕ → List ℕ
 page_in page image = Range (512 * page) 512 image
 
--- what a head says: the page that it is on, the item's key, how many bytes its value has, and the pages that hold them
+-- the contents of a head: the page that it is on, the item's key, the number of bytes of its value, and the pages that
+-- hold them
 pub record Head : Type 0 where
   pub at : ℕ
   pub key : List ℕ
@@ -72,7 +74,7 @@ pub record Head : Type 0 where
 abbrev pub head_of : ℕ → List ℕ → ℕ → List ℕ → Head
 head_of at key size pages = record { at = at; key = key; size = size; pages = pages }
 
--- the head with this key, by the bytes after it
+-- the head with this key, decoded from the bytes after it
 abbrev pub head_after : ℕ → List ℕ → List ℕ → Head
 head_after at key bytes =
     let more = drop 4 bytes in
@@ -95,11 +97,11 @@ abbrev pub bytes_in : List ℕ → List ℕ → List ℕ
 bytes_in image [] = []
 bytes_in image (page ∷ pages) = page_in page image ++ bytes_in image pages
 
--- the value of a head; what its last page has after it says nothing
+-- the value of a head; the bytes after it on its last page are ignored
 abbrev pub value_in : List ℕ → Head → List ℕ
 value_in image head = take head.size (bytes_in image head.pages)
 
--- what a head may say of itself, whatever the version
+-- what holds for a valid head by itself, whatever the version
 pub record IsHead (head : Head) : Type 0 where
   pub key_least : 1 ≤ length head.key
   pub key_most : length head.key ≤ 65
@@ -107,11 +109,11 @@ pub record IsHead (head : Head) : Type 0 where
   pub size_most : head.size ≤ 33280
   pub count : length head.pages ≡ (head.size + 511) / 512
 
--- the versions that are read
+-- the supported versions
 abbrev pub IsKnown : ℕ → Type 0
 IsKnown version = (1 ≤ version) × (version ≤ 2)
 
--- how many bytes a key may have in an image of this version
+-- the maximum number of bytes of a key in an image of this version
 abbrev pub key_most : ℕ → ℕ
 key_most version = if version == 1 then 33 else 65
 
@@ -135,15 +137,15 @@ keys heads = map (λ (head : Head). head.key) heads
 abbrev pub IsInPool : ℕ → ℕ → Type 0
 IsInPool limit page = (2 ≤ page) × (page < 2 + 2 * limit)
 
--- it is none of these
+-- x is not in the list
 abbrev pub IsNone : {X : Type 0} → List X → X → Type 0
 IsNone {X} xs x = AllByRecursion (λ (y : X). x ≢ y) xs
 
--- none comes twice
+-- no element occurs twice
 abbrev pub AreApart : {X : Type 0} → List X → Type 0
 AreApart [] = ⊤
 AreApart (x ∷ xs) = IsNone xs x × AreApart xs
 
--- none of the first is one of the others
+-- the two lists have no element in common
 abbrev pub AreClear : List ℕ → List ℕ → Type 0
 AreClear pages others = AllByRecursion (λ (other : ℕ). IsNone pages other) others

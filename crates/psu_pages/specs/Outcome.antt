@@ -1,4 +1,4 @@
--- What the calls on pages take and give.
+-- What the calls on pages require and ensure.
 use Rattle.std.specs.Prelude.{◌≡◌, ℕ, ◌+◌, ◌/◌, true, false, List, [], Result, Ok, Err}
 use Rattle.std.specs.List.{AllByRecursion}
 use Rattle.psu_disk.specs.declared.disk.Disk.{Ghosts}
@@ -19,11 +19,11 @@ pub record IsPlanned {D A : Type 0} {G : Ghosts D} (pages : Pages D A G) (head :
   pub unnamed : AreClear (pages_of head) (taken pages.heads.items)
   pub unnamed_before : AreClear (pages_of head) (taken pages.older.items)
 
--- how many pages an item with so many bytes takes
+-- the number of pages that an item takes whose value has so many bytes
 abbrev pub pages_for : ℕ → ℕ
 pages_for size = 1 + (size + 511) / 512
 
--- pages that were free were claimed for an item with this key and so many bytes
+-- pages that were free were claimed for an item with this key and a value of so many bytes
 pub record HasPlanned {D A : Type 0} {G : Ghosts D} (old new : Pages D A G) (key : List ℕ) (size : ℕ) (head : Head) : Type 0 where
   pub key_is : head.key ≡ key
   pub size_is : head.size ≡ size
@@ -42,7 +42,7 @@ pub record HasSameRoots {D A : Type 0} {G : Ghosts D} (old new : Pages D A G) : 
   pub heads : new.heads ≡ old.heads
   pub older : new.older ≡ old.older
 
--- all but the disk, and how the gates stand, is as it was
+-- all but the disk, and the state of the gates, is as it was
 pub record HasSameHeads {D A : Type 0} {G : Ghosts D} (old new : Pages D A G) : Type 0 where
   pub root : new.root ≡ old.root
   pub limit : new.limit ≡ old.limit
@@ -52,7 +52,7 @@ pub record HasSameHeads {D A : Type 0} {G : Ghosts D} (old new : Pages D A G) : 
   pub older : new.older ≡ old.older
   pub free : new.free ≡ old.free
 
--- the next root counts, is of version 2 and names these heads; the gate of the one before stands open
+-- the next root is the current one, is of version 2 and names these heads; the gate of the previous one is open
 pub record HasPublished {D A : Type 0} {G : Ghosts D} (old new : Pages D A G) (heads : List Head) : Type 0 where
   pub root : new.root ≡ other old.root
   pub version : new.version ≡ 2
@@ -62,7 +62,7 @@ pub record HasPublished {D A : Type 0} {G : Ghosts D} (old new : Pages D A G) (h
   pub older : new.older ≡ old.heads
   pub free : new.free ≡ old.free
 
--- the root that counts is the only open one, and the pages are free that the older one alone named
+-- the current root is the only open one, and the pages are free that only the older one named
 pub record HasClosed {D A : Type 0} {G : Ghosts D} (old new : Pages D A G) : Type 0 where
   pub root : new.root ≡ old.root
   pub version : new.version ≡ old.version
@@ -72,7 +72,7 @@ pub record HasClosed {D A : Type 0} {G : Ghosts D} (old new : Pages D A G) : Typ
   pub older : new.older.items ≡ []
   pub free : HandsOver (taken old.older.items) (taken old.heads.items) old.free new.free
 
--- no heads on a fresh disk, and all of the pool is free
+-- a freshly formatted disk: it has no heads, and all of the pool is free
 pub record IsFresh {D A : Type 0} {G : Ghosts D} (limit : ℕ) (pages : Pages D A G) : Type 0 where
   pub root : pages.root ≡ First
   pub limit_is : pages.limit ≡ limit
@@ -82,12 +82,12 @@ pub record IsFresh {D A : Type 0} {G : Ghosts D} (limit : ℕ) (pages : Pages D 
   pub heads : pages.heads.items ≡ []
   pub free : (page : ℕ) → IsInPool limit page → is_free pages.free page ≡ true
 
--- the disk of formatted pages, or the one handed back
+-- the disk of formatted pages, or the one returned with the error
 abbrev pub formatted_disk : {D A : Type 0} {G : Ghosts D} → Result (Pages D A G) (FormatFault D) → D
 formatted_disk (Ok pages) = pages.disk
 formatted_disk (Err e) = e.disk
 
--- the disk of opened pages, or the one handed back
+-- the disk of opened pages, or the one returned with the error
 abbrev pub opened_disk : {D A : Type 0} {G : Ghosts D} → Result (Pages D A G) (Refused D) → D
 opened_disk (Ok pages) = pages.disk
 opened_disk (Err e) = e.disk

@@ -1,4 +1,4 @@
--- What a root shows, whatever its gate, and what an image stands for.
+-- The items that a root shows, whatever its gate, and those that an image represents.
 use Rattle.std.specs.Prelude.{◌≡◌, ◌≢◌, ℕ, ◌+◌, ◌*◌, ◌<◌, ◌≤◌, ◌⊎◌, List, length, map}
 use Rattle.std.specs.List.{AllByRecursion}
 use Rattle.psu_disk.specs.Disk.{DiskState, Left}
@@ -21,9 +21,9 @@ item_in image head = item_of head.key (value_in image head)
 abbrev pub items_in : Root → List ℕ → List Item
 items_in root image = map (item_in image) (heads_in root image)
 
--- A root shows its items, whatever the gate: it is one of ours, of a version that is read and of this limit, on a disk that has the
--- room; no page of its items lies outside of the pool or is named twice, and no key comes twice or is too long for the version. Other
--- bytes may be any.
+-- A root shows its items, whatever the gate: it is of this format, of a supported version and of this limit, on a disk
+-- that is large enough; no page of its items lies outside the pool or is named twice, and no key occurs twice or is too
+-- long for the version. Other bytes may be any.
 pub record Shows (root : Root) (image : List ℕ) (limit : ℕ) : Type 0 where
   pub marked : mark_in root image ≡ mark
   pub version : IsKnown (version_in root image)
@@ -39,7 +39,7 @@ pub record Shows (root : Root) (image : List ℕ) (limit : ℕ) : Type 0 where
   pub cost : length (taken (heads_in root image)) ≤ limit
   pub distinct : AreApart (keys (heads_in root image))
 
--- A root says this version and this number, names these heads and shows these items, whatever its gate.
+-- A root has this version and this number, names these heads and shows these items, whatever its gate.
 pub record Says (root : Root) (version limit number : ℕ) (heads : List Head) (items : List Item) (image : List ℕ) : Type 0 where
   pub version_is : version_in root image ≡ version
   pub number_is : number_in root image ≡ number
@@ -47,33 +47,34 @@ pub record Says (root : Root) (version limit number : ℕ) (heads : List Head) (
   pub heads_are : heads_in root image ≡ heads
   pub items_are : items_in root image ≡ items
 
--- This root counts, and says this.
+-- This root is the current one, and encodes this version, limit, number, heads and items.
 pub record Bears (root : Root) (version limit number : ℕ) (heads : List Head) (items : List Item) (image : List ℕ) : Type 0 where
   pub counts : Counts root image
   pub says : Says root version limit number heads items image
 
--- The root that counts shows these items.
+-- The image represents these items: its current root shows them.
 pub record Stands (image : List ℕ) (limit : ℕ) (items : List Item) : Type 0 where
   pub counts : Counts (counting image) image
   pub shows : Shows (counting image) image limit
   pub items_are : items_in (counting image) image ≡ items
 
--- one of two lists of items stands
+-- the image represents one of two lists of items
 abbrev pub IsEither : ℕ → List Item → List Item → List ℕ → Type 0
 IsEither limit before target image = Stands image limit before ⊎ Stands image limit target
 
--- whatever power does, a root counts and says this
+-- in each possible crash image this root is the current one, and encodes this version, limit, number, heads and items
 abbrev pub EachBears : DiskState → Root → ℕ → ℕ → ℕ → List Head → List Item → Type 0
 EachBears disk root version limit number heads items = (image : List ℕ) → Left disk image → Bears root version limit number heads items image
 
--- whatever power does, this root's gate is closed
+-- in each possible crash image this root's gate is closed
 abbrev pub EachShut : DiskState → Root → Type 0
 EachShut disk root = (image : List ℕ) → Left disk image → gate root image ≢ 165
 
--- whatever power does, this root has a lower number than that
+-- in each possible crash image this root has a lower number than that
 abbrev pub EachLower : DiskState → Root → ℕ → Type 0
 EachLower disk root number = (image : List ℕ) → Left disk image → number_in root image < number
 
--- the root before counts and says what it did, whatever its version, or the next one, of version 2 and with the next number
+-- the current root is the previous one and encodes what it did, whatever its version, or it is the next one, of version
+-- 2 and with the next number
 abbrev pub BearsEither : Root → ℕ → ℕ → ℕ → List Head → List Item → List Head → List Item → List ℕ → Type 0
 BearsEither next version limit number before items heads target image = Bears (other next) version limit number before items image ⊎ Bears next 2 limit (number + 1) heads target image

@@ -1,4 +1,4 @@
--- What is known of pages is said in one way: a ghost field may hold it.
+-- The facts about pages are propositions, so that a ghost field may hold them.
 use Rattle.std.specs.Prelude.{◌≡◌, ◌≢◌, ◌≤◌, ℕ, Bool, false, List, [], ◌∷◌, length}
 use Rattle.std.specs.List.{AllByRecursion}
 use Rattle.std.proofs.Props.{props}

@@ -14,7 +14,7 @@ abbrev pub spelled_words : List ℕ → List ℕ
 spelled_words [] = []
 spelled_words (n ∷ ns) = to_be_bytes w16 n ++ spelled_words ns
 
--- and zeros after bytes, to this length
+-- bytes, and zeros after them up to this length
 abbrev pub filled : ℕ → List ℕ → List ℕ
 filled n bytes = bytes ++ replicate (n - length bytes) 0
 
@@ -22,15 +22,15 @@ filled n bytes = bytes ++ replicate (n - length bytes) 0
 abbrev pub names : List Head → List ℕ
 names heads = map (λ (head : Head). head.at) heads
 
--- what a root says after its gate; version 2 is written
+-- the contents of a root after its gate; version 2 is written
 abbrev pub said : ℕ → ℕ → List ℕ → List ℕ
 said limit number pages = mark ++ (to_be_bytes w16 2 ++ (to_be_bytes w16 limit ++ (to_be_bytes w64 number ++ (to_be_bytes w16 (length pages) ++ spelled_words pages))))
 
--- what a head says
+-- the encoding of a head
 abbrev pub spelled : Head → List ℕ
 spelled head = length head.key ∷ (head.key ++ (to_be_bytes w32 head.size ++ (to_be_bytes w16 (length head.pages) ++ spelled_words head.pages)))
 
--- the page of a root whose gate is open and that names these heads, with zeros after what it says
+-- the page of a root whose gate is open and that names these heads, with zeros after its contents
 abbrev pub open_root : ℕ → ℕ → List Head → List ℕ
 open_root limit number heads = 165 ∷ filled 511 (said limit number (names heads))
 
@@ -47,14 +47,15 @@ value_drafts (page ∷ pages) value = draft_of page (take 512 value) ∷ value_d
 abbrev pub head_drafts : Head → List ℕ → List Draft
 head_drafts head value = draft_of head.at (spelled head) ∷ value_drafts head.pages value
 
--- what is to be said after a root's gate names these heads, which stand on their pages
+-- the contents to be written after a root's gate name these heads, which are on their pages
 pub record IsTold (limit number : ℕ) (heads : List Head) (told image : List ℕ) : Type 0 where
   pub told_is : told ≡ filled 511 (said limit number (names heads))
   pub number_fits : number < 2 ^ 64
   pub roster : IsRoster limit heads
   pub there : AllByRecursion (λ (head : Head). head_at image head.at ≡ head) heads
 
--- before a switch: the other root counts and says this, the next one's gate is closed, and there is what to say of the heads
+-- before a switch: the other root is the current one and encodes this, the next one's gate is closed, and the contents
+-- to be written name the heads
 pub record IsReady (disk : DiskState) (next : Root) (version limit number : ℕ) (before heads : List Head) (items : List Item) (told : List ℕ) : Type 0 where
   pub bears : EachBears disk (other next) version limit number before items
   pub shut : EachShut disk next

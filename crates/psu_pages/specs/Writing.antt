@@ -1,4 +1,4 @@
--- What it does to a disk to write pages.
+-- The effect of writing pages on a disk.
 use Rattle.std.specs.Prelude.{◌≡◌, ℕ, ◌+◌, ◌*◌, ◌<◌, ◌≤◌, ◌⊎◌, List, length, slice_index, map}
 use Rattle.std.specs.List.{AllByRecursion}
 use Rattle.psu_pages.specs.Image.{page_in, Head, head_at}
@@ -18,7 +18,7 @@ pub record Misses (pages : List ℕ) (old new : List ℕ) : Type 0 where
   pub size : length new ≡ length old
   pub same : (k : ℕ) → IsOutside pages k → slice_index new k ≡ slice_index old k
 
--- an image from before leads to it by this step
+-- this step leads from an earlier image to x
 abbrev pub Reaches : (List ℕ → List ℕ → Type 0) → (List ℕ → Type 0) → List ℕ → Type 0
 Reaches step old x = (y : List ℕ) × old y × step y x
 
@@ -30,7 +30,7 @@ draft_pages drafts = map (λ (draft : Draft). draft.page) drafts
 abbrev pub AreWritten : List Draft → List ℕ → Type 0
 AreWritten drafts image = AllByRecursion (λ (draft : Draft). page_in draft.page image ≡ draft.bytes) drafts
 
--- a head stands on its page, and its pages hold this value
+-- a head is on its page, and its pages hold this value
 pub record IsWritten (image : List ℕ) (head : Head) (value : List ℕ) : Type 0 where
   pub head_is : head_at image head.at ≡ head
   pub item_is : item_in image head ≡ item_of head.key value

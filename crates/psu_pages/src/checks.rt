@@ -1,4 +1,4 @@
-//! What heads have to keep together.
+//! Checks of the heads of a root, taken together.
 ghost use Rattle.std.specs.Prelude.{◌≡◌, ◌≤◌, true, false, length};
 ghost use Rattle.psu_pages.specs.Image.{keys, taken, AreApart, AreShort, IsNone};
 
@@ -6,7 +6,7 @@ use crate::Head;
 use crate::version::key_most;
 use std::alloc::Allocator;
 
-/// Whether heads take no more pages than the limit, and no key comes twice or is too long for the version.
+/// Whether heads take no more pages than the limit, and no key occurs twice or is too long for the version.
 pub fn stand_together<A: Allocator + Copy>(heads: &[Head<A>], limit: u16, version: u16) -> bool
     ensures short { result ≡ true → AreShort version heads.now }
     ensures within { result ≡ true → length (taken heads.now) ≤ limit }
@@ -16,7 +16,7 @@ pub fn stand_together<A: Allocator + Copy>(heads: &[Head<A>], limit: u16, versio
     are_short(heads, version) && are_within(heads, limit) && are_distinct(heads)
 }
 
-// Whether no key is longer than the version lets it be.
+// Whether no key is longer than the version allows.
 fn are_short<A: Allocator + Copy>(heads: &[Head<A>], version: u16) -> bool
     ensures yes { result ≡ true → AreShort version heads.now }
     ensures no { result ≡ false → AreShort version heads.now → ⊥ }
@@ -46,7 +46,7 @@ fn are_within<A: Allocator + Copy>(heads: &[Head<A>], limit: u16) -> bool
     true
 }
 
-// Whether no key comes twice.
+// Whether no key occurs twice.
 fn are_distinct<A: Allocator + Copy>(heads: &[Head<A>]) -> bool
     ensures yes { result ≡ true → AreApart (keys heads.now) }
     ensures no { result ≡ false → AreApart (keys heads.now) → ⊥ }

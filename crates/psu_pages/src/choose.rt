@@ -1,4 +1,4 @@
-//! The root that counts, and what it says.
+//! The choice of the current root, and its contents.
 ghost use Rattle.std.specs.Prelude.{◌≡◌, ◌≢◌, ◌+◌, ◌*◌, ◌≤◌, List, ℕ, true, false, length, IfOk, IfErr, OnOk};
 ghost use Rattle.psu_disk.specs.Disk.{Left, Only, LeavesOnly, HasCause};
 ghost use Rattle.psu_pages.specs.declared.standing.Standing.TheVariants.{One, Both, Unsure};
@@ -19,7 +19,7 @@ pub struct Roots {
 }
 
 impl Roots {
-    /// The page of a root.
+    /// Returns the page of a root.
     pub fn page(&self, root: Root) -> &[u8]
         ensures whole { length result.now ≡ 512 }
         ensures value { (image : List ℕ) → AreRoots self.now image → result.now ≡ page_of root image }
@@ -31,7 +31,7 @@ impl Roots {
     }
 }
 
-/// The root that counts, its version and number, whether the other gate is open too, the limit and how many items there are.
+/// The current root, its version and number, whether the other gate is open too, the limit and the number of items.
 #[derive(Clone, Copy, Debug, Drop)]
 pub struct Chosen {
     pub root: Root,
@@ -43,7 +43,7 @@ pub struct Chosen {
 }
 
 impl Chosen {
-    /// How the gates stand.
+    /// Returns the state of the gates.
     pub fn standing(&self) -> Standing
         ensures one { result ≡ One → self.now.both ≡ false }
         ensures both { result ≡ Both → self.now.both ≡ true }
@@ -57,7 +57,7 @@ impl Chosen {
     }
 }
 
-/// Makes sure of what the disk reads as, and reads its two roots.
+/// Syncs the disk, so that what it reads as is durable, and reads its two roots.
 pub fn read_roots<D: Disk>(disk: &mut D) -> Result<Roots, DiskFault>
     requires { 1024 ≤ D.extent disk.old }
     ensures extent { D.extent disk.new ≡ D.extent disk.old }
@@ -78,7 +78,7 @@ pub fn read_roots<D: Disk>(disk: &mut D) -> Result<Roots, DiskFault>
     Ok(roots)
 }
 
-/// The root that counts on a disk of this size.
+/// Returns the current root on a disk of this size, or why there is none.
 pub fn choose(roots: &Roots, size: u64) -> Result<Chosen, OpenCause>
     ensures limit { IfOk result (λ chosen. (4 ≤ chosen.limit) × (chosen.limit ≤ 480) × (512 * (2 + 2 * chosen.limit) ≤ size) × (chosen.count ≤ 240)) }
     ensures cause { IfErr result IsChoiceCause }

@@ -1,4 +1,4 @@
-//! A disk that is laid out anew.
+//! Formatting a disk.
 ghost use Rattle.std.specs.Prelude.{◌≡◌, ◌≢◌, ◌+◌, ◌*◌, ◌≤◌, [], ◌∷◌, List, ℕ, true, length, OnOk, IfOk, IfErr};
 ghost use Rattle.psu_disk.specs.Disk.{Left, HasCause, HasFailed};
 ghost use Rattle.psu_pages.specs.Finding.{page_of};
@@ -20,8 +20,9 @@ use std::alloc::{AllocError, Allocator};
 impl<D: Disk, A: Allocator + Copy> Pages<D, A> {
     ghost use Rattle.psu_pages.specs.Outcome.{formatted_disk, IsFresh};
 
-    /// No items on a disk, whatever the disk held. The limit is 4 to 480, and the disk has 512 bytes for each of the two roots and
-    /// twice the limit. All memory is taken before the first call of the disk.
+    /// Formats a disk, whatever it held, so that it has no items. The limit is 4 to 480, and the disk has at least 512
+    /// bytes for each of the pages: the two roots, and twice the limit. All memory is allocated before the first call
+    /// of the disk.
     pub fn format(alloc: A, mut disk: D, limit: u16) -> Result<Pages<D, A>, FormatFault<D>>
         requires limit_least { 4 ≤ limit }
         requires limit_most { limit ≤ 480 }
@@ -64,7 +65,7 @@ impl<D: Disk, A: Allocator + Copy> Pages<D, A> {
     }
 }
 
-// Makes the first root the only open one, with this after its gate.
+// Makes the first root the only open one, with these bytes after its gate.
 fn lay_out<D: Disk>(disk: &mut D, told: &[u8]) -> Result<(), DiskFault>
     requires roots { 1024 ≤ D.extent disk.old }
     requires told { length told.now ≡ 511 }

@@ -1,15 +1,15 @@
-//! Why a disk isn't formatted.
+//! The error of formatting a disk.
 
-/// Why a disk isn't formatted.
+/// Why a disk wasn't formatted.
 #[derive(Clone, Copy, Debug, PartialEq, Eq, Drop)]
 pub enum FormatCause {
     /// A call of the disk failed.
     Device,
-    /// Memory is refused.
+    /// An allocation failed.
     Memory,
 }
 
-/// A disk that wasn't formatted. Nothing is said of what it holds.
+/// A disk that wasn't formatted. What it holds is unspecified.
 #[derive(Drop)]
 pub struct FormatFault<D> {
     pub cause: FormatCause,

@@ -9,7 +9,7 @@ use crate::{Head, PageFault};
 use std::alloc::{AllocError, Allocator};
 use std::marker::Model;
 
-/// The set of the pages that are free, of as many as there are. Contracts see a mark for each page.
+/// The set of the free pages, out of a fixed number of pages. Contracts see a mark for each page.
 #[derive(Drop)]
 pub struct FreeMap<A: Allocator + Copy> {
     free: Vec<bool, A>,
@@ -24,7 +24,7 @@ impl<A: Allocator + Copy> Model for FreeMap<A> {
 }
 
 impl<A: Allocator + Copy> FreeMap<A> {
-    /// So many pages, all free. It makes the room for all later calls.
+    /// Returns a map of so many pages, all free. Allocates the memory of the map: no later call enlarges it.
     pub fn new(alloc: A, pages: u16) -> Result<FreeMap<A>, AllocError>
         ensures { IfOk result (λ map. map ≡ replicate pages true) }
     {
@@ -49,7 +49,7 @@ impl<A: Allocator + Copy> FreeMap<A> {
         self.keep(page);
     }
 
-    /// Gives up a page that is claimed.
+    /// Releases a claimed page.
     pub fn free(&mut self, page: u16)
         requires there { page < length self.old }
         requires claimed { is_free self.old page ≡ false }
@@ -58,7 +58,7 @@ impl<A: Allocator + Copy> FreeMap<A> {
         self.free[page as usize] = true;
     }
 
-    /// Gives up pages that are claimed.
+    /// Releases claimed pages.
     pub(crate) fn free_all(&mut self, pages: &[u16])
         requires there { AllByRecursion (λ page. page < length self.old) pages.now }
         requires claimed { AllByRecursion (λ page. is_free self.old page ≡ false) pages.now }
@@ -70,7 +70,7 @@ impl<A: Allocator + Copy> FreeMap<A> {
         }
     }
 
-    /// Gives up the pages of a head.
+    /// Releases the pages of a head.
     pub(crate) fn free_head(&mut self, head: &Head<A>)
         requires there { AllByRecursion (λ page. page < length self.old) (pages_of head.now) }
         requires claimed { AreClaimed self.old (pages_of head.now) }
@@ -108,7 +108,7 @@ impl<A: Allocator + Copy> FreeMap<A> {
         self.keep_all(head.pages());
     }
 
-    /// Claims a page, unless it isn't free.
+    /// Claims a page if it is free. Returns whether it was.
     pub(crate) fn take(&mut self, page: u16) -> bool
         ensures was { result ≡ is_free self.old page }
         ensures taken { result ≡ true → self.new ≡ slice_set self.old page false }
@@ -122,7 +122,7 @@ impl<A: Allocator + Copy> FreeMap<A> {
         true
     }
 
-    /// Claims pages in their order, up to the first that isn't free.
+    /// Claims pages in their order, up to the first that isn't free. Returns whether all of them were claimed.
     pub(crate) fn take_all(&mut self, pages: &[u16]) -> bool
         ensures size { length self.new ≡ length self.old }
         ensures were_free { result ≡ true → AllByRecursion (λ page. is_free self.old page ≡ true) pages.now }
@@ -138,7 +138,8 @@ impl<A: Allocator + Copy> FreeMap<A> {
         true
     }
 
-    /// The first pages that are free, as many as asked for. They are looked for once, and counted only where memory is refused.
+    /// Returns the first free pages, as many as requested. They are searched for once, and counted only if an
+    /// allocation fails.
     pub(crate) fn pick_free(&self, alloc: A, count: usize) -> Result<Vec<u16, A>, PageFault>
         requires { length self.now ≤ 2 ^ 16 }
         ensures pages { IfOk result (λ pages. pages.items ≡ take count (free_pages self.now)) }
@@ -154,7 +155,7 @@ impl<A: Allocator + Copy> FreeMap<A> {
         }
     }
 
-    /// Whether so many pages are free. It looks no further than to the last of them.
+    /// Whether at least so many pages are free. The search goes no further than the last of them.
     pub(crate) fn has_free(&self, count: usize) -> bool
         ensures { IsTrue result ↔ (count ≤ length (free_pages self.now)) }
     {
@@ -170,7 +171,8 @@ impl<A: Allocator + Copy> FreeMap<A> {
         wanted == 0
     }
 
-    /// The first pages that are free: as many as asked for, or all where there are fewer. It looks no further than to the last of them.
+    /// Returns the first free pages: as many as requested, or all if there are fewer. The search goes no further than
+    /// the last of them.
     pub(crate) fn first_free(&self, alloc: A, count: usize) -> Result<Vec<u16, A>, AllocError>
         requires { length self.now ≤ 2 ^ 16 }
         ensures { IfOk result (λ pages. pages.items ≡ take count (free_pages self.now)) }

@@ -1,4 +1,4 @@
-//! What is written to a root's page, and made sure of.
+//! What is written to a root's page, and synced.
 ghost use Rattle.std.specs.Prelude.{◌≡◌, ◌+◌, ◌*◌, ◌≤◌, ◌∷◌, [], List, ℕ, length, OnOk};
 ghost use Rattle.psu_disk.specs.Disk.{Left, Range, Holds, SameBut, Only, Follows, LeavesOnly, HasCause};
 ghost use Rattle.psu_pages.specs.Image.{gate, gate_at};
@@ -7,13 +7,13 @@ ghost use Rattle.psu_pages.specs.Writing.{Reaches};
 use crate::Root;
 use psu_disk::{Disk, DiskFault};
 
-/// A gate's byte that is open.
+/// The byte of an open gate.
 pub const OPEN: u8 = 165;
 
-/// The byte with which a gate is closed. Every other than [`OPEN`] is closed too.
+/// The byte that closes a gate. Every other byte than [`OPEN`] is that of a closed gate too.
 pub const CLOSED: u8 = 0;
 
-/// Writes a gate's byte and makes sure of it.
+/// Writes a gate's byte and makes it durable.
 pub fn set_gate<D: Disk>(disk: &mut D, root: Root, byte: u8) -> Result<(), DiskFault>
     requires { 1024 ≤ D.extent disk.old }
     ensures extent { D.extent disk.new ≡ D.extent disk.old }
@@ -28,7 +28,7 @@ pub fn set_gate<D: Disk>(disk: &mut D, root: Root, byte: u8) -> Result<(), DiskF
     Ok(())
 }
 
-/// Writes what a root says after its gate, and makes sure of all that was written.
+/// Writes the contents of a root after its gate, and makes all that was written durable.
 pub fn say<D: Disk>(disk: &mut D, root: Root, told: &[u8]) -> Result<(), DiskFault>
     requires roots { 1024 ≤ D.extent disk.old }
     requires told { length told.now ≡ 511 }
@@ -44,7 +44,7 @@ pub fn say<D: Disk>(disk: &mut D, root: Root, told: &[u8]) -> Result<(), DiskFau
     Ok(())
 }
 
-// Writes bytes and makes sure of all that was written.
+// Writes bytes and makes all that was written durable.
 fn put<D: Disk>(disk: &mut D, at: u64, bytes: &[u8]) -> Result<(), DiskFault>
     requires { at + length bytes.now ≤ D.extent disk.old }
     ensures extent { D.extent disk.new ≡ D.extent disk.old }
@@ -60,7 +60,7 @@ fn put<D: Disk>(disk: &mut D, at: u64, bytes: &[u8]) -> Result<(), DiskFault>
     Ok(())
 }
 
-/// Makes sure of all that was written: after it a power loss leaves what a read gives.
+/// Makes all that was written durable: after it a power loss leaves what a read returns.
 pub fn make_sure<D: Disk>(disk: &mut D) -> Result<(), DiskFault>
     ensures extent { D.extent disk.new ≡ D.extent disk.old }
     ensures cause { HasCause (D.failures disk.old) (D.failures disk.new) result }

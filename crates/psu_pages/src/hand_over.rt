@@ -1,4 +1,4 @@
-//! The pages of an older root that no other names come back.
+//! Releasing the pages that only the older root names.
 ghost use Rattle.std.specs.Prelude.{◌≡◌, ◌<◌, ◌≤◌, ◌-◌, ◌↔◌, ℕ, true, false, length, take, drop, IsTrue};
 ghost use Rattle.std.specs.List.{AllByRecursion};
 ghost use Rattle.psu_pages.specs.Free.{is_free, AreClaimed, Marks, HandsOver};
@@ -7,7 +7,7 @@ ghost use Rattle.psu_pages.specs.Image.{AreApart, taken, pages_of};
 use crate::{FreeMap, Head};
 use std::alloc::Allocator;
 
-/// Gives up the pages of the older heads that are none of the others'.
+/// Releases the pages of the older heads that aren't pages of the other heads.
 pub fn hand_over<A: Allocator + Copy>(free: &mut FreeMap<A>, older: &[Head<A>], heads: &[Head<A>])
     requires there { AllByRecursion (λ page. page < length free.old) (taken older.now) }
     requires heads_there { AllByRecursion (λ page. page < length free.old) (taken heads.now) }
@@ -24,7 +24,7 @@ pub fn hand_over<A: Allocator + Copy>(free: &mut FreeMap<A>, older: &[Head<A>], 
     keep(free, &heads[..heads.len() - last]);
 }
 
-// How many heads have the same pages in both, from the first on. Their pages stay claimed.
+// Returns how many heads have the same pages in both lists, from the first on. Their pages stay claimed.
 fn same_first<A: Allocator + Copy>(older: &[Head<A>], heads: &[Head<A>]) -> usize
     ensures older { result ≤ length older.now }
     ensures heads { result ≤ length heads.now }
@@ -39,7 +39,7 @@ fn same_first<A: Allocator + Copy>(older: &[Head<A>], heads: &[Head<A>]) -> usiz
     most
 }
 
-// How many heads have the same pages in both, from the last on.
+// Returns how many heads have the same pages in both lists, from the last on.
 fn same_last<A: Allocator + Copy>(older: &[Head<A>], heads: &[Head<A>]) -> usize
     ensures older { result ≤ length older.now }
     ensures heads { result ≤ length heads.now }
@@ -61,7 +61,7 @@ fn has_same_pages<A: Allocator + Copy>(head: &Head<A>, other: &Head<A>) -> bool
     head.at() == other.at() && head.pages() == other.pages()
 }
 
-// Gives up the pages of heads.
+// Releases the pages of heads.
 fn give_up<A: Allocator + Copy>(free: &mut FreeMap<A>, heads: &[Head<A>])
     requires there { AllByRecursion (λ page. page < length free.old) (taken heads.now) }
     requires claimed { AreClaimed free.old (taken heads.now) }

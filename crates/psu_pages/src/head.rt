@@ -1,4 +1,4 @@
-//! What a head says, how it is read, and how it is spelled.
+//! The head (header page) of an item: its contents, how it is decoded, and how it is encoded.
 ghost use Rattle.std.specs.Prelude.{◌≡◌, ◌*◌, ◌≤◌, ◌+◌, ◌++◌, length, IfOk, OnErr, IfSome, IsNone};
 ghost use Rattle.std.specs.List.{AllByRecursion};
 ghost use Rattle.psu_pages.specs.Image.{head_of, head_on, head_after, words, IsHead};
@@ -10,14 +10,14 @@ use std::alloc::{AllocError, Allocator};
 use std::marker::Model;
 use std::sync::Arc;
 
-/// The page of an item's head, the item's key, how many bytes its value has, and the pages that hold them. It never changes: roots that
-/// name it share it.
+/// The head (header page) of an item: the page that it is on, the item's key, the number of bytes of the value, and the
+/// pages that hold them. It never changes: roots that name it share it.
 #[derive(Drop)]
 pub struct Head<A: Allocator + Copy> {
     body: Arc<Body<A>, A>,
 }
 
-// What a head says.
+// The contents of a head.
 #[derive(Drop)]
 struct Body<A: Allocator + Copy> {
     at: u16,
@@ -36,7 +36,7 @@ impl<A: Allocator + Copy> Model for Head<A> {
 }
 
 impl<A: Allocator + Copy> Head<A> {
-    /// A head that says this.
+    /// Returns a head with these contents.
     pub(crate) fn new(
         alloc: A,
         at: u16,
@@ -72,7 +72,7 @@ impl<A: Allocator + Copy> Head<A> {
         self.body.key.as_slice()
     }
 
-    /// How many bytes the value has.
+    /// The number of bytes of the value.
     pub fn size(&self) -> u32
         ensures { result ≡ self.now.size }
     {
@@ -86,7 +86,7 @@ impl<A: Allocator + Copy> Head<A> {
         self.body.pages.as_slice()
     }
 
-    /// The same, in the same memory. It is refused only where more share it than are counted.
+    /// Returns another handle to the head, in the same memory. Fails only if more handles share it than can be counted.
     pub fn share(&self) -> Result<Head<A>, AllocError>
         ensures { IfOk result (λ copy. copy ≡ self.now) }
     {
@@ -95,7 +95,7 @@ impl<A: Allocator + Copy> Head<A> {
         })
     }
 
-    /// The head on a page with these bytes; none where it isn't one.
+    /// Decodes the head on a page with these bytes; `None` if it isn't a valid one.
     pub(crate) fn on(alloc: A, at: u16, page: &[u8]) -> Result<Option<Head<A>>, AllocError>
         requires { length page.now ≡ 512 }
         ensures found { IfOk result (λ found. IfSome found (λ head. (head ≡ head_on at page.now) × IsHead head)) }
@@ -115,7 +115,7 @@ impl<A: Allocator + Copy> Head<A> {
         }
     }
 
-    // The head with this key, by the bytes after it.
+    // Decodes the head with this key from the bytes after the key.
     #[tactic(auto, using(crate::proofs::Numbers::length_words))]
     fn after(alloc: A, at: u16, key: &[u8], bytes: &[u8]) -> Result<Option<Head<A>>, AllocError>
         requires key { 1 ≤ length key.now }
@@ -140,7 +140,7 @@ impl<A: Allocator + Copy> Head<A> {
         Ok(Some(Head::new(alloc, at, key, size, pages)?))
     }
 
-    /// The head as its page has it.
+    /// Returns the page that encodes the head.
     pub(crate) fn spell(&self) -> Page
         requires { IsHead self.now }
         ensures { result ≡ spelled self.now }
@@ -155,7 +155,7 @@ impl<A: Allocator + Copy> Head<A> {
     }
 }
 
-// Puts numbers of two bytes each on a page.
+// Appends numbers of two bytes each to a page.
 pub(crate) fn add_words(page: &mut Page, words: &[u16])
     requires { length page.old + 2 * length words.now ≤ 512 }
     ensures { page.new ≡ page.old ++ spelled_words words.now }
@@ -165,7 +165,7 @@ pub(crate) fn add_words(page: &mut Page, words: &[u16])
     }
 }
 
-// Numbers of two bytes each.
+// Decodes numbers of two bytes each.
 pub(crate) fn read_words<A: Allocator + Copy>(
     alloc: A,
     count: u16,

@@ -1,10 +1,11 @@
-//! Laws of what images stand for.
+//! Laws on the items that images represent.
 ghost use Rattle.std.specs.Prelude.{◌≡◌, List, ℕ};
 ghost use Rattle.psu_pages.specs.declared.root.Root.{Root as RootType};
 ghost use Rattle.psu_pages.specs.Image.{Head};
 ghost use Rattle.psu_pages.specs.Shown.{Item, Bears, BearsEither, IsEither, Stands};
 
-/// What the root that counts bears is what its image stands for, and an image stands for one list of items at most.
+/// The items that the current root of an image encodes are those that the image represents, and an image represents one
+/// list of items at most.
 pub fn bears_what_stands()
     ensures stands { (root : RootType) (version limit number : ℕ) (heads : List Head) (items : List Item) (image : List ℕ) → Bears root version limit number heads items image → Stands image limit items }
     ensures either { (next : RootType) (version limit number : ℕ) (before heads : List Head) (items target : List Item) (image : List ℕ) → BearsEither next version limit number before items heads target image → IsEither limit items target image }

@@ -1,4 +1,4 @@
-//! The value of a head.
+//! Reading the value of a head.
 ghost use Rattle.std.specs.Prelude.{◌≡◌, ◌≢◌, ◌+◌, ◌*◌, ◌≤◌, List, ℕ, OnOk, IfOk, IfErr, IsErrOf};
 ghost use Rattle.std.specs.List.{AllByRecursion};
 ghost use Rattle.psu_disk.specs.Disk.{Left, LeavesOnly, HasCause, HasFailed};
@@ -42,7 +42,7 @@ pub fn read_value<D: Disk, A: Allocator + Copy>(
 impl<D: Disk, A: Allocator + Copy> Pages<D, A> {
     ghost use Rattle.psu_pages.specs.Outcome.{IsPlanned, HasSameHeads};
 
-    /// Reads the value of a head that stands on its page.
+    /// Reads the value of a head that is on its page.
     pub fn load(&mut self, alloc: A, head: &Head<A>) -> Result<Vec<u8, A>, PageFault>
         requires is_head { IsHead head.now }
         requires pool { AllByRecursion (IsInPool self.old.limit) head.now.pages }

@@ -1,4 +1,4 @@
-//! What a disk holds, after a power loss or without one.
+//! Opening a disk, after a power loss or without one.
 ghost use Rattle.std.specs.Prelude.{◌≡◌, ◌≢◌, ◌+◌, ◌*◌, ◌<◌, ◌≤◌, [], List, ℕ, OnOk, IfOk, IfErr, IsErrOf};
 ghost use Rattle.psu_disk.specs.Disk.{Left, Only, LeavesOnly, HasFailed};
 ghost use Rattle.psu_pages.specs.Finding.{AreFit, IsRefusal, HasReadableRoot, HasGates};
@@ -15,7 +15,7 @@ use crate::{FreeMap, Head, OpenCause, Pages, Refused, Standing};
 use psu_disk::Disk;
 use std::alloc::Allocator;
 
-// The root that counts, with its heads.
+// The current root, with its heads.
 #[derive(Drop)]
 struct Opened<A: Allocator + Copy> {
     chosen: Chosen,
@@ -26,8 +26,8 @@ struct Opened<A: Allocator + Copy> {
 impl<D: Disk, A: Allocator + Copy> Pages<D, A> {
     ghost use Rattle.psu_pages.specs.Outcome.{opened_disk};
 
-    /// The items that a disk stands for. It begins with a sync, and reads the two roots and the pages of the heads, each once. An
-    /// older gate that stands open is left open. Nothing is written.
+    /// Opens the items that a disk represents. Begins with a sync, and reads the two roots and the pages of the heads,
+    /// each once. The gate of an older root that is open is left open. Nothing is written.
     pub fn open(alloc: A, mut disk: D) -> Result<Pages<D, A>, Refused<D>>
         ensures found { D.honest → IfOk result (λ pages. Bears pages.root pages.version pages.limit pages.number pages.heads.items (items_in pages.root (D.state disk).bytes) (D.state disk).bytes) }
         ensures sure { IfOk result (λ pages. pages.standing ≢ Unsure) }
@@ -74,7 +74,7 @@ impl<D: Disk, A: Allocator + Copy> Pages<D, A> {
     }
 }
 
-// Finds the root that counts, and reads its heads.
+// Finds the current root, and reads its heads.
 fn look<D: Disk, A: Allocator + Copy>(alloc: A, disk: &mut D) -> Result<Opened<A>, OpenCause>
     requires { 1024 ≤ D.extent disk.old }
     ensures extent { D.extent disk.new ≡ D.extent disk.old }

@@ -5,18 +5,19 @@ ghost use Rattle.psu_pages.specs.declared.open_cause.OpenCause.TheVariants.{Devi
 use psu_disk::DiskFault;
 use std::alloc::AllocError;
 
-/// Why a disk isn't opened, in the order in which they are looked for.
+/// Why a disk isn't opened, in the order in which the causes are looked for.
 #[derive(Clone, Copy, Debug, PartialEq, Eq, Drop)]
 pub enum OpenCause {
     /// A call of the disk failed.
     Device,
-    /// The disk has no two roots, or none of them is open.
+    /// The disk is too small for two roots, or neither of them is open.
     NoRoot,
-    /// The root that counts isn't one of ours, or what it says is wrong; or both are open and have one number.
+    /// The current root isn't of this format, or its contents are invalid; or both roots are open and have the same
+    /// number.
     BadRoot,
-    /// The root that counts is of a version that isn't read.
+    /// The current root is of a version that isn't supported.
     BadVersion,
-    /// Memory is refused.
+    /// An allocation failed.
     Memory,
 }
 

@@ -1,10 +1,10 @@
-//! A page as it is put together.
+//! A page under construction.
 ghost use Rattle.std.specs.Prelude.{◌≡◌, ◌+◌, ◌≤◌, ◌++◌, [], length, drop};
 ghost use Rattle.psu_pages.specs.Spelling.{filled};
 
 use std::marker::Model;
 
-/// The first bytes of a page, and zeros after them. Contracts see the first bytes alone.
+/// The first bytes of a page, and zeros after them. Contracts see only the first bytes.
 #[derive(Drop)]
 pub struct Page {
     bytes: [u8; 512],
@@ -22,7 +22,7 @@ impl Model for Page {
 }
 
 impl Page {
-    /// A page of zeros.
+    /// Returns a page of zeros.
     pub fn new() -> Page
         ensures { result ≡ [] }
     {
@@ -32,7 +32,7 @@ impl Page {
         }
     }
 
-    /// A page that begins with these bytes.
+    /// Returns a page that begins with these bytes.
     pub fn of(bytes: &[u8]) -> Page
         requires { length bytes.now ≤ 512 }
         ensures { result ≡ bytes.now }
@@ -42,7 +42,7 @@ impl Page {
         page
     }
 
-    /// Puts bytes after those that there are.
+    /// Appends bytes to those that there are.
     pub fn add(&mut self, bytes: &[u8])
         requires { length self.old + length bytes.now ≤ 512 }
         ensures { self.new ≡ self.old ++ bytes.now }
@@ -52,7 +52,7 @@ impl Page {
         self.used = end;
     }
 
-    /// The whole page.
+    /// Returns the whole page.
     pub fn bytes(&self) -> &[u8]
         ensures value { result.now ≡ filled 512 self.now }
         ensures whole { length result.now ≡ 512 }
@@ -60,7 +60,7 @@ impl Page {
         &self.bytes
     }
 
-    /// The whole page but for its first byte.
+    /// Returns the whole page except its first byte.
     pub fn after_gate(&self) -> &[u8]
         ensures value { result.now ≡ drop 1 (filled 512 self.now) }
         ensures whole { length result.now ≡ 511 }

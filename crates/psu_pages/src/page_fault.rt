@@ -1,18 +1,18 @@
-//! Why a call on pages is refused.
+//! The error of calls on pages.
 ghost use Rattle.std.specs.Prelude.{◌≡◌};
 ghost use Rattle.psu_pages.specs.declared.page_fault.PageFault.TheVariants.{Device, Memory};
 
 use psu_disk::DiskFault;
 use std::alloc::AllocError;
 
-/// Why a call on pages is refused.
+/// Why a call on pages failed.
 #[derive(Clone, Copy, Debug, PartialEq, Eq, Drop)]
 pub enum PageFault {
     /// Too few pages are free.
     NoPage,
     /// A call of the disk failed.
     Device,
-    /// Memory is refused.
+    /// An allocation failed.
     Memory,
 }
 

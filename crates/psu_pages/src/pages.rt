@@ -14,8 +14,8 @@ use crate::{FreeMap, Head, Root, Standing};
 use psu_disk::Disk;
 use std::alloc::Allocator;
 
-/// Items in the pages of a disk. While its gates stand for sure, whatever a power loss leaves of the disk shows the items of the
-/// heads, and no page of them is free.
+/// Items in the pages of a disk. While the state of its gates is known, each possible crash image of the disk shows the
+/// items of the heads, and none of their pages is free.
 #[derive(Drop)]
 pub struct Pages<D: Disk, A: Allocator + Copy> {
     pub(crate) disk: D,
@@ -44,7 +44,7 @@ pub struct Pages<D: Disk, A: Allocator + Copy> {
 }
 
 impl<D: Disk, A: Allocator + Copy> Pages<D, A> {
-    /// The heads of the root that counts, in the order in which it names them.
+    /// The heads of the current root, in the order in which it names them.
     pub fn heads(&self) -> &[Head<A>]
         ensures value { result.now ≡ self.now.heads.items }
         ensures roster { IsRoster self.now.limit result.now }
@@ -55,7 +55,7 @@ impl<D: Disk, A: Allocator + Copy> Pages<D, A> {
         &self.heads
     }
 
-    /// How many pages the items may take.
+    /// The maximum number of pages that the items may take.
     pub fn limit(&self) -> u16
         ensures value { result ≡ self.now.limit }
         ensures least { 4 ≤ result }
@@ -65,7 +65,7 @@ impl<D: Disk, A: Allocator + Copy> Pages<D, A> {
         self.limit
     }
 
-    /// The number of the root that counts, which rises by 1 with each root that is published.
+    /// The number of the current root, which rises by 1 with each root that is published.
     pub fn number(&self) -> u64
         ensures value { result ≡ self.now.number }
         ensures stands { D.honest → self.now.standing ≢ Unsure → (image : List ℕ) → Left (D.state self.now.disk) image → number_in (counting image) image ≡ result }
@@ -73,7 +73,7 @@ impl<D: Disk, A: Allocator + Copy> Pages<D, A> {
         self.number
     }
 
-    /// The version of the root that counts: 1 or 2.
+    /// The version of the current root: 1 or 2.
     pub fn version(&self) -> u16
         ensures value { result ≡ self.now.version }
         ensures stands { D.honest → self.now.standing ≢ Unsure → (image : List ℕ) → Left (D.state self.now.disk) image → version_in (counting image) image ≡ result }
@@ -81,14 +81,14 @@ impl<D: Disk, A: Allocator + Copy> Pages<D, A> {
         self.version
     }
 
-    /// How the gates stand.
+    /// The state of the gates.
     pub fn standing(&self) -> Standing
         ensures { result ≡ self.now.standing }
     {
         self.standing
     }
 
-    /// The disk, with the items on it.
+    /// Returns the disk, with the items on it.
     pub fn into_disk(self) -> D
         ensures value { result ≡ self.disk }
         ensures bears { D.honest → self.standing ≢ Unsure → EachBears (D.state result) self.root self.version self.limit self.number self.heads.items (items_in self.root (D.state result).bytes) }

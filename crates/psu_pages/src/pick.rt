@@ -1,10 +1,10 @@
-//! Which of the two roots counts.
+//! Which of the two roots is the current one.
 ghost use Rattle.std.specs.Prelude.{◌≡◌, Some, IfOk, IfErr};
 ghost use Rattle.psu_pages.specs.Finding.{IsPicked, IsNonePicked};
 
 use crate::{OpenCause, Root};
 
-/// The root that counts, its number, and whether the other gate is open too.
+/// The current root, its number, and whether the other gate is open too.
 #[derive(Clone, Copy, Debug, Drop)]
 pub struct Picked {
     pub root: Root,
@@ -12,7 +12,7 @@ pub struct Picked {
     pub both: bool,
 }
 
-/// The root that counts, by the numbers of the roots whose gate is open.
+/// Picks the current root by the numbers of the roots whose gates are open.
 pub fn pick(first: Option<u64>, second: Option<u64>) -> Result<Picked, OpenCause>
     ensures picked { IfOk result (λ p. IsPicked first second p.root p.number p.both) }
     ensures none { IfErr result (IsNonePicked first second) }
@@ -33,7 +33,7 @@ pub fn pick(first: Option<u64>, second: Option<u64>) -> Result<Picked, OpenCause
     }
 }
 
-// The root that counts of two that are open.
+// Picks the current root of two that are open.
 fn between(first: u64, second: u64) -> Result<Picked, OpenCause>
     ensures picked { IfOk result (λ p. IsPicked (Some first) (Some second) p.root p.number p.both) }
     ensures none { IfErr result (IsNonePicked (Some first) (Some second)) }

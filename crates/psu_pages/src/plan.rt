@@ -1,4 +1,4 @@
-//! Pages that are claimed for items to come.
+//! Claiming pages for items that are to be written.
 ghost use Rattle.std.specs.Prelude.{◌≡◌, ◌≤◌, ◌<◌, true, ℕ, length, IfOk, OnOk, OnErr, IsErrOf};
 ghost use Rattle.psu_pages.specs.Free.{free_pages, Marks};
 ghost use Rattle.psu_pages.specs.Image.{AreClear, pages_of, Head as HeadOf};
@@ -11,7 +11,7 @@ use std::alloc::Allocator;
 impl<D: Disk, A: Allocator + Copy> Pages<D, A> {
     ghost use Rattle.psu_pages.specs.Outcome.{IsPlanned, HasPlanned, HasSameRoots, pages_for};
 
-    /// Claims pages for an item with this key and a value of so many bytes. No call of the disk is made.
+    /// Claims pages for an item with this key and a value of so many bytes. Makes no call of the disk.
     pub fn plan(&mut self, alloc: A, key: &[u8], size: u32) -> Result<Head<A>, PageFault>
         requires key_least { 1 ≤ length key.now }
         requires key_most { length key.now ≤ 65 }
@@ -34,7 +34,7 @@ impl<D: Disk, A: Allocator + Copy> Pages<D, A> {
         Ok(head)
     }
 
-    /// Gives up the pages of a head that was planned.
+    /// Releases the pages of a head that was planned.
     pub fn unplan(&mut self, head: Head<A>)
         requires { IsPlanned self.old head }
         ensures given_up { Marks true (pages_of head) self.old.free self.new.free }

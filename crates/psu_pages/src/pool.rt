@@ -5,7 +5,7 @@ ghost use Rattle.psu_pages.specs.Free.{IsPool};
 use crate::FreeMap;
 use std::alloc::{AllocError, Allocator};
 
-/// All pages of the pool are free, and those of the roots are not.
+/// Returns the map in which all pages of the pool are free, and those of the roots are not.
 pub fn pool<A: Allocator + Copy>(alloc: A, limit: u16) -> Result<FreeMap<A>, AllocError>
     requires { limit ≤ 480 }
     ensures { IfOk result (IsPool limit) }

@@ -1,4 +1,4 @@
-//! From the items that stand to those of other heads.
+//! From the present items to those of other heads: items are written, a root is published, and the older one is closed.
 ghost use Rattle.std.specs.Prelude.{◌≡◌, ◌≢◌, ◌+◌, ◌<◌, ◌≤◌, ◌^◌, [], List, ℕ, true, length, map, OnOk, OnErr, IfErr, IsErrOf};
 ghost use Rattle.std.specs.List.{AllByRecursion};
 ghost use Rattle.psu_disk.specs.Disk.{Left, SameBut, Follows, LeavesOnly, HasFailed};
@@ -43,7 +43,7 @@ impl<D: Disk, A: Allocator + Copy> Pages<D, A> {
         ensures others { D.honest → (other : HeadOf) (its : List ℕ) → IsWritten (D.state self.old.disk).bytes other its → AllByRecursion (IsInPool self.old.limit) (pages_of other) → AreClear (pages_of head.now) (pages_of other)
             → IsWritten (D.state self.new.disk).bytes other its }
 
-        // At every moment the same items stand, and no page but those of the head is written.
+        // At every moment the disk represents the same items, and no page but those of the head is written.
         ensures shown { D.honest → items_in self.new.root (D.state self.new.disk).bytes ≡ items_in self.old.root (D.state self.old.disk).bytes }
         ensures left { D.honest → (image : List ℕ) → Left (D.state self.new.disk) image
             → Bears self.old.root self.old.version self.old.limit self.old.number self.old.heads.items (items_in self.old.root (D.state self.old.disk).bytes) image }
@@ -59,8 +59,8 @@ impl<D: Disk, A: Allocator + Copy> Pages<D, A> {
         Ok(())
     }
 
-    /// Makes a root of version 2 count that names these heads, in the place of the one that counts, whatever the version of that one.
-    /// The older one's gate stays open.
+    /// Publishes a root of version 2 that names these heads. It becomes the current root in place of the present one,
+    /// whatever the version of that one. The older root's gate stays open.
     pub fn publish_root(&mut self, heads: Vec<Head<A>, A>) -> Result<(), PageFault>
         requires shut { self.old.standing ≡ One }
         requires number { self.old.number + 1 < 2 ^ 64 }
@@ -78,7 +78,8 @@ impl<D: Disk, A: Allocator + Copy> Pages<D, A> {
         ensures spelled { D.honest → OnOk result (page_of self.new.root (D.state self.new.disk).bytes ≡ open_root self.old.limit (self.old.number + 1) heads.items) }
         ensures shown { D.honest → OnOk result (items_in self.new.root (D.state self.new.disk).bytes ≡ map (item_in (D.state self.old.disk).bytes) heads.items) }
 
-        // At every moment the items before stand, or those of the heads, and no page but the next root's is written.
+        // At every moment the disk represents the items from before, or those of the heads, and no page but the next
+        // root's is written.
         ensures left { D.honest → (image : List ℕ) → Left (D.state self.new.disk) image
             → BearsEither (other self.old.root) self.old.version self.old.limit self.old.number self.old.heads.items (items_in self.old.root (D.state self.old.disk).bytes) heads.items (map (item_in (D.state self.old.disk).bytes) heads.items) image }
         ensures time { D.honest → D.tells → LeavesOnly D.moment D.left_since self.old.disk self.new.disk
@@ -98,7 +99,7 @@ impl<D: Disk, A: Allocator + Copy> Pages<D, A> {
         Ok(())
     }
 
-    /// Closes the gate of the older root where it stands open, and gives up the pages that it alone names.
+    /// Closes the gate of the older root if it is open, and releases the pages that only the older root names.
     pub fn close_old(&mut self) -> Result<(), PageFault>
         requires sure { self.old.standing ≢ Unsure }
         ensures extent { D.extent self.new.disk ≡ D.extent self.old.disk }
@@ -112,7 +113,7 @@ impl<D: Disk, A: Allocator + Copy> Pages<D, A> {
         ensures zero { D.honest → OnOk result (self.old.standing ≡ Both → gate (other self.old.root) (D.state self.new.disk).bytes ≡ 0) }
         ensures none { OnOk result (self.old.standing ≡ One → (self.new.disk ≡ self.old.disk) × (self.new.free ≡ self.old.free)) }
 
-        // At every moment the same items stand, and nothing but the older gate is written.
+        // At every moment the disk represents the same items, and nothing but the older gate is written.
         ensures shown { D.honest → OnOk result (items_in self.new.root (D.state self.new.disk).bytes ≡ items_in self.old.root (D.state self.old.disk).bytes) }
         ensures left { D.honest → (image : List ℕ) → Left (D.state self.new.disk) image
             → Bears self.old.root self.old.version self.old.limit self.old.number self.old.heads.items (items_in self.old.root (D.state self.old.disk).bytes) image }

@@ -1,4 +1,4 @@
-//! Pages that are read, each by one call of the disk.
+//! Reading pages, each by one call of the disk.
 ghost use Rattle.std.specs.Prelude.{◌≡◌, ◌+◌, ◌*◌, ◌≤◌, List, ℕ, length, OnOk};
 ghost use Rattle.psu_disk.specs.Disk.{Left, LeavesOnly, HasCause};
 ghost use Rattle.psu_pages.specs.Image.{page_in};

@@ -1,4 +1,4 @@
-//! A disk that isn't opened.
+//! The error of opening a disk.
 
 use crate::OpenCause;
 

@@ -1,4 +1,4 @@
-//! What a root says, as its page has it.
+//! Encoding a root as its page.
 ghost use Rattle.std.specs.Prelude.{◌≡◌, ◌+◌, ◌*◌, ◌≤◌, ◌∷◌, ◌++◌, length};
 ghost use Rattle.psu_pages.specs.Spelling.{said, names, spelled_words};
 
@@ -8,7 +8,7 @@ use crate::page::Page;
 use crate::version::VERSION;
 use std::alloc::Allocator;
 
-/// The page of a root that names these heads, its gate closed.
+/// Returns the page of a root that names these heads, its gate closed.
 pub fn spell_root<A: Allocator + Copy>(limit: u16, number: u64, heads: &[Head<A>]) -> Page
     requires { length heads.now ≤ 240 }
     ensures { result ≡ 0 ∷ said limit number (names heads.now) }
@@ -23,7 +23,7 @@ pub fn spell_root<A: Allocator + Copy>(limit: u16, number: u64, heads: &[Head<A>
     page
 }
 
-// Puts the pages of heads on a page.
+// Appends the page numbers of heads to a page.
 fn add_names<A: Allocator + Copy>(page: &mut Page, heads: &[Head<A>])
     requires { length page.old + 2 * length heads.now ≤ 512 }
     ensures { page.new ≡ page.old ++ spelled_words (names heads.now) }

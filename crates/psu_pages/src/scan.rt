@@ -1,4 +1,4 @@
-//! The heads that a root names.
+//! Reading the heads that a root names.
 ghost use Rattle.std.specs.Prelude.{◌≡◌, ◌≢◌, ◌+◌, ◌*◌, ◌≤◌, ◌++◌, ◌∷◌, [], List, ℕ, true, false, length, map, slice_set, OnOk, IfOk, IfErr, IfSome, IsNone, IsErrOf};
 ghost use Rattle.psu_disk.specs.Disk.{Left, LeavesOnly, HasFailed};
 ghost use Rattle.psu_pages.specs.Image.{head_at, pages_of, IsHead};
@@ -18,7 +18,8 @@ pub struct Found<A: Allocator + Copy> {
     pub free: FreeMap<A>,
 }
 
-/// Reads the heads on these pages, each page once; none where one of them is no head, or a page comes twice.
+/// Reads the heads on these pages, each page once. Returns `None` if one of them isn't a valid head, or a page is named
+/// twice or lies outside the pool.
 pub fn scan<D: Disk, A: Allocator + Copy>(
     alloc: A,
     disk: &mut D,
@@ -54,8 +55,8 @@ pub fn scan<D: Disk, A: Allocator + Copy>(
     Ok(Some(Found { heads, free }))
 }
 
-// Reads the head on a page, and claims its pages; none where a page of it isn't free or comes twice. Where memory is refused, nothing was
-// found wrong with it.
+// Reads the head on a page, and claims its pages. Returns `None` if it isn't a valid head, or one of its pages isn't
+// free or is named twice. If an allocation fails, nothing was found wrong with the head.
 fn read_head<D: Disk, A: Allocator + Copy>(
     alloc: A,
     disk: &mut D,
@@ -93,7 +94,7 @@ fn read_head<D: Disk, A: Allocator + Copy>(
     Ok(Some(head))
 }
 
-// Puts a head after the others.
+// Appends a head to the others.
 fn add<A: Allocator + Copy>(heads: &mut Vec<Head<A>, A>, head: Head<A>) -> Result<(), AllocError>
     ensures { OnOk result (heads.new.items ≡ heads.old.items ++ head ∷ []) }
 {

@@ -1,4 +1,4 @@
-//! From the root that counts to the next one.
+//! The switch from the current root to the next one.
 ghost use Rattle.std.specs.Prelude.{◌≡◌, ◌+◌, ◌≤◌, ◌∷◌, List, ℕ, length, map, OnOk};
 ghost use Rattle.psu_disk.specs.Disk.{Left, SameBut, Follows, LeavesOnly, HasCause};
 ghost use Rattle.psu_pages.specs.Finding.{page_of};
@@ -11,7 +11,7 @@ use crate::Root;
 use crate::gates::{OPEN, say, set_gate};
 use psu_disk::{Disk, DiskFault};
 
-/// Makes the next root count, in the place of the other: what it says is made sure of before its gate opens.
+/// Makes the next root the current one, in the place of the other. Its contents are made durable before its gate opens.
 pub fn switch<D: Disk>(disk: &mut D, next: Root, told: &[u8]) -> Result<(), DiskFault>
     requires roots { 1024 ≤ D.extent disk.old }
     requires told { length told.now ≡ 511 }

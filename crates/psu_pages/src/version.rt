@@ -13,7 +13,7 @@ pub fn is_known(version: u16) -> bool
     1 <= version && version <= VERSION
 }
 
-/// How many bytes a key may have in an image of a version.
+/// Returns the maximum number of bytes of a key in an image of a version.
 pub fn key_most(version: u16) -> usize
     ensures { result ≡ key_most_of version }
 {

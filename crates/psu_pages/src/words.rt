@@ -1,4 +1,4 @@
-//! What a root's page says.
+//! Decoding a root's page.
 ghost use Rattle.std.specs.Prelude.{◌≡◌, ◌+◌, ◌≤◌, ◌==◌, List, ℕ, length, if◌then◌else◌, slice_index, Some, None, OnOk, IfErr};
 ghost use Rattle.std.specs.Int.{w16, w32, w64, from_be_bytes};
 ghost use Rattle.psu_disk.specs.Disk.{Range};
@@ -8,19 +8,19 @@ use crate::OpenCause;
 use crate::gates::OPEN;
 use crate::version::is_known;
 
-/// The words of a root after its gate, without its number and the names of its heads.
+/// The fields of a root after its gate, without its number and the pages of its heads.
 #[derive(Clone, Copy, Debug, Drop)]
 pub struct Words {
-    /// `PSU` in a root of ours.
+    /// `PSU` in a root of this format.
     pub mark: [u8; 3],
     pub version: u16,
-    /// How many pages the items may take.
+    /// The maximum number of pages that the items may take.
     pub limit: u16,
-    /// How many items there are.
+    /// The number of items.
     pub count: u16,
 }
 
-/// The words of a root's page.
+/// Decodes the fields of a root's page.
 pub fn words_on(page: &[u8]) -> Words
     requires { length page.now ≡ 512 }
     ensures mark { result.mark ≡ Range 1 3 page.now }
@@ -36,7 +36,7 @@ pub fn words_on(page: &[u8]) -> Words
     }
 }
 
-/// The number of a root's page, where its gate is open.
+/// Returns the number of a root's page if its gate is open.
 pub fn open_number(page: &[u8]) -> Option<u64>
     requires { length page.now ≡ 512 }
     ensures { result ≡ (if slice_index page.now 0 == 165 then Some (from_be_bytes w64 (Range 8 8 page.now)) else None) }
@@ -51,7 +51,7 @@ pub fn open_number(page: &[u8]) -> Option<u64>
     ]))
 }
 
-/// The number of two bytes.
+/// Decodes the number of two bytes.
 pub fn word(bytes: &[u8]) -> u16
     requires { length bytes.now ≡ 2 }
     ensures { result ≡ from_be_bytes w16 bytes.now }
@@ -59,7 +59,7 @@ pub fn word(bytes: &[u8]) -> u16
     u16::from_be_bytes([bytes[0], bytes[1]])
 }
 
-/// The number of four bytes.
+/// Decodes the number of four bytes.
 pub fn long(bytes: &[u8]) -> u32
     requires { length bytes.now ≡ 4 }
     ensures { result ≡ from_be_bytes w32 bytes.now }
@@ -67,7 +67,7 @@ pub fn long(bytes: &[u8]) -> u32
     u32::from_be_bytes([bytes[0], bytes[1], bytes[2], bytes[3]])
 }
 
-// The number of two bytes at a place.
+// Decodes the number of two bytes at an offset.
 fn word_at(page: &[u8], at: usize) -> u16
     requires { at + 2 ≤ length page.now }
     ensures { result ≡ from_be_bytes w16 (Range at 2 page.now) }
@@ -77,7 +77,7 @@ fn word_at(page: &[u8], at: usize) -> u16
     word(number)
 }
 
-/// Whether the words are those of a root of ours, on a disk of this size.
+/// Checks that the fields are those of a root of this format, of a supported version, on a disk of this size.
 pub fn check(words: &Words, size: u64) -> Result<(), OpenCause>
     ensures sound { OnOk result (IsSound words.now size) }
     ensures unsound { IfErr result (IsUnsound words.now size) }

@@ -1,4 +1,4 @@
-//! The pages of an item, each written by one call of the disk.
+//! Writing the pages of an item, each by one call of the disk.
 ghost use Rattle.std.specs.Prelude.{◌≡◌, ◌+◌, ◌*◌, ◌<◌, ◌≤◌, ◌^◌, ◌∷◌, [], List, ℕ, length, take, drop, OnOk};
 ghost use Rattle.std.specs.List.{AllByRecursion};
 ghost use Rattle.psu_disk.specs.Disk.{Left, Follows, LeavesOnly, HasCause};
@@ -55,7 +55,7 @@ fn write_value<D: Disk>(disk: &mut D, pages: &[u16], value: &[u8]) -> Result<(),
     Ok(())
 }
 
-// What a page takes of bytes, and the rest.
+// Splits bytes into those that fit on one page, and the rest.
 fn first_page(bytes: &[u8]) -> (&[u8], &[u8])
     ensures first { result.0.now ≡ take 512 bytes.now }
     ensures fits { length result.0.now ≤ 512 }

@@ -63,7 +63,7 @@ module _ {T S E : Type 0} (of : T → S) (allows : S → E → S → Type 0) (st
   abbrev Rule : State (Option (Held T)) (View S E) → Type 0
   Rule = OneHistory of allows start
 
-  -- a stage that the seat of this view has
+  -- what the stage of a seat says
   pub stands : (s : State (Option (Held T)) (View S E)) (o : Rule s) (id : ℕ) (v : View S E) (g : Stage S) → get_elem? s.views id ≡ some v → v.stage ≡ g → Stands (get_or s.words 1 0) (get_or s.words 2 0) (length o.log) o.state g
   stands s o id v g me is = subst (λ (x : Stage S). Stands (get_or s.words 1 0) (get_or s.words 2 0) (length o.log) o.state x) is ((o.fits id v me).stage)
 
@@ -112,7 +112,7 @@ module _ {T S E : Type 0} (of : T → S) (allows : S → E → S → Type 0) (st
     the_home : (h : Held T) × (get_elem? s.homes 0 ≡ some (some (Some h))) × (of h.object ≡ o.state) × (h.count ≡ length o.log) × (length o.log ≤ get_or s.words 2 0)
     the_home = o.home (all_in of allows start s o id m.0 me has_it is_in)
 
-    -- the seat goes on to a stage with the same ticket
+    -- the seat moves to a stage with the same ticket
     goes_on : (k : ℕ) → m.0.name ≡ Named k → (g : Stage S) (hs : List (mathlib.Core.Option.Option (Option (Held T)))) → ((x : ℕ) → HasTicket x g → t ≡ x) → length hs ≡ 1
         → Stands (get_or s.words 1 0) (get_or s.words 2 0) (length o.log) o.state g
         → (((j : ℕ) (u : View S E) → get_elem? (set s.views id (at_stage m.0 g)) j ≡ some u → IsIn u.stage) → (h : Held T) × (get_elem? hs 0 ≡ some (some (Some h))) × (of h.object ≡ o.state) × (h.count ≡ length o.log) × (length o.log ≤ get_or s.words 2 0))

@@ -61,15 +61,15 @@ module _ {E : Type 0} where
   pub call_other : (k j : ℕ) (e : E) → j ≢ k → calls_by k (numbered j e ∷ []) ≡ []
   call_other k j e n = ap (λ t. if t then e ∷ [] else []) (ne_eqb j k n)
 
-  -- one entry more under the number k
+  -- one more entry under the number k
   pub calls_more : (k : ℕ) (log : List (Numbered E)) (mine : List E) (e : E) → calls_by k log ≡ mine → calls_by k (log ++ numbered k e ∷ []) ≡ mine ++ e ∷ []
   calls_more k log mine e is = calls_append k log (numbered k e ∷ []) ∙ (ap (λ (x : List E). calls_by k log ++ x) (call_mine k e) ∙ ap (λ (x : List E). x ++ e ∷ []) is)
 
-  -- one entry more under another number
+  -- one more entry under another number
   pub calls_same : (k j : ℕ) (log : List (Numbered E)) (mine : List E) (e : E) → j ≢ k → calls_by k log ≡ mine → calls_by k (log ++ numbered j e ∷ []) ≡ mine
   calls_same k j log mine e n is = calls_append k log (numbered j e ∷ []) ∙ (ap (λ (x : List E). calls_by k log ++ x) (call_other k j e n) ∙ (append_nil (calls_by k log) ∙ is))
 
-  -- who has made no call has none in what was seen
+  -- a seat that has made no call has none in what was seen
   pub calls_none : (k : ℕ) (log seen : List (Numbered E)) → StartsWith log seen → calls_by k log ≡ [] → calls_by k seen ≡ []
   calls_none k log seen s none = nil_of (calls_by k seen) (calls_by k s.0) (ap (λ (x : List E). length x) (sym (calls_append k seen s.0) ∙ (ap (calls_by k) (sym s.1) ∙ none)))
 

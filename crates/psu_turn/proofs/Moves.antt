@@ -1,4 +1,4 @@
--- What keeps the rule: parts that all steps share.
+-- How steps keep the rule: parts that all steps share.
 use Rattle.std.proofs.Common.{◌≡◌, ℕ, ◌+◌, ◌^◌, ◌<◌, ◌≤◌, ◌≢◌, List, length, get_or, set, sym, ap, ◌∙◌, subst, ◌⊎◌, inl, inr, ⊎_elim, arith, length-set, Option, Some}
 use mathlib.Core.Logic.{dite}
 use mathlib.Core.Option.{some, some-injective, some-ne-none}
@@ -37,7 +37,7 @@ module _ {T : Type 0} where
   more_tickets (Out t x n) tk tk' sv c st h s = let b = s.1 in (s.0, omega arith, s.2, s.3, s.4)
   more_tickets (Done t x n) tk tk' sv c st h s = let b = s.1 in (s.0, omega arith, s.2, s.3, s.4)
 
-  -- the next ticket is served, which was not this seat's
+  -- the next ticket is served, and the one served before is not this seat's
   pub next_served : (g : Stage T) (tk sv c : ℕ) (st : T) → (HasTicket sv g → ⊥) → Stands tk sv c st g → Stands tk (sv + 1) c st g
   next_served Idle tk sv c st un s = tt
   next_served (Waiting t) tk sv c st un s = let a = s.0 in (dite (ℕ_discrete t sv) (λ e. absurd (un e)) (λ n. omega arith), s.1)
@@ -53,7 +53,7 @@ module _ {T : Type 0} where
   other_called (Out t x n) tk sv c c' st st' un s = absurd (un (sym s.0))
   other_called (Done t x n) tk sv c c' st st' un s = absurd (un (sym s.0))
 
-  -- a seat is in, or its ticket is served
+  -- a seat doesn't have the object, or its ticket is served
   pub in_or_served : (g : Stage T) (tk sv c : ℕ) (st : T) → Stands tk sv c st g → IsIn g ⊎ HasTicket sv g
   in_or_served Idle tk sv c st s = inl tt
   in_or_served (Waiting t) tk sv c st s = inl tt
@@ -89,11 +89,11 @@ module _ {T S E : Type 0} (of : T → S) (allows : S → E → S → Type 0) (op
   abbrev pub board : List ℕ → List (mathlib.Core.Option.Option (Option (Held T))) → List (View S E) → St
   board ws hs vs = record { words = ws; homes = hs; views = vs }
 
-  -- whoever has the ticket that is served is one seat
+  -- no two seats have the same ticket
   pub served_once : (s : St) (o : OneHistory of allows opening s) (id j n : ℕ) (v u : View S E) → get_elem? s.views id ≡ some v → HasTicket n v.stage → j ≢ id → get_elem? s.views j ≡ some u → HasTicket n u.stage → ⊥
   served_once s o id j n v u me mine ne them theirs = absurd (ne (o.apart j id u v n them me theirs mine))
 
-  -- while a seat whose ticket is served is in, all are
+  -- while a seat whose ticket is served doesn't have the object, no seat has it
   pub all_in : (s : St) (o : OneHistory of allows opening s) (id : ℕ) (v : View S E) → get_elem? s.views id ≡ some v → HasTicket (get_or s.words 2 0) v.stage → IsIn v.stage
       → (j : ℕ) (u : View S E) → get_elem? s.views j ≡ some u → IsIn u.stage
   all_in s o id v me mine is j u them = ⊎_elim (λ (x : IsIn u.stage). x) (λ (theirs : HasTicket (get_or s.words 2 0) u.stage).
@@ -102,7 +102,7 @@ module _ {T S E : Type 0} (of : T → S) (allows : S → E → S → Type 0) (op
       subst (λ (y : View S E). IsIn y.stage) same is)
       (in_or_served u.stage (get_or s.words 1 0) (get_or s.words 2 0) (length o.log) o.state ((o.fits j u them).stage))
 
-  -- all were in before a seat changed its view
+  -- no seat had the object before a seat changed its view
   pub were_in : (views : List (View S E)) (id : ℕ) (v w : View S E) → get_elem? views id ≡ some v → IsIn v.stage
       → ((j : ℕ) (u : View S E) → get_elem? (set views id w) j ≡ some u → IsIn u.stage) → (j : ℕ) (u : View S E) → get_elem? views j ≡ some u → IsIn u.stage
   were_in views id v w me is all j u at = dite (ℕ_discrete j id)

@@ -28,7 +28,7 @@ module _ {T S E : Type 0} (of : T → S) (allows : S → E → S → Type 0) (st
   abbrev Rule : State (Option (Held T)) (View S E) → Type 0
   Rule = OneHistory of allows start
 
-  -- a seat whose stage is the same goes on
+  -- a step that leaves a seat's stage the same keeps the rule
   same_stage : (s : State (Option (Held T)) (View S E)) (r : Rule s) (i id : ℕ) (v w : View S E) → get_elem? s.views id ≡ some v → (v.name ≡ Spent → ⊥) → w.stage ≡ v.stage
       → StartsWith r.log w.seen → Owns start r.log id w.opening w.mine w.name → Recalls r.log s.views w.inherited
       → Rule (board of allows start (set s.words i (get_or s.words i 0)) s.homes (set s.views id w))
@@ -48,7 +48,7 @@ module _ {T S E : Type 0} (of : T → S) (allows : S → E → S → Type 0) (st
       subst (λ (y : View S E). IsIn y.stage) same (subst (λ (g : Stage S). IsIn g) is (all id w (set_here s.views id w (at_bound s.views id v me)))))
       (λ n. all j u (set_else s.views id j w n ∙ at)))))
 
-  -- a seat that was taken over is given up, and one that looks has a number
+  -- a seat that was taken over is released, and a seat that looks has a number
   told : (log : List (Numbered E)) (views : List (View S E)) (id n own : ℕ) (v w : View S E) → get_elem? views id ≡ some v → v.name ≡ Named n → own ≡ id → w.seen ≡ log
       → (x : Inherited E) → Recalls log views x → Tells own w x
   told log views id n own v w me name here is Nothing q = tt
@@ -93,7 +93,7 @@ module _ {T S E : Type 0} (of : T → S) (allows : S → E → S → Type 0) (st
         λ p₁ name₁. (id, (λ e. let b = own.1 in let q : p ≡ p₁ = ap number_of (sym name ∙ name₁) in absurd (omega arith)), calls_none id r.log m.0.seen f.seen (own.2 ∙ none_mine), refl),
       )
 
-  -- one seat more, which is idle
+  -- one more seat, which is idle
   joins_in : (s : State (Option (Held T)) (View S E)) (r : Rule s) (w : View S E) → w.stage ≡ Idle → StartsWith r.log w.seen
       → Owns start r.log (length s.views) w.opening w.mine w.name → w.inherited ≡ Nothing
       → Rule (board of allows start s.words s.homes (s.views ++ w ∷ []))

@@ -1,4 +1,4 @@
--- What a whole call tells, put together from its steps.
+-- What a seat learns from a whole call, put together from its steps.
 use Rattle.std.proofs.Common.{◌≡◌, ◌≢◌, ℕ, List, [], ◌∷◌, sym, refl, ap, ◌∙◌, subst, Option, Some, None, length}
 use Rattle.atomic_table.specs.Table.{Step, rest}
 use Rattle.psu_turn.specs.Turns.{TurnId}
@@ -52,7 +52,7 @@ module _ {T S E : Type 0} where
   filled m m' x e out = e ∙ ap (λ (c : List (ℕ × Option (Held T))). (m.0, (0, Some x) ∷ rest c)) out
 
   module _ (allows : S → E → S → Type 0) where
-    -- a seat that has looked, and has taken over what x says
+    -- a seat that has looked, and has taken over x
     module _ (st : Step (Option (Held T))) (v : View S E) (x : Inherited E) (slots : List (ℕ × Option (Held T))) (a : Sat T S E) (found : ℕ) (idle : IsIdle v) (none : slots ≡ [])
         (looked : looks allows st (view v.name v.opening v.seen v.mine x v.stage, slots) found a) where
       pub look_ready : IsReady a
@@ -79,7 +79,7 @@ module _ {T S E : Type 0} where
         → looks allows st (view m.0.name m.0.opening m.0.seen m.0.mine (taken_over w.name w) m.0.stage, m.1) found a
     join_looks st m w j a found is looked = subst (λ (x : Sat T S E). looks allows st x found a) is looked
 
-    -- a seat that has made its call and given the turn up
+    -- a seat that has made its call and released the turn
     module _ (m m' n a : Sat T S E) (t c : ℕ) (slots : List (ℕ × Option (Held T))) (out : IsOut t c m) (before : m' ≡ (m.0, slots)) (name : n.0.name ≡ m'.0.name) (opens : n.0.opening ≡ m'.0.opening) (alone : n.0.inherited ≡ m'.0.inherited) (after : a ≡ (at_stage n.0 Idle, [])) where
       same_name_n : n.0.name ≡ m.0.name
       same_name_n = name ∙ ap (λ (x : Sat T S E). x.0.name) before

@@ -1,4 +1,5 @@
--- The rule of the turn's table. Word 0 is the number of calls, word 1 the next ticket, word 2 the ticket that is served; slot 0 has the object.
+-- The rule of the turn's table. Word 0 is the number of calls, word 1 the next ticket, word 2 the ticket that is
+-- served; slot 0 has the object.
 use Rattle.std.specs.Prelude.{◌≡◌, ℕ, ◌+◌, ◌^◌, ◌<◌, ◌≤◌, List, [], length, slice_index, Option, Some, None}
 use mathlib.Core.Option.{some}
 use lib.ListN.{get_elem?}
@@ -22,7 +23,7 @@ module _ {S E : Type 0} where
   abbrev pub newcomer : S → View S E
   newcomer opening = view (Named 0) (Some opening) [] [] Nothing Idle
 
-  -- a seat that was given up
+  -- a seat that was released
   abbrev pub spent : View S E
   spent = view Spent None [] [] Nothing Idle
 
@@ -37,7 +38,7 @@ HasTicket n (Called t) = t ≡ n
 HasTicket n (Out t x c) = t ≡ n
 HasTicket n (Done t x c) = t ≡ n
 
--- the seat hasn't the object
+-- the seat doesn't have the object
 abbrev pub IsIn : {S : Type 0} → Stage S → Type 0
 IsIn Idle = Unit {0}
 IsIn (Waiting t) = Unit {0}
@@ -45,7 +46,8 @@ IsIn (Called t) = Unit {0}
 IsIn (Out t x c) = ⊥
 IsIn (Done t x c) = ⊥
 
--- What a stage says of the next ticket, the one that is served, the number of calls and the state. No more calls were made than tickets served.
+-- What a stage says about the next ticket, the one that is served, the number of calls and the state. No more calls
+-- were made than tickets served.
 module _ {S : Type 0} (ticket serving count : ℕ) (state : S) where
   abbrev pub Stands : Stage S → Type 0
   Stands Idle = Unit {0}
@@ -54,27 +56,30 @@ module _ {S : Type 0} (ticket serving count : ℕ) (state : S) where
   Stands (Out t x c) = (serving ≡ t) × (t < ticket) × (x ≡ state) × (c ≡ count) × (count ≤ t)
   Stands (Done t x c) = (serving ≡ t) × (t < ticket) × (x ≡ state) × (c ≡ count) × (count ≤ t + 1)
 
--- Seat j has under its number just its calls. One that has no number yet is younger than the seat that it was split from.
+-- Under the number of seat j the history has exactly its calls. A seat that has no number yet is younger than the seat
+-- that it was split from.
 module _ {S E : Type 0} (opening : S) (log : List (Numbered E)) (j : ℕ) where
   abbrev pub Owns : Option S → List E → Name → Type 0
   Owns o mine Spent = Unit {0}
   Owns o mine (Unnamed k) = (o ≡ Some opening) × (k < j) × (calls_by j log ≡ mine)
   Owns o mine (Named k) = (o ≡ Some opening) × (k ≡ j) × (calls_by j log ≡ mine)
 
--- The history began with what the other had seen, and has its calls under its number; it makes no more.
+-- What the other seat had seen is a prefix of the history, which has that seat's calls under its number; that seat
+-- makes no more calls.
 module _ {S E : Type 0} (log : List (Numbered E)) (views : List (View S E)) where
   abbrev pub Recalls : Inherited E → Type 0
   Recalls Nothing = Unit {0}
   Recalls (From k seen mine) = StartsWith log seen × (calls_by k log ≡ mine) × ((w : View S E) × (get_elem? views k ≡ some w) × (w.name ≡ Spent))
 
--- what the rule says of seat j, which has the view v
+-- what the rule says about seat j, which has the view v
 pub record Fits {S E : Type 0} (opening state : S) (log : List (Numbered E)) (ticket serving : ℕ) (views : List (View S E)) (j : ℕ) (v : View S E) : Type 0 where
   pub seen : StartsWith log v.seen
   pub own : Owns opening log j v.opening v.mine v.name
   pub inherited : Recalls log views v.inherited
   pub stage : Stands ticket serving (length log) state v.stage
 
--- There is one legal history. Its length is the count, and unless a seat has taken it, the slot has the object as the history leaves it.
+-- There is one legal history. Its length is the count, and unless a seat has taken it, the slot has the object as the
+-- history leaves it.
 pub record OneHistory {T S E : Type 0} (of : T → S) (allows : S → E → S → Type 0) (opening : S) (s : State (Option (Held T)) (View S E)) : Type 0 where
   pub log : List (Numbered E)
   pub state : S

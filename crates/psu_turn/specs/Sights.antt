@@ -22,7 +22,7 @@ module _ {S E : Type 0} where
   abbrev pub sight : TurnId → View S E → Sight S E
   sight z v = record { turn = z; number = number_of v.name; opening = v.opening; seen = v.seen; mine = v.mine }
 
-  -- of what a badge has: one view, or none while the seat is away with a call
+  -- the sight of what a badge has: one view, or none while a call is being made with the seat
   abbrev pub sight_of : TurnId → List (View S E) → Sight S E
   sight_of z [] = record { turn = z; number = 0; opening = None; seen = []; mine = [] }
   sight_of z (v ∷ vs) = sight z v
@@ -53,7 +53,8 @@ is_named Spent = false
 is_named (Unnamed k) = false
 is_named (Named k) = true
 
--- no more calls were made than tickets served, of which there are 2 ^ 62
+-- the object was taken under this ticket, after so many calls; no more calls were made than tickets served, of which
+-- there are 2 ^ 62
 abbrev pub has_taken : {S : Type 0} → ℕ → ℕ → Stage S → Bool
 has_taken ticket count Idle = false
 has_taken ticket count (Waiting t) = false
@@ -65,7 +66,7 @@ abbrev pub is_alone : {E : Type 0} → Inherited E → Bool
 is_alone Nothing = true
 is_alone (From k seen mine) = false
 
--- it has slot 0, and there is nothing in it
+-- the seat has slot 0, and there is nothing in it
 abbrev pub has_slot : {T : Type 0} → List (ℕ × Option (Held T)) → Bool
 has_slot [] = false
 has_slot ((k, None) ∷ []) = k == 0
@@ -81,7 +82,7 @@ module _ {T S E : Type 0} where
   abbrev pub is_out : ℕ → ℕ → Sat T S E → Bool
   is_out ticket count m = is_some m.0.opening && is_named m.0.name && has_taken ticket count m.0.stage && is_alone m.0.inherited && has_slot m.1
 
-  -- the same seat, with the same view and the same slots
+  -- q is the seat p, with the view and the slots of p
   pub record Stays (p q : Seat (Option (Held T)) (View S E)) : Type 0 where
     pub turn : q.table_id ≡ p.table_id
     pub id : q.id ≡ p.id

@@ -1,4 +1,4 @@
--- What each kind of step tells its seat.
+-- What a seat learns from each kind of step.
 use Rattle.std.specs.Prelude.{◌≡◌, ◌≢◌, ℕ, ◌^◌, ◌<◌, ◌≤◌, List, [], ◌∷◌, ◌++◌, length, Option, Some}
 use Rattle.atomic_table.specs.Table.{Me, Step}
 use Rattle.psu_turn.specs.declared.held.Held.{Held}
@@ -36,35 +36,37 @@ module _ {S E : Type 0} where
   abbrev pub joined : View S E → View S E → View S E
   joined v w = view v.name v.opening v.seen v.mine (taken_over w.name w) v.stage
 
-  -- what w, whose seat has the number own, has seen of a seat that was taken over, which had another number
+  -- what w, whose seat has the number `own`, has seen of a seat that was taken over, which had another number
   abbrev pub Tells : ℕ → View S E → Inherited E → Type 0
   Tells own w Nothing = Unit {0}
   Tells own w (From k seen mine) = StartsWith w.seen seen × (calls_by k w.seen ≡ mine) × (k ≢ own)
 
   module _ (allows : S → E → S → Type 0) where
-    -- The history after the call e is legal, begins with all that the seat k had seen, and ends with e. Under the number k it has just the seat's calls.
+    -- The history after the call e is legal, begins with all that the seat k had seen, and ends with e. Under the
+    -- number k it has exactly the seat's calls.
     abbrev pub Extends : S → ℕ → View S E → E → View S E → Type 0
     Extends o k v e w = (between : List (Numbered E)) × (w.seen ≡ (v.seen ++ between) ++ numbered k e ∷ []) × IsLegal allows o w.seen × (w.mine ≡ v.mine ++ e ∷ []) × (calls_by k w.seen ≡ w.mine)
 
-    -- The history so far is legal, and begins with all that the seat k had seen. Under the number k it has just the seat's calls.
+    -- The history so far is legal, and begins with all that the seat k had seen. Under the number k it has exactly the
+    -- seat's calls.
     abbrev pub Looks : S → ℕ → View S E → View S E → Type 0
     Looks o k v w = StartsWith w.seen v.seen × IsLegal allows o w.seen × (w.mine ≡ v.mine) × (calls_by k w.seen ≡ w.mine)
 
 module _ {T S E : Type 0} where
-  -- whoever finds the next ticket has drawn it
+  -- a seat that finds the next ticket has drawn it
   abbrev pub draws : Step (Option (Held T)) → Sat T S E → ℕ → Sat T S E → Type 0
   draws st m found after = (found ≡ st.first → after ≡ (at_stage m.0 (Waiting st.first), m.1)) × (found ≢ st.first → after ≡ m)
 
-  -- whoever finds its ticket served has the object
+  -- a seat that finds its ticket served has the object
   abbrev pub takes_turn : (T → S) → Step (Option (Held T)) → Sat T S E → ℕ → Sat T S E → Type 0
   takes_turn of st m found after = (t : ℕ) → m.0.stage ≡ Waiting t
       → (found ≡ t → (h : Held T) × (h.count ≤ t) × (t < 2 ^ 62) × (after ≡ (at_stage m.0 (Out t (of h.object) h.count), (0, Some h) ∷ m.1))) × (found ≢ t → after ≡ m)
 
-  -- whoever finds its ticket served knows it
+  -- a seat that finds its ticket served knows it
   abbrev pub is_called : Step (Option (Held T)) → Sat T S E → ℕ → Sat T S E → Type 0
   is_called st m found after = (t : ℕ) → m.0.stage ≡ Waiting t → (found ≡ t → after ≡ (at_stage m.0 (Called t), m.1)) × (found ≢ t → after ≡ m)
 
-  -- the turn is given up, and the slot with it
+  -- the turn is released, and the slot with it
   abbrev pub leaves : Step (Option (Held T)) → Sat T S E → ℕ → Sat T S E → Type 0
   leaves st m found after = after ≡ (at_stage m.0 Idle, [])
 

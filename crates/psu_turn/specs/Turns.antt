@@ -1,8 +1,8 @@
--- Which turn it is.
+-- The identity of a turn.
 use Rattle.std.specs.Coded.{Coded}
 use Rattle.atomic_table.specs.Seated.{TableId, table_id_coded}
 
--- what no other turn shares with it
+-- the identity, which no other turn shares
 abbrev pub TurnId : Type 0
 TurnId = TableId
 

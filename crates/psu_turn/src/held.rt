@@ -1,6 +1,6 @@
-// What lies in the slot.
+// The content of the table's slot.
 
-/// The object, and how many calls were made of it.
+/// The object, and the number of calls that were made on it.
 #[derive(Drop)]
 pub struct Held<T> {
     pub object: T,

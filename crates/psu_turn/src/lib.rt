@@ -1,7 +1,9 @@
-//! A turn that counts: one object that many threads call, one at a time, and one legal history of all their calls.
+//! A counted turn: one object that many threads call, one at a time, and one legal sequential history of all their
+//! calls.
 //!
-//! A thread has a [`Seat`], waits for the turn by [`Turn::enter`], calls the object that it then holds, and gives it back by
-//! [`Turn::leave`]. What the calls may answer and leave is said once, by the relation of a [`Machine`].
+//! A thread has a [`Seat`], waits for the turn by [`Turn::enter`], calls the object that it then holds, and gives it
+//! back by [`Turn::leave`]. What the calls may return, and which states they may leave, is specified once, by the
+//! relation of a [`Machine`].
 #![tactic(auto)]
 
 mod held;

@@ -1,16 +1,17 @@
-// What may be shared by turns.
+// The objects that threads may share by a turn.
 
-/// An object whose calls are told by one relation: which entry, a call with its reply, leads from which state to which.
+/// An object whose calls are specified by one relation: which entry, a call with its reply, leads from which state to
+/// which.
 pub trait Machine {
-    /// What contracts say of the object. No value of it need be made.
+    /// The object as contracts see it. No value of it need be constructed.
     type State;
 
-    /// A call with its reply. No value of it need be made.
+    /// A call with its reply. No value of it need be constructed.
     type Entry;
 
     /// The state of an object.
     ghost state: { Self → Self.State };
 
-    /// From a state, the call may be answered so and leave the other.
+    /// From the first state, the call may have this reply and leave the second state.
     ghost allows: { Self.State → Self.Entry → Self.State → Type 0 };
 }

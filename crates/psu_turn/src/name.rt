@@ -1,10 +1,10 @@
-// By which number the history knows a seat.
+// The number under which the history has the calls of a seat.
 
-/// The number of a seat. No value of it is made.
+/// The number of a seat. No value of it is constructed.
 pub enum Name {
-    /// The seat was given up.
+    /// The seat was released.
     Spent,
-    /// It was split from the seat of this number, and has none of its own yet.
+    /// The seat was split from the seat of this number, and has no number of its own yet.
     Unnamed(u64),
     Named(u64),
 }

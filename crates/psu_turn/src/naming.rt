@@ -3,7 +3,7 @@ ghost use Rattle.std.specs.Prelude.{Option};
 
 use std::marker::Brand;
 
-/// Which entry a call adds to the history. A caller passes `Brand`, and its proof picks the entry.
+/// Which entry a call adds to the history. A caller passes `Brand`, and its proof chooses the entry.
 pub trait Naming<E> {
     ghost entry: { Option E };
 }

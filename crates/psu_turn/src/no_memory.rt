@@ -1,6 +1,6 @@
-// A turn that isn't made.
+// The error of creating a turn.
 
-/// There was no memory for a turn. The object comes back.
+/// There was no memory for a turn. The object is returned.
 #[derive(Drop)]
 pub struct NoMemory<T> {
     pub object: T,

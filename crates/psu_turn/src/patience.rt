@@ -1,10 +1,10 @@
 // How a thread waits for its turn.
 use std::thread;
 
-// So often it looks again at once.
+// The number of times that a thread looks again at once.
 const LOOKS: u32 = 64;
 
-// How often it has looked in vain.
+// The number of times that a thread has looked without success, up to `LOOKS`.
 #[derive(Drop)]
 pub(crate) struct Patience {
     looks: u32,
@@ -15,7 +15,8 @@ impl Patience {
         Patience { looks: 0 }
     }
 
-    // Before the next look: with more threads than processors the one whose turn it is might not run otherwise.
+    // Waits before the next look: yields the processor after `LOOKS` looks. With more threads than processors, the
+    // thread whose turn it is might not run otherwise.
     pub(crate) fn pause(&mut self) {
         if self.looks < LOOKS {
             self.looks += 1;

@@ -10,10 +10,11 @@ use std::mem;
 // A seat at the table, which may have the slot.
 pub(crate) type Place<T, S, E> = atomic_table::Seat<Option<Held<T>>, View<S, E>>;
 
-/// A caller's seat: what a thread needs for its calls. It names no type of the object, and may be handed to another thread.
+/// A caller's seat: what a thread needs for its calls. It doesn't name the object's type, and may be passed to another
+/// thread.
 ///
-/// Contracts see its turn, its number there, the history that it has seen and its own calls (`Sight`). While it is away with a
-/// call, between `Turn::enter` and `Turn::leave`, they see none of these.
+/// Contracts see its turn, its number there, the history that it has seen and its own calls (`Sight`). While a call is
+/// made with it, between `Turn::enter` and `Turn::leave`, they see none of these.
 #[derive(Drop)]
 pub struct Seat<S, E> {
     badge: Badge<View<S, E>>,
@@ -32,7 +33,7 @@ impl<S, E> Model for Seat<S, E> {
 }
 
 impl<S, E> Seat<S, E> {
-    // Its place at the table. The seat is away until it is put back.
+    // Takes the seat's place at the table. The seat is blank until its place is put back.
     pub(crate) fn rise<T>(&mut self) -> Place<T, S, E>
         requires here { (opening : S) × (self.old.opening ≡ Some opening) }
         ensures ready { IsReady result.me }

@@ -1,6 +1,6 @@
-// Where a seat stands in the queue for the turn.
+// The position of a seat in the queue for the turn.
 
-/// How far a seat is. No value of it is made.
+/// How far a seat is with its call. No value of it is constructed.
 pub enum Stage<S> {
     /// It has no ticket.
     Idle,

@@ -1,4 +1,4 @@
-// The kinds of step, each with what it tells its seat.
+// The kinds of step, each with what its seat learns from it.
 ghost use Rattle.psu_turn.specs.Rule.{spent};
 ghost use Rattle.psu_turn.specs.Steps.{draws, takes_turn, is_called, adds, leaves, looks, is_named, child, joined};
 
@@ -13,14 +13,14 @@ impl<T, S, E> Play<Option<Held<T>>, View<S, E>> for Draw {
     ghost then = { draws };
 }
 
-// The ticket that is served is looked at, and the object is taken where it is the seat's.
+// The served ticket is looked at, and the object is taken if the ticket is the seat's.
 pub struct Take;
 
 impl<T: Machine> Play<Option<Held<T>>, View<T::State, T::Entry>> for Take {
     ghost then = { takes_turn T.state };
 }
 
-// The ticket that is served is looked at, and the object stays.
+// The served ticket is looked at, and the object stays.
 pub struct Know;
 
 impl<T, S, E> Play<Option<Held<T>>, View<S, E>> for Know {
@@ -36,7 +36,7 @@ impl<T: Machine, J: Naming<T::Entry>> Play<Option<Held<T>>, View<T::State, T::En
     ghost then = { adds T.state T.allows J.entry };
 }
 
-// The turn is given up.
+// The turn is released.
 pub struct Leave;
 
 impl<T, S, E> Play<Option<Held<T>>, View<S, E>> for Leave {

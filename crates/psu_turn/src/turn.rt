@@ -1,4 +1,4 @@
-// The turn: three words, and a slot that has the object while nobody has taken it.
+// The turn: three words, and a slot that has the object while no seat has taken it.
 ghost use Rattle.std.specs.Prelude.{◌≡◌, ◌+◌, ◌^◌, ◌<◌, ◌≤◌, nat_lt, [], ◌∷◌, Option, Some, None, IfOk, IfErr, length};
 ghost use Rattle.psu_turn.specs.Rule.{at_stage};
 ghost use Rattle.psu_turn.specs.Seats.{Begins, IsOf, Calls, Sees, Splits, Joins, Closes};
@@ -17,10 +17,10 @@ use std::marker::Model;
 use std::snapshot::Snapshot;
 use std::sync::Wait;
 
-// So many turns there are.
+// The number of turns that there are.
 const TURNS: u64 = 1 << 62;
 
-/// Whether there is a turn for a ticket: there are 2^62, counted from 0. A call that finds them used up waits for good.
+/// Whether there is a turn for a ticket: there are 2^62, counted from 0. A call that finds them used up waits forever.
 pub fn has_turn(ticket: u64) -> bool
     ensures { result ≡ nat_lt ticket (2 ^ 62) }
 {
@@ -34,7 +34,7 @@ const NEXT: usize = 1;
 
 const SERVED: usize = 2;
 
-/// An object that many threads call, each in its turn. Contracts see which turn it is: a seat is of one turn alone.
+/// An object that many threads call, each in its turn. Contracts see which turn it is: a seat belongs to one turn only.
 #[derive(Drop)]
 pub struct Turn<T: Machine, A: Allocator + Copy> {
     table: Table<Option<Held<T>>, View<T::State, T::Entry>, Snapshot<T>, Law, A>,
@@ -56,8 +56,8 @@ impl<T: Machine, A: Allocator + Copy> Model for Turn<T, A> {
 impl<T: Machine, A: Allocator + Copy> Turn<T, A> {
     ghost use Rattle.psu_turn.specs.Takings.{seat_of, state_of};
 
-    /// A turn of this object, with the first seat. Where there is no memory the object comes back as it was. It is the only call
-    /// that takes memory.
+    /// Creates a turn of this object, with the first seat. If there is no memory, returns the object as it was. It is
+    /// the only call that allocates.
     pub fn new(alloc: A, object: T) -> Result<(Turn<T, A>, Seat<T::State, T::Entry>), NoMemory<T>>
         ensures seat { IfOk result (λ made. Begins made.0 (T.state object) made.1) }
         ensures back { IfErr result (λ refused. refused.object ≡ object) }
@@ -100,8 +100,8 @@ impl<T: Machine, A: Allocator + Copy> Turn<T, A> {
         }
     }
 
-    /// Gives the object back with the seat, and adds the entry to the history. The call and its reply are for the proof alone,
-    /// which picks the entry by them.
+    /// Gives the object back, restores the seat, and adds the entry to the history. The call and its reply are for the
+    /// proof only, which chooses the entry by them.
     pub fn leave<J: Naming<T::Entry>, C, P>(
         &self,
         seat: &mut Seat<T::State, T::Entry>,
@@ -133,7 +133,7 @@ impl<T: Machine, A: Allocator + Copy> Turn<T, A> {
         *seat = Seat::rest(place);
     }
 
-    /// The number of calls so far. It waits for nobody.
+    /// Returns the number of calls so far. Waits for no other thread.
     pub fn progress(&self, seat: &mut Seat<T::State, T::Entry>) -> u64
         requires own { IsOf self.now seat.old }
         ensures look { Sees T.allows seat.old seat.new }
@@ -146,7 +146,7 @@ impl<T: Machine, A: Allocator + Copy> Turn<T, A> {
         calls
     }
 
-    /// A seat for another thread. It waits for nobody.
+    /// Returns a seat for another thread. Waits for no other thread.
     pub fn split(&self, seat: &mut Seat<T::State, T::Entry>) -> Seat<T::State, T::Entry>
         requires own { IsOf self.now seat.old }
         ensures same { seat.new ≡ seat.old }
@@ -160,7 +160,8 @@ impl<T: Machine, A: Allocator + Copy> Turn<T, A> {
         Seat::rest(other)
     }
 
-    /// Gives a seat up, and has seen its calls. It waits for nobody.
+    /// Joins another seat to this one: the other is released, and this one has seen its calls. Waits for no other
+    /// thread.
     pub fn join(&self, seat: &mut Seat<T::State, T::Entry>, mut other: Seat<T::State, T::Entry>)
         requires own { IsOf self.now seat.old × IsOf self.now other }
         ensures join { Joins T.allows seat.old other seat.new }
@@ -174,7 +175,7 @@ impl<T: Machine, A: Allocator + Copy> Turn<T, A> {
         *seat = Seat::rest(place);
     }
 
-    /// Waits for the last turn, and hands the object out.
+    /// Waits for the last turn, and returns the object.
     pub fn close<R: Wait>(self, rt: &R, mut seat: Seat<T::State, T::Entry>) -> T
         requires own { IsOf self seat }
         ensures close { Closes T.allows seat (T.state result) }
@@ -191,7 +192,7 @@ impl<T: Machine, A: Allocator + Copy> Turn<T, A> {
         object
     }
 
-    // The ticket that is drawn.
+    // Draws a ticket, and returns it.
     fn draw<R: Wait>(&self, rt: &R, place: &mut Place<T, T::State, T::Entry>) -> u64
         requires own { place.old.table_id ≡ self.now }
         requires ready { IsReady place.old.me }

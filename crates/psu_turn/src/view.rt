@@ -1,9 +1,9 @@
-// What a seat knows of the turn.
+// What a seat knows about the turn.
 use crate::{Inherited, Name, Numbered, Stage};
 use std::collections::LinkedList;
 
-/// What a seat knows: its number, the object's state at first, the history that it has seen, its own calls, what it took
-/// over, and where it stands in the queue. No value of it is made.
+/// What a seat knows: its number, the object's initial state, the history that it has seen, its own calls, what it took
+/// over, and its position in the queue. No value of it is constructed.
 pub struct View<S, E> {
     pub name: Name,
     pub opening: Option<S>,

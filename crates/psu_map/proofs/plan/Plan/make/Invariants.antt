@@ -4,7 +4,7 @@ use Rattle.psu_map.specs.Map.{IsSorted}
 use Rattle.psu_map.specs.Batch.{changed}
 use Rattle.psu_map.proofs.plan.Plan.make.Given as goal
 
--- there is room for the edits that are left, and they make of the map what all of them make of the first one
+-- there is room for the remaining edits, and they turn the map into what all edits turn the first one into
 abbrev pub invariant-loop-edit : goal.invariant-loop-edit
 invariant-loop-edit g l =
     let pairs = l.self-inside.pairs in

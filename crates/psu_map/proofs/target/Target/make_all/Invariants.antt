@@ -3,7 +3,7 @@ use Rattle.psu_map.specs.Batch.{changed, KeepsValue}
 use Rattle.psu_map.specs.Target.{aimed, standing}
 use Rattle.psu_map.proofs.target.Target.make_all.Given as goal
 
--- the edits so far are made, and what all edits keep stands
+-- the edits so far are made, and what all edits keep is unchanged
 abbrev pub invariant-loop-edit : goal.invariant-loop-edit
 invariant-loop-edit g l = record {
   before : (let t = l.self in t.before) ≡ (let t = l.fn.self in t.before);
