@@ -209,7 +209,7 @@ get_bad (i ∷ items) key keys bad =
     by_test true e good rest = let same : is_key i.key ≡ is_key key = ap is_key (same_key i.key key e) in absurd cc
     by_test false e good rest = rest
 
--- maps whose keys are all valid are equal if they have the same of each part
+-- maps whose keys are all valid are equal if they agree on each part
 pub same_parts : (a b : List Item) → IsSorted a → IsSorted b → has_keys a ≡ true → has_keys b ≡ true → ((part : Part) → IsPart part → get a (key_of part) ≡ get b (key_of part)) → a ≡ b
 same_parts a b sorted_a sorted_b keys_a keys_b same = same_map a b sorted_a sorted_b (λ k. at k (is_key k) refl)
   where

@@ -15,9 +15,9 @@ pub record Macro : Type 0 where
   pub label : List ℕ
   pub body : List ℕ
 
--- Contents: a hundred registers of settings; user data; macros in order of definition; SRE and ESE where the power-on status clear flag
--- is false; files by name, each the byte of its type and then its own bytes; whether the settings at power-on are those of register 0
--- (else they are those of `*RST`).
+-- Contents: a hundred registers of settings; user data; macros in order of definition; SRE and ESE where the power-on
+-- status clear flag is false; files by name, each the byte of its type and then its own bytes; whether the settings at
+-- power-on are those of register 0 (else they are those of `*RST`).
 pub record Contents : Type 0 where
   pub registers : List (List OutputSettings)
   pub user : List ℕ
