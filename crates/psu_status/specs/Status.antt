@@ -122,8 +122,8 @@ power_on enables bits = record { esr = 128; sre = sre_kept enables; ese = ese_ke
 abbrev pub first_request : Reported → Option ℕ
 first_request s = if is_enabled s false then Some (status_byte s false) else None
 
--- The first service request that is prescribed: 96 exactly where enables were kept, with ESB (bit 5) in SRE and PON (bit 7)
--- in ESE.
+-- The first service request that is prescribed: 96 exactly where enables were kept, with ESB (bit 5) in SRE and PON
+-- (bit 7) in ESE.
 abbrev pub prescribed : Option (ℕ × ℕ) → Option ℕ
 prescribed None = None
 prescribed (Some enables) = if has_bit enables.0 5 && has_bit enables.1 7 then Some 96 else None

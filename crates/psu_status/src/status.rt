@@ -60,9 +60,9 @@ impl Model for Status {
 }
 
 impl Status {
-    /// The status at power-on: PON alone in the event status register, SRE and ESE as kept or 0 where none are kept (the
-    /// power-on status clear flag is true), the groups as after PRESet with no event, no error. The QUEStionable condition is
-    /// this one, without bit 15.
+    /// The status at power-on: PON alone in the event status register, SRE and ESE as kept or 0 where none are kept
+    /// (the power-on status clear flag is true), the groups as after PRESet with no event, no error. The QUEStionable
+    /// condition is this one, without bit 15.
     pub fn power_on(enables: Option<(u8, u8)>, condition: u16) -> Status
         ensures status { result ≡ power_on enables condition }
 
