@@ -1,4 +1,4 @@
--- The edits of the parts that differ turn the old map into the new one.
+-- The edits of parts, among them all that differ, turn the old map into the new one.
 use Rattle.std.proofs.Common.{◌≡◌, ℕ, inl, inr, ◌⊎◌, Bool, true, false, cond, List, [], ◌∷◌, map, Option, refl, sym, ◌∙◌, ap, bytes_eq}
 use Rattle.psu_map.specs.Map.{get}
 use Rattle.psu_map.specs.Batch.{changed, assigned}

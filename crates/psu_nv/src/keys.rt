@@ -62,7 +62,7 @@ pub(crate) fn fit_files<A: Allocator + Copy>(pairs: &[Pair<A>]) -> bool
     pairs.iter().all(|pair| fits_file(pair.key(), pair.value()))
 }
 
-// Whether the value is one that a file may have; true if there is no name, since the key is not that of a file.
+// Whether the value is one that a file may have; true for a key that is not that of a file.
 fn fits_file(key: &[u8], value: &[u8]) -> bool
     ensures { result ≡ fits_file (name_in key.now) value.now }
 {

@@ -19,7 +19,7 @@ pub fn parts_are_the_whole()
     ensures sorted { (c : Kept) → IsContents c → IsSorted (items_of c) }
 {}
 
-/// The edits of all parts that differ turn the old map into the new one, so a batch needs no others.
+/// The edits of parts, among them all that differ, turn the old map into the new one, so a batch needs no others.
 pub fn edits_of_parts_make_the_map()
     ensures { (old new : Kept) → (parts : List Each) → IsContents old → IsContents new → DifferIn parts old new → changed (items_of old) (map (edit_of new) parts) ≡ items_of new }
 {}

@@ -36,7 +36,7 @@ impl<A: Allocator + Copy> Contents<A> {
     }
 }
 
-// The refusal for a name that is not a file name.
+// The refusal for a name that is not a file name; `None` for a file name.
 fn name_refusal(name: &[u8]) -> Option<ScpiError>
     ensures { result ≡ first_of ((not (is_name name.now), FileNameError) ∷ []) }
 {

@@ -16,7 +16,7 @@ both false b e = absurd cc
 join : (a b : Bool) → a ≡ true → b ≡ true → (a && b) ≡ true
 join a b e f = ap (λ (x : Bool). x && b) e ∙ f
 
--- what a test says of each element it says of one at a place, and of each after one is replaced
+-- if all elements pass a test, so does the one at a place, and so do all after one is replaced by one that passes
 pub each_passes : {X : Type 0} (p : X → Bool) (xs : List X) (i : ℕ) (d : X) → list_all p xs ≡ true → i < length xs → p (get_or xs i d) ≡ true
 each_passes p [] i d e lt = absurd (omega arith)
 each_passes p (x ∷ xs) zero d e lt = (both (p x) (list_all p xs) e).0
