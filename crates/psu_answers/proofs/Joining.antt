@@ -1,4 +1,4 @@
--- The answers of a message in parts.
+-- The responses of a message's units, appended and sent in parts.
 use Rattle.std.proofs.Common.{◌≡◌, ℕ, Bool, true, List, [], ◌∷◌, ◌++◌, refl, sym, ap, ◌∙◌}
 use Rattle.std.proofs.lemmas.List.{append_assoc}
 use Rattle.psu_answers.specs.Gathered.{Makes, Text, addition}

@@ -1,14 +1,14 @@
-// The text of a message's answers.
+// The response buffer of a message.
 ghost use Rattle.std.specs.Prelude.{◌≡◌, ◌<◌, ◌↔◌, ◌++◌, ◌∷◌, length, IsTrue, OnOk, OnErr};
 ghost use Rattle.psu_answers.specs.Gathered.{Text, emptied, ended, nothing, told};
 
 use std::alloc::{AllocError, Allocator};
 use std::marker::Model;
 
-/// What is held of an answer before a part of it is sent.
+/// How many bytes of a response message are buffered before a part of it is sent.
 const ROOM: usize = 65_536;
 
-/// What the units of a message have answered and is not sent.
+/// The response buffer: the responses of a message's units that are not sent yet, and whether a unit has responded.
 #[derive(Drop)]
 pub struct Gathered<A: Allocator + Copy> {
     text: Vec<u8, A>,
@@ -24,7 +24,7 @@ impl<A: Allocator + Copy> Model for Gathered<A> {
 }
 
 impl<A: Allocator + Copy> Gathered<A> {
-    /// No unit has answered.
+    /// Returns an empty buffer: no unit has responded.
     pub fn new(alloc: A) -> Gathered<A>
         ensures { result ≡ nothing }
     {
@@ -34,7 +34,8 @@ impl<A: Allocator + Copy> Gathered<A> {
         }
     }
 
-    /// The next unit of the message answers this; `;` joins it to the answers before it. Where memory is refused nothing has changed.
+    /// Appends the response of the message's next unit, joined by `;` to the responses before it. If an allocation
+    /// fails, nothing has changed.
     #[inline(always)]
     pub fn tell(&mut self, answer: &[u8]) -> Result<(), AllocError>
         ensures ok { OnOk result (self.new ≡ told self.old answer.now) }
@@ -48,35 +49,37 @@ impl<A: Allocator + Copy> Gathered<A> {
         Ok(())
     }
 
-    /// Whether so much is gathered that a part is to be sent.
+    /// Whether so much text is buffered that a part is to be sent.
     pub fn is_long(&self) -> bool
         ensures { IsTrue result ↔ (65536 < length self.now.rest) }
     {
         ROOM < self.text.len()
     }
 
-    /// What is gathered and not sent.
+    /// The text that is buffered and not sent.
     pub fn text(&self) -> &[u8]
         ensures { result.now ≡ self.now.rest }
     {
         self.text.as_slice()
     }
 
-    /// All that is gathered was sent, as a part of a text that goes on. Its room is kept.
+    /// Empties the buffer after all of its text was sent, as a part of a response message that continues. Its capacity
+    /// is kept.
     pub fn clear(&mut self)
         ensures { self.new ≡ emptied self.old }
     {
         self.text.clear();
     }
 
-    /// Whether a unit of the message has answered.
+    /// Whether a unit of the message has responded.
     pub fn has_answered(&self) -> bool
         ensures { result ≡ self.now.answered }
     {
         self.answered
     }
 
-    /// The message ends: NL is put behind its text, which is to be sent then. Where memory is refused nothing has changed.
+    /// Ends the response message: appends NL to the text, which is to be sent then. If an allocation fails, nothing has
+    /// changed.
     pub fn end(&mut self) -> Result<(), AllocError>
         ensures ended { OnOk result (self.new ≡ ended self.old) }
         ensures same { OnErr result (self.new ≡ self.old) }
@@ -85,14 +88,14 @@ impl<A: Allocator + Copy> Gathered<A> {
         Ok(())
     }
 
-    /// The text with its end was not sent: the message goes on.
+    /// Removes the NL of an ended text that was not sent: the message continues.
     pub fn take_back(&mut self)
         ensures { (text : Text) → self.old ≡ ended text → self.new ≡ text }
     {
         self.text.pop();
     }
 
-    /// The text with its end was sent. The next message begins, in the same room.
+    /// Resets the buffer for the next message, after the ended text was sent. Its capacity is kept.
     pub fn restart(&mut self)
         ensures { self.new ≡ nothing }
     {
@@ -101,7 +104,7 @@ impl<A: Allocator + Copy> Gathered<A> {
     }
 }
 
-// Puts an answer behind others.
+// Appends a response to others, after `;`.
 fn put_joined<A: Allocator + Copy>(text: &mut Vec<u8, A>, answer: &[u8]) -> Result<(), AllocError>
     ensures joined { OnOk result (text.new.items ≡ text.old.items ++ 59 ∷ answer.now) }
     ensures same { OnErr result (text.new.items ≡ text.old.items) }

@@ -1,4 +1,5 @@
-//! The text of a message's answers: they are joined by `;` and ended by NL, and may be sent in parts.
+//! The response message of a program message: the responses of its units are joined by `;` and ended by NL, and may be
+//! sent in parts.
 #![tactic(auto)]
 
 mod gathered;

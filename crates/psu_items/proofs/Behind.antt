@@ -1,4 +1,4 @@
--- Behind the roots and the pool nothing is written.
+-- Nothing is written after the roots and the pool.
 use Rattle.std.proofs.Common.{inr, ℕ, ◌+◌, ◌*◌, ◌<◌, ◌≤◌, List, [], ◌∷◌, refl, ◌∙◌, arith}
 use Rattle.std.specs.List.{AllByRecursion}
 use Rattle.psu_disk.specs.Disk.{Left, SameBut, Follows, LeavesOnly}
@@ -20,7 +20,7 @@ outside : (limit : ℕ) (pages : List ℕ) (k : ℕ) → 512 * (2 + 2 * limit) �
 outside limit [] k le all = tt
 outside limit (page ∷ pages) k le all = (inr (let high : page < 2 + 2 * limit = all.0.1 in omega (arith, le, high)), outside limit pages k le all.1)
 
--- pages of the pool are written, or of a root
+-- a write of pages of the pool, or of a root, changes nothing after the pool
 pub misses_behind : (limit : ℕ) (pages x y : List ℕ) → AllByRecursion (IsInPool limit) pages → Misses pages x y → SameBehind limit x y
 misses_behind limit pages x y pool misses = record { size = misses.size; same = λ k le. misses.same k (outside limit pages k le pool) }
 
@@ -38,7 +38,7 @@ module _ {D : Type 0} (G : Ghosts D) (limit : ℕ) (old : D) where
   pub behind_still : ((x : List ℕ) → Ghosts.left_since G old (Ghosts.moment G old) x → Left (Ghosts.state G old) x) → LeavesOnly (Ghosts.moment G) (Ghosts.left_since G) old old From
   behind_still only_now = started (Ghosts.moment G) (Ghosts.left_since G) old From (λ x l. behind_none x (only_now x l))
 
-  -- a step of some other kind that keeps what is behind
+  -- another kind of step that changes nothing after the pool
   module _ (Step : List ℕ → List ℕ → Type 0) (keeps : (x y : List ℕ) → Step x y → SameBehind limit x y) (new : D) where
     pub behind_step : Follows Step (Left (Ghosts.state G old)) (Left (Ghosts.state G new)) → Follows (SameBehind limit) (Left (Ghosts.state G old)) (Left (Ghosts.state G new))
     behind_step follows x l = let r = follows x l in (r.0, r.1, keeps r.0 x r.2)
@@ -46,7 +46,7 @@ module _ {D : Type 0} (G : Ghosts D) (limit : ℕ) (old : D) where
     pub behind_step_run : LeavesOnly (Ghosts.moment G) (Ghosts.left_since G) old new (Reaches Step (Left (Ghosts.state G old))) → LeavesOnly (Ghosts.moment G) (Ghosts.left_since G) old new From
     behind_step_run run = weaken (Ghosts.moment G) (Ghosts.left_since G) old new (Reaches Step (Left (Ghosts.state G old))) From run (λ x r. (r.0, r.1, keeps r.0 x r.2))
 
-  -- one run after another
+  -- one run, then another
   module _ (mid : D) (so_far : Follows (SameBehind limit) (Left (Ghosts.state G old)) (Left (Ghosts.state G mid))) where
     on : (x : List ℕ) → Reaches (SameBehind limit) (Left (Ghosts.state G mid)) x → From x
     on x r = let f = so_far r.0 r.1 in (f.0, f.1, behind_trans limit f.0 r.0 x f.2 r.2)

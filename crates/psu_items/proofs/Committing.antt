@@ -1,4 +1,4 @@
--- A commit, in the words of its callers.
+-- A commit, as its callers see it.
 use Rattle.std.proofs.Common.{◌≡◌, inl, inr, true, false, ℕ, List, sym, ◌∙◌, ap, subst}
 use Rattle.psu_disk.specs.Disk.{Left, Follows, LeavesOnly, HasFailed}
 use Rattle.psu_disk.specs.Moments.{started, weaken}
@@ -17,12 +17,12 @@ use Rattle.psu_items.proofs.Standing.{pages_as}
 pub not_true : false ≡ true → ⊥
 not_true e = cc
 
--- nothing is done
+-- no call of the disk is made
 pub none_run : {D A : Type 0} {G : Ghosts D} (pages : Pages D A G) (m target : List Item) → ShowsMap pages m → Ghosts.honest G → ((x : List ℕ) → Ghosts.left_since G pages.disk (Ghosts.moment G pages.disk) x → Left (Ghosts.state G pages.disk) x)
     → LeavesOnly (Ghosts.moment G) (Ghosts.left_since G) pages.disk pages.disk (IsEitherRoot pages.version pages.number pages.limit m target)
 none_run {D} {A} {G} pages m target shows h only_now = started (Ghosts.moment G) (Ghosts.left_since G) pages.disk (IsEitherRoot pages.version pages.number pages.limit m target) (λ x s. inl (pages_as pages m shows h x (only_now x s)))
 
--- whatever its version and its number
+-- without the version and the number
 pub to_either : (version number limit : ℕ) (before target : List Item) (x : List ℕ) → IsEitherRoot version number limit before target x → IsEither limit before target x
 to_either version number limit before target x (inl was) = inl was.stands
 to_either version number limit before target x (inr is) = inr is.stands
@@ -40,12 +40,12 @@ items_back {D} pages m seen is = ap (λ (s : MapOn D). s.items) is
 pub limit_back : {D A : Type 0} {G : Ghosts D} (pages : Pages D A G) (m : List Item) (seen : MapOn D) → on_pages pages m ≡ seen → pages.limit ≡ seen.limit
 limit_back {D} pages m seen is = ap (λ (s : MapOn D). s.limit) is
 
--- a call failed since
+-- a call has failed since the start of the commit
 pub failed_back : {D A : Type 0} {G : Ghosts D} (pages : Pages D A G) (m : List Item) (seen : MapOn D) (mid last out : D) → on_pages pages m ≡ seen → mid ≡ pages.disk → out ≡ last → HasFailed (Ghosts.failures G mid) (Ghosts.failures G last) → HasFailed (Ghosts.failures G seen.disk) (Ghosts.failures G out)
 failed_back {D} {A} {G} pages m seen mid last out is first second failed =
     subst (λ (d : D). HasFailed (Ghosts.failures G d) (Ghosts.failures G out)) (first ∙ ap (λ (s : MapOn D). s.disk) is) (subst (λ (d : D). HasFailed (Ghosts.failures G mid) (Ghosts.failures G d)) (sym second) failed)
 
--- a disk that is handed out
+-- a disk that is returned
 pub left_out : {D : Type 0} (G : Ghosts D) (last out : D) (x : List ℕ) → out ≡ last → Left (Ghosts.state G out) x → Left (Ghosts.state G last) x
 left_out {D} G last out x is left = subst (λ (d : D). Left (Ghosts.state G d) x) is left
 
@@ -63,7 +63,7 @@ module _ {D A : Type 0} {G : Ghosts D} (old new : Pages D A G) (roots : HasSameR
       seen : D → ℕ → ℕ → ℕ → MapOn D
       seen d version limit number = record { disk = d; limit = limit; version = version; number = number; items = m }
 
-  -- what is behind stays, seen from before
+  -- nothing after the pool changes, compared with the pages before
   pub behind_back : (last : D) → Follows (SameBehind new.limit) (Left (Ghosts.state G new.disk)) (Left (Ghosts.state G last)) → Follows (SameBehind old.limit) (Left (Ghosts.state G old.disk)) (Left (Ghosts.state G last))
   behind_back last follows = subst (λ (d : D). Follows (SameBehind old.limit) (Left (Ghosts.state G d)) (Left (Ghosts.state G last))) roots.disk (subst (λ (n : ℕ). Follows (SameBehind n) (Left (Ghosts.state G new.disk)) (Left (Ghosts.state G last))) roots.limit follows)
 

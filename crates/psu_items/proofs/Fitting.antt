@@ -1,4 +1,5 @@
--- What holds of an image that stands for a map: the map costs no more than its limit, and an opening has no cause to refuse it.
+-- What follows where an image represents a map: the map costs no more than the limit, and an opening has no cause to
+-- refuse the image.
 use Rattle.std.proofs.Common.{◌≡◌, ℕ, ◌+◌, ◌/◌, ◌≤◌, ◌≢◌, inl, inr, Bool, true, false, cond, List, [], ◌∷◌, length, Some, None, sym, ◌∙◌, ap, subst, arith, length-append}
 use Rattle.std.specs.List.{AllByRecursion}
 use Rattle.std.specs.Str.{bytes_eq}
@@ -20,7 +21,7 @@ without_less (i ∷ items) key = by_test (bytes_eq i.key key) (without_less item
     by_test true rest = omega (arith, rest)
     by_test false rest = omega (arith, rest)
 
--- without a key the items cost less by what it has
+-- removing a key lowers the cost by at least the cost of its item
 without_cost : (items : List Item) (key value : List ℕ) → get items key ≡ Some value → (1 + (length value + 511) / 512) + cost (without items key) ≤ cost items
 without_cost [] key value e = absurd cc
 without_cost (i ∷ items) key value e = by_test (bytes_eq i.key key) e (without_cost items key value)
@@ -34,7 +35,7 @@ without_cost (i ∷ items) key value e = by_test (bytes_eq i.key key) e (without
         omega (arith, less, long)
     by_test false e rest = let less = rest e in omega (arith, less)
 
--- the items of a map are among those that have what it has
+-- a map costs no more than items among which each of its keys has the same value
 map_cost : (map items : List Item) → IsSorted map → AllByRecursion (λ (i : Item). get items i.key ≡ Some i.value) map → cost map ≤ cost items
 map_cost [] items sorted has = omega arith
 map_cost (i ∷ map) items sorted has =

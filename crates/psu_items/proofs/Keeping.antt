@@ -11,14 +11,14 @@ use Rattle.psu_items.specs.declared.slot.Slot.{Slot}
 use Rattle.psu_pages.specs.Image.{Head, AreApart, keys}
 use Rattle.psu_pages.proofs.Taken.{key_differs}
 
--- one place more is passed
+-- the search passed one more place
 pub none_more : (P : ℕ → Type 0) (from at : ℕ) → ((j : ℕ) → from ≤ j → j < at → P j → ⊥) → (P at → ⊥) → (j : ℕ) → from ≤ j → j < at + 1 → P j → ⊥
 none_more P from at before here j low lt has = elim (cases_lt j at) [
   | inl less ↦ before j low less has
   | inr ge ↦ here (subst P (omega (arith, ge, lt)) has)
 ]
 
--- the head at a place, and what it says of the item
+-- the head at a place, and what follows for the item
 module _ (heads : List Head) (item : Item) (at : ℕ) (head : Head) (is : head ≡ get_or heads at head) where
   pub has_it : at < length heads → head.key ≡ item.key → head.size ≡ length item.value → HasHead heads item at
   has_it lt key size =
@@ -31,11 +31,11 @@ module _ (heads : List Head) (item : Item) (at : ℕ) (head : Head) (is : head �
   pub size_of : HasHead heads item at → head.size ≡ length item.value
   size_of has = ap (λ (h : Head). h.size) is ∙ has.size_is head
 
--- one of the heads is the item's
+-- a head with the item's key and its value's length is the item's head, at its place
 pub one_has : (heads : List Head) (item : Item) (head : Head) (one : IsOneOf heads head) → head.key ≡ item.key → head.size ≡ length item.value → HasHead heads item one.0
 one_has heads item head one = has_it heads item one.0 head (sym one.2) one.1
 
--- a key has one head
+-- each key has one head
 pub one_key : (heads : List Head) (i j : ℕ) (d e : Head) → AreApart (keys heads) → i < length heads → j < length heads → (let h = get_or heads i d in h.key) ≡ (let h = get_or heads j e in h.key) → get_or heads i d ≡ get_or heads j e
 one_key [] i j d e apart lt_i lt_j same = absurd (omega (arith, lt_i))
 one_key (h ∷ heads) zero zero d e apart lt_i lt_j same = refl
@@ -43,7 +43,7 @@ one_key (h ∷ heads) zero (suc j) d e apart lt_i lt_j same = absurd (key_differ
 one_key (h ∷ heads) (suc i) zero d e apart lt_i lt_j same = absurd (key_differs h.key heads i d (omega (arith, lt_i)) apart.0 (sym same))
 one_key (h ∷ heads) (suc i) (suc j) d e apart lt_i lt_j same = one_key heads i j d e apart.1 (omega (arith, lt_i)) (omega (arith, lt_j)) same
 
--- ---- slots for entries that stand
+-- ---- slots for unchanged entries
 
 one_before : (heads more : List Head) (head : Head) → IsOneOf heads head → IsOneOf (heads ++ more) head
 one_before heads more head one = (one.0, omega (arith, one.1, length-append heads more), get_or_append_left heads more head one.0 one.1 ∙ one.2)
@@ -51,7 +51,7 @@ one_before heads more head one = (one.0, omega (arith, one.1, length-append head
 one_last : (heads : List Head) (head : Head) → IsOneOf (heads ++ head ∷ []) head
 one_last heads head = (length heads, omega (arith, length-append heads (head ∷ [])), get_or_push heads head head (length heads) refl)
 
--- one entry more has its slot
+-- one more entry has its slot
 module _ {A : Type 0} (entries : List Entry) (n : ℕ) (e : Entry) (lt : n < length entries) (is : e ≡ get_or entries n e) (heads : List Head) (slots after : List (Slot A)) (s : Slot A) (are : after ≡ slots ++ s ∷ []) where
   pub have_more : HaveStanding (take n entries) heads slots → (e.stands ≡ true → (head : Head) → IsOneOf heads head → head.key ≡ e.key → head.size ≡ length e.value → s.head ≡ head) → HaveStanding (take (n + 1) entries) heads after
   have_more have own head value one stands size =

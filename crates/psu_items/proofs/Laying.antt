@@ -43,7 +43,7 @@ keys-append (x ∷ xs) i = ap (λ (l : List (List ℕ)). x.key ∷ l) (keys-appe
 pub keys_more : (items : List Item) (n : ℕ) (d : Item) → n < length items → keys_in (take (n + 1) items) ≡ keys_in (take n items) ++ (let i = get_or items n d in i.key) ∷ []
 keys_more items n d lt = ap keys_in (take_more items n d lt) ∙ keys-append (take n items) (get_or items n d)
 
--- two heads that one root names have pages of their own
+-- two heads that one root names share no page
 pub two_clear : (heads : List Head) (i j : ℕ) (d e : Head) → i < length heads → j < length heads → i ≢ j → AreApart (taken heads) → AreClear (pages_of (get_or heads i d)) (pages_of (get_or heads j e))
 two_clear [] i j d e lt_i lt_j differ apart = absurd (omega (arith, lt_i))
 two_clear (h ∷ heads) zero zero d e lt_i lt_j differ apart = absurd (differ refl)
@@ -58,7 +58,7 @@ module _ {A : Type 0} where
   heads-append [] ys = refl
   heads-append (x ∷ xs) ys = ap (λ (l : List Head). x.head ∷ l) (heads-append xs ys)
 
-  -- the pages of one slot more
+  -- the pages of one more slot
   pub pages_more : (slots : List (Slot A)) (s : Slot A) → taken (heads_of (slots ++ s ∷ [])) ≡ taken (heads_of slots) ++ pages_of s.head
   pages_more slots s = ap taken (heads-append slots (s ∷ [])) ∙ taken-append (heads_of slots) (s.head ∷ []) ∙ ap (λ (l : List ℕ). taken (heads_of slots) ++ l) (append-nil (pages_of s.head))
 
@@ -78,21 +78,21 @@ module _ {A : Type 0} where
   each_key key [] none = tt
   each_key key (s ∷ slots) none = (none.0, each_key key slots none.1)
 
-  -- the last of some slots
+  -- the last of these slots shares no page with the others
   pub last_clear : (slots : List (Slot A)) (s : Slot A) → AreApart (taken (heads_of (slots ++ s ∷ []))) → AreClear (pages_of s.head) (taken (heads_of slots))
   last_clear slots s apart = clear_swap (taken (heads_of slots)) (pages_of s.head) (apart_clear (taken (heads_of slots)) (pages_of s.head) (subst (λ (l : List ℕ). AreApart l) (pages_more slots s) apart))
 
   pub rest_apart : (slots : List (Slot A)) (s : Slot A) → AreApart (taken (heads_of (slots ++ s ∷ []))) → AreApart (taken (heads_of slots))
   rest_apart slots s apart = apart_left (taken (heads_of slots)) (pages_of s.head) (subst (λ (l : List ℕ). AreApart l) (pages_more slots s) apart)
 
--- what holds of all pages of heads holds of those of one of them
+-- what holds of all pages of these heads holds of the pages of one head
 pub one_all : (P : ℕ → Type 0) (heads : List Head) (head : Head) → IsOneOf heads head → AllByRecursion P (taken heads) → AllByRecursion P (pages_of head)
 one_all P heads head one all = subst (λ (h : Head). AllByRecursion P (pages_of h)) one.2 (taken_all P heads one.0 head one.1 all)
 
 one_apart : (heads : List Head) (head : Head) → IsOneOf heads head → AreApart (taken heads) → AreApart (pages_of head)
 one_apart heads head one apart = subst (λ (h : Head). AreApart (pages_of h)) one.2 (taken_apart heads one.0 head one.1 apart)
 
--- two of them with different keys
+-- two of these heads with different keys share no page
 ones_clear : (heads : List Head) (a b : Head) → IsOneOf heads a → IsOneOf heads b → (b.key ≢ a.key) → AreApart (taken heads) → AreClear (pages_of a) (pages_of b)
 ones_clear heads a b one two differ apart =
     subst (λ (h : Head). AreClear (pages_of h) (pages_of b)) one.2 (subst (λ (h : Head). AreClear (pages_of (get_or heads one.0 a)) (pages_of h)) two.2
@@ -155,7 +155,7 @@ module _ {D A : Type 0} {G : Ghosts D} (old new : Pages D A G) (roots : HasSameR
       by_kind true e = (is.planned e).apart
       by_kind false e = one_apart old.heads.items s.head (is.kept e) old.roster.apart
 
-  -- one slot more
+  -- one more slot
   pub slots_more : (slots after : List (Slot A)) (n : ℕ) (d item : Item) (s : Slot A) → IsSorted target → n < length target → item ≡ get_or target n d → after ≡ slots ++ s ∷ [] → IsSlotFor old new before item s
       → AreSlots old before target (take n target) slots → AreSlots new before target (take (n + 1) target) after
   slots_more slots after n d item s sorted lt item_is after_is is so =
@@ -169,11 +169,11 @@ module _ {D A : Type 0} {G : Ghosts D} (old new : Pages D A G) (roots : HasSameR
       } in
       subst (AreSlots new before target (take (n + 1) target)) (sym after_is) made
 
--- the roots are as they were, step by step
+-- two steps leave the roots unchanged if each does
 pub roots_on : {D A : Type 0} {G : Ghosts D} (old mid new : Pages D A G) → HasSameRoots old mid → HasSameRoots mid new → HasSameRoots old new
 roots_on old mid new first second = record { disk = second.disk ∙ first.disk; root = second.root ∙ first.root; version = second.version ∙ first.version; limit = second.limit ∙ first.limit; number = second.number ∙ first.number; standing = second.standing ∙ first.standing; heads = second.heads ∙ first.heads; older = second.older ∙ first.older }
 
--- the last of some slots is given up
+-- the last of the slots is freed
 module _ {D A : Type 0} {G : Ghosts D} (pages : Pages D A G) (slots rest : List (Slot A)) (s : Slot A) (are : slots ≡ rest ++ s ∷ []) (planned : AllByRecursion (λ (o : Slot A). o.is_new ≡ true → IsPlanned pages o.head) slots) (apart : AreApart (taken (heads_of slots))) where
   all_planned : AllByRecursion (λ (o : Slot A). o.is_new ≡ true → IsPlanned pages o.head) (rest ++ s ∷ [])
   all_planned = subst (AllByRecursion (λ (o : Slot A). o.is_new ≡ true → IsPlanned pages o.head)) are planned
@@ -195,7 +195,7 @@ module _ {D A : Type 0} {G : Ghosts D} (pages : Pages D A G) (slots rest : List 
       all_zip (λ (o : Slot A). o.is_new ≡ true → IsPlanned pages o.head) (λ (o : Slot A). AreClear (pages_of s.head) (pages_of o.head)) (λ (o : Slot A). o.is_new ≡ true → IsPlanned new o.head) (λ o p clear is_new. others o.head (p is_new) clear) rest left_planned
       (each_pages (IsNone (pages_of s.head)) rest (last_clear rest s all_apart))
 
--- those that are planned of some slots
+-- the slots with planned pages
 module _ {D A : Type 0} {G : Ghosts D} (pages : Pages D A G) (before target items : List Item) where
   pub slots_planned : (slots : List (Slot A)) → AreSlots pages before target items slots → AllByRecursion (λ (o : Slot A). o.is_new ≡ true → IsPlanned pages o.head) slots
   slots_planned slots so = all_map (IsSlot pages before target) (λ (o : Slot A). o.is_new ≡ true → IsPlanned pages o.head) (λ o is. is.planned) slots so.each

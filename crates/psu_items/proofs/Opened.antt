@@ -1,4 +1,4 @@
--- The store that an opening gives.
+-- The store that an opening returns.
 use Rattle.std.proofs.Common.{◌≡◌, ℕ, List, Result, Ok, Err, IfOk, sym, ◌∙◌, subst}
 use Rattle.psu_disk.specs.Disk.{DiskState}
 use Rattle.psu_disk.specs.Ranges.{reads_left}
@@ -29,7 +29,7 @@ module _ {D A : Type 0} {G : Ghosts D} (pages : Pages D A G) (s : List ℕ) (bea
   found_version (Ok store) words = words.1 ∙ sym (versioned pages.root pages.version pages.limit pages.number pages.heads.items s bears)
   found_version (Err e) words = tt
 
--- of what stands only one map is found
+-- if each possible crash image represents one map, the map found is that one
 pub found_one : {D : Type 0} (disk : DiskState) (limit : ℕ) (m : List Item) → EachStands disk limit m → (r : Result (MapOn D) (Refused D)) → IfOk r (λ store. Stands disk.bytes store.limit store.items) → IfOk r (λ store. (store.limit ≡ limit) × (store.items ≡ m))
 found_one disk limit m all (Ok store) stands = one_stands store.limit limit store.items m disk.bytes stands (all disk.bytes (reads_left disk))
 found_one disk limit m all (Err e) stands = tt

@@ -1,4 +1,4 @@
--- What is found at an opening, and what it leaves.
+-- The root that an opening finds, and the images that are possible after it.
 use Rattle.std.proofs.Common.{◌≡◌, inl, inr, ⊎_elim, ℕ, List, Result, Ok, Err, IfErr, map, refl, sym, ◌∙◌, ap, subst, arith}
 use Rattle.psu_disk.specs.Disk.{DiskState, Left, Only, SameBut, LeavesOnly}
 use Rattle.psu_disk.specs.Moments.{and_then, weaken}
@@ -24,7 +24,7 @@ pub err_any : {T E : Type 0} (r : Result T E) (P : E → Type 0) → ((e : E) �
 err_any (Ok x) P f = tt
 err_any (Err e) P f = f e
 
--- each moment has what it has by either account
+-- if P holds at each moment, and Q does, both do
 pub both_runs : {D : Type 0} (moment : D → ℕ) (left_since : D → ℕ → List ℕ → Type 0) (old new : D) (P Q : List ℕ → Type 0) → LeavesOnly moment left_since old new P → LeavesOnly moment left_since old new Q → LeavesOnly moment left_since old new (λ x. P x × Q x)
 both_runs moment left_since old new P Q a b = record {
   later = a.later;
@@ -32,7 +32,7 @@ both_runs moment left_since old new P Q a b = record {
   before = λ t x le since. ⊎_elim inl (λ p. ⊎_elim inl (λ q. inr (p, q)) (b.before t x le since)) (a.before t x le since);
 }
 
--- what stands in y stands in x
+-- a map that y represents is represented by x
 same_stands : (y x : List ℕ) (limit : ℕ) (m : List Item) → SameRoots y x → Stands y limit m → Stands x limit m
 same_stands y x limit m same st = stands_at (counting y) limit m x (same.counts (counting y) st.counts) (same.holds (counting y) st.counts limit m st.holds)
 
@@ -44,7 +44,7 @@ pub still_either : (disk : DiskState) (limit : ℕ) (before target : List Item) 
 still_either disk limit before target all x (inl left) = all x left
 still_either disk limit before target all x (inr same) = ⊎_elim (λ st. inl (same_stands disk.bytes x limit before same st)) (λ st. inr (same_stands disk.bytes x limit target same st)) (all disk.bytes (reads_left disk))
 
--- why pages aren't opened is why the store isn't
+-- the cause for which pages are not opened, as the cause for which the store is not
 pub pages_refused : (image : List ℕ) (cause : OpenCause) → finding.IsRefusal image cause → IsRefusal image cause
 pages_refused image Device why = tt
 pages_refused image NoRoot why = why
@@ -56,7 +56,7 @@ pages_refused image BadRoot why = record {
 pages_refused image BadVersion why = why
 pages_refused image Memory why = tt
 
--- a root counts in s
+-- a root is current in s
 module _ (root : Root) (version limit number : ℕ) (heads : List Head) (s : List ℕ) (bears : Bears root version limit number heads (items_in root s) s) where
   pub stood : (m : List Item) → IsSorted m → IsMapOf m (listed s heads) → Stands s limit m
   stood m sorted of = stands_at root limit m s bears.counts (record { shows = bears.says.shows; items = subst (λ (hs : List Head). IsMapOf m (listed s hs)) (sym bears.says.heads_are) of; sorted = sorted })
@@ -83,7 +83,7 @@ module _ (root : Root) (version limit number : ℕ) (heads : List Head) (s : Lis
         });
       }
 
-  -- and says the same in x
+  -- and it has the same contents in x
   pub same_roots : (x : List ℕ) → Bears root version limit number heads (items_in root s) x → SameBut (gate_at (other root)) 1 s x → SameRoots s x
   same_roots x now but = record {
     counts = λ r c. subst (λ (q : Root). Counts q x) (is_root r c) now.counts;
@@ -102,7 +102,7 @@ module _ (root : Root) (version limit number : ℕ) (heads : List Head) (s : Lis
         sorted = holds.sorted;
       }
 
--- pages were opened on a disk that read as s, and an older gate may be closed
+-- pages were opened on a disk whose bytes are s, and the gate of the older root may be closed after that
 module _ {D A : Type 0} {G : Ghosts D} (pages : Pages D A G) (s : List ℕ) (bears : Bears pages.root pages.version pages.limit pages.number pages.heads.items (items_in pages.root s) s) (seen : (Ghosts.state G pages.disk).bytes ≡ s) (only : Only (Ghosts.state G pages.disk)) where
   pub closed : (x : List ℕ) → BearsOf pages x → Closes pages x → SameRoots s x
   closed x now reaches =

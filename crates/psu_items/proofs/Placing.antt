@@ -1,4 +1,4 @@
--- Heads as slots, of which those at some places are new.
+-- Heads as slots, where those at some places are new.
 use Rattle.std.proofs.Common.{◌≡◌, ◌≢◌, inl, inr, ℕ, zero, suc, ◌+◌, ◌<◌, ◌≤◌, Bool, true, false, ◌||◌, List, [], ◌∷◌, ◌++◌, length, get_or, drop, refl, sym, ◌∙◌, ap, subst, arith, length-append}
 use Rattle.std.specs.Prelude.{◌==◌}
 use Rattle.std.specs.List.{AllByRecursion, list_any}
@@ -22,7 +22,7 @@ differ a b apart = elim (eqb_tells a b) [
   | inr other ↦ other.0
 ]
 
--- whether a place is among those that are new
+-- whether a place is among the places of new slots
 abbrev pub is_there : ℕ → List ℕ → Bool
 is_there at places = list_any (λ (place : ℕ). place == at) places
 
@@ -47,7 +47,7 @@ pub all_last : (n : ℕ) (places : List ℕ) → AllByRecursion (λ (place : ℕ
 all_last n [] all = (omega arith, tt)
 all_last n (place ∷ places) all = (omega (arith, all.0), all_last n places all.1)
 
--- a head stands on its page, and its pages hold the value that the target has
+-- a head is on its page, and its pages hold the value that the target has
 abbrev pub IsIn : List Item → List ℕ → Head → Type 0
 IsIn target image head = IsWritten image head (value_at target head.key)
 
@@ -58,20 +58,20 @@ module _ {A : Type 0} where
   abbrev pub slots : ℕ → List Head → List ℕ → List (Slot A)
   slots at heads places = slots_from at heads places
 
-  -- one head more
+  -- one more head
   pub head_more : (at : ℕ) (heads : List Head) (head : Head) (places : List ℕ) → slots at (heads ++ head ∷ []) places ≡ slots at heads places ++ slot head (is_there (at + length heads) places) ∷ []
   head_more at [] head places = let same : at ≡ at + 0 = omega arith in ap (λ (n : ℕ). slot head (is_there n places) ∷ []) same
   head_more at (first ∷ heads) head places =
       let same : (at + 1) + length heads ≡ at + length (first ∷ heads) = omega arith in
       ap (λ (l : List (Slot A)). slot first (is_there at places) ∷ l) (head_more (at + 1) heads head places ∙ ap (λ (n : ℕ). slots (at + 1) heads places ++ slot head (is_there n places) ∷ []) same)
 
-  -- the last head is taken away
+  -- the last head is removed
   pub head_less : (heads rest : List Head) (head : Head) (places : List ℕ) → heads ≡ rest ++ head ∷ [] → slots 0 heads places ≡ slots 0 rest places ++ slot head (is_there (length rest) places) ∷ []
   head_less heads rest head places are =
       let same : 0 + length rest ≡ length rest = omega arith in
       ap (λ (l : List Head). slots 0 l places) are ∙ head_more 0 rest head places ∙ ap (λ (n : ℕ). slots 0 rest places ++ slot head (is_there n places) ∷ []) same
 
-  -- a place behind all heads
+  -- a place after all heads
   place_more : (at : ℕ) (heads : List Head) (place : ℕ) (places : List ℕ) → at + length heads ≤ place → slots at heads (places ++ place ∷ []) ≡ slots at heads places
   place_more at [] place places behind = refl
   place_more at (head ∷ heads) place places behind =
@@ -93,7 +93,7 @@ module _ {A : Type 0} where
         ∙ ap (λ (l : List (Slot A)). l ++ slot s.head (is_there (0 + length heads) (places ++ length heads ∷ [])) ∷ []) (place_more 0 heads (length heads) places (omega arith))
         ∙ ap (λ (b : Bool). slots 0 heads places ++ slot s.head b ∷ []) (ap (λ (n : ℕ). is_there n (places ++ length heads ∷ [])) none ∙ last_there (length heads) places ∙ sym new)
 
-    -- the lists that a slot is put behind
+    -- the lists to which a slot is appended
     module _ (heads_after : List Head) (places_after : List ℕ) (more : heads_after ≡ heads ++ s.head ∷ []) where
       count : length heads_after ≡ length heads + 1
       count = ap (λ (l : List Head). length l) more ∙ length-append heads (s.head ∷ [])
@@ -127,7 +127,7 @@ module _ (A : Type 0) where
   length-slots at [] places = refl
   length-slots at (head ∷ heads) places = ap suc (length-slots (at + 1) heads places)
 
-  -- what holds of the slots holds of the one of a new place
+  -- what holds of all slots holds of the slot at a new place
   pub at_place : (P : Slot A → Type 0) (heads : List Head) (places : List ℕ) (j : ℕ) (place : ℕ) (e : Head) → j < length places → place ≡ get_or places j place → place < length heads
       → ((n : ℕ) (d : Slot A) → n < length (slots {A = A} 0 heads places) → P (get_or (slots {A = A} 0 heads places) n d)) → P (slot (get_or heads place e) true)
   at_place P heads places j place e lt is within all =
@@ -135,7 +135,7 @@ module _ (A : Type 0) where
       let d = slot e true in
       subst P (slot_from 0 heads places place d e within ∙ ap (λ (n : ℕ). slot (get_or heads place e) (is_there n places)) (let same : 0 + place ≡ place = omega arith in same) ∙ ap (λ (b : Bool). slot (get_or heads place e) b) new) (all place d (omega (arith, within, length-slots 0 heads places)))
 
-  -- the pages of one head are written: those of the other heads are as they were
+  -- the pages of one head are written: the other heads and their pages stay unchanged
   module _ (target : List Item) (x y : List ℕ) (written : ℕ) (rest : List ℕ) where
     pub stands_step : (at : ℕ) (heads : List Head) → ((n : ℕ) (d : Head) → n < length heads → at + n ≡ written → IsIn target y (get_or heads n d)) → ((n : ℕ) (d : Head) → n < length heads → at + n ≢ written → IsIn target x (get_or heads n d) → IsIn target y (get_or heads n d))
         → AllByRecursion (StandsWritten x target) (slots {A = A} at heads (written ∷ rest)) → AllByRecursion (StandsWritten y target) (slots {A = A} at heads rest)
@@ -163,7 +163,7 @@ module _ (A : Type 0) where
       others o (value_at target o.key) w (taken_all (IsInPool limit) heads k d lt_k pool) (subst (λ (h : Head). AreClear (pages_of h) (pages_of o)) (sym head_is) clear))
       (subst (λ (ps : List ℕ). AllByRecursion (StandsWritten x target) (slots {A = A} 0 heads ps)) next all)
 
-  -- once no place is left
+  -- no new place remains
   pub all_written : (target : List Item) (y : List ℕ) (at : ℕ) (heads : List Head) (places : List ℕ) → AllByRecursion (StandsWritten y target) (slots {A = A} at heads []) → AllByRecursion (λ (o : Slot A). IsWritten y o.head (value_at target o.head.key)) (slots {A = A} at heads places)
   all_written target y at [] places all = tt
   all_written target y at (head ∷ heads) places all = (all.0 refl, all_written target y (at + 1) heads places all.1)

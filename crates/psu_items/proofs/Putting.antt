@@ -1,4 +1,4 @@
--- From the map that stands to the target: what each moment of a commit leaves.
+-- From the map on the disk to the target: the images that are possible at each moment of a commit.
 use Rattle.std.proofs.Common.{◌≡◌, inl, inr, ⊎_elim, ℕ, ◌+◌, List, [], ◌∷◌, length, map, suc, refl, sym, ◌∙◌, ap, subst}
 use Rattle.std.specs.List.{AllByRecursion}
 use Rattle.psu_disk.specs.Disk.{LeavesOnly}
@@ -29,7 +29,7 @@ module _ {A : Type 0} where
   there image target [] all = tt
   there image target (s ∷ slots) all = (let w = all.0 in w.head_is, there image target slots all.1)
 
-  -- slots of which those that stood were written before
+  -- slots, of which those that are not new were written before
   module _ (was image : List ℕ) (target : List Item) (slots ss : List (Slot A)) (heads : List Head) (are : ss ≡ slots) (named : heads ≡ heads_of slots) (kept : AllByRecursion (StandsWritten was target) slots)
       (clause : AllByRecursion (StandsWritten was target) ss → AllByRecursion (λ (o : Slot A). IsWritten image o.head (value_at target o.head.key)) ss) where
     written : AllByRecursion (λ (o : Slot A). IsWritten image o.head (value_at target o.head.key)) slots
@@ -49,7 +49,7 @@ module _ {A : Type 0} where
   as_many slots target are = sym (length-keys slots) ∙ ap (λ (ks : List (List ℕ)). length ks) are ∙ length-keys_in target
 
 module _ {D A : Type 0} {G : Ghosts D} (old mid : Pages D A G) (before target : List Item) (h : Ghosts.honest G) (shows : ShowsMap old before) where
-  -- what stood, under its version and its number, or the target, as version 2 and under the next number
+  -- the map before, under its version and its number, or the target, as version 2 and under the next number
   abbrev Renews : List ℕ → Type 0
   Renews = IsEitherRoot old.version old.number old.limit before target
 
@@ -94,7 +94,7 @@ module _ {D A : Type 0} {G : Ghosts D} (old mid : Pages D A G) (before target : 
           → LeavesOnly (Ghosts.moment G) (Ghosts.left_since G) two.disk new (BearsOf two) → LeavesOnly (Ghosts.moment G) (Ghosts.left_since G) old.disk new Renews
       run_three new first second third = and_then (Ghosts.moment G) (Ghosts.left_since G) old.disk two.disk new Renews (BearsOf two) (run_two two.disk first second) third from_two
 
--- what is shown in the end
+-- the items that the root shows after the last step
 pub shown_last : {D A : Type 0} {G : Ghosts D} (mid two last : Pages D A G) (target : List Item) (heads : List Head) → listed (Ghosts.state G mid.disk).bytes heads ≡ target
     → items_in two.root (Ghosts.state G two.disk).bytes ≡ map (item_in (Ghosts.state G mid.disk).bytes) heads → items_in last.root (Ghosts.state G last.disk).bytes ≡ items_in two.root (Ghosts.state G two.disk).bytes → IsMapOf target (shown_in last.root (Ghosts.state G last.disk).bytes)
 shown_last mid two last target heads are now then k = ap (λ (m : List Item). get m k) (sym (ap (map as_item) (then ∙ now) ∙ are))

@@ -9,7 +9,7 @@ use Rattle.psu_pages.specs.Image.{Head, value_in}
 use Rattle.psu_pages.specs.Outcome.{HasSameHeads}
 use Rattle.psu_items.specs.Image.{listed}
 
--- the item of one head more, put before those of the heads after it
+-- the item of one more head, put before those of the heads after it
 pub read_more : (image : List ℕ) (heads : List Head) (at : ℕ) (d head : Head) (old new : List Item) (key value : List ℕ) → at < length heads → head ≡ get_or heads at d → key ≡ head.key → value ≡ value_in image head
     → Sets old new key value → IsMapOf old (listed image (drop (at + 1) heads)) → IsMapOf new (listed image (drop at heads))
 read_more image heads at d head old new key value lt is key_is value_is sets of k =
@@ -21,11 +21,11 @@ read_more image heads at d head old new key value lt is key_is value_is sets of 
     ∙ ap (λ (x : List ℕ). cond (bytes_eq h.key k) (Some x) rest) (value_is ∙ ap (value_in image) is)
     ∙ sym (ap (λ (hs : List Head). get (listed image hs) k) (drop_more heads at d lt))
 
--- the same heads are named
+-- the root names the same heads
 pub heads_still : {D A : Type 0} {G : Ghosts D} (old new : Pages D A G) → HasSameHeads old new → new.heads.items ≡ old.heads.items
 heads_still old new same = ap (λ v. v.items) same.heads
 
--- one step down the heads
+-- one step from the last head to the first
 pub read_step : (image now : List ℕ) (heads named : List Head) (at : ℕ) (old new : List Item) → 0 < at → now ≡ image → named ≡ heads
     → (IsMapOf old (listed now (drop (at - 1 + 1) named)) → IsMapOf new (listed now (drop (at - 1) named)))
     → IsMapOf old (listed image (drop at heads)) → IsMapOf new (listed image (drop (at - 1) heads))

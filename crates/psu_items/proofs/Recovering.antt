@@ -1,4 +1,4 @@
--- One of two maps stands: which of them can be tested.
+-- If one of two maps is represented, a test finds which.
 use Rattle.std.proofs.Common.{◌≡◌, ◌⊎◌, inl, inr, ℕ, Bool, true, false, ◌&&◌, List, bytes_eq, Decides, ⊎_elim, refl, sym, ◌∙◌, ap, subst, arith}
 use Rattle.std.proofs.Props.{props}
 use Rattle.std.proofs.lemmas.Bool.{cases_Bool}
@@ -62,11 +62,11 @@ either limit before target x h = elim (cases_Bool (pointwise same_item before ta
       ∥∥₁_elim h (sum_prop (Stands-IsProp x limit before) (Stands-IsProp x limit target) (λ p q. apart (let one = one_stands limit limit before target x p q in one.1))) (λ e. e)
 ]
 
--- what a broken store keeps, out of its ghost field
+-- what holds of a broken store, taken from its ghost field
 pub each_either : (disk : DiskState) (limit : ℕ) (before target : List Item) → ((x : List ℕ) → Left disk x → ∥ IsEither limit before target x ∥₁) → EachIsEither disk limit before target
 each_either disk limit before target h x l = either limit before target x (h x l)
 
--- an image that stands for a map is refused by a failed call or a want of memory alone
+-- an image that represents a map is refused only for a failed call or an allocation failure
 unrefused : (x : List ℕ) (limit : ℕ) (m : List Item) (cause : OpenCause) → Stands x limit m → IsRefusal x cause → broken_cause cause ≡ Strange → ⊥
 unrefused x limit m Unopened.Device st refusal strange = cc
 unrefused x limit m Unopened.NoRoot st refusal strange = some_root x (counting x) (omega (arith, st.holds.shows.room)) st.counts.open_gate refusal
@@ -78,7 +78,7 @@ pub not_strange : (disk : DiskState) (limit : ℕ) (before target : List Item) (
 not_strange disk limit before target cause all refusal strange =
     ⊎_elim (λ st. unrefused disk.bytes limit before cause st refusal strange) (λ st. unrefused disk.bytes limit target cause st refusal strange) (all disk.bytes (reads_left disk))
 
--- the map found is one of the two, of which the second is made
+-- the map found is one of the two, where the second was computed from the batch
 pub one_found : (disk : DiskState) (limit found_limit : ℕ) (before target made found : List Item) → made ≡ target → EachIsEither disk limit before target → Stands disk.bytes found_limit found → (found_limit ≡ limit) × ((found ≡ before) ⊎ (found ≡ made))
 one_found disk limit found_limit before target made found is all stood =
     ⊎_elim (λ st. let one = one_stands found_limit limit found before disk.bytes stood st in (one.0, inl one.1)) (λ st. let one = one_stands found_limit limit found target disk.bytes stood st in (one.0, inr (one.1 ∙ sym is))) (all disk.bytes (reads_left disk))

@@ -1,4 +1,4 @@
--- What a map written anew leaves, said of the map and the batch that a commit was called with.
+-- The images of a commit, in terms of the map and the batch that it was called with.
 use Rattle.std.proofs.Common.{◌≡◌, ℕ, List, sym, ◌∙◌, ap, subst}
 use Rattle.psu_disk.specs.Disk.{LeavesOnly}
 use Rattle.psu_disk.specs.Moments.{weaken}
@@ -12,7 +12,7 @@ use Rattle.psu_pages.specs.Outcome.{HasSameRoots}
 use Rattle.psu_pages.specs.declared.pages.Pages.{Pages}
 use Rattle.psu_items.proofs.Committing.{same_view}
 
--- what was planned is what is written
+-- the plan has the map and the batch of the call
 module _ (m found : List Item) (batch edits : List Edit) (plan : Planned) (planned : plan ≡ record { map = m; edits = batch }) (found_is : found ≡ plan.map) (edits_is : edits ≡ plan.edits) where
   pub map_called : found ≡ m
   map_called = found_is ∙ ap (λ (p : Planned). p.map) planned
@@ -34,7 +34,7 @@ module _ (m found : List Item) (batch edits : List Edit) (map_is : found ≡ m) 
   pub target_called : changed found edits ≡ changed m batch
   target_called = ap (λ (f : List Item). changed f edits) map_is ∙ ap (changed m) edits_are
 
--- a store that is as it was
+-- an unchanged store
 pub view_again : {D A : Type 0} {G : Ghosts D} (old new : Pages D A G) → HasSameRoots old new → (m items : List Item) (seen : MapOn D) → items ≡ m → on_pages old m ≡ seen → on_pages new items ≡ seen
 view_again {D} {A} {G} old new roots m items seen same is = same_view old new roots items ∙ ap (on_pages old) same ∙ is
 

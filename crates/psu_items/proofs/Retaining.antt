@@ -1,4 +1,4 @@
--- What the roots of two images name, where a commit kept heads.
+-- The heads that the roots of two images name, where a commit kept heads.
 use Rattle.std.proofs.Common.{◌≡◌, ℕ, ◌+◌, ◌*◌, ◌≤◌, List, [], ◌∷◌, length, map, Some, sym, ◌∙◌, ap, subst, arith, length-append}
 use Rattle.std.specs.List.{AllByRecursion}
 use Rattle.std.proofs.lemmas.List.{length-take-le}
@@ -54,7 +54,7 @@ module _ {D A : Type 0} {G : Ghosts D} (h : Ghosts.honest G) (pages : Pages D A 
         let is : IsHead head = subst IsHead one_held.2 (all_at IsHead pages.heads.items one_held.0 head one_held.1 pages.roster.each) in
         value_long pages.limit x head bears.says.shows.room is (one_all (IsInPool pages.limit) pages.heads.items head one_held pages.roster.pool)
 
--- what a commit keeps
+-- the heads that a commit keeps
 module _ {D A : Type 0} {G : Ghosts D} (h : Ghosts.honest G) (old new : Pages D A G) (m target : List Item) (before : ShowsMap old m) (after : ShowsMap new target) where
   pub each_kept : (edits : List Edit) → HaveKept edits m old.heads.items new.heads.items → EachKeepsHeads edits (Ghosts.state G old.disk) (Ghosts.state G new.disk)
   each_kept edits have x y was is head one keeps =

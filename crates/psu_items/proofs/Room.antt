@@ -1,4 +1,4 @@
--- The pool has room for the items of a target beside those that stand.
+-- The pool has room for the items of a target beside those that stay unchanged.
 use Rattle.std.proofs.Common.{◌≡◌, ◌≢◌, ℕ, zero, suc, ◌+◌, ◌*◌, ◌/◌, ◌<◌, ◌≤◌, inl, inr, Bool, true, false, cond, nat_lt, List, [], ◌∷◌, ◌++◌, length, get_or, take, refl, sym, ap, subst, arith, length-append}
 use Rattle.std.proofs.lemmas.Bool.{cases_eq, cases_lt}
 use Rattle.std.proofs.lemmas.Bool.Decides.{nat_tests}
@@ -7,7 +7,7 @@ use Rattle.psu_pages.specs.Image.{IsInPool, IsNone}
 use Rattle.psu_pages.proofs.Lists.{all_left, all_right}
 use Rattle.psu_map.specs.Map.{Item, cost}
 
--- how many of some pages come from this one on
+-- how many of these pages have at least this number
 above : ℕ → List ℕ → ℕ
 above p [] = 0
 above p (x ∷ xs) = cond (nat_lt x p) 0 1 + above p xs
@@ -47,7 +47,7 @@ above_all p (x ∷ xs) = by_test (nat_lt x p) (above_all p xs)
     by_test true rest = omega (arith, rest)
     by_test false rest = omega (arith, rest)
 
--- where each page that isn't free is one of some pages, as many are free as these pages leave
+-- if each page that is not free is one of these, all pages are at most as many as the free ones and these
 free_left : (p : ℕ) (marks : List Bool) (xs : List ℕ) → ((i : ℕ) → i < length marks → get_or marks i false ≡ false → IsNone xs (p + i) → ⊥) → length marks ≤ length (free_from p marks) + above p xs
 free_left p [] xs claimed = omega arith
 free_left p (mark ∷ marks) xs claimed =
@@ -65,7 +65,7 @@ above_one zero first second = absurd (first refl)
 above_one (suc zero) first second = absurd (second refl)
 above_one (suc (suc page)) first second = omega arith
 
--- the pool has twice the limit, less what is claimed for heads and for others
+-- at least twice the limit, less the pages claimed for heads and for others, is free
 pub room_left : (free : List Bool) (limit : ℕ) (heads others : List ℕ) → length free ≡ 2 + 2 * limit → ((page : ℕ) → IsInPool limit page → IsNone heads page → IsNone others page → is_free free page ≡ true)
     → 2 * limit ≤ length (free_pages free) + length heads + length others
 room_left free limit heads others sized spare =
@@ -80,7 +80,7 @@ room_left free limit heads others sized spare =
         let is_spare : is_free free i ≡ true = spare i (low, omega (arith, lt, sized)) (all_left (λ y. i ≢ y) heads others page.1.1) (all_right (λ y. i ≢ y) heads others page.1.1) in
         cc
 
--- what an item costs behind those before it
+-- the cost of an item, added to that of the items before it
 pub cost_more : (items : List Item) (n : ℕ) (d : Item) → n < length items → cost (take n items) + (1 + (length (let i = get_or items n d in i.value) + 511) / 512) ≤ cost items
 cost_more [] n d lt = absurd (omega (arith, lt))
 cost_more (i ∷ items) zero d lt = omega arith

@@ -1,4 +1,4 @@
--- Slots of a target are what a root may name, and those that aren't new hold its values already.
+-- A root may name the heads of a target's slots, and those that are not new hold the target's values already.
 use Rattle.std.proofs.Common.{◌≡◌, ℕ, zero, suc, ◌+◌, ◌*◌, ◌/◌, ◌<◌, ◌≤◌, List, [], ◌∷◌, ◌++◌, length, get_or, Option, Bool, true, false, Some, cond, refl, sym, ◌∙◌, ap, subst, arith, length-append}
 use Rattle.std.specs.List.{AllByRecursion}
 use Rattle.psu_disk.specs.Ranges.{reads_left}
@@ -22,7 +22,7 @@ use Rattle.psu_items.proofs.Standing.{surely}
 use Rattle.psu_items.proofs.Laying.{join_pages, one_all}
 use Rattle.psu_items.proofs.Putting.{as_many}
 
--- the keys of a map are apart
+-- no key occurs twice in a map
 none_after : (key : List ℕ) (items : List Item) → AllByRecursion (λ (j : Item). Before key j.key) items → IsNone (keys_in items) key
 none_after key [] all = tt
 none_after key (i ∷ items) all = (λ same. never_before_itself key (subst (Before key) (sym same) all.0), none_after key items all.1)
@@ -31,7 +31,7 @@ sorted_apart : (items : List Item) → IsSorted items → AreApart (keys_in item
 sorted_apart [] sorted = tt
 sorted_apart (i ∷ items) sorted = (none_after i.key items sorted.0, sorted_apart items sorted.1)
 
--- what the values of keys cost
+-- the cost of the values at these keys
 keys_cost : List Item → List (List ℕ) → ℕ
 keys_cost target [] = 0
 keys_cost target (key ∷ ks) = (1 + (length (value_at target key) + 511) / 512) + keys_cost target ks
@@ -43,12 +43,12 @@ own_cost target (i ∷ items) own =
     let value : value_at target i.key ≡ i.value = ap value_of own.0 in
     ap (λ (v : List ℕ). (1 + (length v + 511) / 512) + keys_cost target (keys_in items)) value ∙ ap (λ (n : ℕ). (1 + (length i.value + 511) / 512) + n) (own_cost target items own.1)
 
--- an item costs two pages at least
+-- an item costs at least two pages
 two_each : (items : List Item) → AllByRecursion Fits items → 2 * length items ≤ cost items
 two_each [] all = omega arith
 two_each (i ∷ items) all = let rest = two_each items all.1 in let some = all.0.value in omega arith
 
--- the value of a head is that of its key
+-- the value of a head is the listed one at its key
 pub listed_value : (image : List ℕ) (heads : List Head) (i : ℕ) (d : Head) → i < length heads → AreApart (keys heads) → get (listed image heads) (let h = get_or heads i d in h.key) ≡ Some (value_in image (get_or heads i d))
 listed_value image [] i d lt apart = absurd (omega (arith, lt))
 listed_value image (h ∷ heads) zero d lt apart = ap (λ (b : Bool). cond b (Some (value_in image h)) (get (listed image heads) h.key)) (same_true h.key h.key refl)
@@ -100,7 +100,7 @@ module _ {D A : Type 0} {G : Ghosts D} (pages : Pages D A G) (before target : Li
       by_kind true e = (is.planned e).claimed
       by_kind false e = one_all (λ (p : ℕ). is_free pages.free p ≡ false) pages.heads.items s.head (is.kept e) pages.claimed
 
-  -- the pages of slots for these items are those that the items cost
+  -- the slots for these items have as many pages as the items cost
   pub part_cost : (items : List Item) (slots : List (Slot A)) → AreSlots pages before target items slots → AllByRecursion (λ (i : Item). get target i.key ≡ Some i.value) items → length (taken (heads_of slots)) ≡ cost items
   part_cost items slots so own =
       taken_cost target slots (all_map (IsSlot pages before target) (λ (s : Slot A). IsHead s.head × (s.head.size ≡ length (value_at target s.head.key))) (λ s is. (is_head s is, is.size_is)) slots so.each)
@@ -130,7 +130,7 @@ module _ {D A : Type 0} {G : Ghosts D} (pages : Pages D A G) (before target : Li
         length_heads [] = refl
         length_heads (s ∷ ss) = ap suc (length_heads ss)
 
-    -- those that aren't new hold what the target has
+    -- slots that are not new hold the values that the target has
     pub slots_stand : ShowsMap pages before → Ghosts.honest G → AllByRecursion (StandsWritten (Ghosts.state G pages.disk).bytes target) slots
     slots_stand shows h = all_map (IsSlot pages before target) (StandsWritten (Ghosts.state G pages.disk).bytes target) one_stands slots so.each
       where

@@ -1,4 +1,4 @@
--- No page is claimed for good but those of the heads that stand.
+-- No page stays claimed but those of the current root's heads.
 use Rattle.std.proofs.Common.{◌≡◌, ◌≢◌, ⊎_elim, refl, ℕ, List, [], ◌∷◌, ◌++◌, map, true, false, sym, ◌∙◌, ap, subst}
 use Rattle.std.specs.List.{AllByRecursion}
 use Rattle.psu_disk.specs.declared.disk.Disk.{Ghosts}
@@ -18,7 +18,7 @@ use Rattle.psu_pages.specs.declared.root.Root.{Root}
 use Rattle.psu_pages.specs.Shown.{items_in}
 use Rattle.psu_items.proofs.Laying.{pages_more, one_all}
 
--- it is none of these, or all that holds of these holds of it; so what is said of each of these is said of it
+-- what holds of a page that is none of these, and of each of these, holds of the page
 apply : (P : ℕ → Type 0) (p : ℕ) (ys : List ℕ) → (IsNone ys p → P p) → AllByRecursion P ys → P p
 apply P p ys none all = ⊎_elim none (λ inside. inside P all) (none_or p ys)
 
@@ -28,7 +28,7 @@ module _ {D A : Type 0} {G : Ghosts D} (old new : Pages D A G) where
       let heads = ap (λ v. v.items) same.heads in
       ap (λ f. is_free f page) same.free ∙ spare page (subst (λ (n : ℕ). IsInPool n page) same.limit pool) (subst (λ (hs : List Head). IsNone (taken hs) page) heads not_head)
 
-  -- the older gate is closed
+  -- the gate of the older root is closed
   pub spare_closed : HasClosed old new → new.limit ≡ old.limit → AreSpare old (taken old.heads.items) (taken old.older.items) → IsSpare new new.heads.items
   spare_closed closed limit spare page pool not_head =
       let heads = ap (λ v. v.items) closed.heads in
@@ -37,7 +37,7 @@ module _ {D A : Type 0} {G : Ghosts D} (old new : Pages D A G) where
       let given : IsNone (taken old.heads.items) page → is_free new.free page ≡ true = apply (λ (p : ℕ). IsNone (taken old.heads.items) p → is_free new.free p ≡ true) page (taken old.older.items) (λ not_older n. closed.free.others page not_older ∙ spare page mine n not_older) closed.free.given_up in
       given none
 
-  -- a root is published that names the heads of slots
+  -- a root that names the heads of slots is published
   pub spare_published : (two : Pages D A G) (heads named : List Head) → HasSameHeads old new → HasPublished new two heads → two.limit ≡ new.limit → heads ≡ named → AreSpare old (taken old.heads.items) (taken named) → AreSpare two (taken two.heads.items) (taken two.older.items)
   spare_published two heads named same published limit is spare page pool not_head not_older =
       let older : two.older.items ≡ old.heads.items = ap (λ v. v.items) (published.older ∙ same.heads) in
@@ -49,7 +49,7 @@ module _ {D A : Type 0} {G : Ghosts D} (old new : Pages D A G) where
   laid_spare roots slots claims spare page pool not_head not_slot =
       claims page not_slot ∙ spare page (subst (λ (n : ℕ). IsInPool n page) roots.limit pool) (subst (λ (hs : List Head). IsNone (taken hs) page) (ap (λ v. v.items) roots.heads) not_head)
 
-  -- the pages of one slot are given up
+  -- the pages of one slot are freed
   module _ (roots : HasSameRoots old new) (slots rest : List (Slot A)) (s : Slot A) (are : slots ≡ rest ++ s ∷ []) (spare : AreSpare old (taken old.heads.items) (taken (heads_of slots))) where
     before : (page : ℕ) → IsInPool new.limit page → IsNone (taken new.heads.items) page → IsNone (taken (heads_of rest)) page → IsNone (pages_of s.head) page → is_free old.free page ≡ true
     before page pool not_head not_rest not_one =
@@ -70,7 +70,7 @@ module _ {D A : Type 0} {G : Ghosts D} (old new : Pages D A G) where
         members [] = tt
         members (y ∷ ys) = ((λ none. none.0 refl), all_map (λ (p : ℕ). IsNone ys p → ⊥) (λ (p : ℕ). IsNone (y ∷ ys) p → ⊥) (λ p no none. no none.1) ys (members ys))
 
--- what is claimed of slots, and of one more
+-- the pages claimed for the slots, and for one more
 pub claims_step : {D A : Type 0} {G : Ghosts D} (old mid new : Pages D A G) (slots after : List (Slot A)) (s : Slot A) → after ≡ slots ++ s ∷ []
     → ((page : ℕ) → IsNone (taken (heads_of slots)) page → is_free mid.free page ≡ is_free old.free page) → ((page : ℕ) → IsNone (pages_of s.head) page → is_free new.free page ≡ is_free mid.free page)
     → (page : ℕ) → IsNone (taken (heads_of after)) page → is_free new.free page ≡ is_free old.free page
@@ -78,11 +78,11 @@ claims_step {D} {A} {G} old mid new slots after s are first second page none =
     let both : IsNone (taken (heads_of slots) ++ pages_of s.head) page = subst (λ (l : List ℕ). IsNone l page) (pages_more slots s) (subst (λ (l : List (Slot A)). IsNone (taken (heads_of l)) page) are none) in
     second page (all_right (λ (q : ℕ). page ≢ q) (taken (heads_of slots)) (pages_of s.head) both) ∙ first page (all_left (λ (q : ℕ). page ≢ q) (taken (heads_of slots)) (pages_of s.head) both)
 
--- where nothing is shown the empty map stands
+-- where a root shows nothing, its map is empty
 pub none_shown : (root : Root) (image : List ℕ) → items_in root image ≡ [] → IsMapOf [] (shown_in root image)
 none_shown root image empty k = ap (λ is. get (map as_item is) k) (sym empty)
 
--- slots that aren't new are of heads that stand
+-- slots that are not new have heads that the current root names
 pub slots_kept : {D A : Type 0} {G : Ghosts D} (pages : Pages D A G) (before target items : List Item) (slots : List (Slot A)) → AreSlots pages before target items slots → AllByRecursion (λ (o : Slot A). o.is_new ≡ false → IsOneOf pages.heads.items o.head) slots
 slots_kept {D} {A} pages before target items slots so = all_map (IsSlot pages before target) (λ (o : Slot A). o.is_new ≡ false → IsOneOf pages.heads.items o.head) (λ o is. is.kept) slots so.each
 

@@ -1,4 +1,4 @@
--- What pages bear is what their image stands for.
+-- The map that pages encode is the map that their image represents.
 use Rattle.std.proofs.Common.{◌≡◌, ◌≢◌, ℕ, List, map, sym, ◌∙◌, subst}
 use Rattle.psu_disk.specs.Disk.{DiskState, Left}
 use Rattle.psu_disk.specs.declared.disk.Disk.{Ghosts}
@@ -16,13 +16,13 @@ use Rattle.psu_pages.proofs.Bearing.{bears_number, bears_version, counting_is}
 use Rattle.psu_items.specs.Image.{as_item, RootHolds, Stands, StandsAs, EachStands}
 use Rattle.psu_items.specs.Standing.{IsOnDisk, MapOn, ShowsMap, on_pages}
 
--- the root that counts is the one that counts
+-- an image represents the map that its current root holds
 pub stands_at : (root : Root) (limit : ℕ) (m : List Item) (image : List ℕ) → Counts root image → RootHolds root image limit m → Stands image limit m
 stands_at root limit m image counts holds =
     let is = sym (counting_is root image counts) in
     record { counts = subst (λ (r : Root). Counts r image) is counts; holds = subst (λ (r : Root). RootHolds r image limit m) is holds }
 
--- what a root bears stands as the map of these items
+-- an image that encodes these items under a root represents the map of these items
 pub bears_stands : (root : Root) (version limit number : ℕ) (heads : List Head) (items : List shown.Item) (m : List Item) (image : List ℕ) → IsSorted m → IsMapOf m (map as_item items) → Bears root version limit number heads items image → Stands image limit m
 bears_stands root version limit number heads items m image sorted of bears = stands_at root limit m image bears.counts (record {
   shows = bears.says.shows;
@@ -30,7 +30,7 @@ bears_stands root version limit number heads items m image sorted of bears = sta
   sorted = sorted;
 })
 
--- under its version and its number
+-- with the version and the number of the root
 pub bears_as : (root : Root) (version limit number : ℕ) (heads : List Head) (items : List shown.Item) (m : List Item) (image : List ℕ) → IsSorted m → IsMapOf m (map as_item items) → Bears root version limit number heads items image → StandsAs version number image limit m
 bears_as root version limit number heads items m image sorted of bears = record {
   stands = bears_stands root version limit number heads items m image sorted of bears;
@@ -41,18 +41,18 @@ bears_as root version limit number heads items m image sorted of bears = record 
 pub each_stands : (disk : DiskState) (root : Root) (version limit number : ℕ) (heads : List Head) (items : List shown.Item) (m : List Item) → IsSorted m → IsMapOf m (map as_item items) → EachBears disk root version limit number heads items → EachStands disk limit m
 each_stands disk root version limit number heads items m sorted of each image left = bears_stands root version limit number heads items m image sorted of (each image left)
 
--- an image stands for one map at most
+-- an image represents at most one map
 pub one_stands : (limit limit' : ℕ) (m m' : List Item) (image : List ℕ) → Stands image limit m → Stands image limit' m' → (limit ≡ limit') × (m ≡ m')
 one_stands limit limit' m m' image a b = (
   sym a.holds.shows.limit_is ∙ b.holds.shows.limit_is,
   same_map m m' a.holds.sorted b.holds.sorted (λ k. a.holds.items k ∙ sym (b.holds.items k)),
 )
 
--- a gate that alone stands open stands for sure
+-- `One` is not `Unsure`
 pub surely : (s : Standing) → s ≡ One → s ≢ Unsure
 surely s one unsure = cc
 
--- what a store keeps stands
+-- each possible crash image of the disk represents the map that the pages show
 module _ {D A : Type 0} {G : Ghosts D} (pages : Pages D A G) (m : List Item) (shows : ShowsMap pages m) where
   pub pages_stand : Ghosts.honest G → EachStands (Ghosts.state G pages.disk) pages.limit m
   pages_stand h = each_stands (Ghosts.state G pages.disk) pages.root pages.version pages.limit pages.number pages.heads.items _ m shows.sorted (shows.holds h) (pages.bears h (surely pages.standing shows.one))

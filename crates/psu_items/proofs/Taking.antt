@@ -1,4 +1,4 @@
--- A map is read, and the older gate closed: what each moment leaves.
+-- Reading the map, and closing the older root's gate: the images that are possible at each moment.
 use Rattle.std.proofs.Common.{◌≡◌, ◌≢◌, ℕ, List, map, sym, ◌∙◌, ap, subst}
 use Rattle.psu_disk.specs.Disk.{Left, SameBut, Follows, LeavesOnly}
 use Rattle.psu_disk.specs.Moments.{and_then, weaken}
@@ -20,15 +20,15 @@ use Rattle.psu_pages.specs.Outcome.{HasSameHeads}
 use Rattle.psu_items.specs.Image.{as_item, listed, shown_in}
 use Rattle.psu_items.specs.Finding.{IsUnread}
 
--- the root that counts says what it says on these pages
+-- the image encodes the root, the heads and the items of these pages
 abbrev pub BearsOf : {D A : Type 0} {G : Ghosts D} → Pages D A G → List ℕ → Type 0
 BearsOf {D} {A} {G} pages = Bears pages.root pages.version pages.limit pages.number pages.heads.items (items_in pages.root (Ghosts.state G pages.disk).bytes)
 
--- nothing but the older gate is written
+-- only the gate of the older root is written
 abbrev pub Closes : {D A : Type 0} {G : Ghosts D} → Pages D A G → List ℕ → Type 0
 Closes {D} {A} {G} pages = Reaches (SameBut (gate_at (other pages.root)) 1) (Left (Ghosts.state G pages.disk))
 
--- the heads and what they show are as they were
+-- the heads and the items that they show are unchanged
 module _ {D A : Type 0} {G : Ghosts D} (old mid : Pages D A G) (same : HasSameHeads old mid) where
   pub bears_on : items_in mid.root (Ghosts.state G mid.disk).bytes ≡ items_in old.root (Ghosts.state G old.disk).bytes → (image : List ℕ) → BearsOf mid image → BearsOf old image
   bears_on items image bears =
@@ -67,7 +67,7 @@ module _ {D A : Type 0} {G : Ghosts D} (old mid : Pages D A G) (same : HasSameHe
   closes_run new fewer first second =
       and_then (Ghosts.moment G) (Ghosts.left_since G) old.disk mid.disk new (Closes old) (Closes mid) (weaken (Ghosts.moment G) (Ghosts.left_since G) old.disk mid.disk (Left (Ghosts.state G old.disk)) (Closes old) first (λ x l. (x, l, same_but_refl (gate_at (other old.root)) 1 x))) second (closes_back fewer)
 
--- the root that counts shows what it showed
+-- the current root shows the same items
 pub shown_back : {D A : Type 0} {G : Ghosts D} (old new : Pages D A G) (m : List MapItem) → old.standing ≢ Unsure → Ghosts.honest G → items_in new.root (Ghosts.state G new.disk).bytes ≡ items_in old.root (Ghosts.state G old.disk).bytes
     → IsMapOf m (listed (Ghosts.state G old.disk).bytes old.heads.items) → IsMapOf m (shown_in new.root (Ghosts.state G new.disk).bytes)
 shown_back {D} {A} {G} old new m sure h same of =
@@ -76,12 +76,12 @@ shown_back {D} {A} {G} old new m sure h same of =
     let mine : IsMapOf m (shown_in old.root bytes) = subst (λ (hs : List Head). IsMapOf m (listed bytes hs)) (sym bears.says.heads_are) of in
     subst (λ (is : List Item). IsMapOf m (map as_item is)) (sym same) mine
 
--- a cause that is no failed call is none in the words of pages
+-- if the cause is not `Device`, neither is the fault
 pub not_device : (fault : PageFault) (cause : OpenCause) → IsUnread fault cause → cause ≢ Device → fault ≢ unread.Device
 not_device unread.NoPage cause is not = absurd is
 not_device unread.Device cause is not = absurd (not is)
 not_device unread.Memory cause is not = λ same. cc
 
--- step by step
+-- two steps leave the heads unchanged if each does
 pub same_on : {D A : Type 0} {G : Ghosts D} (old mid new : Pages D A G) → HasSameHeads old mid → HasSameHeads mid new → HasSameHeads old new
 same_on old mid new first second = record { root = second.root ∙ first.root; version = second.version ∙ first.version; limit = second.limit ∙ first.limit; number = second.number ∙ first.number; heads = second.heads ∙ first.heads; older = second.older ∙ first.older; free = second.free ∙ first.free }

@@ -1,4 +1,4 @@
--- What the slots are written as.
+-- The items that are read from written slots.
 use Rattle.std.proofs.Common.{◌≡◌, ℕ, List, [], ◌∷◌, map, Some, refl, ◌∙◌, ap}
 use Rattle.std.specs.List.{AllByRecursion}
 use Rattle.psu_map.specs.Map.{Item, item_of, get, IsSorted}
@@ -11,7 +11,7 @@ use Rattle.psu_items.specs.Image.{as_item, listed}
 use Rattle.psu_items.specs.declared.slot.Slot.{Slot}
 use Rattle.psu_items.specs.Layout.{heads_of, keys_in, value_of, value_at}
 
--- what is written is the target
+-- the items of the target at these keys
 abbrev by_keys : List Item → List (List ℕ) → List Item
 by_keys target ks = map (λ (k : List ℕ). item_of k (value_at target k)) ks
 

@@ -1,4 +1,4 @@
--- What the calls of a store give, case by case.
+-- The results of a store's calls, case by case.
 use Rattle.std.specs.Prelude.{◌≡◌, ◌+◌, ◌≤◌, ◌^◌, List, ⊤, Result, Ok, Err}
 use Rattle.psu_disk.specs.Disk.{HasFailed}
 use Rattle.psu_disk.specs.declared.disk.Disk.{Ghosts}
@@ -13,17 +13,17 @@ use Rattle.psu_items.specs.declared.commit.Commit.TheVariants as commit
 use Rattle.psu_items.specs.declared.commit.UnstartedCause.{UnstartedCause}
 use Rattle.psu_items.specs.declared.commit.UnstartedCause.TheVariants.{Worn}
 
--- the disk of a formatted store, or the one handed back
+-- the disk of a formatted store, or the one returned with the fault
 abbrev pub formatted_disk : {D : Type 0} → Result (MapOn D) (FormatFault D) → D
 formatted_disk (Ok store) = store.disk
 formatted_disk (Err e) = e.disk
 
--- the disk of an opened store, or the one handed back
+-- the disk of an opened store, or the one returned with the refusal
 abbrev pub opened_disk : {D : Type 0} → Result (MapOn D) (Refused D) → D
 opened_disk (Ok store) = store.disk
 opened_disk (Err e) = e.disk
 
--- the disk that a commit hands on
+-- the disk that a commit returns, in each case
 abbrev pub disk_of : {D A : Type 0} {G : Ghosts D} → Commit D A G → D
 disk_of (commit.Stored store) = store.disk
 disk_of (commit.Unstarted store batch cause) = store.disk
@@ -44,7 +44,7 @@ IfBroken (commit.Stored store) P = ⊤
 IfBroken (commit.Unstarted store batch cause) P = ⊤
 IfBroken (commit.Broken broken) P = P broken
 
--- not begun, since the root's number is the last
+-- not started, since the root's number is the last
 abbrev pub IsWorn : {D A : Type 0} {G : Ghosts D} → Commit D A G → Type 0
 IsWorn (commit.Stored store) = ⊥
 IsWorn (commit.Unstarted store batch cause) = cause ≡ Worn
@@ -57,13 +57,13 @@ pub record HasStored {D : Type 0} (old : MapOn D) (batch : List Edit) (new : Map
   pub version : new.version ≡ 2
   pub number : new.number ≡ old.number + 1
 
--- the store and the batch are as they were; it is worn only where its number is the last
+-- the store and the batch are unchanged; the cause is `Worn` only where the store's number is the last
 pub record IsUnchanged {D : Type 0} (old : MapOn D) (batch : List Edit) (new : MapOn D) (back : List Edit) (cause : UnstartedCause) : Type 0 where
   pub store : new ≡ old
   pub batch_is : back ≡ batch
   pub worn : cause ≡ Worn → 2 ^ 64 ≤ old.number + 1
 
--- what was to be changed is kept, and a call of the disk failed
+-- the map before, the batch and the limit are kept, and a call of the disk failed
 pub record HasBroken {D A : Type 0} {G : Ghosts D} (old : MapOn D) (batch : List Edit) (broken : Broken D A G) : Type 0 where
   pub before : broken.before ≡ old.items
   pub batch_is : broken.batch ≡ batch
@@ -71,7 +71,7 @@ pub record HasBroken {D A : Type 0} {G : Ghosts D} (old : MapOn D) (batch : List
   pub cause : broken.cause ≡ broken_cause.Device
   pub failures : HasFailed (Ghosts.failures G old.disk) (Ghosts.failures G broken.disk)
 
--- it still waits for the same
+-- the map before, the batch and the limit are unchanged
 pub record IsStillBroken {D A : Type 0} {G : Ghosts D} (old new : Broken D A G) : Type 0 where
   pub before : new.before ≡ old.before
   pub batch : new.batch ≡ old.batch

@@ -10,7 +10,7 @@ use Rattle.psu_pages.specs.declared.pages.Pages.{Pages}
 use Rattle.psu_pages.specs.declared.standing.Standing.TheVariants.{One}
 use Rattle.psu_items.specs.Image.{EachStands, counting, number_in, version_in, shown_in}
 
--- a map on a disk: how many pages it may take, and the version and the number of the root that counts
+-- a map on a disk: how many pages it may take, and the version and the number of the current root
 pub record MapOn (D : Type 0) : Type 0 where
   pub disk : D
   pub limit : ℕ
@@ -18,31 +18,31 @@ pub record MapOn (D : Type 0) : Type 0 where
   pub number : ℕ
   pub items : List Item
 
--- whatever a power loss leaves of its disk stands for its map, under its version and its number
+-- each possible crash image of the store's disk represents its map, under its version and its number
 pub record IsOnDisk {D : Type 0} (state : D → DiskState) (store : MapOn D) : Type 0 where
   pub stands : EachStands (state store.disk) store.limit store.items
   pub numbered : (image : List ℕ) → Left (state store.disk) image → number_in (counting image) image ≡ store.number
   pub versioned : (image : List ℕ) → Left (state store.disk) image → version_in (counting image) image ≡ store.version
 
--- what callers see of a map on pages
+-- the store that callers see, of a map on pages
 abbrev pub on_pages : {D A : Type 0} {G : Ghosts D} → Pages D A G → List Item → MapOn D
 on_pages pages map = record { disk = pages.disk; limit = pages.limit; version = pages.version; number = pages.number; items = map }
 
--- of the pool's pages only those of these heads are claimed
+-- all pages of the pool are free but those of these heads
 abbrev pub IsSpare : {D A : Type 0} {G : Ghosts D} → Pages D A G → List Head → Type 0
 IsSpare pages heads = (page : ℕ) → IsInPool pages.limit page → IsNone (taken heads) page → is_free pages.free page ≡ true
 
--- of the pool's pages only these and those of the heads are claimed
+-- all pages of the pool are free but these and those of the heads
 abbrev pub AreSpare : {D A : Type 0} {G : Ghosts D} → Pages D A G → List ℕ → List ℕ → Type 0
 AreSpare pages heads others = (page : ℕ) → IsInPool pages.limit page → IsNone heads page → IsNone others page → is_free pages.free page ≡ true
 
--- the pages show the items of the map, and no older gate stands open
+-- the pages show the items of the map, and the gate of the older root is closed
 pub record ShowsMap {D A : Type 0} {G : Ghosts D} (pages : Pages D A G) (map : List Item) : Type 0 where
   pub one : pages.standing ≡ One
   pub sorted : IsSorted map
   pub holds : Ghosts.honest G → IsMapOf map (shown_in pages.root (Ghosts.state G pages.disk).bytes)
 
--- and no page is claimed but theirs
+-- the pages show the map, and no page of the pool is claimed but those of their heads
 pub record KeepsMap {D A : Type 0} {G : Ghosts D} (pages : Pages D A G) (map : List Item) : Type 0 where
   pub shows : ShowsMap pages map
   pub spare : IsSpare pages pages.heads.items

@@ -22,7 +22,7 @@ pub enum BrokenCause {
     Device,
     /// The disk holds neither map.
     Strange,
-    /// Memory is refused.
+    /// An allocation failed.
     Memory,
 }
 
@@ -38,8 +38,8 @@ impl From<OpenCause> for BrokenCause {
     }
 }
 
-/// A store whose disk failed in a commit. Whatever a power loss leaves of the disk stands for the map before the commit, or for
-/// the map after its batch.
+/// A store whose disk failed in a commit. Each possible crash image of the disk represents the map before the commit,
+/// or the map after its batch.
 #[derive(Drop)]
 pub struct Broken<D: Disk, A: Allocator + Copy> {
     pub(crate) disk: D,
@@ -53,7 +53,7 @@ pub struct Broken<D: Disk, A: Allocator + Copy> {
 impl<D: Disk, A: Allocator + Copy> Broken<D, A> {
     ghost use Rattle.psu_items.specs.Outcome.{reopened_disk, IsStillBroken};
 
-    /// The map that stood before the commit.
+    /// The map before the commit.
     pub fn before(&self) -> &Items<A>
         ensures value { result.now ≡ self.now.before }
         ensures stands { D.honest → EachIsEither (D.state self.now.disk) self.now.limit self.now.before (changed self.now.before self.now.batch) }
@@ -61,29 +61,29 @@ impl<D: Disk, A: Allocator + Copy> Broken<D, A> {
         &self.before
     }
 
-    /// The batch that was to change it.
+    /// The batch of the failed commit.
     pub fn batch(&self) -> &Batch<A>
         ensures { result.now ≡ self.now.batch }
     {
         &self.batch
     }
 
-    /// How many pages the map may take.
+    /// The limit: how many pages the map may take.
     pub fn limit(&self) -> u16
         ensures { result ≡ self.now.limit }
     {
         self.limit
     }
 
-    /// Why the store is broken.
+    /// The cause: why the store is broken.
     pub fn cause(&self) -> BrokenCause
         ensures { result ≡ self.now.cause }
     {
         self.cause
     }
 
-    /// Makes sure of what the disk holds, beginning with a sync. A map found that is neither the one before the commit nor
-    /// the one after the batch leaves it broken.
+    /// Opens the disk again, beginning with a sync, and returns the store with the map found: the one before the commit
+    /// or the one after the batch. If the disk holds neither or is not opened, the store stays broken.
     pub fn reopen(self, alloc: A) -> Result<Store<D, A>, Broken<D, A>>
         ensures found { IfOk result (λ store. ((store.items ≡ self.before) ⊎ (store.items ≡ changed self.before self.batch)) × (store.limit ≡ self.limit)) }
         ensures same { IfErr result (IsStillBroken self) }
@@ -99,7 +99,7 @@ impl<D: Disk, A: Allocator + Copy> Broken<D, A> {
         ensures time { D.honest → D.tells
             → LeavesOnly D.moment D.left_since self.disk (reopened_disk result) (IsEither self.limit self.before (changed self.before self.batch)) }
 
-        // Nothing but the older root's gate is written.
+        // Only the gate of the older root is written.
         ensures images { D.honest → (image : List ℕ) → Left (D.state (reopened_disk result)) image → IsOldOrSame (D.state self.disk) image }
         ensures moments { D.honest → D.tells → LeavesOnly D.moment D.left_since self.disk (reopened_disk result) (IsOldOrSame (D.state self.disk)) }
     {
@@ -131,7 +131,7 @@ impl<D: Disk, A: Allocator + Copy> Broken<D, A> {
         }
     }
 
-    /// The disk, as the failed commit left it.
+    /// Returns the disk, as the failed commit left it.
     pub fn into_disk(self) -> D
         ensures value { result ≡ self.disk }
         ensures stands { D.honest → EachIsEither (D.state result) self.limit self.before (changed self.before self.batch) }
@@ -147,7 +147,7 @@ struct Unfound<D> {
     disk: D,
 }
 
-// Finds which of two maps stands.
+// Opens the disk, and returns the store if it holds one of two maps.
 fn recover<D: Disk, A: Allocator + Copy>(
     alloc: A,
     disk: D,
@@ -180,7 +180,8 @@ fn recover<D: Disk, A: Allocator + Copy>(
     }
 }
 
-// The store, where it holds one of two maps. Where it holds another the disk is strange, whatever disk it is: nothing here takes memory.
+// Returns the store if it holds one of two maps. If it holds another, the cause is `Strange`, whatever the disk:
+// nothing here allocates.
 fn one_of<D: Disk, A: Allocator + Copy>(
     store: Store<D, A>,
     limit: u16,
@@ -203,7 +204,7 @@ fn one_of<D: Disk, A: Allocator + Copy>(
     })
 }
 
-// Whether one of two maps was found.
+// Whether the store has this limit and one of these two maps.
 fn is_one_of<D: Disk, A: Allocator + Copy>(
     store: &Store<D, A>,
     limit: u16,

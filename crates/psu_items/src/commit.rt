@@ -14,32 +14,32 @@ use psu_disk::Disk;
 use psu_map::{Batch, Plan};
 use std::alloc::Allocator;
 
-/// Why a commit wasn't begun.
+/// Why a commit was not started.
 #[derive(Clone, Copy, Debug, PartialEq, Eq, Drop)]
 pub enum UnstartedCause {
-    /// Memory is refused.
+    /// An allocation failed.
     Memory,
     /// The root's number is the last that there is.
     Worn,
 }
 
-/// What a commit gives.
+/// The outcome of a commit.
 #[derive(Drop)]
 pub enum Commit<D: Disk, A: Allocator + Copy> {
-    /// The map after the batch stands.
+    /// The store holds the map after the batch.
     Stored(Store<D, A>),
-    /// No call of the disk was made: the store and the batch as they were.
+    /// No call of the disk was made: the store and the batch are unchanged.
     Unstarted(Store<D, A>, Batch<A>, UnstartedCause),
-    /// The disk failed.
+    /// A call of the disk failed.
     Broken(Broken<D, A>),
 }
 
 impl<D: Disk, A: Allocator + Copy> Store<D, A> {
     ghost use Rattle.psu_items.specs.Outcome.{disk_of, IfStored, IfUnstarted, IfBroken, IsWorn, HasStored, IsUnchanged, HasBroken};
 
-    /// Puts the map after the batch in the place of the one that stands, and writes only the items that differ. The root is written as
-    /// version 2, under the next number: an image of version 1 becomes one of version 2, by an empty batch too, and the pages of unchanged
-    /// items stay. All memory and all pages are taken before the first call of the disk.
+    /// Replaces the map by the map after the batch, writing only the items that differ. The root is written as version
+    /// 2, under the next number: even an empty batch turns an image of version 1 into one of version 2, and the pages
+    /// of unchanged items stay. All memory is allocated, and all pages are claimed, before the first call of the disk.
     pub fn commit(self, alloc: A, batch: Batch<A>) -> Commit<D, A>
         requires { CanHold self.limit (changed self.items batch) }
         ensures stored { IfStored result (HasStored self batch) }
@@ -56,8 +56,8 @@ impl<D: Disk, A: Allocator + Copy> Store<D, A> {
         ensures time { D.honest → D.tells
             → LeavesOnly D.moment D.left_since self.disk (disk_of result) (IsEither self.limit self.items (changed self.items batch)) }
 
-        // At each moment the map before stands, under its version and its number, or the map after the batch, as version 2 and under
-        // the next number.
+        // At each moment each possible crash image represents the map before, under its version and its number, or the
+        // map after the batch, as version 2 and under the next number.
         ensures roots { D.honest → EachIsEitherRoot (D.state (disk_of result)) self.version self.number self.limit self.items (changed self.items batch) }
         ensures roots_time { D.honest → D.tells
             → LeavesOnly D.moment D.left_since self.disk (disk_of result) (IsEitherRoot self.version self.number self.limit self.items (changed self.items batch)) }
@@ -65,7 +65,7 @@ impl<D: Disk, A: Allocator + Copy> Store<D, A> {
         // Items that no edit changes keep their pages.
         ensures heads { D.honest → IfStored result (λ store. EachKeepsHeads batch (D.state self.disk) (D.state store.disk)) }
 
-        // Behind the roots and the pool each byte stays as it might have been left before.
+        // After the roots and the pool, each possible crash image has the bytes of one from before.
         ensures behind { D.honest → Follows (SameBehind self.limit) (Left (D.state self.disk)) (Left (D.state (disk_of result))) }
         ensures behind_time { D.honest → D.tells → LeavesOnly D.moment D.left_since self.disk (disk_of result) (Reaches (SameBehind self.limit) (Left (D.state self.disk))) }
     {
@@ -101,7 +101,7 @@ impl<D: Disk, A: Allocator + Copy> Store<D, A> {
         }
     }
 
-    // Whether the number is the last that there is.
+    // Whether the root's number is the last that there is.
     fn is_worn(&self) -> bool
         ensures { IsTrue result ↔ (2 ^ 64 ≤ self.now.number + 1) }
     {

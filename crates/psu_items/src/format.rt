@@ -1,4 +1,4 @@
-//! A disk that is laid out anew.
+//! Formatting a disk.
 ghost use Rattle.std.specs.Prelude.{◌≡◌, ◌+◌, ◌*◌, ◌≤◌, [], IfOk, IfErr};
 ghost use Rattle.psu_disk.specs.Disk.{HasFailed};
 ghost use Rattle.psu_items.specs.Standing.{IsOnDisk};
@@ -13,8 +13,9 @@ use std::alloc::Allocator;
 impl<D: Disk, A: Allocator + Copy> Store<D, A> {
     ghost use Rattle.psu_items.specs.Outcome.{formatted_disk};
 
-    /// An empty map on a disk, whatever the disk held. The limit is 4 to 480, and the disk has 512 bytes for each of the two
-    /// roots and twice the limit. All memory is taken before the first call of the disk.
+    /// Formats a disk, whatever it holds, and returns a store with an empty map. The limit is 4 to 480, and the disk
+    /// has 512 bytes for each of the two roots and for each of the pool's pages, which are twice the limit. All memory
+    /// is allocated before the first call of the disk.
     pub fn format(alloc: A, disk: D, limit: u16) -> Result<Store<D, A>, FormatFault<D>>
         requires limit_least { 4 ≤ limit }
         requires limit_most { limit ≤ 480 }

@@ -1,4 +1,4 @@
-//! Items that a commit leaves as they are, with their heads.
+//! Items that a commit leaves unchanged, with their heads.
 ghost use Rattle.std.specs.Prelude.{◌≡◌, ◌<◌, ◌↔◌, ℕ, IfSome, IfNone, IsTrue, length, true};
 ghost use Rattle.psu_items.specs.Layout.{HasHead};
 ghost use Rattle.psu_map.specs.Target.{item_in};
@@ -7,8 +7,8 @@ use psu_map::Entry;
 use psu_pages::Head;
 use std::alloc::Allocator;
 
-/// Where the head of an item stands, if the item stands already. The search goes on behind the head that was found last: where
-/// heads come in the order of keys, as a commit leaves them, each is looked at once.
+/// Returns the place of the item's head, if the map before has the item unchanged. The search continues after the head
+/// found last: where heads come in the order of keys, as a commit leaves them, each is looked at once.
 #[inline(always)]
 pub fn kept<A: Allocator + Copy>(
     next: &mut usize,
@@ -30,7 +30,7 @@ pub fn kept<A: Allocator + Copy>(
     Some(at)
 }
 
-// Whether the head of an item is at this place.
+// Whether the head at this place is of the entry's item.
 #[inline(always)]
 fn is_there<A: Allocator + Copy>(heads: &[Head<A>], at: usize, entry: &Entry<'_>) -> bool
     ensures { IsTrue result → HasHead heads.now (item_in entry.now) at }
@@ -38,7 +38,7 @@ fn is_there<A: Allocator + Copy>(heads: &[Head<A>], at: usize, entry: &Entry<'_>
     at < heads.len() && is_of(heads, at, entry)
 }
 
-// Where the head of an item is, looked for from this place on, and then from the front.
+// Searches for the head of an item from this place on, and then from the start.
 #[inline(never)]
 fn find<A: Allocator + Copy>(heads: &[Head<A>], from: usize, entry: &Entry<'_>) -> Option<usize>
     ensures head { IfSome result (HasHead heads.now (item_in entry.now)) }
@@ -57,7 +57,7 @@ fn find<A: Allocator + Copy>(heads: &[Head<A>], from: usize, entry: &Entry<'_>) 
     None
 }
 
-// Whether the head is one of an item with this key, and with a value of this length.
+// Whether the head has the entry's key, and the length of its value.
 #[inline(always)]
 fn is_of<A: Allocator + Copy>(heads: &[Head<A>], at: usize, entry: &Entry<'_>) -> bool
     requires { at < length heads.now }

@@ -1,4 +1,4 @@
-//! Which heads the next root is to name: those that stand where an item stays as it is, and new ones for all others.
+//! The heads that the next root is to name: those of items that stay unchanged, and new ones for all others.
 ghost use Rattle.std.specs.Prelude.{◌≡◌, ◌+◌, ◌<◌, ◌≤◌, ◌++◌, ◌∷◌, [], true, false, List, ℕ, length, OnOk, IfOk, IfErr, IsErrOf, vec_len, vec_capacity};
 ghost use Rattle.std.specs.List.{AllByRecursion};
 ghost use Rattle.psu_map.specs.Map.{Item};
@@ -22,12 +22,12 @@ use std::alloc::{AllocError, Allocator};
 #[derive(Drop)]
 pub struct Layout<A: Allocator + Copy> {
     pub heads: Vec<Head<A>, A>,
-    /// The places of those whose pages are yet to be written: the root that counts doesn't name them.
+    /// The places of the heads whose pages are not written yet: the current root does not name them.
     pub unwritten: Vec<usize, A>,
 }
 
-/// Claims the pages of all items that don't stand already. The pool has room for them beside those that stand: the only error is a want
-/// of memory, and then what was claimed is given up.
+/// Claims pages for all items that are new or changed, and lays out the heads. The pool has room for these beside the
+/// pages in use: the only error is an allocation failure, and then the claimed pages are freed.
 pub fn lay_out<D: Disk, A: Allocator + Copy>(
     alloc: A,
     pages: &mut Pages<D, A>,
@@ -55,7 +55,7 @@ pub fn lay_out<D: Disk, A: Allocator + Copy>(
     }
 }
 
-// A slot for each item, in the order of keys.
+// Adds a slot for each item, in the order of keys.
 fn fill<D: Disk, A: Allocator + Copy>(
     alloc: A,
     pages: &mut Pages<D, A>,
@@ -85,7 +85,7 @@ fn fill<D: Disk, A: Allocator + Copy>(
     Ok(())
 }
 
-// The slot of an item.
+// Returns the slot of an item: the head that the current root names, or a new one with pages claimed for it.
 fn slot_for<D: Disk, A: Allocator + Copy>(
     alloc: A,
     pages: &mut Pages<D, A>,
@@ -114,7 +114,7 @@ fn slot_for<D: Disk, A: Allocator + Copy>(
     }
 }
 
-// Puts a slot after the others.
+// Appends a slot.
 fn add<A: Allocator + Copy>(layout: &mut Layout<A>, slot: Slot<A>)
     requires there { AllByRecursion (λ place. place < length layout.old.heads.items) layout.old.unwritten.items }
     requires heads_room { vec_len layout.old.heads < vec_capacity layout.old.heads }
@@ -132,7 +132,7 @@ fn add<A: Allocator + Copy>(layout: &mut Layout<A>, slot: Slot<A>)
     add_head(&mut layout.heads, slot.head);
 }
 
-// Puts a head after the others.
+// Appends a head.
 fn add_head<A: Allocator + Copy>(heads: &mut Vec<Head<A>, A>, head: Head<A>)
     requires { vec_len heads.old < vec_capacity heads.old }
     ensures items { heads.new.items ≡ heads.old.items ++ head ∷ [] }
@@ -145,7 +145,7 @@ fn add_head<A: Allocator + Copy>(heads: &mut Vec<Head<A>, A>, head: Head<A>)
     }
 }
 
-// Puts a place after the others.
+// Appends a place.
 fn add_place<A: Allocator + Copy>(places: &mut Vec<usize, A>, place: usize)
     requires { vec_len places.old < vec_capacity places.old }
     ensures items { places.new.items ≡ places.old.items ++ place ∷ [] }
@@ -158,7 +158,7 @@ fn add_place<A: Allocator + Copy>(places: &mut Vec<usize, A>, place: usize)
     }
 }
 
-// Gives up the pages of heads that were planned.
+// Frees the pages of the heads that were planned.
 fn give_up<D: Disk, A: Allocator + Copy>(pages: &mut Pages<D, A>, mut layout: Layout<A>)
     requires planned { AllByRecursion (λ (slot : SlotOf A). slot.is_new ≡ true → IsPlanned pages.old slot.head) (slots_of layout) }
     requires apart { AreApart (taken (heads_of (slots_of layout))) }

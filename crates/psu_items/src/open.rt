@@ -1,4 +1,4 @@
-//! What a disk stands for, after a power loss or without one.
+//! Opening a store on a disk.
 ghost use Rattle.std.specs.Prelude.{◌≡◌, ◌≢◌, ◌⊎◌, ◌≤◌, [], List, ℕ, OnOk, IfOk, IfErr, IsErrOf};
 ghost use Rattle.psu_disk.specs.Disk.{Left, Only, SameBut, Follows, LeavesOnly, HasFailed};
 ghost use Rattle.psu_map.specs.Map.{Item, IsSorted};
@@ -23,8 +23,8 @@ use psu_pages::{OpenCause, PageFault, Pages, Refused};
 use std::alloc::Allocator;
 
 impl<D: Disk, A: Allocator + Copy> Store<D, A> {
-    /// The map that a disk stands for, after a power loss or without one. It begins with a sync, and closes an older gate that
-    /// stands open.
+    /// Opens the map that a disk represents, after a power loss or without one. It begins with a sync, and closes the
+    /// gate of the older root if that is open.
     pub fn open(alloc: A, disk: D) -> Result<Store<D, A>, Refused<D>>
         ensures stood { D.honest → IfOk result (λ store. Stands (D.state disk).bytes store.limit store.items) }
         ensures stands { D.honest → IfOk result (λ store. IsOnDisk D.state store) }
@@ -39,12 +39,13 @@ impl<D: Disk, A: Allocator + Copy> Store<D, A> {
         ensures quiet { IfErr result (λ e. e.cause ≢ Device → D.failures e.disk ≡ D.failures disk) }
         ensures memory { D.honest → IfErr result (λ e. e.cause ≡ Memory → HasReadableRoot (D.state disk).bytes) }
 
-        // Nothing but the older root's gate is written: each image is one from before, or has the root that counted as it was
-        // read and every other byte too, also of a disk refused.
+        // Only the gate of the older root is written: each image is one from before, or has the current root and every
+        // other byte as they were read. This holds of a refused disk too.
         ensures images { D.honest → (image : List ℕ) → Left (D.state (opened_disk result)) image → IsOldOrSame (D.state disk) image }
         ensures moments { D.honest → D.tells → LeavesOnly D.moment D.left_since disk (opened_disk result) (IsOldOrSame (D.state disk)) }
 
-        // Where each image stands for one map, it is found, and each image at any moment stands for it, also of a disk refused.
+        // If each image represents one map, that map is found, and each image at any moment represents it, also of a
+        // refused disk.
         ensures finds { D.honest → (limit : ℕ) (map : List Item) → EachStands (D.state disk) limit map
             → IfOk result (λ store. (store.limit ≡ limit) × (store.items ≡ map)) }
         ensures left { D.honest → (limit : ℕ) (map : List Item) → EachStands (D.state disk) limit map
@@ -59,7 +60,7 @@ impl<D: Disk, A: Allocator + Copy> Store<D, A> {
     }
 }
 
-// Reads the map that pages show, and leaves their root as the only open one.
+// Reads the map that the pages show, and leaves their root as the only one with an open gate.
 fn take_up<D: Disk, A: Allocator + Copy>(
     alloc: A,
     mut pages: Pages<D, A>,
@@ -94,7 +95,7 @@ fn take_up<D: Disk, A: Allocator + Copy>(
     }
 }
 
-// Reads the map, and closes the older gate where it stands open.
+// Reads the map, and closes the gate of the older root if it is open.
 fn read_back<D: Disk, A: Allocator + Copy>(
     alloc: A,
     pages: &mut Pages<D, A>,
@@ -128,7 +129,7 @@ fn read_back<D: Disk, A: Allocator + Copy>(
     Ok(items)
 }
 
-// Why pages aren't read. To read claims none.
+// The cause for which a disk whose pages are not read is refused. Reading claims no pages.
 fn unread(fault: PageFault) -> OpenCause
     requires { fault ≢ PageFault.NoPage }
     ensures { IsUnread fault result }

@@ -1,4 +1,4 @@
-//! The writing part of a commit.
+//! The part of a commit that writes.
 ghost use Rattle.std.specs.Prelude.{◌≡◌, ◌≢◌, ◌+◌, ◌<◌, ◌≤◌, ◌^◌, ◌++◌, ◌∷◌, [], true, false, Some, List, ℕ, length, OnOk, IfErr, vec_len, vec_capacity};
 ghost use Rattle.std.specs.List.{AllByRecursion};
 ghost use Rattle.psu_disk.specs.Disk.{Left, Follows, LeavesOnly, HasFailed};
@@ -23,7 +23,8 @@ use psu_map::Target;
 use psu_pages::{Head, PageFault, Pages};
 use std::alloc::Allocator;
 
-/// Puts the target in the place of the map that stands: first the items that are new, then the root that names all of its heads.
+/// Replaces the map on the disk by the target: writes the new items first, then the root that names all heads of the
+/// layout.
 pub fn put<D: Disk, A: Allocator + Copy>(
     pages: &mut Pages<D, A>,
     target: &Target<'_, A>,
@@ -61,7 +62,7 @@ pub fn put<D: Disk, A: Allocator + Copy>(
     Ok(())
 }
 
-// Writes the pages of the heads that are new.
+// Writes the pages of the new heads.
 fn write_heads<D: Disk, A: Allocator + Copy>(
     pages: &mut Pages<D, A>,
     target: &Target<'_, A>,
@@ -95,7 +96,7 @@ fn write_heads<D: Disk, A: Allocator + Copy>(
     Ok(())
 }
 
-// Writes the pages of one of them.
+// Writes the pages of one new head.
 fn write_head<D: Disk, A: Allocator + Copy>(
     pages: &mut Pages<D, A>,
     target: &Target<'_, A>,

@@ -11,8 +11,8 @@ use psu_map::{Items, Value};
 use psu_pages::{PageFault, Pages};
 use std::alloc::Allocator;
 
-/// Reads the items of all heads, each page of a value once. From the last to the first, so that of two heads with one key the
-/// first one would count.
+/// Reads the items of all heads, each page of a value once. It reads from the last head to the first: if two heads had
+/// one key, the first one would count.
 pub fn read_items<D: Disk, A: Allocator + Copy>(
     alloc: A,
     pages: &mut Pages<D, A>,
@@ -39,7 +39,7 @@ pub fn read_items<D: Disk, A: Allocator + Copy>(
     Ok(items)
 }
 
-// Reads the item of one head, beside those of the heads after it.
+// Reads the item of one head, and adds it to those of the heads after it.
 fn read_item<D: Disk, A: Allocator + Copy>(
     alloc: A,
     pages: &mut Pages<D, A>,

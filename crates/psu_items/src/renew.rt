@@ -1,4 +1,4 @@
-//! The map after a batch, in the place of the one before.
+//! The writing of the map after a batch, with its allocations first.
 ghost use Rattle.std.specs.Prelude.{◌≡◌, ◌+◌, ◌<◌, ◌≤◌, ◌^◌, OnOk, IsErrOf};
 ghost use Rattle.psu_disk.specs.Disk.{Left, Follows, LeavesOnly, HasFailed};
 ghost use Rattle.psu_pages.specs.Outcome.{HasSameRoots};
@@ -18,16 +18,17 @@ use psu_map::{Batch, Pair, Target};
 use psu_pages::Pages;
 use std::alloc::Allocator;
 
-/// Why a map isn't written.
+/// Why a map was not written.
 #[derive(Clone, Copy, Drop)]
 pub enum Unwritten {
-    /// Memory is refused; no call of the disk was made.
+    /// An allocation failed; no call of the disk was made.
     Memory,
     /// A call of the disk failed.
     Device,
 }
 
-/// Puts the map after a batch in the place of the one before. All memory and all pages are taken before the first call of the disk.
+/// Replaces the map by the map after a batch. All memory is allocated, and all pages are claimed, before the first call
+/// of the disk.
 pub fn renew<D: Disk, A: Allocator + Copy>(
     alloc: A,
     pages: &mut Pages<D, A>,

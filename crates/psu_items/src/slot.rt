@@ -7,6 +7,6 @@ use std::alloc::Allocator;
 #[derive(Drop)]
 pub struct Slot<A: Allocator + Copy> {
     pub head: Head<A>,
-    /// Its pages are yet to be written: the root that counts doesn't name it.
+    /// Whether its pages are not written yet: the current root does not name it.
     pub is_new: bool,
 }

@@ -1,4 +1,4 @@
-//! The store at rest: a map on a disk.
+//! A store between commits: a map on a disk.
 ghost use Rattle.std.specs.Prelude.{◌≡◌, ◌+◌, ◌*◌, ◌≤◌, [], List, ℕ, IfOk, IfErr};
 ghost use Rattle.psu_disk.specs.Disk.{Left, HasFailed};
 ghost use Rattle.psu_items.specs.Image.{counting, number_in, version_in, EachStands};
@@ -9,7 +9,7 @@ use psu_pages::Pages;
 use std::alloc::Allocator;
 use std::marker::Model;
 
-/// A map on a disk. Whatever a power loss leaves of the disk stands for the map. Contracts see a `MapOn`.
+/// A map on a disk: each possible crash image of the disk represents the map. Contracts see a `MapOn`.
 #[derive(Drop)]
 pub struct Store<D: Disk, A: Allocator + Copy> {
     pub(crate) pages: Pages<D, A>,
@@ -35,7 +35,7 @@ impl<D: Disk, A: Allocator + Copy> Store<D, A> {
         &self.items
     }
 
-    /// How many pages the map may take.
+    /// The limit: how many pages the map may take.
     pub fn limit(&self) -> u16
         ensures value { result ≡ self.now.limit }
         ensures least { 4 ≤ result }
@@ -44,7 +44,7 @@ impl<D: Disk, A: Allocator + Copy> Store<D, A> {
         self.pages.limit()
     }
 
-    /// The number of the root that counts, which rises by 1 with each commit.
+    /// The number of the current root. Each commit increases it by 1.
     pub fn number(&self) -> u64
         ensures value { result ≡ self.now.number }
         ensures stands { D.honest → (image : List ℕ) → Left (D.state self.now.disk) image → number_in (counting image) image ≡ result }
@@ -52,7 +52,7 @@ impl<D: Disk, A: Allocator + Copy> Store<D, A> {
         self.pages.number()
     }
 
-    /// The version of the root that counts: 1, or 2, which each commit writes.
+    /// The version of the current root: 1, or 2, which each commit writes.
     pub fn version(&self) -> u16
         ensures value { result ≡ self.now.version }
         ensures stands { D.honest → (image : List ℕ) → Left (D.state self.now.disk) image → version_in (counting image) image ≡ result }
@@ -60,7 +60,7 @@ impl<D: Disk, A: Allocator + Copy> Store<D, A> {
         self.pages.version()
     }
 
-    /// The disk, with the map on it.
+    /// Returns the disk, with the map on it.
     pub fn into_disk(self) -> D
         ensures value { result ≡ self.disk }
         ensures stands { D.honest → EachStands (D.state result) self.limit self.items }

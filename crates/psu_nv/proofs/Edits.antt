@@ -1,4 +1,4 @@
--- The edits of parts make the map of contents.
+-- The edits of parts, among them all that differ, turn the old map into the new one.
 use Rattle.std.proofs.Common.{◌≡◌, ℕ, inl, inr, ◌⊎◌, Bool, true, false, cond, List, [], ◌∷◌, map, Option, refl, sym, ◌∙◌, ap, bytes_eq}
 use Rattle.psu_map.specs.Map.{get}
 use Rattle.psu_map.specs.Batch.{changed, assigned}
@@ -12,7 +12,7 @@ use Rattle.psu_nv.proofs.Gets.{part_found}
 use Rattle.psu_nv.proofs.Kept.{PartAt, part_at, get_bad, contents_keys}
 
 module _ (new : Contents) (key : List ℕ) where
-  -- what the edit of a part says of a key that it has is what the new contents have there
+  -- if a key has what the new contents have there, it has that after one more edit
   step : (part : Part) (had : Option (List ℕ)) → had ≡ get (items_of new) key → cond (bytes_eq (key_of part) key) (value_in (part_items new part)) had ≡ get (items_of new) key
   step part had is = by_test (bytes_eq (key_of part) key) refl
     where

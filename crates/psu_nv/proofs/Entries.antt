@@ -14,11 +14,11 @@ looked_up : (label : List ℕ) (entries : List (List ℕ × List ℕ)) → looku
 looked_up label [] = refl
 looked_up label (e ∷ es) = ap (λ b. cond b (Some e.1) (lookup (same_label label) es)) (label_sym label e.0) ∙ ap (λ rest. cond (same_label e.0 label) (Some e.1) rest) (looked_up label es)
 
--- what is looked up is what the first macro with the label has
+-- a lookup finds the body of the first macro with the label
 pub found : {S : Type 0} (m : IndexMap (List ℕ) (List ℕ) S) (label : List ℕ) → get_by (same_label label) m ≡ body_at (macros_of m.entries) label
 found m label = looked_up label m.entries
 
--- the macro of the label is taken out, and the others keep their order
+-- the macro with the label is removed, and the others keep their order
 pub removed : (label : List ℕ) → (entries : List (List ℕ × List ℕ)) → macros_of (shift_remove_entry (same_label label) entries) ≡ without_label (macros_of entries) label
 removed label [] = refl
 removed label (e ∷ es) = by (same_label label e.0) refl (removed label es)
@@ -36,7 +36,7 @@ none : (o : Option (List ℕ)) → is_some o ≡ false → o ≡ None
 none None is = refl
 none (Some x) is = absurd (true≢false is)
 
--- a macro with a new label goes last
+-- a macro with a new label is appended
 pub defined : {S : Type 0} (m : IndexMap (List ℕ) (List ℕ) S) (label body : List ℕ) → has_label (macros_of m.entries) label ≡ false
     → macros_of (insert_entry same_label m.entries label body) ≡ macros_of m.entries ++ macro_of label body ∷ []
 defined m label body free = ap macros_of (insert_entry-new same_label m label body (found m label ∙ none _ free)) ∙ put_last m.entries label body
@@ -55,7 +55,7 @@ fresh [] label body rest distinct = refl
 fresh (e ∷ es) label body rest distinct =
     ap (λ b. cond b (Some e.1) (lookup (same_label label) es)) (label_sym label e.0 ∙ among (λ other. same_label e.0 other ≡ false) es label body rest distinct.0) ∙ fresh es label body rest distinct.1
 
--- the first entry that is not copied goes behind those that are
+-- the first entry that is not copied is appended to those that are
 pub copied : {S : Type 0} (m : IndexMap (List ℕ) (List ℕ) S) (left next all : List (List ℕ × List ℕ)) (label body : List ℕ) (macros : List Macro)
     → IsDistinct same_label (keys_of all) → macros_of all ≡ macros → left ≡ (label, body) ∷ next → macros_of (m.entries ++ left) ≡ macros
     → macros_of (insert_entry same_label m.entries label body ++ next) ≡ macros

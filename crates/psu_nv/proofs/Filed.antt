@@ -19,7 +19,7 @@ had v = Some v
 same_had : (x y : List ℕ) → had x ≡ had y → x ≡ y
 same_had x y e = cc
 
--- a key that leads to a file
+-- the key of a file
 pub name_is : (key name : List ℕ) → name_in key ≡ Some name → key ≡ 5 ∷ name
 name_is [] name is = absurd cc
 name_is (kind ∷ rest) name is = by_test (kind == 5) refl is
@@ -32,7 +32,7 @@ pub files_in-append : (a b : List Item) → files_in (a ++ b) ≡ files_in a ++ 
 files_in-append [] b = refl
 files_in-append (i ∷ a) b = ap (λ (l : List Item). file_at (name_in i.key) i.value ++ l) (files_in-append a b) ∙ sym (append_assoc (file_at (name_in i.key) i.value) (files_in a) (files_in b))
 
--- files whose keys come before one come before its name
+-- files whose keys come before the key of a name come before the name
 pub below_name : (items : List Item) (name : List ℕ) → Below (5 ∷ name) items → Below name (files_in items)
 below_name [] name below = tt
 below_name (i ∷ items) name below = by_name (name_in i.key) refl (below_name items name below.1)
@@ -57,7 +57,7 @@ sorted_files (i ∷ items) sorted = by_name (name_in i.key) refl (sorted_files i
     by_name None e rest = rest
     by_name (Some n) e rest = (above_name items n (subst (λ (k : List ℕ). AllByRecursion (λ (j : Item). Before k j.key) items) (name_is i.key n e) sorted.0), rest)
 
--- the file of a name is found under its key
+-- a lookup by a file's name finds what the map has at its key
 pub get-files_in : (items : List Item) (name : List ℕ) → get (files_in items) name ≡ get items (5 ∷ name)
 get-files_in [] name = refl
 get-files_in (i ∷ items) name = by_key i.key (get-files_in items name)
@@ -78,7 +78,7 @@ both false b e = absurd cc
 low_enough : (n most : ℕ) → nat_le n most ≡ true → n ≤ most
 low_enough n most is = grind (arith, nat_tests)
 
--- each file of a good map is one that contents may have
+-- each file of a valid map is one that contents may have
 pub are_files : (items : List Item) → has_keys items ≡ true → fit_files items ≡ true → AllByRecursion IsFile (files_in items)
 are_files [] keys fit = tt
 are_files (i ∷ items) keys fit =

@@ -1,4 +1,4 @@
--- What is found in the parts of contents.
+-- What lookups in the parts of contents find.
 use Rattle.std.proofs.Common.{Bor, ◌≡◌, ℕ, zero, suc, ◌<◌, ◌≤◌, inl, inr, Bool, true, false, cond, List, [], ◌∷◌, length, get_or, drop, Option, Some, None, refl, sym, ◌∙◌, ap, subst, bytes_eq, arith}
 use Rattle.std.specs.Prelude.{not, is_some, unwrap_or, option_map, IfSome}
 use Rattle.std.specs.List.{AllByRecursion}
@@ -18,7 +18,7 @@ body_next (m ∷ macros) zero next d label is lt = ap (λ (n : ℕ). cond (same_
 body_next (m ∷ macros) (suc i) next d label is lt = body_next macros i (suc i) d label refl (omega arith)
     ∙ ap (λ (n : ℕ). cond (let q = get_or macros i d in same_label q.label label) (let q = get_or macros i d in Some q.body) (body_at (drop n (m ∷ macros)) label)) (sym is)
 
--- what is found at a name is a file's
+-- the value found at a name begins with the type of a file
 pub got_kind : (files : List Item) (name value : List ℕ) → AllByRecursion IsFile files → get files name ≡ Some value → begins_with_kind value ≡ true
 got_kind [] name value all is = absurd cc
 got_kind (f ∷ files) name value all is = elim (cases_Bool (bytes_eq f.key name)) [
@@ -45,7 +45,7 @@ pub no_known : (value : List ℕ) → 1 ≤ length value → kind_of (get_or val
 no_known [] some none is = absurd (omega (arith, some))
 no_known (code ∷ bytes) some none is = kind_known code bytes none is
 
--- no value of contents is long
+-- no value found has more than 32,769 bytes
 pub got_most : (files : List Item) (name : List ℕ) → AllByRecursion IsFile files → length (unwrap_or (get files name) []) ≤ 32769
 got_most [] name all = omega arith
 got_most (f ∷ files) name all = by_test (bytes_eq f.key name) (got_most files name all.1)
@@ -67,7 +67,7 @@ all_at P [] i d all lt = absurd (omega arith)
 all_at P (x ∷ xs) zero d all lt = all.0
 all_at P (x ∷ xs) (suc i) d all lt = all_at P xs i d all.1 (omega arith)
 
--- what a copy finds that is not refused
+-- the conditions that hold where a copy is not refused
 pub copy_found : (a b c d : Bool) (e f g h : ScpiError) → first_of ((not a, e) ∷ (not b, f) ∷ (not c, g) ∷ (d, h) ∷ []) ≡ None → (a ≡ true) × (b ≡ true) × (c ≡ true) × (d ≡ false)
 copy_found false b c d e f g h is = absurd cc
 copy_found true false c d e f g h is = absurd cc
@@ -89,7 +89,7 @@ got_length files name value all is = subst (λ (l : List ℕ). length l ≤ 3276
 pub body_length : (macros : List Macro) (label body : List ℕ) → AllByRecursion IsMacro macros → body_at macros label ≡ Some body → length body ≤ 1024
 body_length macros label body all is = subst (λ (l : List ℕ). length l ≤ 1024) (ap (λ (o : Option (List ℕ)). unwrap_or o []) is) (body_most macros label all)
 
--- what a lookup gives is short
+-- the body that a lookup finds has at most 1,024 bytes
 pub found_most : (o : Option (Bor (List ℕ))) (macros : List Macro) (label : List ℕ) → AllByRecursion IsMacro macros → option_map (λ body. body.now) o ≡ body_at macros label → IfSome o (λ body. length body.now ≤ 1024)
 found_most None macros label all is = tt
 found_most (Some body) macros label all is = body_length macros label body.now all (sym is)

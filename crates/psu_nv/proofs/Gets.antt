@@ -1,4 +1,4 @@
--- What is found under each key of the map that contents are kept as.
+-- What the map that encodes contents has at each key.
 use Rattle.std.proofs.Common.{◌≡◌, ℕ, zero, suc, ◌+◌, ◌<◌, ◌≤◌, Bool, true, false, cond, List, [], ◌∷◌, ◌++◌, map, Option, Some, None, refl, sym, ◌∙◌, ap, subst, bytes_eq, arith}
 use Rattle.std.specs.List.{AllByRecursion}
 use Rattle.psu_map.specs.Map.{Item, item_of, get, Before}
@@ -10,7 +10,7 @@ use Rattle.psu_nv.specs.Commands.{settings_at}
 use Rattle.psu_nv.specs.Parts.{Part, Enables, Register, User, Macros, File, Recall, key_of, file_items, part_items, value_in}
 use Rattle.psu_nv.proofs.Parts.{AllBelow, AllFrom, LedBelow, LedFrom, before_led, before_number, IsFrom, registers_from, enables_led, registers_below, user_below, macros_below, from_files, from_macros, from_user, from_registers, files_below, recall_led, rest_of, all-map}
 
--- the first that is there
+-- the first value that is present
 abbrev pub first : Option (List ℕ) → Option (List ℕ) → Option (List ℕ)
 first None o = o
 first (Some v) o = Some v
@@ -37,7 +37,7 @@ get_below items n rest all = get_none items (n ∷ rest) (all-map (λ (i : Item)
 get_from : (items : List Item) (n : ℕ) (rest : List ℕ) → AllFrom (n + 1) items → get items (n ∷ rest) ≡ None
 get_from items n rest all = get_none items (n ∷ rest) (all-map (λ (i : Item). LedFrom (n + 1) i.key) (λ (i : Item). bytes_eq i.key (n ∷ rest) ≡ false) items (λ i led. after_not_same (n ∷ rest) i.key (before_led (n + 1) (n ∷ rest) i.key (omega arith) led)) all)
 
--- found in the part that the key leads to
+-- a key that the second list lacks is found in the first
 get_front : (a b : List Item) (key : List ℕ) → get b key ≡ None → get (a ++ b) key ≡ get a key
 get_front a b key none = get-append a b key ∙ ap (first (get a key)) none ∙ first_none (get a key)
 
@@ -46,7 +46,7 @@ get_back a b key none = get-append a b key ∙ ap (λ (o : Option (List ℕ)). f
 
 -- # Registers
 
--- what a register is kept as
+-- the value that encodes a register; `None` for reset settings
 abbrev pub kept_settings : List OutputSettings → Option (List ℕ)
 kept_settings s = cond (is_reset s) None (Some (bytes_of s))
 
@@ -161,7 +161,7 @@ module _ (c : Contents) where
       by_recall true = refl
       by_recall false = refl
 
--- what a part is kept as is found under its key
+-- the value that encodes a part is found at its key
 pub part_found : (c : Contents) (part : Part) → get (items_of c) (key_of part) ≡ value_in (part_items c part)
 part_found c Enables = get_enables c
 part_found c (Register number) = get_registers c number

@@ -1,4 +1,4 @@
--- What holds of all items, kept over a change.
+-- What holds of all items holds of them after a change.
 use Rattle.std.proofs.Common.{ℕ, Bool, true, false, cond, List, [], ◌∷◌, bytes_eq}
 use Rattle.std.specs.List.{AllByRecursion}
 use Rattle.std.specs.Ordering.{nat_cmp, is_lt}

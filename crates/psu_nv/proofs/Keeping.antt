@@ -1,4 +1,4 @@
--- What contents may be, kept over each change of a part.
+-- Valid contents stay valid over each change of a part.
 use Rattle.std.proofs.Common.{◌≡◌, ℕ, zero, suc, ◌<◌, ◌≤◌, Bool, true, false, cond, List, [], ◌∷◌, ◌++◌, length, get_or, take, Option, Some, None, refl, sym, ◌∙◌, ap, subst, arith, length-append}
 use Rattle.std.specs.Prelude.{is_some, bit_and}
 use Rattle.std.specs.Option.{ForSome}
@@ -118,7 +118,7 @@ kept_without_label c macros label is is_without =
     subst (λ (l : List Macro). IsContents (contents_of c.registers c.user l c.enables c.files c.recall)) (sym is_without)
     (with_macros c (without_label c.macros label) is (all-without_label c.macros label is.macros) (distinct-without c.macros label is.distinct) (omega (arith, length-without_label c.macros label, is.most_macros)))
 
--- another ESE
+-- a new ESE
 pub kept_event : (c : Contents) (sre ese bits : ℕ) → IsContents c → c.enables ≡ Some (sre, ese) → IsContents (contents_of c.registers c.user c.macros (Some (sre, bits)) c.files c.recall)
 kept_event c sre ese bits is here = record { count = is.count; settings = is.settings; user = is.user; macros = is.macros; distinct = is.distinct; most_macros = is.most_macros; mss = mss (subst (λ (o : Option (ℕ × ℕ)). ForSome o (λ e. bit_and e.0 64 ≡ 0)) here is.mss); files = is.files; sorted = is.sorted }
   where

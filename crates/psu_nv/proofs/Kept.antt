@@ -1,4 +1,4 @@
--- Which maps are those of contents: by what is under each key.
+-- Which maps encode contents, by the value at each key.
 use Rattle.std.proofs.Common.{◌≡◌, ℕ, zero, suc, ◌+◌, ◌<◌, ◌≤◌, Bool, true, false, cond, List, [], ◌∷◌, length, map, replicate, Option, Some, None, Result, Ok, Err, refl, sym, ◌∙◌, ap, subst, bytes_eq, arith}
 use Rattle.std.specs.Prelude.{◌&&◌, ◌||◌, ◌==◌, nat_le, bit_and, IfErr}
 use Rattle.std.specs.Option.{ForSome}
@@ -124,7 +124,7 @@ contents_files c is =
     by_recall true = (refl, tt)
     by_recall false = tt
 
--- # The part that a key leads to
+-- # The part of a key
 
 abbrev pub IsPart : Part → Type 0
 IsPart Enables = Unit {0}
@@ -198,7 +198,7 @@ part_at (kind ∷ bytes) is = by_two (kind == 2) refl is
     by_two true e is = subst (λ (k : ℕ). PartAt (k ∷ bytes)) (sym (is_kind 2 e)) (number_is bytes is)
     by_two false e is = by_five (kind == 5) refl e is
 
--- a key that contents can't have isn't in a map that has their keys
+-- a map whose keys are all valid has nothing at a key that is not
 pub get_bad : (items : List Item) (key : List ℕ) → has_keys items ≡ true → is_key key ≡ false → get items key ≡ None
 get_bad [] key keys bad = refl
 get_bad (i ∷ items) key keys bad =
@@ -209,7 +209,7 @@ get_bad (i ∷ items) key keys bad =
     by_test true e good rest = let same : is_key i.key ≡ is_key key = ap is_key (same_key i.key key e) in absurd cc
     by_test false e good rest = rest
 
--- maps with the keys of contents that have the same of each part are the same
+-- maps whose keys are all valid are equal if they agree on each part
 pub same_parts : (a b : List Item) → IsSorted a → IsSorted b → has_keys a ≡ true → has_keys b ≡ true → ((part : Part) → IsPart part → get a (key_of part) ≡ get b (key_of part)) → a ≡ b
 same_parts a b sorted_a sorted_b keys_a keys_b same = same_map a b sorted_a sorted_b (λ k. at k (is_key k) refl)
   where
@@ -219,7 +219,7 @@ same_parts a b sorted_a sorted_b keys_a keys_b same = same_map a b sorted_a sort
         ap (get a) p.key_is ∙ same p.part p.is ∙ ap (get b) (sym p.key_is)
     at k false e = get_bad a k keys_a e ∙ sym (get_bad b k keys_b e)
 
--- # A good map
+-- # A map that encodes contents
 
 module _ (items : List Item) (e : Option (ℕ × ℕ)) (registers : List (List OutputSettings)) (user : List ℕ) (macros : List Macro) (sorted : IsSorted items) (keys : has_keys items ≡ true)
     (mss : ForSome e (λ s. bit_and s.0 64 ≡ 0)) (e_is : value_in (enables_items e) ≡ get items (1 ∷ []))
@@ -245,14 +245,14 @@ module _ (items : List Item) (e : Option (ℕ × ℕ)) (registers : List (List O
       each (File name) is = value_file name (get (files_in items) name) ∙ get-files_in items name
       each Recall is = p_is
 
--- # No contents
+-- # A map that encodes no contents
 
--- what holds at all holds at an error
+-- what holds in any case holds in the case of an error
 pub at_error : {T E : Type 0} {P : Type 0} (r : Result T E) → P → IfErr r (λ e. P)
 at_error (Ok x) p = tt
 at_error (Err e) p = p
 
--- what the contents of a map have of a part is under its key
+-- the value of a part of a map's contents is at the part's key
 pub kept_part : (items : List Item) (kept : IsKept items) (part : Part) → value_in (part_items kept.contents part) ≡ get items (key_of part)
 kept_part items kept part = sym (part_found kept.contents part) ∙ ap (λ (l : List Item). get l (key_of part)) kept.items_are
 

@@ -1,4 +1,4 @@
--- Labels: how long they are, and what a longer text finds.
+-- Labels: how long they are, and what a lookup with a longer text finds.
 use Rattle.std.proofs.Common.{◌≡◌, ℕ, ◌+◌, ◌<◌, ◌≤◌, Bool, true, false, cond, List, [], ◌∷◌, length, Some, None, refl, sym, ◌∙◌, ap, arith}
 use Rattle.std.specs.Prelude.{◌&&◌, ◌↔◌, IsTrue, nat_le}
 use Rattle.std.specs.Str.{bytes_eq}
@@ -26,7 +26,7 @@ label_short label is =
     let short : nat_le (length label) 12 ≡ true = (both (list_all is_name_byte label) (nat_le (length label) 12) (both (begins_with_letter label) (list_all is_name_byte label && nat_le (length label) 12) is).1).1 in
     low_enough (length label) short
 
--- a test for equal lists is that of the definitions
+-- a test that decides whether two lists are equal is `bytes_eq`
 pub told : (test : Bool) (a b : List ℕ) → IsTrue test ↔ (a ≡ b) → test ≡ bytes_eq a b
 told test a b is = by_test test (bytes_eq a b) refl is
   where
@@ -56,7 +56,7 @@ none_leaves (m ∷ macros) label none = by_test (same_label m.label label) none 
     by_test true none rest = absurd cc
     by_test false none rest = ap (λ (l : List Macro). m ∷ l) (rest none)
 
--- the bytes of a macro are told by what is found
+-- the number of bytes of a macro, by what a lookup finds
 pub size_none : (macros : List Macro) (label : List ℕ) → body_at macros label ≡ None → size_at macros label ≡ 0
 size_none [] label none = refl
 size_none (m ∷ macros) label none = by_test (same_label m.label label) none (size_none macros label)

@@ -23,7 +23,7 @@ macro-parts m rest =
     ap (λ (l : List ℕ). length m.label ∷ l)
     (append_assoc m.label (to_be_bytes w16 (length m.body) ++ m.body) rest ∙ ap (λ (l : List ℕ). m.label ++ l) (append_assoc (to_be_bytes w16 (length m.body)) m.body rest))
 
--- bytes begin with one macro only
+-- bytes begin with at most one macro
 pub same_macro : (a b : Macro) (x y : List ℕ) → length a.body < 65536 → length b.body < 65536 → macro_bytes a ++ x ≡ macro_bytes b ++ y → (a ≡ b) × (x ≡ y)
 same_macro a b x y short_a short_b same =
     let bytes = sym (macro-parts a x) ∙ same ∙ macro-parts b y in
@@ -36,7 +36,7 @@ same_macro a b x y short_a short_b same =
     let bodies = same_parts a.body b.body x y size sizes.1 in
     (ap (λ (k : List ℕ). macro_of k a.body) labels.0 ∙ ap (λ (v : List ℕ). macro_of b.label v) bodies.0, bodies.1)
 
--- macros are told by their bytes
+-- bytes encode at most one list of macros
 pub same_macros : (a b : List Macro) → AllByRecursion IsMacro a → AllByRecursion IsMacro b → flat_map macro_bytes a ≡ flat_map macro_bytes b → a ≡ b
 same_macros [] [] all_a all_b same = refl
 same_macros [] (n ∷ b) all_a all_b same = let more : [] ≡ macro_bytes n ++ flat_map macro_bytes b = same ∙ flat_map-cons macro_bytes n b in absurd cc
@@ -47,7 +47,7 @@ same_macros (m ∷ a) (n ∷ b) all_a all_b same =
 
 -- # What was read so far
 
--- the macros are those found and more, which the rest has
+-- the macros are those found so far, and those that the rest encodes
 pub record GoesOn (found : List Macro) (rest : List ℕ) (macros : List Macro) : Type 0 where
   pub more : List Macro
   pub whole : macros ≡ found ++ more

@@ -1,4 +1,4 @@
--- The items of contents: their order, and what is found under each key.
+-- The items of contents: their order, and what is found at each key.
 use Rattle.std.proofs.Common.{◌≡◌, ℕ, ◌+◌, ◌<◌, ◌≤◌, Bool, true, false, cond, List, [], ◌∷◌, ◌++◌, length, map, Option, Some, None, refl, sym, ap, subst, arith}
 use Rattle.std.specs.List.{AllByRecursion}
 use Rattle.std.specs.Ordering.{nat_cmp, ordering_then}
@@ -19,7 +19,7 @@ less m n lt = sym (nat_cmp_is m n Less lt)
 pub before_lead : (m n : ℕ) (a b : List ℕ) → m < n → Before (m ∷ a) (n ∷ b)
 before_lead m n a b lt = ap (λ (o : Ordering). ordering_then o (slice_cmp nat_cmp a b)) (less m n lt)
 
--- the first byte of a key is below n, or from n on
+-- the first byte of a key is below n, or at least n
 abbrev pub LedBelow : ℕ → List ℕ → Type 0
 LedBelow n [] = ⊥
 LedBelow n (m ∷ rest) = m < n
@@ -67,7 +67,7 @@ pub enables_led : (e : Option (ℕ × ℕ)) → AllBelow 2 (enables_items e)
 enables_led None = tt
 enables_led (Some e) = (omega arith, tt)
 
--- the item of a register from q on
+-- the item of a register with a number of at least q
 pub record IsFrom (q : ℕ) (i : Item) : Type 0 where
   pub number : ℕ
   pub key : i.key ≡ 2 ∷ number ∷ []
@@ -93,7 +93,7 @@ registers_led registers = all-map (IsFrom 0) (λ (i : Item). LedFrom 2 i.key) (r
 pub before_number : (m n : ℕ) → m < n → Before (2 ∷ m ∷ []) (2 ∷ n ∷ [])
 before_number m n lt = before_lead m n [] [] lt
 
--- registers that end before one come before it
+-- registers with lower numbers than one have keys before its key
 pub registers_before : (q r : ℕ) (registers : List (List OutputSettings)) → q + length registers ≤ r → Below (2 ∷ r ∷ []) (registers_items q registers)
 registers_before q r [] le = tt
 registers_before q r (s ∷ registers) le = all-append (λ (i : Item). Before i.key (2 ∷ r ∷ [])) (register_items q s) (registers_items (q + 1) registers) (by_test (is_reset s)) (registers_before (q + 1) r registers (omega (arith, le)))
@@ -163,7 +163,7 @@ fewer m n items le all = all-map (λ (i : Item). LedFrom n i.key) (λ (i : Item)
     by_key (k ∷ key) led = omega (arith, le, led)
 
 module _ (c : Contents) where
-  -- what comes behind the macros
+  -- the items after those of the macros
   abbrev pub rest_of : List Item
   rest_of = map file_item c.files ++ recall_items c.recall
 

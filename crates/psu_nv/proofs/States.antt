@@ -1,4 +1,4 @@
--- The settings that bytes are those of.
+-- The settings that bytes encode.
 use Rattle.std.proofs.Common.{◌≡◌, ℕ, ◌+◌, ◌*◌, ◌/◌, ◌%◌, ◌≤◌, Bool, true, false, cond, List, [], ◌∷◌, ◌++◌, refl, sym, ◌∙◌, ap, bytes_eq, arith}
 use Rattle.std.specs.Prelude.{◌&&◌, ◌==◌, nat_le}
 use Rattle.std.specs.List.{list_all}
@@ -46,7 +46,7 @@ module _ (o : OutputSettings) (rest : List ℕ) (allowed : is_allowed o ≡ true
       ∙ ap (λ (b : Bool). made o.voltage.0 o.current.0 o.level.0 b (nat_le 2 (cond o.protection 1 0 + cond o.on 2 0))) (flags o.protection o.on).0
       ∙ ap (λ (b : Bool). made o.voltage.0 o.current.0 o.level.0 o.protection b) (flags o.protection o.on).1
 
--- settings are those of their bytes
+-- settings are decoded from their own bytes
 pub settings_again : (s : List OutputSettings) → AreSettings s → settings_in (bytes_of s) ≡ s
 unfolding settings_in
 settings_again [] are = absurd (omega (arith, are.0))
@@ -64,7 +64,7 @@ settings_again (a ∷ b ∷ c ∷ d ∷ []) are =
     ∙ ap (λ (o : OutputSettings). a ∷ b ∷ c ∷ o ∷ []) (output_again d [] s.0)
 settings_again (a ∷ b ∷ c ∷ d ∷ e ∷ l) are = absurd (omega (arith, are.0))
 
--- bytes that are those of settings are a state
+-- bytes that encode settings are a state
 pub state_true : (s : List OutputSettings) (bytes : List ℕ) → AreSettings s → bytes_of s ≡ bytes → (settings_in bytes ≡ s) × (is_state bytes ≡ true)
 unfolding is_state
 state_true s bytes are is =
@@ -73,7 +73,7 @@ state_true s bytes are is =
       join (list_all is_allowed (settings_in bytes)) (bytes_eq (bytes_of (settings_in bytes)) bytes) (ap (list_all is_allowed) again ∙ are.1) ((bytes_eq-Decides (bytes_of (settings_in bytes)) bytes).1 (ap bytes_of again ∙ is)),
     )
 
--- a state is the bytes of its settings
+-- a state encodes its settings
 pub state_bytes : (bytes : List ℕ) → is_state bytes ≡ true → AreSettings (settings_in bytes) × (bytes_of (settings_in bytes) ≡ bytes)
 unfolding is_state settings_in
 state_bytes bytes is =

@@ -1,4 +1,4 @@
--- Contents are told by their items.
+-- The items of contents determine the contents.
 use Rattle.std.proofs.Common.{◌≡◌, ℕ, suc, ◌<◌, Bool, true, false, cond, List, [], ◌∷◌, length, get_or, Option, Some, None, refl, sym, ◌∙◌, ap, arith}
 use Rattle.std.specs.List.{flat_map, AllByRecursion}
 use Rattle.psu_map.specs.Map.{get}
@@ -64,7 +64,7 @@ same_recall true false same = absurd cc
 same_recall false true same = absurd cc
 same_recall false false same = refl
 
--- contents that have the same of each part are the same
+-- contents are equal if they agree on each part
 pub same_by_parts : (a b : Contents) → IsContents a → IsContents b → ((part : Part) → value_in (part_items a part) ≡ value_in (part_items b part)) → a ≡ b
 same_by_parts a b is_a is_b same =
     let enables : a.enables ≡ b.enables = same_enables a.enables b.enables (same Enables) in

@@ -101,7 +101,7 @@ cost-without (i ∷ files) name sorted = by_test (bytes_eq i.key name) refl (cos
         omega (arith, rest, ap pages_of none)
     by_test false e rest = omega (arith, rest)
 
--- a file moved to a name that nothing has
+-- a file moved to a name that no file has
 pub cost-moved : (files : List Item) (from to value : List ℕ) → IsSorted files → get files from ≡ Some value → get files to ≡ None → cost (without (put files to value) from) ≡ cost files
 cost-moved files from to value sorted found free =
     let there : get (put files to value) from ≡ Some value = get-put files to value from ∙ ap (λ (o : Option (List ℕ)). cond (bytes_eq to from) (Some value) o) found ∙ either (bytes_eq to from) in
@@ -141,17 +141,17 @@ macros_length-without_label (m ∷ macros) label = by_test (same_label m.label l
     by_test true rest = omega arith
     by_test false rest = omega (arith, rest, sum_by-cons size m (without_label macros label))
 
--- by number and bytes alone
+-- the cost depends only on the number of macros and their bytes
 pub macros_cost_is : (macros : List Macro) (count size : ℕ) → length macros ≡ count → macros_length macros ≡ size → macros_cost macros ≡ cond (eqb count 0) 0 (page_count size)
 macros_cost_is [] count size long is = sym (ap (λ (n : ℕ). cond (eqb n 0) 0 (page_count size)) (sym long))
 macros_cost_is (m ∷ macros) count size long is = ap page_count is ∙ sym (ap (λ (b : Bool). cond b 0 (page_count size)) (let other : eqb count 0 ≡ false = grind (arith, nat_tests) in other))
 
--- no macro of contents is long
+-- no macro of contents has more than 1,039 bytes
 pub few_bytes : (macros : List Macro) → AllByRecursion IsMacro macros → macros_length macros ≤ 1039 * length macros
 few_bytes [] are = omega arith
 few_bytes (m ∷ macros) are = omega (arith, sum_by-cons (λ (n : Macro). 3 + (length n.label + length n.body)) m macros, few_bytes macros are.1, are.0.body, label_short m.label are.0.label)
 
--- # As the code computes it: by what is kept, which is what the contents have
+-- # As the code computes it, from kept values that equal those of the contents
 
 module _ (files now : List Item) (name : List ℕ) (same : files ≡ now) (sorted : IsSorted files) (total had : ℕ) (total_is : total ≡ cost files) (had_is : had ≡ pages_of (get now name)) where
   had_was : had ≡ pages_of (get files name)
@@ -168,7 +168,7 @@ module _ (files now : List Item) (name : List ℕ) (same : files ≡ now) (sorte
       let its : page_count (length value) ≡ page = ap page_count long ∙ sym page_is in
       (let found : total + page - had ≡ cost (put files name value) = omega (arith, cost-put files name value sorted, had_was, total_is, its) in found) ∙ ap (λ (l : List Item). cost (put l name value)) same
 
--- one macro more
+-- one more macro
 pub push_is : (macros : List Macro) (label body : List ℕ) (size bytes : ℕ) → length label + length body ≡ size → bytes ≡ macros_length macros → page_count (bytes + (3 + size)) ≡ macros_cost (macros ++ macro_of label body ∷ [])
 push_is macros label body size bytes long is = sym (macros_cost_some (macros ++ macro_of label body ∷ []) (bytes + (3 + size)) some (macros_length-push macros (macro_of label body) ∙ (let same : macros_length macros + (3 + (length label + length body)) ≡ bytes + (3 + size) = omega (arith, long, is) in same)))
   where
@@ -182,7 +182,7 @@ push_is macros label body size bytes long is = sym (macros_cost_some (macros ++ 
 pub size_fits : (macros : List Macro) (label : List ℕ) → size_at macros label ≤ macros_length macros
 size_fits macros label = omega (arith, macros_length-without_label macros label)
 
--- one macro less
+-- one macro removed
 pub shorter_is : (macros : List Macro) (label : List ℕ) (bytes had : ℕ) → bytes ≡ macros_length macros → had ≡ size_at macros label → macros_length (without_label macros label) ≡ bytes - had
 shorter_is macros label bytes had is had_is = omega (arith, macros_length-without_label macros label, is, had_is)
 

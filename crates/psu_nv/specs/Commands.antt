@@ -1,5 +1,6 @@
--- The nonvolatile commands: when one is refused, and what it makes of the contents. Sources: IEEE 488.2 (`*SRE`, `*ESE`, `*PSC`, `*SAV`, `*PUD`,
--- `*DMC`, `*RMC`, `*PMC`), SCPI-1999 (MMEMory, OUTPut:PON); the order of refusals is this project's own.
+-- The nonvolatile commands: when one is refused, and the contents after it. Sources: IEEE 488.2 (`*SRE`, `*ESE`,
+-- `*PSC`, `*SAV`, `*PUD`, `*DMC`, `*RMC`, `*PMC`), SCPI-1999 (MMEMory, OUTPut:PON); the order of refusals is this
+-- project's own.
 use Rattle.std.specs.Prelude.{ℕ, ◌%◌, ◌==◌, ◌&&◌, not, nat_lt, nat_le, Bool, true, false, if◌then◌else◌, Option, Some, None, is_some, unwrap_or, List, [], ◌∷◌, ◌++◌, length, take, drop, slice_index, slice_index_or, slice_set, bit_and}
 use Rattle.std.specs.List.{list_all}
 use Rattle.std.specs.Str.{bytes_eq}
@@ -13,7 +14,7 @@ use Rattle.psu_lex.specs.Names.{is_label, is_name}
 use Rattle.psu_nv.specs.Labels.{same_label}
 use Rattle.psu_nv.specs.Contents.{Macro, Contents, body_at, has_label, fits}
 
--- a nonvolatile command with all that it needs: `*SAV` carries the settings, `*PSC` the enables that are kept, or none
+-- a nonvolatile command with its parameters: `*SAV` has the settings, `*PSC` the enables that are kept, or `None`
 pub data Command : Type 0 where
   ServiceEnable : (bits : ℕ) → Command
   EventEnable : (bits : ℕ) → Command
@@ -33,12 +34,12 @@ pub data Command : Type 0 where
   LoadMacro : (label : List ℕ) → (name : List ℕ) → Command
   Recall : (on : Bool) → Command
 
--- # What is found
+-- # Lookups
 
 abbrev pub has_file : List Item → List ℕ → Bool
 has_file files name = is_some (get files name)
 
--- the type byte of a file and its bytes; nothing where there is none
+-- the type byte of a file and its bytes; empty where there is none
 abbrev pub value_of : List Item → List ℕ → List ℕ
 value_of files name = unwrap_or (get files name) []
 
@@ -69,18 +70,18 @@ output_in bytes = record {
 unfoldable pub settings_in : List ℕ → List OutputSettings
 settings_in bytes = output_in bytes ∷ output_in (drop 7 bytes) ∷ output_in (drop 14 bytes) ∷ output_in (drop 21 bytes) ∷ []
 
--- bytes are those of settings, each within its ranges
+-- the bytes encode settings, each within its ranges
 unfoldable pub is_state : List ℕ → Bool
 is_state bytes = list_all is_allowed (settings_in bytes) && bytes_eq (bytes_of (settings_in bytes)) bytes
 
 -- # Refusals
 
--- the error of the first that holds
+-- the error of the first condition that holds
 abbrev pub first_of : List (Bool × ScpiError) → Option ScpiError
 first_of [] = None
 first_of (c ∷ cs) = if c.0 then Some c.1 else first_of cs
 
--- names and labels and what they find
+-- the refusals for names and labels, and for what they refer to
 abbrev pub refused : Contents → Command → Option ScpiError
 refused c (ServiceEnable bits) = None
 refused c (EventEnable bits) = None
@@ -142,7 +143,7 @@ apply c (StoreMacro label name) = record c { files = put c.files name (2 ∷ bod
 apply c (LoadMacro label name) = record c { macros = c.macros ++ macro_of label (bytes_in c.files name) ∷ [] }
 apply c (Recall on) = record c { recall = on }
 
--- whether a command takes memory: it defines a macro or makes a file
+-- whether a command allocates: it defines a macro or makes a file
 abbrev pub takes_memory : Command → Bool
 takes_memory (DefineMacro label body) = true
 takes_memory (StoreBytes name bytes) = true
@@ -153,12 +154,13 @@ takes_memory (StoreMacro label name) = true
 takes_memory (LoadMacro label name) = true
 takes_memory command = false
 
--- the contents after commands, the first of them first
+-- the contents after commands, in the order of the list
 abbrev pub applied : Contents → List Command → Contents
 applied c [] = c
 applied c (x ∷ xs) = applied (apply c x) xs
 
--- the refusal of a command under a limit: what names and labels find, then a result that does not fit; none where it is accepted
+-- the refusal of a command under a limit: first for names and labels and what they refer to, then because the result
+-- does not fit; `None` where it is accepted
 abbrev pub answer : ℕ → Contents → Command → Option ScpiError
 answer limit c command = of (refused c command)
   where

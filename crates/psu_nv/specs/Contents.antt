@@ -1,5 +1,5 @@
--- What is kept without power, and the map that it is kept as. Sources: IEEE 488.2 (registers, user data, macros, the power-on status
--- clear flag), SCPI-1999 (files); limits and formats are this project's own.
+-- The nonvolatile contents, and the map that encodes them. Sources: IEEE 488.2 (registers, user data, macros, the
+-- power-on status clear flag), SCPI-1999 (files); limits and formats are this project's own.
 use Rattle.std.specs.Prelude.{◌≡◌, ℕ, ◌+◌, ◌≤◌, ◌&&◌, nat_le, Bool, true, false, if◌then◌else◌, Option, Some, None, is_some, List, [], ◌∷◌, ◌++◌, length, map, replicate, bit_and, ⊤}
 use Rattle.std.specs.Option.{ForSome}
 use Rattle.std.specs.List.{flat_map, AllByRecursion}
@@ -15,9 +15,9 @@ pub record Macro : Type 0 where
   pub label : List ℕ
   pub body : List ℕ
 
--- Contents: a hundred registers of settings; user data; macros in order of definition; SRE and ESE where the power-on status clear flag
--- is false; files by name, each the byte of its type and then its own bytes; whether the settings at power-on are those of register 0
--- (else they are those of `*RST`).
+-- Contents: a hundred registers of settings; user data; macros in order of definition; SRE and ESE where the power-on
+-- status clear flag is false; files by name, each the byte of its type and then its own bytes; whether the settings at
+-- power-on are those of register 0 (else they are those of `*RST`).
 pub record Contents : Type 0 where
   pub registers : List (List OutputSettings)
   pub user : List ℕ
@@ -29,7 +29,7 @@ pub record Contents : Type 0 where
 abbrev pub contents_of : List (List OutputSettings) → List ℕ → List Macro → Option (ℕ × ℕ) → List Item → Bool → Contents
 contents_of registers user macros enables files recall = record { registers = registers; user = user; macros = macros; enables = enables; files = files; recall = recall }
 
--- # What contents may be
+-- # Valid contents
 
 -- the body of the macro with this label, without regard to case
 abbrev pub body_at : List Macro → List ℕ → Option (List ℕ)
@@ -39,12 +39,12 @@ body_at (m ∷ macros) label = if same_label m.label label then Some m.body else
 abbrev pub has_label : List Macro → List ℕ → Bool
 has_label macros label = is_some (body_at macros label)
 
--- a macro with a good label and a body of at most 1,024 bytes
+-- a macro with a valid label and a body of at most 1,024 bytes
 pub record IsMacro (m : Macro) : Type 0 where
   pub label : is_label m.label ≡ true
   pub body : length m.body ≤ 1024
 
--- no label comes twice, without regard to case
+-- no label occurs twice, without regard to case
 abbrev pub HasDistinct : List Macro → Type 0
 HasDistinct [] = ⊤
 HasDistinct (m ∷ macros) = (has_label macros m.label ≡ false) × HasDistinct macros
@@ -54,7 +54,7 @@ abbrev pub begins_with_kind : List ℕ → Bool
 begins_with_kind [] = false
 begins_with_kind (kind ∷ bytes) = nat_le kind 2
 
--- a file with a good name, a type and at most 32,768 bytes
+-- a file with a valid name, a type and at most 32,768 bytes
 pub record IsFile (file : Item) : Type 0 where
   pub name : is_name file.key ≡ true
   pub kind : begins_with_kind file.value ≡ true
@@ -113,16 +113,16 @@ abbrev pub recall_items : Bool → List Item
 recall_items false = []
 recall_items true = item_of (6 ∷ []) (1 ∷ []) ∷ []
 
--- the map that contents are kept as
+-- the map that encodes contents
 unfoldable pub items_of : Contents → List Item
 items_of c = enables_items c.enables ++ (registers_items 0 c.registers ++ (user_items c.user ++ (macros_items c.macros ++ (map file_item c.files ++ recall_items c.recall))))
 
 -- # Cost
 
--- the pages of contents: one for each item, and one for each 512 bytes begun of its value
+-- the pages of contents: one for each item, and one for each started block of 512 bytes of its value
 abbrev pub cost_of : Contents → ℕ
 cost_of c = cost (items_of c)
 
--- contents fit where their cost is at most the limit
+-- contents fit where their cost is at most the limit, and they have at most 32 macros
 abbrev pub fits : ℕ → Contents → Bool
 fits limit c = nat_le (cost_of c) limit && nat_le (length c.macros) 32

@@ -1,4 +1,4 @@
--- Which maps are those of contents, and why another is refused.
+-- Which maps encode contents, and why another map is refused.
 use Rattle.std.specs.Prelude.{◌≡◌, ℕ, ◌≤◌, ◌==◌, ◌&&◌, ◌||◌, nat_le, Bool, true, false, if◌then◌else◌, Option, Some, None, List, [], ◌∷◌, ◌++◌, length}
 use Rattle.std.specs.List.{flat_map, list_all, AllByRecursion}
 use Rattle.psu_map.specs.Map.{Item, item_of}
@@ -13,7 +13,7 @@ abbrev pub is_nothing : List ℕ → Bool
 is_nothing [] = true
 is_nothing (byte ∷ bytes) = false
 
--- the number of a register, and nothing behind it
+-- the number of a register, and nothing after it
 abbrev pub is_number : List ℕ → Bool
 is_number [] = false
 is_number (number ∷ bytes) = nat_le number 99 && is_nothing bytes
@@ -21,7 +21,7 @@ is_number (number ∷ bytes) = nat_le number 99 && is_nothing bytes
 abbrev pub is_between : ℕ → ℕ → ℕ → Bool
 is_between low high kind = nat_le low kind && nat_le kind high
 
--- a part of which there is one at most: its key is this byte alone
+-- a part that occurs at most once: its key is this byte alone
 abbrev pub is_single : ℕ → Bool
 is_single kind = is_between 1 4 kind || kind == 6
 
@@ -38,14 +38,14 @@ has_keys items = list_all (λ (i : Item). is_key i.key) items
 
 -- # Faults
 
--- the map is that of some contents
+-- the map encodes some contents
 pub record IsKept (items : List Item) : Type 0 where
   pub contents : Contents
   pub are : IsContents contents
   pub items_are : items_of contents ≡ items
 
--- Why a map isn't decoded: a key that no contents have; else a value under one of its keys, or how they go together, as no contents
--- have it. Memory is wanted only for the map of contents.
+-- Why a map is not decoded: it has a key that no contents have; else no contents have its values, or not together. An
+-- allocation can fail only for a map that encodes contents.
 abbrev pub IsFault : List Item → DecodeFault → Type 0
 IsFault items BadKey = has_keys items ≡ false
 IsFault items BadValue = (has_keys items ≡ true) × (IsKept items → ⊥)
@@ -53,14 +53,14 @@ IsFault items Memory = IsKept items
 
 -- # Parts
 
--- the bytes are those of macros that contents may have
+-- the bytes encode these macros, and contents may have them
 pub record AreMacros (bytes : List ℕ) (macros : List Macro) : Type 0 where
   pub all : AllByRecursion IsMacro macros
   pub distinct : HasDistinct macros
   pub most : length macros ≤ 32
   pub bytes_are : flat_map macro_bytes macros ≡ bytes
 
--- the name of the file that a key leads to, if it leads to one
+-- the name in the key of a file; `None` where the key is not that of a file
 abbrev pub name_in : List ℕ → Option (List ℕ)
 name_in [] = None
 name_in (kind ∷ name) = if kind == 5 then Some name else None
@@ -74,7 +74,7 @@ abbrev pub files_in : List Item → List Item
 files_in [] = []
 files_in (i ∷ items) = file_at (name_in i.key) i.value ++ files_in items
 
--- what a file may be kept as: a type, and at most 32,768 bytes
+-- the values that a file may have: a type, and at most 32,768 bytes
 abbrev pub fits_file : Option (List ℕ) → List ℕ → Bool
 fits_file None value = true
 fits_file (Some name) value = begins_with_kind value && nat_le (length value) 32769

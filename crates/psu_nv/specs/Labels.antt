@@ -3,7 +3,7 @@ use Rattle.std.specs.Prelude.{ℕ, Bool, List, map}
 use Rattle.std.specs.Str.{bytes_eq}
 use Rattle.std.specs.Char.{to_ascii_lowercase}
 
--- bytes with small letters
+-- bytes in lower case
 abbrev pub lowercase : List ℕ → List ℕ
 lowercase bytes = map to_ascii_lowercase bytes
 

@@ -1,4 +1,4 @@
-// What the parts of contents would cost after a command that is not refused by its names and labels.
+// The cost of contents after a command that its names and labels do not refuse, part by part.
 ghost use Rattle.std.specs.Prelude.{◌≡◌, ◌+◌, ◌<◌, ◌≤◌, ◌^◌, None, length, slice_set};
 ghost use Rattle.std.specs.List.{AllByRecursion};
 ghost use Rattle.psu_outputs.specs.Settings.{AreSettings};
@@ -53,12 +53,12 @@ impl<A: Allocator + Copy> Contents<A> {
         }
     }
 
-    // The pages of the registers where one holds these settings.
+    // The pages of the registers if the given one held these settings.
     fn registers_with(&self, register: Register, settings: Settings) -> u8
         ensures value { result ≡ registers_cost (slice_set self.now.registers register.number settings) }
         ensures are { AllByRecursion AreSettings (slice_set self.now.registers register.number settings) }
     {
-        // Settings that a call gives out lie within their ranges.
+        // Settings that a call returns lie within their ranges.
         let _ = settings.outputs();
         self.registers.pages_with(register, settings)
     }
@@ -113,7 +113,7 @@ impl<A: Allocator + Copy> Contents<A> {
         }
     }
 
-    // What the contents cost after a command.
+    // The cost of the contents after a command.
     fn cost_after(&self, command: &NvCommand) -> u128
         requires { refused self.now (command_of command.now) ≡ None }
         ensures { result ≡ cost_of (apply self.now (command_of command.now)) }
@@ -129,7 +129,7 @@ impl<A: Allocator + Copy> Contents<A> {
         pages.total()
     }
 
-    // Whether the contents after a command fit.
+    // Whether the contents after a command fit the limit.
     pub(crate) fn fits_after(&self, limit: u16, command: &NvCommand) -> bool
         requires { refused self.now (command_of command.now) ≡ None }
         ensures { result ≡ fits limit (apply self.now (command_of command.now)) }
@@ -137,7 +137,7 @@ impl<A: Allocator + Copy> Contents<A> {
         self.cost_after(command) <= limit as u128 && self.count_after(command) <= 32
     }
 
-    /// The pages that the contents cost: one for each item, and one for each 512 bytes begun of its value.
+    /// The cost of the contents in pages: one for each item, and one for each started block of 512 bytes of its value.
     pub fn cost(&self) -> u128
         ensures value { result ≡ cost_of self.now }
         ensures most { result < 2 ^ 102 }
@@ -153,7 +153,7 @@ impl<A: Allocator + Copy> Contents<A> {
         pages.total()
     }
 
-    /// Whether the contents fit where so many pages are the limit.
+    /// Whether the contents fit: they cost at most so many pages, and have at most 32 macros.
     pub fn fits(&self, limit: u16) -> bool
         ensures { result ≡ fits limit self.now }
     {

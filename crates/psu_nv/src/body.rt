@@ -19,7 +19,7 @@ impl<A: Allocator + Copy> Model for Body<A> {
 }
 
 impl<A: Allocator + Copy> Body<A> {
-    // These bytes in memory of their own.
+    // Copies the bytes into memory of its own.
     pub(crate) fn of(alloc: A, bytes: &[u8]) -> Result<Body<A>, AllocError>
         ensures { IfOk result (λ body. body ≡ bytes.now) }
     {

@@ -1,4 +1,4 @@
-// One change of the contents.
+// Changes of the contents by nonvolatile commands.
 ghost use Rattle.std.specs.Prelude.{◌≡◌, ◌⊎◌, ◌≤◌, Some, None, true, false, length, IfErr, OnOk, OnErr};
 ghost use Rattle.psu_lex.specs.declared.scpi_error.ScpiError.TheVariants.{MediaFull, OutOfMemory};
 ghost use Rattle.psu_nv.specs.Commands.{answer, apply, refused, takes_memory};
@@ -10,9 +10,9 @@ use psu_lex::ScpiError;
 use std::alloc::{AllocError, Allocator};
 
 impl<A: Allocator + Copy> Contents<A> {
-    /// Makes a nonvolatile command's change where its result fits the limit. The errors in their order: those of names and
-    /// labels and what they find, -254 where the result doesn't fit, -225 where memory is refused to a command that defines a macro or
-    /// makes a file. After each nothing has changed.
+    /// Makes a nonvolatile command's change if its result fits the limit. The errors in their order: those of names and
+    /// labels and of what they refer to; -254 if the result does not fit; -225 if an allocation fails for a command
+    /// that defines a macro or makes a file. After each error nothing has changed.
     pub fn change(&mut self, limit: u16, command: &NvCommand) -> Result<(), ScpiError>
         ensures sound { OnOk result (IsContents self.new) }
         ensures ok { OnOk result ((answer limit self.old (command_of command.now) ≡ None) × (self.new ≡ apply self.old (command_of command.now))) }
@@ -26,9 +26,9 @@ impl<A: Allocator + Copy> Contents<A> {
         }
     }
 
-    /// Makes the change of a command that is not refused by its names and labels and what they find, for a caller that has looked: -254
-    /// where the result doesn't fit the limit, -225 where memory is refused to a command that defines a macro or makes a file. After each
-    /// nothing has changed.
+    /// Makes the change of a command that its names and labels, and what they refer to, do not refuse, for a caller
+    /// that has checked this. The errors: -254 if the result does not fit the limit; -225 if an allocation fails for a
+    /// command that defines a macro or makes a file. After each error nothing has changed.
     pub fn change_if_it_fits(&mut self, limit: u16, command: &NvCommand) -> Result<(), ScpiError>
         requires found { refused self.old (command_of command.now) ≡ None }
         ensures sound { OnOk result (IsContents self.new) }

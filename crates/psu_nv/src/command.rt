@@ -2,14 +2,14 @@
 use crate::{FileBytes, Register, UserData};
 use psu_outputs::Settings;
 
-/// A nonvolatile command with all that it needs. What it borrows is copied once, into the contents.
+/// A nonvolatile command with its parameters. What it borrows is copied once, into the contents.
 #[derive(Drop)]
 pub enum NvCommand<'a> {
     /// `*SRE` while the power-on status clear flag is false.
     ServiceEnable(u8),
     /// `*ESE` while the flag is false.
     EventEnable(u8),
-    /// `*PSC`: SRE and ESE as they are where the flag becomes false, none where it becomes true.
+    /// `*PSC`: the present SRE and ESE if the flag becomes false, `None` if it becomes true.
     PowerOnClear(Option<(u8, u8)>),
     /// `*SAV` of the present settings.
     Save(Register, Settings),

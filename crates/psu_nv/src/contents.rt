@@ -1,4 +1,4 @@
-// What is kept without power, as one value.
+// The nonvolatile contents, as one value.
 ghost use Rattle.std.specs.Prelude.{◌≡◌, ◌≤◌, length, map, IfOk, IfSome, option_map, Option, Some, None};
 ghost use Rattle.psu_map.specs.Map.{get};
 ghost use Rattle.psu_outputs.specs.Settings.{is_reset};
@@ -14,8 +14,9 @@ use psu_outputs::Settings;
 use std::alloc::{AllocError, Allocator};
 use std::marker::Model;
 
-/// What is kept without power: a hundred registers of settings, user data, macros, the enables where the power-on status clear flag is
-/// false, files, and whether the settings at power-on are those of register 0. Contracts see the `Contents` of `specs/`.
+/// The nonvolatile contents: a hundred registers of settings, user data, macros, the enables where the power-on status
+/// clear flag is false, files, and whether the settings at power-on are those of register 0. Contracts see the
+/// `Contents` of `specs/`.
 #[derive(Drop)]
 pub struct Contents<A: Allocator + Copy> {
     pub(crate) alloc: A,
@@ -38,7 +39,8 @@ impl<A: Allocator + Copy> Model for Contents<A> {
 }
 
 impl<A: Allocator + Copy> Contents<A> {
-    /// Freshly formatted: reset settings in each register, the power-on status clear flag true, and nothing else.
+    /// Returns freshly formatted contents: reset settings in each register, the power-on status clear flag true, and
+    /// nothing else.
     pub fn fresh(alloc: A) -> Contents<A>
         ensures { result ≡ fresh }
     {
@@ -75,7 +77,7 @@ impl<A: Allocator + Copy> Contents<A> {
         self.user.bytes()
     }
 
-    /// SRE and ESE where the power-on status clear flag is false; none where it is true.
+    /// SRE and ESE if the power-on status clear flag is false; `None` if it is true.
     pub fn enables(&self) -> Option<(u8, u8)>
         ensures { result ≡ self.now.enables }
     {
@@ -95,7 +97,7 @@ impl<A: Allocator + Copy> Contents<A> {
     ghost use Rattle.psu_nv.specs.Contents.{body_at};
     ghost use Rattle.psu_nv.specs.Views.{code_of};
 
-    /// The body of the macro with a label, without regard to case; none where no macro has it.
+    /// The body of the macro with this label, compared without regard to case; `None` if no macro has it.
     pub fn body(&self, label: &[u8]) -> Option<&[u8]>
         ensures value { option_map (λ body. body.now) result ≡ body_at self.now.macros label.now }
         ensures most { IfSome result (λ body. length body.now ≤ 1024) }
@@ -103,7 +105,7 @@ impl<A: Allocator + Copy> Contents<A> {
         self.macros.body(&Label::of(label)?)
     }
 
-    /// The file of a name; none where there is none.
+    /// The file with this name; `None` if there is none.
     pub fn file(&self, name: &[u8]) -> Option<File<'_>>
         ensures { MatchOption result (get self.now.files name.now ≡ None) (λ file. get self.now.files name.now ≡ Some (code_of file.kind ∷ file.bytes.now)) }
     {

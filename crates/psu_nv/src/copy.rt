@@ -1,11 +1,11 @@
-// The same contents once more.
+// Copying contents.
 ghost use Rattle.std.specs.Prelude.{◌≡◌, IfOk};
 
 use crate::Contents;
 use std::alloc::{AllocError, Allocator};
 
 impl<A: Allocator + Copy> Contents<A> {
-    /// The same contents in memory of its own.
+    /// Copies the contents into memory of their own.
     pub fn copy(&self, alloc: A) -> Result<Contents<A>, AllocError>
         ensures { IfOk result (λ copy. copy ≡ self.now) }
     {

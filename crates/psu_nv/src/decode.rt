@@ -1,4 +1,4 @@
-// Contents from the map that they are kept as.
+// Decoding contents from the map that stores them.
 ghost use Rattle.std.specs.Prelude.{◌≡◌, ◌∷◌, [], ◌<◌, ◌≤◌, ◌++◌, List, ℕ, Option, true, length, slice_index_or, slice_set, IfOk, IfErr, IfSome, IfNone, option_map, bit_and};
 ghost use Rattle.std.specs.Option.{ForSome};
 ghost use Rattle.std.specs.List.{AllByRecursion};
@@ -22,7 +22,7 @@ use psu_map::Items;
 use psu_outputs::Settings;
 use std::alloc::{AllocError, Allocator};
 
-// What a map says of all parts but the files, read before memory is taken.
+// All parts but the files, as a map encodes them. They are read before anything is allocated.
 #[derive(Drop)]
 struct Read<'a> {
     enables: Option<(u8, u8)>,
@@ -33,8 +33,8 @@ struct Read<'a> {
 }
 
 impl<A: Allocator + Copy> Contents<A> {
-    /// The contents that are kept as this map. It is refused where no contents have it: BadKey for a key that isn't one of theirs,
-    /// else BadValue. Memory is wanted only for the map of contents.
+    /// Decodes the contents that this map encodes. A map that encodes no contents is refused: BadKey for a key that no
+    /// contents have, else BadValue. An allocation can fail only for a map that encodes contents.
     pub fn decode_items(alloc: A, items: &Items<A>) -> Result<Contents<A>, DecodeFault>
         ensures items { IfOk result (λ contents. items_of contents ≡ items.now) }
         ensures are { IfOk result IsContents }
@@ -48,7 +48,7 @@ impl<A: Allocator + Copy> Contents<A> {
     }
 }
 
-// What a map says of the parts, if it is that of contents.
+// Reads the parts of a map, if it encodes contents.
 fn parts_of<A: Allocator + Copy>(items: &Items<A>) -> Result<Read<'_>, DecodeFault>
     requires { has_keys items.now ≡ true }
     ensures are { IfOk result (λ r. IsContents (contents_of r.registers r.user r.macros.items r.enables (files_in items.now) r.recall)) }
@@ -73,7 +73,7 @@ fn parts_of<A: Allocator + Copy>(items: &Items<A>) -> Result<Read<'_>, DecodeFau
     })
 }
 
-// The contents of what was read.
+// Builds the contents from the parts that were read.
 fn build<A: Allocator + Copy>(
     alloc: A,
     read: &Read<'_>,
@@ -93,7 +93,7 @@ fn build<A: Allocator + Copy>(
     })
 }
 
-// The macros as they are written, in memory of their own.
+// Copies the macros into memory of their own.
 fn defined<A: Allocator + Copy>(alloc: A, all: &[Written<'_>]) -> Result<Macros<A>, AllocError>
     requires good { AllByRecursion IsMacro all.now }
     requires distinct { HasDistinct all.now }
@@ -106,7 +106,7 @@ fn defined<A: Allocator + Copy>(alloc: A, all: &[Written<'_>]) -> Result<Macros<
     Ok(macros)
 }
 
-// SRE and ESE by the value of their key; none where it has none.
+// Reads SRE and ESE from the value of their key; `None` if it has none.
 fn enables_in(value: Option<&[u8]>) -> Result<Option<(u8, u8)>, DecodeFault>
     ensures found { IfOk result (λ enables. value_in (enables_items enables) ≡ option_map (λ v. v.now) value.entry) }
     ensures mss { IfOk result (λ enables. ForSome enables (λ e. bit_and e.0 64 ≡ 0)) }
@@ -125,7 +125,7 @@ fn enables_in(value: Option<&[u8]>) -> Result<Option<(u8, u8)>, DecodeFault>
     }
 }
 
-// The registers by the values of their keys.
+// Reads the registers from the values of their keys.
 fn registers_in<A: Allocator + Copy>(items: &Items<A>) -> Result<Registers, DecodeFault>
     ensures count { IfOk result (λ registers. length registers ≡ 100) }
     ensures are { IfOk result (λ registers. AllByRecursion AreSettings registers) }
@@ -144,7 +144,7 @@ fn registers_in<A: Allocator + Copy>(items: &Items<A>) -> Result<Registers, Deco
     Ok(registers)
 }
 
-// Puts settings into the register of a number.
+// Stores settings in the register with this number.
 fn put_register(registers: &mut Registers, number: u8, settings: Settings)
     requires { number < 100 }
     ensures { registers.new ≡ slice_set registers.old number settings }
@@ -154,7 +154,7 @@ fn put_register(registers: &mut Registers, number: u8, settings: Settings)
     }
 }
 
-// The settings of a register by the value of its key.
+// Reads the settings of a register from the value of its key.
 fn register_in(value: Option<&[u8]>) -> Result<Settings, DecodeFault>
     ensures found { IfOk result (λ settings. (r : ℕ) → value_in (register_items r settings) ≡ option_map (λ v. v.now) value.entry) }
     ensures are { IfOk result AreSettings }
@@ -174,7 +174,7 @@ fn register_in(value: Option<&[u8]>) -> Result<Settings, DecodeFault>
     }
 }
 
-// User data by the value of its key.
+// Reads user data from the value of its key.
 fn user_in(value: Option<&[u8]>) -> Result<UserData, DecodeFault>
     ensures found { IfOk result (λ user. value_in (user_items user) ≡ option_map (λ v. v.now) value.entry) }
     ensures most { IfOk result (λ user. length user ≤ 63) }
@@ -191,7 +191,7 @@ fn user_in(value: Option<&[u8]>) -> Result<UserData, DecodeFault>
     }
 }
 
-// The macros by the value of their key.
+// Reads the macros from the value of their key.
 fn macros_in(value: Option<&[u8]>) -> Result<WrittenMacros<'_>, DecodeFault>
     ensures found { IfOk result (λ macros. value_in (macros_items macros.items) ≡ option_map (λ v. v.now) value.entry) }
     ensures are { IfOk result (λ macros. AllByRecursion IsMacro macros.items) }

@@ -4,14 +4,14 @@ ghost use Rattle.psu_nv.specs.declared.decode_fault.DecodeFault.TheVariants.{Mem
 
 use std::alloc::{AllocError, AllocFailed};
 
-/// Why a map is not that of contents, or can't be taken.
+/// Why a map is not decoded: it encodes no contents, or an allocation failed.
 #[derive(Clone, Copy, Debug, PartialEq, Eq, Drop)]
 pub enum DecodeFault {
     /// A key that no contents have.
     BadKey,
-    /// The keys are good, and no contents have these values under them.
+    /// The keys are valid, but no contents have these values.
     BadValue,
-    /// Memory is refused.
+    /// An allocation failed.
     Memory,
 }
 

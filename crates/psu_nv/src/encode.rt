@@ -1,4 +1,4 @@
-// The map that contents are kept as.
+// Encoding contents as the map that stores them.
 ghost use Rattle.std.specs.Prelude.{◌≡◌, ℕ, ◌++◌, ◌∷◌, [], map, IfOk, OnOk, OnErr, option_map};
 ghost use Rattle.std.specs.List.{AllByRecursion};
 ghost use Rattle.psu_map.specs.Map.{Item, Before};
@@ -13,7 +13,7 @@ use psu_outputs::Settings;
 use std::alloc::{AllocError, Allocator};
 
 impl<A: Allocator + Copy> Contents<A> {
-    /// The map that they are kept as.
+    /// Encodes the contents as the map that stores them.
     pub fn encode_items(&self, alloc: A) -> Result<Items<A>, AllocError>
         ensures { IfOk result (λ items. items ≡ items_of self.now) }
     {
@@ -27,7 +27,7 @@ impl<A: Allocator + Copy> Contents<A> {
         Ok(items)
     }
 
-    // Adds the items of the registers behind those of the enables.
+    // Appends the items of the registers after those of the enables.
     fn append_registers(&self, alloc: A, items: &mut Items<A>) -> Result<(), AllocError>
         requires { items.old ≡ enables_items self.now.enables }
         ensures { OnOk result (items.new ≡ enables_items self.now.enables ++ registers_items 0 self.now.registers) }
@@ -41,7 +41,7 @@ impl<A: Allocator + Copy> Contents<A> {
         Ok(())
     }
 
-    // Adds the items of the files behind those of all parts before them.
+    // Appends the items of the files after those of all parts before them.
     fn append_files(&self, alloc: A, items: &mut Items<A>) -> Result<(), AllocError>
         requires { items.old ≡ ((enables_items self.now.enables ++ registers_items 0 self.now.registers) ++ user_items self.now.user) ++ macros_items self.now.macros }
         ensures { OnOk result (items.new ≡ items.old ++ map file_item self.now.files) }
@@ -53,7 +53,7 @@ impl<A: Allocator + Copy> Contents<A> {
         Ok(())
     }
 
-    /// The value of one part alone; none where it is absent.
+    /// Encodes the value of one part; `None` if the part is absent.
     pub fn encode_part(&self, alloc: A, part: Part<'_>) -> Result<Option<Vec<u8, A>>, AllocError>
         ensures { IfOk result (λ value. option_map (λ bytes. bytes.items) value ≡ value_in (part_items self.now (part_of part.entry))) }
     {
@@ -73,8 +73,8 @@ impl<A: Allocator + Copy> Contents<A> {
         }
     }
 
-    /// Adds the edit that makes a map have what these contents have of one part: its key with its value, or with none where
-    /// the part is absent.
+    /// Appends the edit that gives a map what these contents have of one part: the part's key with its value, or with
+    /// `None` if the part is absent.
     pub fn edit(&self, alloc: A, batch: &mut Batch<A>, part: Part<'_>) -> Result<(), AllocError>
         ensures ok { OnOk result (batch.new ≡ batch.old ++ edit_of self.now (part_of part.entry) ∷ []) }
         ensures err { OnErr result (batch.new ≡ batch.old) }
@@ -86,7 +86,7 @@ impl<A: Allocator + Copy> Contents<A> {
         }
     }
 
-    // Adds the item of a part, if it is there, behind all others.
+    // Appends the item of a part after all others, if the part is not absent.
     fn append(&self, alloc: A, items: &mut Items<A>, part: Part<'_>) -> Result<(), AllocError>
         requires { AllByRecursion (λ (i : Item). Before i.key (key_of (part_of part))) items.old }
         ensures { OnOk result (items.new ≡ items.old ++ part_items self.now (part_of part.entry)) }
@@ -97,7 +97,7 @@ impl<A: Allocator + Copy> Contents<A> {
         Ok(())
     }
 
-    // The bytes of the macros; none where there are none.
+    // Encodes the macros; `None` if there are none.
     fn macros_value(&self, alloc: A) -> Result<Option<Vec<u8, A>>, AllocError>
         ensures { IfOk result (λ value. option_map (λ bytes. bytes.items) value ≡ value_in (macros_items self.now.macros)) }
     {
@@ -108,7 +108,7 @@ impl<A: Allocator + Copy> Contents<A> {
     }
 }
 
-// The 28 bytes of settings; none of those of `*RST`.
+// Encodes settings in 28 bytes; `None` for those of `*RST`.
 fn settings_value<A: Allocator + Copy>(
     alloc: A,
     settings: Settings,
@@ -121,7 +121,7 @@ fn settings_value<A: Allocator + Copy>(
     Ok(Some(settings.to_bytes().to_vec(alloc)?))
 }
 
-// These bytes; none where there are none.
+// Copies the bytes; `None` if there are none.
 fn some_bytes<A: Allocator + Copy>(alloc: A, bytes: &[u8]) -> Result<Option<Vec<u8, A>>, AllocError>
     ensures { IfOk result (λ value. option_map (λ kept. kept.items) value ≡ value_in (user_items bytes.now)) }
 {

@@ -1,4 +1,4 @@
-// What a file may hold.
+// The bytes that a file may hold.
 ghost use Rattle.std.specs.Prelude.{◌≡◌, ◌<◌, ◌≤◌, length, IfSome, IfNone};
 
 /// The most bytes of a file.
@@ -12,7 +12,7 @@ pub struct FileBytes<'a> {
 }
 
 impl<'a> FileBytes<'a> {
-    /// These bytes; none where there are more than 32,768.
+    /// Returns these bytes as those of a file; `None` if there are more than 32,768.
     pub fn of(bytes: &'a [u8]) -> Option<FileBytes<'a>>
         ensures found { IfSome result (λ file. file.bytes.now ≡ bytes.now) }
         ensures none { IfNone result (32768 < length bytes.now) }
@@ -23,7 +23,7 @@ impl<'a> FileBytes<'a> {
         Some(FileBytes { bytes })
     }
 
-    /// Its bytes.
+    /// The bytes of the file.
     pub fn bytes(self) -> &'a [u8]
         ensures value { result.now ≡ self.entry.bytes.now }
         ensures most { length result.now ≤ 32768 }

@@ -14,7 +14,7 @@ pub enum FileKind {
 }
 
 impl FileKind {
-    /// The byte that stands for it in an item.
+    /// The byte that encodes the type in an item.
     pub fn code(self) -> u8
         ensures { result ≡ code_of self }
     {
@@ -25,7 +25,7 @@ impl FileKind {
         }
     }
 
-    /// The type that a byte stands for.
+    /// The type that a byte encodes.
     pub fn of_code(code: u8) -> Option<FileKind>
         ensures { result ≡ kind_of code }
     {

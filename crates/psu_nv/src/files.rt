@@ -9,7 +9,8 @@ use psu_map::{Items, Pair, Value};
 use std::alloc::{AllocError, Allocator};
 use std::marker::Model;
 
-// Files by name, with the pages that they cost, so that no command looks at all of them. Contracts see the list of items.
+// Files by name, with the pages that they cost in all, so that no command iterates over them. Contracts see the list of
+// items.
 #[derive(Drop)]
 pub(crate) struct Files<A: Allocator + Copy> {
     items: Items<A>,
@@ -30,7 +31,7 @@ impl<A: Allocator + Copy> Model for Files<A> {
 }
 
 impl<A: Allocator + Copy> Files<A> {
-    // No files.
+    // Returns an empty list of files.
     pub(crate) fn new(alloc: A) -> Files<A>
         ensures { result ≡ [] }
     {
@@ -40,7 +41,7 @@ impl<A: Allocator + Copy> Files<A> {
         }
     }
 
-    // These files.
+    // Returns these files, with the pages that they cost.
     pub(crate) fn of(items: Items<A>) -> Files<A>
         requires { AllByRecursion IsShort items }
         ensures { result ≡ items }
@@ -49,7 +50,7 @@ impl<A: Allocator + Copy> Files<A> {
         Files { items, pages }
     }
 
-    // The type byte and the bytes of a file; none where there is none.
+    // The type byte and the bytes of the file with this name; `None` if there is none.
     pub(crate) fn get(&self, name: &[u8]) -> Option<&[u8]>
         ensures { option_map (λ v. v.now) result ≡ get self.now name.now }
     {
@@ -64,17 +65,17 @@ impl<A: Allocator + Copy> Files<A> {
         self.items.pairs()
     }
 
-    // The pages that they cost.
+    // The pages that the files cost.
     pub(crate) fn cost(&self) -> u128
         ensures value { result ≡ cost self.now }
         ensures most { result < 2 ^ 80 }
     {
-        // Their number bounds the pages.
+        // The number of files bounds the pages.
         let _count = self.items.pairs().len();
         self.pages
     }
 
-    // The pages of what a name has.
+    // The pages of the file with this name; 0 if there is none.
     pub(crate) fn pages_at(&self, name: &[u8]) -> u128
         ensures value { result ≡ pages_of (get self.now name.now) }
         ensures most { result < 2 ^ 121 }
@@ -85,13 +86,13 @@ impl<A: Allocator + Copy> Files<A> {
         }
     }
 
-    // Gives a name a file, in place of the one that it has. The only error is a want of memory.
+    // Stores a file under a name, in place of the one that it has. The only error is an allocation failure.
     pub(crate) fn insert(&mut self, name: Vec<u8, A>, value: Vec<u8, A>) -> Result<(), AllocError>
         requires { length value.items ≤ 32769 }
         ensures ok { OnOk result (self.new ≡ put self.old name.items value.items) }
         ensures err { OnErr result (self.new ≡ self.old) }
     {
-        // Names come once each, in order.
+        // The names are in order, and each occurs once.
         let _ = self.pairs();
         let pages = self.cost() + page_count(value.len() as u128) - self.pages_at(&name);
         self.items.insert(name, Value::new(value)?)?;
@@ -109,7 +110,7 @@ impl<A: Allocator + Copy> Files<A> {
         self.pages = pages;
     }
 
-    // The same in memory of its own.
+    // Copies the files into memory of their own.
     pub(crate) fn copy(&self, alloc: A) -> Result<Files<A>, AllocError>
         ensures { IfOk result (λ copy. copy ≡ self.now) }
     {

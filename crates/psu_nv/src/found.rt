@@ -1,4 +1,4 @@
-// What names and labels find.
+// Lookups by names and labels.
 ghost use Rattle.std.specs.Prelude.{◌≡◌, ◌≤◌, length, true};
 ghost use Rattle.psu_nv.specs.Contents.{has_label, begins_with_kind};
 ghost use Rattle.psu_nv.specs.Commands.{body_of, has_file, bytes_in, value_of, is_state, settings_in};
@@ -16,7 +16,7 @@ impl<A: Allocator + Copy> Contents<A> {
         self.body(label).is_some()
     }
 
-    // The body of the macro with the label; no bytes where there is none.
+    // The body of the macro with the label; empty if there is none.
     pub(crate) fn body_of(&self, label: &[u8]) -> &[u8]
         ensures value { result.now ≡ body_of self.now.macros label.now }
         ensures most { length result.now ≤ 1024 }
@@ -35,7 +35,7 @@ impl<A: Allocator + Copy> Contents<A> {
         self.files.get(name).is_some()
     }
 
-    // The type byte and the bytes of a file; no bytes where there is none.
+    // The type byte and the bytes of a file; empty if there is none.
     pub(crate) fn value_of(&self, name: &[u8]) -> &[u8]
         ensures value { result.now ≡ value_of self.now.files name.now }
         ensures most { length result.now ≤ 32769 }
@@ -58,7 +58,7 @@ impl<A: Allocator + Copy> Contents<A> {
         }
     }
 
-    /// The bytes of a file, without its type; no bytes where there is none.
+    /// The bytes of a file, without its type; empty if there is none.
     pub fn bytes_of(&self, name: &[u8]) -> &[u8]
         ensures value { result.now ≡ bytes_in self.now.files name.now }
         ensures most { length result.now ≤ 32768 }

@@ -1,4 +1,4 @@
-// Which keys the map of contents has, without the map.
+// Which keys the map of contents has, without encoding it.
 ghost use Rattle.std.specs.Prelude.{◌≡◌, ◌≢◌, ◌∷◌, [], is_some};
 ghost use Rattle.psu_map.specs.Map.{get};
 ghost use Rattle.psu_nv.specs.Contents.{IsContents, items_of};
@@ -7,7 +7,7 @@ use crate::{Contents, Register};
 use std::alloc::Allocator;
 
 impl<A: Allocator + Copy> Contents<A> {
-    /// Whether the map that the contents are kept as has an item under a key. Nothing is spelled for it.
+    /// Whether the map that encodes the contents has an item at a key. Nothing is encoded for this.
     pub fn has_item(&self, key: &[u8]) -> bool
         ensures { result ≡ is_some (get (items_of self.now) key.now) }
     {
@@ -24,7 +24,7 @@ impl<A: Allocator + Copy> Contents<A> {
         rest.is_empty() && self.has_one(*kind)
     }
 
-    // The same of the key of a register's number.
+    // Whether the map has an item at the key of 2 and these bytes, which are the number in the key of a register.
     fn has_register(&self, number: &[u8]) -> bool
         requires { IsContents self.now }
         ensures { result ≡ is_some (get (items_of self.now) (2 ∷ number.now)) }
@@ -41,7 +41,7 @@ impl<A: Allocator + Copy> Contents<A> {
         }
     }
 
-    // The same of a key of one byte.
+    // Whether the map has an item at a key of one byte.
     #[tactic(auto, using(crate::proofs::ItemsAt::none_of_kind))]
     fn has_one(&self, kind: u8) -> bool
         requires contents { IsContents self.now }

@@ -1,4 +1,4 @@
-// The keys of the map, and the files under theirs.
+// The keys of the map, and the files at their keys.
 ghost use Rattle.std.specs.Prelude.{◌≡◌, IfOk, option_map};
 ghost use Rattle.psu_map.specs.Map.{IsSorted};
 ghost use Rattle.psu_nv.specs.Contents.{begins_with_kind};
@@ -35,7 +35,7 @@ fn is_single(kind: u8) -> bool
     kind >= 1 && kind <= 4 || kind == 6
 }
 
-// Whether bytes are the number of a register, and nothing behind it.
+// Whether the bytes are the number of a register, and nothing after it.
 fn is_number(bytes: &[u8]) -> bool
     ensures { result ≡ is_number bytes.now }
 {
@@ -45,7 +45,7 @@ fn is_number(bytes: &[u8]) -> bool
     }
 }
 
-// The name of the file that a key leads to, if it leads to one.
+// The name in the key of a file; `None` if the key is not that of a file.
 fn name_in(key: &[u8]) -> Option<&[u8]>
     ensures { option_map (λ name. name.now) result ≡ name_in key.now }
 {
@@ -62,7 +62,7 @@ pub(crate) fn fit_files<A: Allocator + Copy>(pairs: &[Pair<A>]) -> bool
     pairs.iter().all(|pair| fits_file(pair.key(), pair.value()))
 }
 
-// Whether a file may be kept as this value, where the key leads to one.
+// Whether the value is one that a file may have; true for a key that is not that of a file.
 fn fits_file(key: &[u8], value: &[u8]) -> bool
     ensures { result ≡ fits_file (name_in key.now) value.now }
 {
@@ -82,7 +82,7 @@ fn begins_with_kind(value: &[u8]) -> bool
     }
 }
 
-// The files of a map, under their names.
+// Collects the files of a map, under their names.
 pub(crate) fn files_of<A: Allocator + Copy>(
     alloc: A,
     items: &Items<A>,

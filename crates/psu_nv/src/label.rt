@@ -11,7 +11,8 @@ use arrayvec::ArrayVec;
 use std::hash::{Hash, Hasher};
 use std::marker::Model;
 
-/// A macro's label as it was written. Two are equal without regard to case (IEEE 488.2, 10.8). Contracts see its bytes, at most 12.
+/// A macro's label as it was written. Labels are compared without regard to case (IEEE 488.2, 10.8). Contracts see its
+/// bytes, at most 12.
 #[derive(Drop)]
 pub struct Label {
     bytes: ArrayVec<u8, 12>,
@@ -26,7 +27,7 @@ impl Model for Label {
 }
 
 impl Label {
-    // The label of these bytes.
+    // Returns the label of these bytes.
     pub(crate) fn new(bytes: &[u8]) -> Label
         requires { length bytes.now ≤ 12 }
         ensures { result ≡ bytes.now }
@@ -36,7 +37,7 @@ impl Label {
         Label { bytes: kept }
     }
 
-    // The same; none where there are more bytes than a label has.
+    // Returns the label of these bytes; `None` if there are more than 12.
     pub(crate) fn of(bytes: &[u8]) -> Option<Label>
         ensures found { IfSome result (λ label. label ≡ bytes.now) }
         ensures none { IfNone result (12 < length bytes.now) }
@@ -47,7 +48,7 @@ impl Label {
         Some(Label::new(bytes))
     }
 
-    // The same label once more; it takes no memory.
+    // Copies the label, without allocating.
     pub(crate) fn copy(&self) -> Label
         ensures { result ≡ self.now }
     {
@@ -56,7 +57,7 @@ impl Label {
         Label { bytes }
     }
 
-    /// Its bytes, as they were written.
+    /// The bytes of the label, as they were written.
     pub fn bytes(&self) -> &[u8]
         ensures { result.now ≡ self.now }
     {
@@ -96,7 +97,7 @@ pub(crate) fn same_label(a: &[u8], b: &[u8]) -> bool
     a.eq_ignore_ascii_case(b)
 }
 
-// Feeds bytes with small letters.
+// Feeds the bytes to a hasher, in lower case.
 fn hash_lowercase<H: Hasher>(bytes: &[u8], state: &mut H)
     ensures { state.new ≡ fold H.write state.old (fed.slice fed.u8 (lowercase bytes.now)) }
 {

@@ -1,4 +1,5 @@
-//! What the instrument keeps without power: its changes, its cost, and the map that it is kept as, both ways.
+//! The nonvolatile contents of the instrument: their changes, their cost, and the map that encodes them, written and
+//! read.
 #![tactic(auto)]
 
 mod after;

@@ -29,7 +29,7 @@ impl<A: Allocator + Copy> Model for Macros<A> {
 }
 
 impl<A: Allocator + Copy> Macros<A> {
-    // No macros. It takes no memory.
+    // Returns an empty list of macros, without allocating.
     pub(crate) fn new(alloc: A) -> Macros<A>
         ensures { result ≡ [] }
     {
@@ -57,7 +57,7 @@ impl<A: Allocator + Copy> Macros<A> {
         self.map.keys().as_slice()
     }
 
-    // The body of the macro with a label, without regard to case; none where no macro has it.
+    // The body of the macro with this label, compared without regard to case; `None` if no macro has it.
     pub(crate) fn body(&self, label: &Label) -> Option<&[u8]>
         ensures { option_map (λ body. body.now) result ≡ body_at self.now label.now }
     {
@@ -67,7 +67,7 @@ impl<A: Allocator + Copy> Macros<A> {
         }
     }
 
-    // Puts a macro behind all others.
+    // Appends a macro.
     pub(crate) fn define(&mut self, label: Label, body: Body<A>) -> Result<(), AllocError>
         requires { has_label self.old label ≡ false }
         ensures ok { OnOk result (self.new ≡ self.old ++ macro_of label body ∷ []) }
@@ -90,7 +90,7 @@ impl<A: Allocator + Copy> Macros<A> {
         self.map.clear();
     }
 
-    // The same in memory of its own.
+    // Copies the macros into memory of their own.
     pub(crate) fn copy(&self, alloc: A) -> Result<Macros<A>, AllocError>
         ensures { IfOk result (λ copy. copy ≡ self.now) }
     {
@@ -101,7 +101,7 @@ impl<A: Allocator + Copy> Macros<A> {
         Ok(Macros { map })
     }
 
-    // The bytes that the macros have in their item.
+    // The number of bytes that encode the macros in their item.
     pub(crate) fn size(&self) -> u128
         requires { macros_length self.now < 2 ^ 100 }
         ensures { result ≡ macros_length self.now }
@@ -113,7 +113,7 @@ impl<A: Allocator + Copy> Macros<A> {
         size
     }
 
-    // The bytes that the macro of a label has there.
+    // The number of bytes that encode the macro with this label; 0 if there is none.
     pub(crate) fn size_at(&self, label: &Label) -> u128
         ensures { result ≡ size_at self.now label.now }
     {
@@ -123,7 +123,7 @@ impl<A: Allocator + Copy> Macros<A> {
         }
     }
 
-    // These bytes.
+    // Encodes the macros.
     pub(crate) fn value(&self, alloc: A) -> Result<Vec<u8, A>, AllocError>
         requires { AllByRecursion IsMacro self.now }
         ensures { IfOk result (λ value. value.items ≡ flat_map macro_bytes self.now) }
@@ -136,7 +136,7 @@ impl<A: Allocator + Copy> Macros<A> {
     }
 }
 
-// Adds the bytes of a macro: label length, label, body length in two bytes, body.
+// Appends the bytes of a macro: label length, label, body length in two bytes, body.
 fn put_macro<A: Allocator + Copy>(
     bytes: &mut Vec<u8, A>,
     label: &[u8],

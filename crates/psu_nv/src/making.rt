@@ -1,4 +1,4 @@
-// The changes of the parts of contents. Each takes its memory first.
+// Changes of the parts of contents. Each one that allocates does so before it changes anything.
 ghost use Rattle.std.specs.Prelude.{◌≡◌, ◌<◌, ◌≤◌, ◌++◌, ◌∷◌, [], length, slice_set, true, false, OnOk, OnErr, IfOk, bit_and};
 ghost use Rattle.std.specs.Option.{ForSome};
 ghost use Rattle.psu_map.specs.Map.{put, without};
@@ -15,7 +15,7 @@ impl<A: Allocator + Copy> Contents<A> {
     pub(crate) fn set_register(&mut self, register: Register, settings: Settings)
         ensures { self.new ≡ record self.old { registers = slice_set self.old.registers register.number settings } }
     {
-        // Settings that a call gives out lie within their ranges.
+        // Settings that a call returns lie within their ranges.
         let _ = settings.outputs();
         self.registers.set(register, settings);
     }
@@ -58,7 +58,7 @@ impl<A: Allocator + Copy> Contents<A> {
         }
     }
 
-    // The type byte and the bytes of a file, as they are kept.
+    // The type byte and the bytes of a file, as they are stored.
     pub(crate) fn value_with(&self, code: u8, bytes: &[u8]) -> Result<Vec<u8, A>, AllocError>
         ensures { IfOk result (λ value. value.items ≡ code ∷ bytes.now) }
     {

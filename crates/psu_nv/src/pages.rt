@@ -18,7 +18,7 @@ pub(crate) struct Pages {
 }
 
 impl Pages {
-    // All of them.
+    // The pages of all parts.
     pub(crate) fn total(&self) -> u128
         ensures { result ≡ self.now.enables + (self.now.registers + (self.now.user + (self.now.macros + (self.now.files + self.now.recall)))) }
     {

@@ -1,4 +1,4 @@
-// The parts that contents are kept as.
+// The parts of contents, each stored under a key of its own.
 ghost use Rattle.std.specs.Prelude.{◌≡◌, ◌∷◌, [], true, false, IfOk, IfSome, IfNone};
 ghost use Rattle.psu_nv.specs.Decoding.{is_key, is_number, is_single};
 ghost use Rattle.psu_nv.specs.Parts.{key_of};
@@ -7,7 +7,7 @@ ghost use Rattle.psu_nv.specs.Views.{part_of};
 use crate::Register;
 use std::alloc::{AllocError, Allocator};
 
-/// What is kept under one key of the map.
+/// A part of the contents: what the map has at one key.
 #[derive(Clone, Copy)]
 pub enum Part<'a> {
     /// SRE and ESE.
@@ -25,7 +25,7 @@ pub enum Part<'a> {
 }
 
 impl<'a> Part<'a> {
-    /// Its key.
+    /// The key of the part.
     pub fn key<A: Allocator + Copy>(self, alloc: A) -> Result<Vec<u8, A>, AllocError>
         ensures { IfOk result (λ key. key.items ≡ key_of (part_of self.entry)) }
     {
@@ -39,7 +39,7 @@ impl<'a> Part<'a> {
         }
     }
 
-    /// The part that has this key; none only for a key that contents may not have.
+    /// The part that has this key; `None` only for a key that contents may not have.
     #[inline]
     pub fn of_key(key: &'a [u8]) -> Option<Part<'a>>
         ensures some { IfSome result (λ part. key.now ≡ key_of (part_of part)) }
@@ -54,7 +54,7 @@ impl<'a> Part<'a> {
         }
     }
 
-    // The register of a number.
+    // The register with this number.
     #[inline]
     fn of_number(bytes: &[u8]) -> Option<Part<'a>>
         ensures some { IfSome result (λ part. 2 ∷ bytes.now ≡ key_of (part_of part)) }

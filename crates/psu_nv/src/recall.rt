@@ -24,7 +24,7 @@ impl<A: Allocator + Copy> Contents<A> {
         self.recall = on;
     }
 
-    // The value of its item; none where the settings are those of `*RST`.
+    // The value of the setting's item; `None` if the settings at power-on are those of `*RST`.
     pub(crate) fn recall_value(&self, alloc: A) -> Result<Option<Vec<u8, A>>, AllocError>
         ensures { IfOk result (λ value. option_map (λ bytes. bytes.items) value ≡ value_in (recall_items self.now.recall)) }
     {
@@ -35,7 +35,7 @@ impl<A: Allocator + Copy> Contents<A> {
         }
     }
 
-    // The pages of its item after a command.
+    // The pages of the setting's item after a command.
     #[tactic(auto, unfolding(crate::specs::Commands::apply))]
     pub(crate) fn recall_after(&self, command: &NvCommand) -> u8
         ensures { result ≡ cost (recall_items (apply self.now (command_of command.now)).recall) }
@@ -47,14 +47,14 @@ impl<A: Allocator + Copy> Contents<A> {
     }
 }
 
-// The pages of its item.
+// The pages of the setting's item.
 pub(crate) fn recall_pages(recall: bool) -> u8
     ensures { result ≡ cost (recall_items recall) }
 {
     if recall { 2 } else { 0 }
 }
 
-// Whether the settings at power-on are those of register 0, by the value of the key; they are not where it has none.
+// Whether the settings at power-on are those of register 0, by the value of the key; false if it has none.
 pub(crate) fn recall_in(value: Option<&[u8]>) -> Result<bool, DecodeFault>
     ensures found { IfOk result (λ recall. value_in (recall_items recall) ≡ option_map (λ v. v.now) value.entry) }
     ensures bad { IfErr result (λ e. e ≡ BadValue) }

@@ -1,4 +1,4 @@
-// What names and labels find: the refusals of a nonvolatile command before its result is looked at.
+// The refusals of a nonvolatile command by its names and labels, before its result is computed.
 ghost use Rattle.std.specs.Prelude.{◌≡◌, ℕ, ◌∷◌, [], not};
 ghost use Rattle.psu_lex.specs.declared.scpi_error.ScpiError.TheVariants.{FileNameError};
 ghost use Rattle.psu_lex.specs.Names.{is_name};
@@ -11,7 +11,8 @@ use psu_lex::{ScpiError, is_label, is_name};
 use std::alloc::Allocator;
 
 impl<A: Allocator + Copy> Contents<A> {
-    /// Why a command is refused by what its names and labels are and find, before its result is looked at; none where it is not.
+    /// Why a command is refused for its names and labels, or for what they refer to, before its result is computed;
+    /// `None` if it is not.
     pub fn refusal(&self, command: &NvCommand) -> Option<ScpiError>
         ensures { result ≡ refused self.now (command_of command.now) }
     {
@@ -35,7 +36,7 @@ impl<A: Allocator + Copy> Contents<A> {
     }
 }
 
-// Of a name alone.
+// The refusal for a name that is not a file name; `None` for a file name.
 fn name_refusal(name: &[u8]) -> Option<ScpiError>
     ensures { result ≡ first_of ((not (is_name name.now), FileNameError) ∷ []) }
 {

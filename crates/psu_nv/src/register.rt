@@ -9,7 +9,7 @@ pub struct Register {
 }
 
 impl Register {
-    /// The register of a number; none above 99.
+    /// The register with this number; `None` above 99.
     pub fn of(number: u8) -> Option<Register>
         ensures found { IfSome result (λ register. register.number ≡ number) }
         ensures none { IfNone result (100 ≤ number) }
@@ -21,14 +21,14 @@ impl Register {
         }
     }
 
-    /// The register whose settings may be those at power-on.
+    /// Register 0, whose settings may be those at power-on.
     pub fn first() -> Register
         ensures { result.number ≡ 0 }
     {
         Register { number: 0 }
     }
 
-    /// Its number, 0 to 99.
+    /// The number of the register, 0 to 99.
     pub fn number(self) -> u8
         ensures value { result ≡ self.number }
         ensures low { result < 100 }

@@ -8,8 +8,8 @@ use crate::Register;
 use psu_outputs::Settings;
 use std::marker::Model;
 
-// The settings of a hundred registers, with which of them are those of `*RST` and the pages that they cost, so that no command looks at all of
-// them. Contracts see the list of settings.
+// The settings of a hundred registers, whether each of them holds those of `*RST`, and the pages that they cost in all,
+// so that no command iterates over them. Contracts see the list of settings.
 #[derive(Drop)]
 pub(crate) struct Registers {
     all: [Settings; 100],
@@ -31,7 +31,7 @@ impl Model for Registers {
 }
 
 impl Registers {
-    // The settings of `*RST` in each.
+    // Returns registers that each hold the settings of `*RST`.
     pub(crate) fn reset() -> Registers
         ensures { result ≡ replicate 100 reset }
     {
@@ -42,7 +42,7 @@ impl Registers {
         }
     }
 
-    // The same once more.
+    // Copies the registers.
     pub(crate) fn copy(&self) -> Registers
         ensures { result ≡ self.now }
     {
@@ -53,21 +53,21 @@ impl Registers {
         }
     }
 
-    // The settings of one.
+    // The settings of a register.
     pub(crate) fn get(&self, register: Register) -> Settings
         ensures { result ≡ settings_at self.now register.number }
     {
         self.all[register.number() as usize]
     }
 
-    // Whether one holds the settings of `*RST`.
+    // Whether a register holds the settings of `*RST`.
     pub(crate) fn is_reset(&self, register: Register) -> bool
         ensures { result ≡ is_reset (settings_at self.now register.number) }
     {
         self.reset[register.number() as usize]
     }
 
-    // Puts settings into one, in place of those that it holds.
+    // Replaces the settings of a register.
     pub(crate) fn set(&mut self, register: Register, settings: Settings)
         ensures { self.new ≡ slice_set self.old register.number settings }
     {
@@ -77,14 +77,14 @@ impl Registers {
         self.pages = pages;
     }
 
-    // The pages that they cost.
+    // The pages that the registers cost.
     pub(crate) fn pages(&self) -> u8
         ensures { result ≡ registers_cost self.now }
     {
         self.pages
     }
 
-    // The pages where one holds these settings.
+    // The pages that the registers would cost if this one held these settings.
     pub(crate) fn pages_with(&self, register: Register, settings: Settings) -> u8
         ensures { result ≡ registers_cost (slice_set self.now register.number settings) }
     {
@@ -93,7 +93,7 @@ impl Registers {
     }
 }
 
-// The pages of a register, whatever its number.
+// The pages of a register, which do not depend on its number.
 fn register_pages(reset: bool) -> u8
     ensures value { result ≡ (if reset then 0 else 2) }
     ensures most { result ≤ 2 }

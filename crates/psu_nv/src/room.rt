@@ -1,4 +1,4 @@
-// What contents would cost after a command, without making the change.
+// The cost of contents after a command, without making the change.
 ghost use Rattle.std.specs.Prelude.{◌≡◌, ◌+◌, ◌-◌, ◌<◌, ◌≤◌, ◌^◌, List, ℕ, ◌++◌, ◌∷◌, [], length, None, true};
 ghost use Rattle.psu_map.specs.Map.{get, put, without, cost};
 ghost use Rattle.psu_nv.specs.Contents.{has_label, Macro};
@@ -29,7 +29,7 @@ impl<A: Allocator + Copy> Contents<A> {
         self.files_with(name, 29)
     }
 
-    // The pages of the files where one moves to a name that nothing has.
+    // The pages of the files after one moves to a name that no file has.
     pub(crate) fn files_moved(&self, from: &[u8], to: &[u8]) -> u128
         requires { refused self.now (Move from.now to.now) ≡ None }
         ensures value { result ≡ cost (without (put self.now.files to.now (value_of self.now.files from.now)) from.now) }
@@ -46,7 +46,7 @@ impl<A: Allocator + Copy> Contents<A> {
         self.files.cost() - self.files.pages_at(name)
     }
 
-    // The bytes of the macros in their item.
+    // The number of bytes that encode the macros in their item.
     fn macros_size(&self) -> u128
         ensures value { result ≡ macros_length self.now.macros }
         ensures most { result < 2 ^ 60 }
@@ -54,7 +54,7 @@ impl<A: Allocator + Copy> Contents<A> {
         self.macros.size()
     }
 
-    // The pages of the macros as they are.
+    // The pages of the macros, without a change.
     pub(crate) fn macros_now(&self) -> u128
         ensures value { result ≡ macros_cost self.now.macros }
         ensures most { result < 2 ^ 101 }
@@ -89,7 +89,7 @@ impl<A: Allocator + Copy> Contents<A> {
         self.macros.len() - 1
     }
 
-    // The bytes of the macro of a label.
+    // The number of bytes that encode the macro with this label.
     fn size_at(&self, label: &[u8]) -> u128
         ensures { result ≡ size_at self.now.macros label.now }
     {

@@ -33,7 +33,7 @@ impl UserData {
         }
     }
 
-    /// User data of these bytes; none where there are more than 63.
+    /// Returns user data of these bytes; `None` if there are more than 63.
     pub fn of(bytes: &[u8]) -> Option<UserData>
         ensures found { IfSome result (λ user. user ≡ bytes.now) }
         ensures most { IfSome result (λ user. length user ≤ 63) }
@@ -46,7 +46,7 @@ impl UserData {
         Some(UserData { bytes: kept })
     }
 
-    // The same once more.
+    // Copies the user data.
     pub(crate) fn copy(&self) -> UserData
         ensures { result ≡ self.now }
     {
@@ -55,7 +55,7 @@ impl UserData {
         UserData { bytes }
     }
 
-    /// Its bytes.
+    /// The bytes of the user data.
     pub fn bytes(&self) -> &[u8]
         ensures value { result.now ≡ self.now }
         ensures most { length result.now ≤ 63 }

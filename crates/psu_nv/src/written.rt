@@ -1,4 +1,4 @@
-// Macros as the bytes of their item.
+// Macros borrowed from the bytes of their item.
 ghost use Rattle.std.specs.Prelude.{◌≡◌, ◌<◌, ◌≤◌, ◌++◌, ◌∷◌, [], List, ℕ, true, false, length, IfSome, IfNone, OnOk};
 ghost use Rattle.std.specs.Int.{w16, to_be_bytes};
 ghost use Rattle.psu_nv.specs.Contents.{Macro, IsMacro, macro_bytes, has_label};
@@ -36,7 +36,7 @@ impl<'a> Model for Written<'a> {
 pub(crate) type WrittenMacros<'a> = ArrayVec<Written<'a>, MACROS_MOST>;
 
 impl<'a> Written<'a> {
-    // Puts the macro behind all others, in memory of its own.
+    // Appends a copy of the macro to the others.
     pub(crate) fn define<A: Allocator + Copy>(
         &self,
         alloc: A,
@@ -49,7 +49,7 @@ impl<'a> Written<'a> {
         macros.define(Label::new(self.label), Body::of(alloc, self.body)?)
     }
 
-    // Whether a macro may be so.
+    // Whether contents may have this macro.
     fn is_good(&self) -> bool
         ensures found { result ≡ true → IsMacro self.now }
         ensures none { result ≡ false → IsMacro self.now → ⊥ }
@@ -58,7 +58,7 @@ impl<'a> Written<'a> {
     }
 }
 
-// The macros that bytes are those of; none where they are those of none, or of macros that contents can't have.
+// The macros that the bytes encode; `None` if they encode no list of macros that contents may have.
 pub(crate) fn macros_of(bytes: &[u8]) -> Option<WrittenMacros<'_>>
     ensures found { IfSome result (λ macros. AreMacros bytes.now macros.items) }
     ensures none { IfNone result ((macros : List Macro) → AreMacros bytes.now macros → ⊥) }
@@ -95,7 +95,7 @@ fn has_label(macros: &[Written<'_>], label: &[u8]) -> bool
     false
 }
 
-// The first macro of bytes, and the bytes behind it.
+// Reads the first macro of the bytes, and returns the bytes after it too.
 fn macro_at(bytes: &[u8]) -> Option<(Written<'_>, &[u8])>
     ensures found { IfSome result (λ read. bytes.now ≡ macro_bytes read.0 ++ read.1.now) }
     ensures size { IfSome result (λ read. length read.0.label < 256) }
@@ -116,7 +116,7 @@ fn macro_at(bytes: &[u8]) -> Option<(Written<'_>, &[u8])>
     }
 }
 
-// The body at the front of bytes, its length before it, and the bytes behind it.
+// Reads the body at the start of the bytes, with its length before it, and returns the bytes after it too.
 fn body_at(bytes: &[u8]) -> Option<(&[u8], &[u8])>
     ensures found { IfSome result (λ read. bytes.now ≡ to_be_bytes w16 (length read.0.now) ++ (read.0.now ++ read.1.now)) }
     ensures size { IfSome result (λ read. length read.0.now < 65536) }

@@ -1,4 +1,4 @@
--- What is set keeps each of the four within its ranges.
+-- A change of settings keeps each of the four outputs within its ranges.
 use Rattle.std.proofs.Common.{◌≡◌, ℕ, zero, suc, ◌<◌, Bool, true, false, cond, List, [], ◌∷◌, length, get_or, refl, ◌∙◌, ap, arith}
 use Rattle.std.specs.Prelude.{◌&&◌, nat_le, slice_set}
 use Rattle.std.specs.List.{list_all}
@@ -16,7 +16,7 @@ both false b e = absurd cc
 join : (a b : Bool) → a ≡ true → b ≡ true → (a && b) ≡ true
 join a b e f = ap (λ (x : Bool). x && b) e ∙ f
 
--- each of them passes, and still does where one is replaced
+-- if all elements pass a test, so does the one at a place, and so do all after one is replaced by one that passes
 pub each_passes : {X : Type 0} (p : X → Bool) (xs : List X) (i : ℕ) (d : X) → list_all p xs ≡ true → i < length xs → p (get_or xs i d) ≡ true
 each_passes p [] i d e lt = absurd (omega arith)
 each_passes p (x ∷ xs) zero d e lt = (both (p x) (list_all p xs) e).0
@@ -52,7 +52,7 @@ settings_sound s settings e f =
     let parts = both (is_allowed s.settings) (is_load s.load.0) e in
     checked_sound (record { settings = settings; load = s.load; tripped = s.tripped }) (join (is_allowed settings) (is_load s.load.0) f parts.1)
 
--- one thing that is set within its range
+-- one setting is changed within its range
 pub thing_sound : (s : Supply) (thing : Setting) → is_sound s ≡ true → is_in_range thing ≡ true → is_sound (with_settings s (with_setting s.settings thing)) ≡ true
 thing_sound s thing e f = settings_sound s (with_setting s.settings thing) e (set_allowed s.settings thing (both (is_allowed s.settings) (is_load s.load.0) e).0 f)
 

@@ -1,4 +1,4 @@
--- Settings are those of `*RST` where their bytes are.
+-- Settings are those of `*RST` exactly if their bytes are.
 use Rattle.std.proofs.Common.{◌≡◌, ℕ, Bool, true, false, List, Decides, refl, sym, ◌∙◌, ap}
 use Rattle.std.specs.Prelude.{◌==◌, ◌&&◌}
 use Rattle.std.specs.Bool.{beq}

@@ -1,4 +1,4 @@
--- Outputs that are settled: what is left of one that is set as it is, and what a change of one does.
+-- Settled outputs: one stays unchanged under its own settings, and a change of one changes no other.
 use Rattle.std.proofs.Common.{rules, ◌≡◌, ℕ, zero, suc, ◌<◌, Bool, true, false, cond, not, List, [], ◌∷◌, length, get_or, refl, sym, ◌∙◌, ap, arith}
 use Rattle.std.specs.Prelude.{◌&&◌, ◌||◌, nat_lt, slice_set}
 use Rattle.std.specs.List.{list_all}
@@ -25,7 +25,7 @@ never_trips : (protection : Bool) (level : ℕ) → (protection && nat_lt level 
 never_trips true level = search rules
 never_trips false level = refl
 
--- what was looked at is settled, where no tripped output was switched on
+-- an output that was checked for a trip is settled, unless it was tripped and switched on
 pub settled_checked : (s : Supply) → (s.tripped && s.settings.on) ≡ false → is_settled (checked s) ≡ true
 settled_checked s e = by (trips s.settings s.load.0) refl
   where
@@ -46,7 +46,7 @@ settled_load s load e = settled_checked (record { settings = s.settings; load = 
 pub settled_cleared : (s : Supply) → is_settled s ≡ true → is_settled (without_trip s) ≡ true
 settled_cleared s e = join (not (trips s.settings s.load.0)) true (both (not (trips s.settings s.load.0)) (not (s.tripped && s.settings.on)) e).0 refl
 
--- one that is settled stays as it is under its own settings
+-- an output that is settled stays unchanged under its own settings
 pub own_settings : (s : Supply) → is_settled s ≡ true → with_settings s s.settings ≡ s
 own_settings s e =
     let quiet = not_so (trips s.settings s.load.0) (both (not (trips s.settings s.load.0)) (not (s.tripped && s.settings.on)) e).0 in
@@ -94,7 +94,7 @@ settings_at [] n d o lt = absurd (omega (arith, lt))
 settings_at (s ∷ supplies) zero d o lt = refl
 settings_at (s ∷ supplies) (suc n) d o lt = settings_at supplies n d o (omega (arith, lt))
 
--- one thing of an output is set
+-- one setting of an output is changed
 module _ (supplies now : List Supply) (was : supplies ≡ now) (settled : list_all is_settled supplies ≡ true) (output : Output) (n : ℕ) (place : n ≡ place_of output) (lt : n < length supplies) (d : Supply) (thing : Setting) where
   abbrev after : Supply → List OutputSettings
   after s = slice_set (all_settings supplies) n (with_setting s.settings thing)

@@ -1,5 +1,5 @@
--- The outputs with what is connected to each, and their trips.
--- Sources: SCPI-1999 volume 2 (OUTPut, PROTection); the rules of trips are this project's profile.
+-- The outputs with their loads and trips. Sources: SCPI-1999 volume 2 (OUTPut, PROTection); the rules of trips are this
+-- project's profile.
 use Rattle.std.specs.Prelude.{◌≡◌, ℕ, ◌+◌, ◌&&◌, ◌||◌, nat_le, not, Bool, true, false, if◌then◌else◌, List, [], ◌∷◌, length, map, slice_index_or, slice_set}
 use Rattle.std.specs.List.{list_any, list_all}
 use Rattle.psu_outputs.specs.declared.output.Output.{Output}
@@ -29,7 +29,7 @@ is_sound s = is_allowed s.settings && is_load s.load.0
 abbrev pub AreSupplies : List Supply → Type 0
 AreSupplies supplies = (length supplies ≡ 4) × (list_all is_sound supplies ≡ true)
 
--- nothing is left that would trip it, and it is off while it is tripped
+-- the output would not trip now, and it is off while it is tripped
 abbrev pub is_settled : Supply → Bool
 is_settled s = not (trips s.settings s.load.0) && not (s.tripped && s.settings.on)
 
@@ -70,11 +70,11 @@ with_load s load = checked (record { settings = s.settings; load = record { 0 = 
 abbrev pub without_trip : Supply → Supply
 without_trip s = record { settings = s.settings; load = s.load; tripped = false }
 
--- each output with its settings, whatever had tripped
+-- each output with its settings, after all trips are cleared
 abbrev pub restored : List Supply → List OutputSettings → List Supply
 restored supplies outputs = with_all (map without_trip supplies) outputs
 
--- what is set of each output
+-- the settings of each output
 abbrev pub all_settings : List Supply → List OutputSettings
 all_settings supplies = map (λ (s : Supply). s.settings) supplies
 

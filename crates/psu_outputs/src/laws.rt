@@ -3,7 +3,7 @@ ghost use Rattle.std.specs.Prelude.{◌≡◌, List};
 ghost use Rattle.psu_outputs.specs.Settings.{AreSettings, bytes_of};
 ghost use Rattle.psu_outputs.specs.declared.output_settings.OutputSettings.{OutputSettings as Each};
 
-/// Settings with the same bytes are the same, so a register keeps them whole.
+/// Settings with the same bytes are equal, so a register stores all of them.
 pub fn bytes_tell_settings()
     ensures { (a b : List Each) → AreSettings a → AreSettings b → bytes_of a ≡ bytes_of b → a ≡ b }
 {}

@@ -1,4 +1,4 @@
-//! The four outputs: what is set, what a resistor on each makes of it, and the protection that trips.
+//! The four outputs: their settings, what is measured with a resistor at each, and the protection that trips.
 //!
 //! Settings are those of SCPI-1999 (volume 2, SOURce and OUTPut); the electrical rules are this project's profile.
 #![tactic(auto)]

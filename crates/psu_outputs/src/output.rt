@@ -12,7 +12,7 @@ pub enum Output {
 }
 
 impl Output {
-    /// The output with a numeric suffix from 1 to 4.
+    /// The output with a numeric suffix from 1 to 4; `None` for any other.
     pub fn of_suffix(suffix: u8) -> Option<Output>
         ensures { result ≡ output_of suffix }
     {

@@ -1,11 +1,11 @@
-// What is set of one output.
+// The settings of one output.
 ghost use Rattle.std.specs.Prelude.{◌≡◌, ◌≤◌, ◌<◌, ◌^◌, true, IfSome, IfNone};
 ghost use Rattle.psu_outputs.specs.declared.output_settings.OutputSettings.{OutputSettings as Each};
 ghost use Rattle.psu_outputs.specs.Settings.{with_setting, measured, is_allowed, rounded};
 
 use crate::{Measured, Milliamperes, Milliohms, Millivolts, Setting};
 
-/// What is set of one output.
+/// The settings of one output.
 #[derive(Clone, Copy, Debug, PartialEq, Eq)]
 pub struct OutputSettings {
     /// 0 to 60,000 mV.
@@ -30,7 +30,7 @@ impl OutputSettings {
         on: false,
     };
 
-    // With one thing set.
+    // Returns the settings with one of them changed.
     pub(crate) fn with(self, setting: Setting) -> OutputSettings
         ensures { result ≡ with_setting self setting }
     {
@@ -43,7 +43,7 @@ impl OutputSettings {
         }
     }
 
-    // Whether each is within its range.
+    // Whether each setting is within its range.
     pub(crate) fn is_allowed(&self) -> bool
         ensures { result ≡ is_allowed self.now }
     {
@@ -92,7 +92,7 @@ fn rounded(dividend: u64, divisor: u64) -> u32
 impl OutputSettings {
     ghost use Rattle.psu_outputs.specs.Settings.{output_bytes};
 
-    // Its seven bytes in a register.
+    // Encodes the settings in seven bytes, as a register stores them.
     pub(crate) fn to_bytes(self) -> [u8; 7]
         requires { is_allowed self ≡ true }
         ensures { result ≡ output_bytes self }
@@ -105,7 +105,7 @@ impl OutputSettings {
         [v1, v0, i1, i0, l1, l0, protection + on]
     }
 
-    // What seven bytes keep, if they are those of settings within their ranges.
+    // Decodes seven bytes; `None` unless they encode settings within their ranges.
     pub(crate) fn of_bytes(bytes: &[u8]) -> Option<OutputSettings>
         ensures found { IfSome result (λ o. (is_allowed o ≡ true) × (output_bytes o ≡ bytes.now)) }
         ensures none { IfNone result ((o : Each) → is_allowed o ≡ true → output_bytes o ≡ bytes.now → ⊥) }

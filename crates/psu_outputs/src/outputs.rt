@@ -1,4 +1,4 @@
-// The four outputs with what is connected to them.
+// The four outputs, with their loads and trips.
 ghost use Rattle.std.specs.Prelude.{◌≡◌, ◌⊎◌, OnOk, OnErr, IfErr, false, true, replicate, if◌then◌else◌};
 ghost use Rattle.std.specs.List.{list_any};
 ghost use Rattle.psu_outputs.specs.declared.supply.Supply.{Supply as Each};
@@ -11,7 +11,7 @@ use crate::{Measured, Milliohms, Output, OutputSettings, Setting, Settings};
 use psu_lex::ScpiError;
 use std::marker::Model;
 
-/// The four outputs: settings, loads and trips. No call takes memory.
+/// The four outputs: settings, loads and trips. No call allocates.
 ///
 /// After each change an output whose protection is on and whose measured voltage is above its level trips: its state
 /// becomes off, and it stays tripped until it is cleared.
@@ -42,7 +42,7 @@ impl Outputs {
         }
     }
 
-    /// What is set of the outputs.
+    /// The settings of all outputs.
     pub fn get(&self) -> Settings
         ensures { result ≡ all_settings self.now }
     {
@@ -50,8 +50,8 @@ impl Outputs {
         Settings::of_outputs([a.settings, b.settings, c.settings, d.settings])
     }
 
-    /// Sets all that is set of the outputs; each may then trip. Settings that switch a tripped output on are refused, and
-    /// nothing has changed then.
+    /// Changes all settings of the outputs; each output may then trip. Settings that switch a tripped output on are
+    /// refused, and then nothing has changed.
     pub fn set(&mut self, settings: Settings) -> Result<(), ScpiError>
         ensures set { OnOk result ((any_conflicts self.old settings ≡ false) × (self.new ≡ with_all self.old settings)) }
         ensures refused { IfErr result (λ error. (error ≡ SettingsConflict) × (any_conflicts self.old settings ≡ true) × (self.new ≡ self.old)) }
@@ -70,8 +70,8 @@ impl Outputs {
         Ok(())
     }
 
-    /// Sets one thing of an output, which may then trip. It is refused where it is out of its range, or else where it switches a tripped
-    /// output on, and nothing has changed then.
+    /// Changes one setting of an output, which may then trip. The setting is refused if it is out of its range, or else
+    /// if it switches a tripped output on; then nothing has changed.
     pub fn set_one(&mut self, output: Output, setting: Setting) -> Result<(), ScpiError>
         ensures set { OnOk result ((is_in_range setting ≡ true) × (any_conflicts self.old (after_set (all_settings self.old) output setting) ≡ false) × (self.new ≡ with_all self.old (after_set (all_settings self.old) output setting))) }
         ensures refused { IfErr result (λ error. ((error ≡ DataOutOfRange) × (is_in_range setting ≡ false)) ⊎ ((error ≡ SettingsConflict) × (is_in_range setting ≡ true) × (any_conflicts self.old (after_set (all_settings self.old) output setting) ≡ true))) }
@@ -90,7 +90,7 @@ impl Outputs {
         Ok(())
     }
 
-    /// Clears all trips and sets all that is set of the outputs; each may then trip. Nothing refuses it.
+    /// Clears all trips and changes all settings of the outputs; each output may then trip. This is never refused.
     pub fn restore(&mut self, settings: Settings)
         ensures { self.new ≡ restored self.old settings }
     {
@@ -99,7 +99,7 @@ impl Outputs {
         self.supplies = [a.restored(p), b.restored(q), c.restored(r), d.restored(s)];
     }
 
-    /// What is set of one output.
+    /// The settings of one output.
     pub fn settings(&self, output: Output) -> OutputSettings
         ensures { let s = supply_of self.now output in result ≡ s.settings }
     {
@@ -113,7 +113,7 @@ impl Outputs {
         self.supplies[output.place()].measured()
     }
 
-    /// Whether an output is tripped. It is off until that is cleared.
+    /// Whether an output is tripped. A tripped output is off until the trip is cleared.
     pub fn trip(&self, output: Output) -> bool
         ensures value { let s = supply_of self.now output in result ≡ s.tripped }
         ensures off { result ≡ true → (let s = supply_of self.now output in s.settings.on ≡ false) }
@@ -176,7 +176,7 @@ impl Outputs {
     }
 }
 
-// A value where it is so, else 0.
+// The value if `on`, else 0.
 fn bit(on: bool, value: u16) -> u16
     ensures { result ≡ (if on then value else 0) }
 {

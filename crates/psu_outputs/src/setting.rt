@@ -1,10 +1,10 @@
-// One thing that is set of an output.
+// One setting of an output.
 ghost use Rattle.std.specs.Prelude.{◌≡◌};
 ghost use Rattle.psu_outputs.specs.Settings.{is_in_range};
 
 use crate::{Milliamperes, Millivolts};
 
-/// One thing that is set of an output.
+/// One setting of an output, with its new value.
 #[derive(Clone, Copy, Debug, PartialEq, Eq)]
 pub enum Setting {
     /// The voltage, 0 to 60,000 mV.
@@ -20,7 +20,7 @@ pub enum Setting {
 }
 
 impl Setting {
-    // Whether it is within its range.
+    // Whether the setting is within its range.
     pub(crate) fn is_in_range(self) -> bool
         ensures { result ≡ is_in_range self }
     {

@@ -9,7 +9,7 @@ use crate::{Output, OutputSettings, Setting};
 use psu_lex::ScpiError;
 use std::marker::Model;
 
-/// The settings of the four outputs, as a register keeps them. Contracts see the list of the four.
+/// The settings of the four outputs, as a register stores them. Contracts see the list of the four.
 #[derive(Clone, Copy, Debug, PartialEq, Eq)]
 pub struct Settings {
     outputs: [OutputSettings; 4],
@@ -39,7 +39,7 @@ impl Settings {
         }
     }
 
-    /// Whether they are those of `*RST`.
+    /// Whether the settings are those of `*RST`.
     pub fn is_reset(&self) -> bool
         ensures { result ≡ is_reset self.now }
     {
@@ -47,14 +47,14 @@ impl Settings {
         *self == Settings::reset()
     }
 
-    /// What is set of an output.
+    /// The settings of one output.
     pub fn get(&self, output: Output) -> OutputSettings
         ensures { result ≡ settings_of self.now output }
     {
         self.outputs[output.place()]
     }
 
-    /// Sets one thing of an output. It is refused where it is out of range, and then nothing changes.
+    /// Changes one setting of an output. A setting out of its range is refused, and then nothing changes.
     pub fn set(&mut self, output: Output, setting: Setting) -> Result<(), ScpiError>
         ensures set { OnOk result ((is_in_range setting ≡ true) × (self.new ≡ after_set self.old output setting)) }
         ensures refused { IfErr result (λ error. (error ≡ DataOutOfRange) × (is_in_range setting ≡ false) × (self.new ≡ self.old)) }
@@ -69,8 +69,8 @@ impl Settings {
 }
 
 impl Settings {
-    /// Its 28 bytes, seven for each output: voltage, current and protection level in two bytes each, the high one first,
-    /// then the flags (bit 0 protection on, bit 1 output on).
+    /// Encodes the settings in 28 bytes, seven for each output: voltage, current and protection level in two bytes
+    /// each, the high one first, then the flags (bit 0 protection on, bit 1 output on).
     pub fn to_bytes(&self) -> [u8; 28]
         ensures { result ≡ bytes_of self.now }
     {
@@ -85,7 +85,7 @@ impl Settings {
         ]
     }
 
-    /// The settings that 28 bytes are those of, each within its range; none for other bytes.
+    /// Decodes the settings from 28 bytes, each within its range; `None` for other bytes.
     pub fn of_bytes(bytes: &[u8]) -> Option<Settings>
         ensures found { IfSome result (λ settings. bytes_of settings ≡ bytes.now) }
         ensures allowed { IfSome result AreSettings }
@@ -125,7 +125,7 @@ impl Settings {
         Settings { outputs }
     }
 
-    /// What is set of each output, within its ranges.
+    /// The settings of each output, within their ranges.
     pub fn outputs(self) -> [OutputSettings; 4]
         ensures value { result ≡ self }
         ensures allowed { AreSettings result }

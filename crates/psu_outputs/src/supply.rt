@@ -1,4 +1,4 @@
-// One output with what is connected to it.
+// One output with its load and its trip.
 ghost use Rattle.std.specs.Prelude.{◌≡◌, ◌≤◌};
 ghost use Rattle.psu_outputs.specs.Settings.{measured};
 ghost use Rattle.psu_outputs.specs.Outputs.{checked, conflicts, with_load, with_settings, without_trip};
@@ -21,7 +21,7 @@ impl Supply {
         tripped: false,
     };
 
-    /// What is measured.
+    /// What is measured at the output.
     pub fn measured(&self) -> Measured
         requires { 1 ≤ self.now.load.0 }
         ensures { result ≡ measured self.now.settings self.now.load.0 }
@@ -29,7 +29,8 @@ impl Supply {
         self.settings.measured(self.load)
     }
 
-    // Tripped and off, where the measured voltage is above the level of a protection that is on.
+    // Returns the output tripped and off if its protection is on and the measured voltage is above the level, else
+    // unchanged.
     fn checked(self) -> Supply
         requires { 1 ≤ self.load.0 }
         ensures { result ≡ checked self }
@@ -46,7 +47,7 @@ impl Supply {
         }
     }
 
-    /// With another load, which may trip it.
+    /// Returns the output with another load, which may trip it.
     pub fn with_load(self, load: Milliohms) -> Supply
         requires { 1 ≤ load.0 }
         ensures { result ≡ with_load self load.0 }
@@ -54,14 +55,14 @@ impl Supply {
         Supply { load, ..self }.checked()
     }
 
-    /// Whether it is tripped and the settings switch it on.
+    /// Whether the output is tripped and the settings switch it on.
     pub fn conflicts(&self, settings: OutputSettings) -> bool
         ensures { result ≡ conflicts self.now settings }
     {
         self.tripped && settings.on
     }
 
-    /// With other settings, which may trip it, and no longer tripped by what was.
+    /// Returns the output with other settings and its trip cleared; the settings may trip it again.
     pub fn restored(self, settings: OutputSettings) -> Supply
         requires { 1 ≤ self.load.0 }
         ensures { result ≡ with_settings (without_trip self) settings }
@@ -73,7 +74,7 @@ impl Supply {
         .with_settings(settings)
     }
 
-    /// With other settings, which may trip it.
+    /// Returns the output with other settings, which may trip it.
     pub fn with_settings(self, settings: OutputSettings) -> Supply
         requires { 1 ≤ self.load.0 }
         ensures { result ≡ with_settings self settings }

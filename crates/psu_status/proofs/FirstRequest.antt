@@ -5,7 +5,7 @@ use Rattle.std.specs.Int.Bits.{and_zero_l}
 use Rattle.std.proofs.lemmas.Nat.{and_comm, and_assoc}
 use Rattle.psu_status.specs.Status.{power_on, first_request, prescribed, bit}
 
--- where a byte of event bits alone meets SRE, or misses it
+-- the first service request for this status byte; none where it misses all bits that SRE enables
 abbrev requested : ℕ → Bool → Option ℕ
 requested byte misses = cond (not misses) (Some (byte + bit 6 (not misses))) None
 
@@ -32,7 +32,7 @@ by_event : (sre : ℕ) (event : Bool) → requested (byte_of event) (eqb (bit_an
 by_event sre true = ap (λ (n : ℕ). requested 32 (eqb n 0)) (bit_of_sre sre) ∙ with_event (eqb (bit_and sre 32) 0)
 by_event sre false = ap (λ (n : ℕ). requested 0 (eqb n 0)) (and_zero_l (bit_and sre 191)) ∙ sym (without_event (not (eqb (bit_and sre 32) 0)))
 
--- no condition asks for service
+-- the first service request is the prescribed one, whatever the condition
 pub request_at_power_on : (enables : Option (ℕ × ℕ)) (bits : ℕ) → first_request (power_on enables bits) ≡ prescribed enables
 request_at_power_on None bits = refl
 request_at_power_on (Some enables) bits =

@@ -18,7 +18,7 @@ pub record Reported : Type 0 where
   pub questionable : Registers
   pub errors : List ScpiError
 
--- What holds at every moment: bit 6 of SRE and bit 15 of the groups' registers are 0, no condition of OPERation stands, and at
+-- The invariant: bit 6 of SRE and bit 15 of the groups' registers are 0, no condition bit of OPERation is 1, and at
 -- most 16 errors are queued.
 pub record IsReported (s : Reported) : Type 0 where
   pub sre : bit_and s.sre 64 ≡ 0
@@ -71,7 +71,7 @@ is_enabled s mav = not (enabled s mav == 0)
 abbrev pub status_byte : Reported → Bool → ℕ
 status_byte s mav = summaries s mav + bit 6 (is_enabled s mav)
 
--- what a status query shows: RQS, the session's own request for service, in the place of MSS
+-- the status byte that a status query returns: with RQS, the session's own request for service, in place of MSS
 abbrev pub polled : Reported → Bool → Bool → ℕ
 polled s mav rqs = summaries s mav + bit 6 rqs
 
@@ -81,7 +81,7 @@ polled s mav rqs = summaries s mav + bit 6 rqs
 abbrev pub queued : List ScpiError → ScpiError → List ScpiError
 queued errors e = if length errors == 16 then take 15 errors ++ QueueOverflow ∷ [] else errors ++ e ∷ []
 
--- an error sets the bit of its class, and one that finds the queue full that of -350 too
+-- an error sets the bit of its class; if the queue is full, it sets the bit of -350 too
 abbrev pub error_bits : List ScpiError → ScpiError → ℕ
 error_bits errors e = if length errors == 16 then bit_or (event_bit e) (event_bit QueueOverflow) else event_bit e
 
@@ -109,21 +109,21 @@ abbrev pub ese_kept : Option (ℕ × ℕ) → ℕ
 ese_kept None = 0
 ese_kept (Some enables) = enables.1
 
--- a group as after PRESet whose condition stands from the start, so no bit of it has risen
+-- a group as after PRESet, but with this condition from the start, so no bit of it has risen
 abbrev pub standing : ℕ → Registers
 standing bits = record (preset no_registers) { condition = bits }
 
 -- PON alone in ESR (bit 7); the enables that were kept, or 0 where the power-on status clear flag is true; groups as
--- after PRESet, the condition of QUEStionable as it stands then; no event, no error
+-- after PRESet, with the present condition of QUEStionable; no event, no error
 abbrev pub power_on : Option (ℕ × ℕ) → ℕ → Reported
 power_on enables bits = record { esr = 128; sre = sre_kept enables; ese = ese_kept enables; operation = preset no_registers; questionable = standing (fifteen_bits bits); errors = [] }
 
--- the service request that the status makes as it is, with no message available: the status byte, where MSS is 1
+-- the service request of the present status with no message available: the status byte, where MSS is 1
 abbrev pub first_request : Reported → Option ℕ
 first_request s = if is_enabled s false then Some (status_byte s false) else None
 
--- The first service request that is prescribed: 96 exactly where enables were kept, with ESB (bit 5) in SRE and PON (bit 7)
--- in ESE.
+-- The first service request that is prescribed: 96 exactly where enables were kept, with ESB (bit 5) in SRE and PON
+-- (bit 7) in ESE.
 abbrev pub prescribed : Option (ℕ × ℕ) → Option ℕ
 prescribed None = None
 prescribed (Some enables) = if has_bit enables.0 5 && has_bit enables.1 7 then Some 96 else None

@@ -19,7 +19,7 @@ pub struct Registers {
 }
 
 impl Registers {
-    /// No condition and no event, with the filters of PRESet.
+    /// Registers with no condition and no event, and the filters of PRESet.
     pub fn new() -> Registers
         ensures registers { result ≡ preset (record { condition = 0; event = 0; enable = 0; positive = 0; negative = 0 }) }
         ensures fifteen { HaveFifteenBits result }
@@ -33,7 +33,7 @@ impl Registers {
         }
     }
 
-    /// No event, with the filters of PRESet, and a condition that stands from the start, without bit 15.
+    /// Registers with no event, the filters of PRESet, and this condition from the start, without bit 15.
     pub fn standing(condition: u16) -> Registers
         ensures registers { result ≡ standing (fifteen_bits condition) }
         ensures fifteen { HaveFifteenBits result }
@@ -43,7 +43,8 @@ impl Registers {
         registers
     }
 
-    /// The filters of PRESet: rises are events, falls are none, and no event is enabled. Condition and events stay.
+    /// Sets the filters of PRESet: each rise is an event, no fall is one, and no event is enabled. Condition and events
+    /// stay.
     pub fn preset(&mut self)
         ensures registers { self.new ≡ preset self.old }
         ensures fifteen { HaveFifteenBits self.old → HaveFifteenBits self.new }
@@ -89,7 +90,7 @@ impl Registers {
         self.condition = bits;
     }
 
-    /// The events, which are then cleared.
+    /// Returns the events, and clears them.
     pub fn take_events(&mut self) -> u16
         ensures events { result ≡ self.old.event }
         ensures cleared { self.new ≡ without_events self.old }

@@ -36,7 +36,7 @@ const MSS: u8 = 64;
 /// Bit 7 of the status byte: the summary of OPERation.
 const OPERATION: u8 = 128;
 
-/// The status of the instrument. No call takes memory.
+/// The status of the instrument. No call allocates.
 #[derive(Drop)]
 pub struct Status {
     esr: u8,
@@ -60,13 +60,13 @@ impl Model for Status {
 }
 
 impl Status {
-    /// The status at power-on: PON alone in the event status register, SRE and ESE as kept or 0 where none are kept (the
-    /// power-on status clear flag is true), the groups as after PRESet with no event, no error. The QUEStionable condition is
-    /// this one, without bit 15.
+    /// The status at power-on: PON alone in the event status register, SRE and ESE as kept or 0 where none are kept
+    /// (the power-on status clear flag is true), the groups as after PRESet with no event, no error. The QUEStionable
+    /// condition is this one, without bit 15.
     pub fn power_on(enables: Option<(u8, u8)>, condition: u16) -> Status
         ensures status { result ≡ power_on enables condition }
 
-        // The first service request is the one that IEEE 488.2 prescribes for the flag, whatever condition stands.
+        // The first service request is the one that IEEE 488.2 prescribes for the flag, whatever the condition.
         ensures request { first_request result ≡ prescribed enables }
     {
         let (sre, ese) = enables.unwrap_or((0, 0));
@@ -87,7 +87,7 @@ impl Status {
         self.esr |= bits;
     }
 
-    /// The event status register, which is then cleared (`*ESR?`).
+    /// Returns the event status register, and clears it (`*ESR?`).
     pub fn read_event(&mut self) -> u8
         ensures events { result ≡ self.old.esr }
         ensures cleared { self.new ≡ record self.old { esr = 0 } }
@@ -97,7 +97,7 @@ impl Status {
         events
     }
 
-    /// The event status register, which stays as it is.
+    /// Returns the event status register, without clearing it.
     pub fn event(&self) -> u8
         ensures { result ≡ self.now.esr }
     {
@@ -132,7 +132,8 @@ impl Status {
         self.ese = bits;
     }
 
-    /// Sets the QUEStionable condition, without bit 15: bits that rise or fall make their events.
+    /// Sets the QUEStionable condition, without bit 15, and the events of its rising and falling bits that pass the
+    /// filters.
     pub fn condition(&mut self, bits: u16)
         ensures { self.new ≡ record self.old { questionable = with_condition self.old.questionable (fifteen_bits bits) } }
     {
@@ -149,7 +150,7 @@ impl Status {
         }
     }
 
-    /// The event register of a group, which stays as it is.
+    /// Returns the event register of a group, without clearing it.
     pub fn group_event(&self, group: Group) -> u16
         ensures { result ≡ (group_of self.now group).event }
     {
@@ -159,7 +160,7 @@ impl Status {
         }
     }
 
-    /// The event register of a group, which is then cleared.
+    /// Returns the event register of a group, and clears it.
     pub fn take_group_events(&mut self, group: Group) -> u16
         ensures events { result ≡ (group_of self.old group).event }
         ensures cleared { self.new ≡ with_group self.old group (without_events (group_of self.old group)) }
@@ -190,7 +191,8 @@ impl Status {
         }
     }
 
-    /// `STATus:PRESet`: the filters of both groups, and no event enabled. Conditions and events stay.
+    /// Sets the filters of both groups as `STATus:PRESet` does, so that no event is enabled. Conditions and events
+    /// stay.
     pub fn preset(&mut self)
         ensures { self.new ≡ all_preset self.old }
     {
@@ -198,7 +200,7 @@ impl Status {
         self.questionable.preset();
     }
 
-    // The bits of the status byte but for bit 6.
+    // The bits of the status byte without bit 6.
     fn summaries(&self, mav: bool) -> u8
         ensures value { result ≡ summaries self.now mav }
         ensures most { result ≤ 188 }
@@ -223,7 +225,8 @@ impl Status {
         queued + (questionable + (available + (event + operation)))
     }
 
-    /// The bits of the status byte but for bit 6 that are enabled by SRE: service is requested where one of them goes from 0 to 1.
+    /// The bits of the status byte, without bit 6, that SRE enables: service is requested when one of them goes from 0
+    /// to 1.
     pub fn enabled(&self, mav: bool) -> u8
         ensures value { result ≡ enabled self.now mav }
         ensures always { IsReported self.now }
@@ -234,7 +237,7 @@ impl Status {
         self.summaries(mav) & self.sre
     }
 
-    /// The status byte, with MSS in bit 6 (`*STB?`). The message available bit is the session's own mark.
+    /// The status byte, with MSS in bit 6 (`*STB?`). The message available bit is the session's own.
     pub fn status_byte(&self, mav: bool) -> u8
         ensures value { result ≡ status_byte self.now mav }
         ensures always { IsReported self.now }
@@ -246,7 +249,7 @@ impl Status {
         }
     }
 
-    /// The status byte as a status query shows it, with a session's own request for service in bit 6 (RQS).
+    /// The status byte as a status query returns it, with a session's own request for service in bit 6 (RQS).
     pub fn polled(&self, mav: bool, rqs: bool) -> u8
         ensures { result ≡ polled self.now mav rqs }
     {
@@ -257,8 +260,8 @@ impl Status {
         }
     }
 
-    /// Queues an error and sets its bit. Where the queue is full its newest entry becomes Queue overflow, whose bit is set
-    /// beside the error's own.
+    /// Queues an error and sets its bit. If the queue is full, its newest entry becomes Queue overflow, whose bit is
+    /// set beside the error's own.
     pub fn push_error(&mut self, error: ScpiError)
         ensures { self.new ≡ with_error self.old error }
     {
@@ -272,7 +275,7 @@ impl Status {
         self.errors.push(error);
     }
 
-    /// The oldest error, which stays in the queue; none where it is empty.
+    /// Returns the oldest error, which stays in the queue; `None` if the queue is empty.
     pub fn oldest(&self) -> Option<ScpiError>
         ensures { result ≡ oldest self.now.errors }
     {
@@ -282,7 +285,7 @@ impl Status {
         }
     }
 
-    /// The oldest error, which leaves the queue; none where it is empty.
+    /// Removes the oldest error from the queue and returns it; `None` if the queue is empty.
     pub fn pop_error(&mut self) -> Option<ScpiError>
         ensures oldest { result ≡ oldest self.old.errors }
         ensures left { self.new ≡ record self.old { errors = drop 1 self.old.errors } }
@@ -301,7 +304,7 @@ impl Status {
         self.errors.as_slice().len()
     }
 
-    /// `*CLS`: clears the event registers and the queue. Conditions, filters and enables stay.
+    /// Clears the event registers and the queue (`*CLS`). Conditions, filters and enables stay.
     pub fn clear(&mut self)
         ensures { self.new ≡ cleared self.old }
     {
@@ -311,7 +314,7 @@ impl Status {
         self.errors.clear();
     }
 
-    /// The service request that the status makes as it is, with no message available: the status byte where MSS is 1.
+    /// The service request of the present status with no message available: the status byte if MSS is 1.
     pub fn first_request(&self) -> Option<u8>
         ensures { result ≡ first_request self.now }
     {

@@ -3,7 +3,7 @@ use Rattle.psu_items.specs.Layout.{HasHead}
 use Rattle.psu_map.specs.Target.{item_in}
 use Rattle.psu_items.proofs.kept.find.Given as goal
 
--- none of the heads seen so far is the item's
+-- no head seen so far is the item's
 abbrev pub invariant-loop-at : goal.invariant-loop-at
 invariant-loop-at g l = (j : ℕ) → l.from ≤ j → j < l.at → HasHead l.heads (item_in l.entry) j → ⊥
 

@@ -61,7 +61,7 @@ slot_for-requires-clause-fits g c =
     let within : n < length (aimed aim) = omega (arith, c.loop-entry-test.true, many) in
     subst Fits (sym (item_there aim.entries n e within is)) (all_at Fits (aimed aim) n (item_in e) within c.requires.can.fits)
 
--- what stands takes no more than the limit, and neither do the items up to this one
+-- the heads in use have no more pages than the limit, and neither have the items up to this one
 pub slot_for-requires-clause-room : goal.slot_for-requires-clause-room
 slot_for-requires-clause-room g c =
     let l = c.loop-entry in

@@ -6,7 +6,7 @@ use Rattle.psu_items.specs.Layout.{heads_of, slots_of, IsOneOf}
 use Rattle.psu_items.specs.Standing.{AreSpare}
 use Rattle.psu_items.proofs.layout.give_up.Given as goal
 
--- the pages of the slots that are left are claimed for them alone
+-- of the slots still in the layout, those that are new have planned pages, and no page is used twice
 abbrev pub invariant-loop-head : goal.invariant-loop-head
 invariant-loop-head g l = record {
   planned : AllByRecursion (λ slot. slot.is_new ≡ true → IsPlanned l.pages slot.head) (slots_of l.layout);

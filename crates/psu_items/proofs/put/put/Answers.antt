@@ -57,7 +57,7 @@ returns-in_err-close_old-clause-device g c =
     let d = g.D.Disk in
     err_any _ _ (λ e. subst (λ (n : ℕ). HasFailed n (d.failures (let p = c.close_old.new.self in p.disk))) (c.in_ok-publish_root.ensures.works ∙ c.in_ok-write_heads.ensures.works) c.in_err-close_old.ensures.device.1)
 
--- the heads that are published stand for the target
+-- the items of the published heads are the target
 are : (g : Over) (c : After-publish_root g) → g.D.Disk.honest → let mid = c.write_heads.new.pages in listed (g.D.Disk.state mid.disk).bytes (let layout = c.args.layout in layout.heads.items) ≡ aimed c.args.target.now
 are g c h =
     let d = g.D.Disk in
@@ -65,7 +65,7 @@ are g c h =
     let mid = c.write_heads.new.pages in
     heads_list (d.state old.disk).bytes (d.state mid.disk).bytes (aimed c.args.target.now) (slots_of c.args.layout) (slots_of c.args.layout) (let layout = c.args.layout in layout.heads.items) refl (named c.args.layout) (c.requires.kept h) (c.in_ok-write_heads.ensures.written h) c.requires.sorted c.requires.keys
 
--- once they are published
+-- the possible crash images after the call that closes the older root's gate
 left : (g : Over) (c : After-close_old g) → g.D.Disk.honest → (let mid = c.write_heads.new.pages in listed (g.D.Disk.state mid.disk).bytes (let layout = c.args.layout in layout.heads.items) ≡ aimed c.args.target.now)
     → let old = c.args.pages.now in (before : List Item) → ShowsMap old before → (x : List ℕ) → Left (g.D.Disk.state (let last = c.close_old.new.self in last.disk)) x → IsEitherRoot old.version old.number old.limit before (aimed c.args.target.now) x
 left g c h e before shows x l =
@@ -76,7 +76,7 @@ time : (g : Over) (c : After-close_old g) → g.D.Disk.honest → g.D.Disk.tells
 time g c h t e before shows =
     run_three c.args.pages.now c.write_heads.new.pages before (aimed c.args.target.now) h shows c.write_heads.ensures.same (c.write_heads.ensures.shown h) c.requires.sorted (let layout = c.args.layout in layout.heads.items) e c.publish_root.new.self c.in_ok-publish_root.ensures.published c.publish_root.ensures.limit (c.in_ok-publish_root.ensures.shown h) (let p = c.close_old.new.self in p.disk) (c.write_heads.ensures.time h t) (c.publish_root.ensures.time h t) (c.close_old.ensures.time h t)
 
--- what lies behind the pool stays
+-- nothing after the pool changes
 published_behind : (g : Over) (c : After-publish_root g) → g.D.Disk.honest
     → let old = c.args.pages.now in Follows (SameBehind old.limit) (Left (g.D.Disk.state old.disk)) (Left (g.D.Disk.state (let two = c.publish_root.new.self in two.disk)))
 published_behind g c h =

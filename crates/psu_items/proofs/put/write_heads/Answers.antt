@@ -36,7 +36,7 @@ loop-place-init g c =
       behind_time = λ h t. behind_still d p.limit p.disk (g.met.D.Disk.only_now t p.disk);
     }
 
--- the place that comes next is one of a head
+-- the next place is the place of a head
 module _ (g : Over) (c : After-index g) where
   abbrev unwritten : List ℕ
   unwritten = let o = c.args.layout.now in o.unwritten.items
@@ -56,7 +56,7 @@ module _ (g : Over) (c : After-index g) where
   within : place < length heads
   within = subst (λ (p : ℕ). p < length heads) (sym next) (all_at (λ (p : ℕ). p < length heads) unwritten c.loop-place.place-index place left c.requires.there)
 
-  -- what holds of its slot
+  -- what holds of all slots holds of its slot
   its : (P : Slot g.row.A.Denot → Type 0) → AllByRecursion P (slots_of c.args.layout.now) → P (slot c.index.result.now true)
   its P all = subst (λ (h : Head). P (slot h true)) (sym c.index.ensures) (at_place g.row.A.Denot P heads unwritten c.loop-place.place-index place c.index.result.now left next within (λ n d lt. all_at P (slots_of c.args.layout.now) n d lt all))
 

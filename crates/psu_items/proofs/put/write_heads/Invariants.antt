@@ -11,7 +11,8 @@ use Rattle.psu_map.specs.Target.{aimed}
 use Rattle.psu_items.proofs.Taking.{BearsOf}
 use Rattle.psu_items.proofs.put.write_heads.Given as goal
 
--- but for the heads that are left all are written; the same items stand all the while
+-- all new heads are written but those at the places that remain; each possible crash image encodes the items from
+-- before
 abbrev pub invariant-loop-place : goal.invariant-loop-place
 invariant-loop-place g l =
     let d = g.D.Disk in

@@ -5,7 +5,7 @@ use Rattle.psu_pages.specs.Outcome.{HasSameHeads}
 use Rattle.psu_items.specs.Image.{listed}
 use Rattle.psu_items.proofs.read.read_items.Given as goal
 
--- the items of the heads from here on are read
+-- the items of the heads from this place on are read
 abbrev pub invariant-loop-at : goal.invariant-loop-at
 invariant-loop-at g l =
     let d = g.D.Disk in

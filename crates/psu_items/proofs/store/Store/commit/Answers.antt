@@ -15,7 +15,7 @@ use Rattle.psu_items.proofs.store.Store.commit.Given.{Over}
 use Rattle.psu_items.proofs.store.Store.commit.Goals.{After-renew}
 use Rattle.psu_items.proofs.store.Store.commit.Goals as goal
 
--- ---- it is worn
+-- ---- the store is worn
 
 pub returns-then-is_worn-clause-unstarted : goal.returns-then-is_worn-clause-unstarted
 returns-then-is_worn-clause-unstarted g c = record { store = refl; batch_is = refl; worn = λ e. c.if-is_worn.ensures.0 refl }
@@ -38,7 +38,7 @@ returns-then-is_worn-clause-behind g c = λ h. let s = c.self.inside in rw (← 
 pub returns-then-is_worn-clause-behind_time : goal.returns-then-is_worn-clause-behind_time
 returns-then-is_worn-clause-behind_time g c = λ h t. let s = c.self.inside in rw (← c.self.view_is) (behind_still g.D.Disk s.pages.limit s.pages.disk (g.met.D.Disk.only_now t s.pages.disk))
 
--- ---- there is no room to plan the batch
+-- ---- an allocation for the plan of the batch failed
 
 pub returns-in-Err-clause-unstarted : goal.returns-in-Err-clause-unstarted
 returns-in-Err-clause-unstarted g c = let s = c.self.inside in record { store = ap (on_pages s.pages) c.in-Err.ensures.err.0 ∙ c.self.view_is; batch_is = c.in-Err.ensures.err.1; worn = λ e. absurd cc }
@@ -64,7 +64,7 @@ returns-in-Err-clause-behind g c = λ h. let s = c.self.inside in rw (← c.self
 pub returns-in-Err-clause-behind_time : goal.returns-in-Err-clause-behind_time
 returns-in-Err-clause-behind_time g c = λ h t. let s = c.self.inside in rw (← c.self.view_is) (behind_still g.D.Disk s.pages.limit s.pages.disk (g.met.D.Disk.only_now t s.pages.disk))
 
--- ---- what the map was and is, once it is written anew
+-- ---- the map before and after the writing
 
 map_is : (g : Over) (c : After-renew g) → c.pairs.result.now ≡ (let s = c.self.inside in s.items)
 map_is g c = let s = c.self.inside in map_called s.items c.pairs.result.now c.args.batch c.edits.result.now c.in-Ok.plan c.in-Ok.ensures.ok c.pairs.ensures.all c.edits.ensures
@@ -134,7 +134,7 @@ returns-in-Ok-renew-clause-left_stored g c = λ h x l.
     let stands : Stands x last.limit (changed c.pairs.result.now c.edits.result.now) = pages_stand last (changed c.pairs.result.now c.edits.result.now) c.in-Ok-renew.ensures.keeps.shows h x l in
     rw (← c.self.view_is) (subst (λ (n : ℕ). Stands x n (changed s.items c.args.batch)) c.renew.ensures.limit (subst (Stands x last.limit) (target_called s.items c.pairs.result.now c.args.batch c.edits.result.now (map_is g at) (edits_are g at)) stands))
 
--- ---- there is no room to write it
+-- ---- an allocation for the writing failed
 
 kept_there : goal.invariant_of-result-in-Err-Memory
 kept_there g c = keeps_called c.renew.new.pages c.into_parts-items.result.0 c.pairs.result.now (let same = c.in-Err-Memory.ensures.same (ap Err c.in-Err-Memory.field-0-is) in same.1) (c.into_parts-items.ensures.map ∙ sym c.pairs.ensures.all)
