@@ -22,7 +22,7 @@ pub enum Action<A: Allocator + Copy> {
     Lock(u32, Vec<u8, A>),
     /// A lock is to be released once the received messages are finished.
     Release,
-    /// It is asked which locks are held (AsyncLockInfo).
+    /// The lock information is requested (AsyncLockInfo).
     Info,
     /// A device clear: everything that the session has begun is dropped, including what has an origin before it.
     Clear,

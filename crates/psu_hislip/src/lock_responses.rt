@@ -16,7 +16,7 @@ use crate::{Header, MessageType};
 use psu_locks::{Freed, Grant, Info, LockRefusal};
 
 /// Returns the response to an AsyncLock that requests a lock, or `None` while the request waits. A request that waited
-/// is answered as Granted or Failed at its end.
+/// is answered as Granted or Failed once its wait ends.
 pub fn lock_response(asked: Result<Grant, LockRefusal>) -> Option<Header>
     ensures { result ≡ lock_response asked }
 {

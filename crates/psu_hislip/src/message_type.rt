@@ -53,9 +53,9 @@ pub enum MessageType {
     AsyncStatusResponse = 22,
     /// Server: the device clear has begun.
     AsyncDeviceClearAcknowledge = 23,
-    /// Client: asks which locks are held.
+    /// Client: requests the lock information.
     AsyncLockInfo = 24,
-    /// Server: which locks are held.
+    /// Server: whether the exclusive lock is held, and how many sessions hold a lock.
     AsyncLockInfoResponse = 25,
 }
 

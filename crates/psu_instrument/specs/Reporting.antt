@@ -1,4 +1,5 @@
--- Errors and the groups of status registers. Sources: SCPI-1999 volume 1, chapter 9; volume 2, chapters 18 (STATus) and 21 (SYSTem).
+-- Errors and the groups of status registers. Sources: SCPI-1999 volume 1, chapter 9; volume 2, chapters 18 (STATus) and
+-- 21 (SYSTem).
 use Rattle.std.specs.Prelude.{ℕ, Option, Some, None, List, ◌++◌, ◌∷◌, length, drop, codes, decimal}
 use Rattle.psu_lex.specs.Errors as errors
 use Rattle.psu_lex.specs.declared.scpi_error.ScpiError.{ScpiError}

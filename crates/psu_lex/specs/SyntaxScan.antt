@@ -40,7 +40,8 @@ pub record EndsDark (test : List ℕ → Bool) (text : List ℕ) (n : ℕ) : Typ
   pub back : drop n text ≡ left is_dark text
   pub passes : test (run is_dark text) ≡ true
 
--- how the bytes before a position determine the text up to white space, where a node has begun or not
+-- the bytes before a position belong to the text up to white space, which is a path if and only if its rest from the
+-- position on is one, where a node has begun or not
 pub record Reaches (several begun : Bool) (text : List ℕ) (at : ℕ) : Type 0 where
   pub front : take at text ++ run is_dark (drop at text) ≡ run is_dark text
   pub back : left is_dark (drop at text) ≡ left is_dark text

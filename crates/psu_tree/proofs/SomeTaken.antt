@@ -66,7 +66,7 @@ bytes_at String text more is = (Err DataTypeError, refl)
 pub some_block : (d : Datum) → IsSomeDatum d → (taken : Result (List ℕ) ScpiError) × TakesBlock d taken
 some_block d is = bytes_at d.class d.text is.0 is.1
 
--- ---- a pair whose first datum has a fault
+-- ---- a pair whose first datum has an error
 
 -- where a value can have no error, the error is the datum's
 pub failed : {A B : Type 0} (value : A → Result B ScpiError) (taken : Result A ScpiError) (e : ScpiError) → ((a : A) → (b : B) × (value a ≡ Ok b)) → Err e ≡ next taken value → taken ≡ Err e
