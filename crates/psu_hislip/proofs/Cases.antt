@@ -1,4 +1,4 @@
--- What a message comes to, by cases.
+-- The outcome of a message, by cases.
 use Rattle.std.proofs.Common.{◌≡◌, ℕ, Bool, true, false, ◌&&◌, not, ◌==◌, Option, Some, None, List, [], ◌∷◌, refl, sym, ap, ◌∙◌, if◌then◌else◌}
 use Rattle.std.specs.Prelude.{nat_le}
 use Rattle.psu_hislip.specs.MessageType.{code_of, type_of}
@@ -31,7 +31,7 @@ both : (a b : Bool) → (a && b) ≡ true → (a ≡ true) × (b ≡ true)
 both true b e = (refl, e)
 both false b e = absurd (cc)
 
--- what completes a clear
+-- the type that completes a device clear
 completes_type : (type : MessageType) (h : Header) → type_of h.kind ≡ Some type → (h.kind == code_of DeviceClearComplete) ≡ is_complete Sync (Some type)
 completes_type DeviceClearComplete h e = rw (code_of_type h.kind DeviceClearComplete e)
 completes_type type h e = rw (code_of_type h.kind type e)
@@ -66,7 +66,7 @@ is_taken true c x z y e = absurd (cc)
 is_taken false true x z y e = refl
 is_taken false false x z y e = absurd (cc)
 
--- without a fault
+-- a message without a fault
 passes : (core : Core) (side : Side) (m : Received) → core.failed ≡ false → fatal core side m ≡ None → (is_sync side && is_begun core.clear && not (completes m)) ≡ false → error side m ≡ None
     → outcome_of core side m ≡ without_fault core m
 passes core side m e f g n = rw (e, f, g, n)

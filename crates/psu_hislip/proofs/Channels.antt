@@ -14,7 +14,7 @@ use Rattle.psu_hislip.specs.declared.rest.Rest.TheVariants as rest
 use Rattle.std.proofs.Math.ListN.{set}
 use Rattle.psu_hislip.proofs.Headers.{length-header_bytes, header_begins, same_header}
 
--- ---- no message stands
+-- ---- no complete message
 
 pub none_short : (bytes : List ℕ) → length bytes < 16 → IsStream bytes []
 none_short bytes short (Frame h p) more s =
@@ -72,11 +72,11 @@ moves_then r s t a b ms ns m n more later f =
     subst (λ (z : List ℕ). Follows r z ((ms ++ ns) ++ later)) (sym (append_assoc a b more))
     (subst (λ (z : List Received). Follows r (a ++ (b ++ more)) z) (sym (append_assoc ms ns later)) (m (b ++ more) (ns ++ later) (n more later f)))
 
--- the whole of what is left after some bytes
+-- the whole rest after some bytes
 whole_tail : (xs : List ℕ) (n : ℕ) → take (length xs - n) (drop n xs) ≡ drop n xs
 whole_tail xs n = take_all (length xs - n) (drop n xs) (omega (arith, length-drop n xs))
 
--- a step more through a piece
+-- one more step through a piece
 pub a_step : (r s t : Awaited) (piece left : List ℕ) (used : ℕ) (ms ns : List Received) → ((front : List ℕ) × (piece ≡ front ++ left) × Moves r front ms s)
     → Moves s (take used left) ns t → (front : List ℕ) × (piece ≡ front ++ take (length left - used) (drop used left)) × Moves r front (ms ++ ns) t
 a_step r s t piece left used ms ns f m = (
@@ -115,12 +115,12 @@ pub some_more : (xs : List ℕ) (b : Bool) → b ≡ (length xs == 0) → b ≡ 
 some_more [] b e t = absurd (grind (arith, e, t))
 some_more (x ∷ xs) b e t = omega arith
 
--- nothing is left of a piece
+-- a piece is used up
 pub all_steps : (r s : Awaited) (piece left : List ℕ) (ms : List Received) → ((front : List ℕ) × (piece ≡ front ++ left) × Moves r front ms s) → left ≡ [] → Moves r piece ms s
 all_steps r s piece left ms f none =
     subst (λ (z : List ℕ). Moves r z ms s) (sym (f.1 ∙ ap (λ (z : List ℕ). f.0 ++ z) none ∙ append-nil f.0)) f.2
 
--- # Messages cut of a piece
+-- # The messages of a piece
 
 abbrev listed : {A : Type 0} → Option (Message A) → List (Message A)
 listed None = []
@@ -133,7 +133,7 @@ all_received-listed (Some message) = refl
 pub cut_none : {A : Type 0} (before : List (Message A)) (r : Awaited) (piece : List ℕ) → (front : List ℕ) × (piece ≡ front ++ piece) × IsCutOf before r front before r
 cut_none before r piece = ([], refl, ([], sym (append-nil before), moves_none r))
 
--- a step more
+-- one more step
 cut_step : {A : Type 0} (before mid after : List (Message A)) (m : Option (Message A)) (r s t : Awaited) (piece left : List ℕ) (used : ℕ)
     → ((front : List ℕ) × (piece ≡ front ++ left) × IsCutOf before r front mid s) → Moves s (take used left) (given m) t → after ≡ mid ++ listed m
     → (front : List ℕ) × (piece ≡ front ++ take (length left - used) (drop used left)) × IsCutOf before r front after t
@@ -164,7 +164,7 @@ pub cut_no_message : {A : Type 0} (before mid after : List (Message A)) (m : Opt
 cut_no_message before mid after m r s t piece left used f moves is same =
     cut_step before mid after m r s t piece left used f moves (same ∙ sym (append-nil mid) ∙ ap (λ z. mid ++ listed z) (sym is))
 
--- nothing is left of the piece
+-- the piece is used up
 pub cut_whole_piece : {A : Type 0} (before after : List (Message A)) (r s : Awaited) (piece left : List ℕ)
     → ((front : List ℕ) × (piece ≡ front ++ left) × IsCutOf before r front after s) → left ≡ [] → IsCutOf before r piece after s
 cut_whole_piece before after r s piece left f none =
@@ -206,7 +206,7 @@ put_first xs before none more m first n b e =
     let all : xs ≡ m ∷ more = e ∙ ap (λ z. z ++ more) (b ∙ ap (λ z. z ++ m ∷ []) n) in
     ap (λ z. set z 0 first) (sym all)
 
--- the end of a payload, and then the messages of what follows it
+-- the end of a payload, followed by the messages after it
 pub fed_whole : {A : Type 0} (h : Header) (p piece : List ℕ) (wanted : ℕ) (s : Awaited) (head : List ℕ) (none before after : List (Message A)) (m first : Message A) (stream : List ℕ) (gave : List Received)
     → head ≡ [] → none ≡ [] → before ≡ none ++ m ∷ [] → IsCutOf before (Begun head) (take (length piece - wanted) (drop wanted piece)) after s
     → received first ≡ Frame h (p ++ take wanted piece) → Fits h → length p < h.length → h.length ≤ 65536 → wanted ≡ h.length - length p → wanted ≤ length piece

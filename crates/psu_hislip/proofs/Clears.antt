@@ -21,7 +21,7 @@ is_early Idle = false
 is_early Begun = false
 is_early Early = true
 
--- a device clear is under way and nothing of a transmission is there, or the session has failed
+-- a device clear is under way and no bytes of a transmission are kept, or the session has failed
 abbrev pub InClear : Core → Type 0
 InClear core = (core.failed ≡ true) ⊎ ((is_begun core.clear ≡ true) × (core.transmission ≡ Some []))
 
@@ -114,7 +114,7 @@ nothing_executed core (t ∷ ts) in_clear none =
           ∙ ap (λ (z : List Act). z ++ executions (actions_of (outcome core t).core ts)) step.1 ∙ more.1,
     )
 
--- # A DeviceClearComplete that comes first
+-- # A DeviceClearComplete that arrives first
 
 pub Remembers : Core → List Told → Type 0
 Remembers core ts = ((is_early core.clear ≡ true) × (list_any brings_input ts ≡ false)) ⊎ EndsComplete ts

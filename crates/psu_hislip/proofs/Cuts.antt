@@ -1,4 +1,4 @@
--- An answer cut into frames, up to a place.
+-- A response cut into frames, up to a position.
 use Rattle.std.proofs.Common.{◌≡◌, ◌≤◌, ◌<◌, suc, ◌-◌, ℕ, List, [], ◌∷◌, ◌++◌, length, take, drop, refl, sym, ap, ◌∙◌, arith, append_assoc, length-drop, All}
 use Rattle.std.proofs.lemmas.List.{append-nil, take-append-drop, take_all, length-take-le}
 use Rattle.std.proofs.lemmas.List.Elements.{All-nil, All-push, All-append}
@@ -7,7 +7,7 @@ use Rattle.psu_hislip.specs.Frame.{frame_bytes}
 use Rattle.psu_hislip.specs.Answer.{joined, data_of, IsCut, IsAnswer, AreWithin, IsPart, Part, AreParts, bytes_of, all_frames, IsAnswerCutAnywhere}
 use Rattle.psu_hislip.specs.declared.message_type.MessageType.TheVariants.{Data, DataEnd}
 
--- the full pieces so far as Data, and the rest of the answer
+-- the full pieces so far as Data, and the rest of the response
 pub record CutSoFar (size id : ℕ) (bytes rest frames : List ℕ) (full : List (List ℕ)) : Type 0 where
   pub whole : bytes ≡ joined full ++ rest
   pub filled : All (λ piece. length piece ≡ size) full
@@ -45,7 +45,7 @@ pub an_answer : (size id : ℕ) (bytes last frames more : List ℕ) → ((full :
     → more ≡ frames ++ frame_bytes DataEnd 0 id last → IsAnswer size id bytes more
 an_answer size id bytes last frames more c e = (c.0, last, c.1, e ∙ ap (λ (z : List ℕ). z ++ frame_bytes DataEnd 0 id last) c.2)
 
--- full pieces have some bytes
+-- full pieces are not empty
 are_within : (size : ℕ) (full : List (List ℕ)) → 0 < size → All (λ piece. length piece ≡ size) full → AreWithin size full
 are_within size full some f = λ k d h. (omega (arith, some, f k d h), omega (arith, f k d h))
 

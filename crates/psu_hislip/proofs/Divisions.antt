@@ -1,4 +1,4 @@
--- A stream is cut into messages in one way.
+-- A stream can be cut into messages in only one way.
 use Rattle.std.proofs.Common.{◌≡◌, ℕ, ◌+◌, List, [], ◌∷◌, ◌++◌, length, refl, sym, ap, ◌∙◌, subst, arith, inl, inr, length-append, take}
 use Rattle.psu_hislip.specs.declared.header.Header.{Header}
 use Rattle.psu_hislip.specs.Header.{header_bytes}

@@ -17,7 +17,7 @@ same_fields h k a b c d =
     ap (λ z. header z h.control h.parameter h.length) a ∙ ap (λ z. header k.kind z h.parameter h.length) b
     ∙ ap (λ z. header k.kind k.control z h.length) c ∙ ap (λ z. header k.kind k.control k.parameter z) d
 
--- one header stands at the front of a list
+-- a list begins with at most one header
 pub same_header : (h k : Header) (x y : List ℕ) → Fits h → Fits k → header_bytes h ++ x ≡ header_bytes k ++ y → (h ≡ k) × (x ≡ y)
 unfolding header_bytes
 same_header h k x y f g e =
@@ -44,7 +44,7 @@ one_fits x xs a b (suc i) = b i
 four_fit : (a b c d : ℕ) → a < 256 → b < 256 → c < 256 → d < 256 → (i : ℕ) → get_or (a ∷ b ∷ c ∷ d ∷ []) i 0 < 256
 four_fit a b c d p q r s = one_fits a (b ∷ c ∷ d ∷ []) p (one_fits b (c ∷ d ∷ []) q (one_fits c (d ∷ []) r (one_fits d [] s none_fits)))
 
--- sixteen bytes that begin with `HS` are those of a header
+-- sixteen bytes that begin with `HS` encode a header
 pub read_bytes : (bs : List ℕ) (p n : ℕ) → length bs ≡ 16 → ((i : ℕ) → get_or bs i 0 < 256) → get_or bs 0 0 ≡ 72 → get_or bs 1 0 ≡ 83
     → p ≡ from_be_bytes w32 (get_or bs 4 0 ∷ get_or bs 5 0 ∷ get_or bs 6 0 ∷ get_or bs 7 0 ∷ [])
     → n ≡ from_be_bytes w64 (get_or bs 8 0 ∷ get_or bs 9 0 ∷ get_or bs 10 0 ∷ get_or bs 11 0 ∷ get_or bs 12 0 ∷ get_or bs 13 0 ∷ get_or bs 14 0 ∷ get_or bs 15 0 ∷ [])
@@ -62,7 +62,7 @@ read_bytes (x0 ∷ x1 ∷ x2 ∷ x3 ∷ x4 ∷ x5 ∷ x6 ∷ x7 ∷ x8 ∷ x9 �
     ∙ ap (λ (z : List ℕ). x0 ∷ x1 ∷ x2 ∷ x3 ∷ x4 ∷ x5 ∷ x6 ∷ x7 ∷ z) count
 read_bytes bs p n l fits h s e f = absurd (omega (arith, l))
 
--- and of no other
+-- they encode no other header
 pub read_one : (h k : Header) (bs : List ℕ) → Fits h → Fits k → header_bytes h ≡ bs → bs ≡ header_bytes k → h ≡ k
 read_one h k bs f g d e =
     let both : header_bytes h ++ [] ≡ header_bytes k ++ [] = ap (λ (z : List ℕ). z ++ []) (d ∙ e) in

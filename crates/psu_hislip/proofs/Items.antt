@@ -1,4 +1,4 @@
--- Places of a list.
+-- Positions in a list.
 use Rattle.std.proofs.Common.{◌≡◌, ℕ, List, length, refl, sym, Option, Some, None, Bor}
 use Rattle.std.specs.Option.{option_copied}
 use Rattle.std.specs.List.{slice_get}

@@ -1,4 +1,4 @@
--- The clears that a session has had, and the origins of what is executed.
+-- The number of device clears in a session, and the origins of what is executed.
 use Rattle.std.proofs.Common.{◌≡◌, ◌≢◌, ◌⊎◌, ℕ, ◌+◌, ◌%◌, ◌^◌, ◌<◌, ◌≤◌, Bool, true, false, Option, Some, None, List, [], ◌∷◌, ◌++◌, length, refl, sym, ap, ◌∙◌, subst, inl, inr, if◌then◌else◌, arith, length-append, All}
 use Rattle.std.specs.List.{filter}
 use Rattle.std.proofs.lemmas.Grind.{flat_map-append}
@@ -17,7 +17,7 @@ use Rattle.psu_hislip.proofs.Runs.{ends_badly, not_failed}
 use Rattle.psu_hislip.proofs.Cases.{Cases, cases, is_good, erroneous}
 use Rattle.psu_hislip.proofs.Cases.Cases.{Ended, Fails, Discarded, Erroneous, Row}
 
--- # The clears are counted
+-- # The number of device clears
 
 abbrev pub counted : Bool → ℕ → ℕ
 counted b clears = if b then (clears + 1) % 2 ^ 64 else clears

@@ -58,7 +58,7 @@ pub core_after-append : (core : Core) (xs ys : List Told) → core_after core (x
 core_after-append core [] ys = refl
 core_after-append core (x ∷ xs) ys = core_after-append (outcome core x).core xs ys
 
--- # Answers
+-- # Responses
 
 no_due : (side : Side) (o : Option MessageType) → is_sync side ≡ true → is_complete side o ≡ false → due side o ≡ []
 no_due Sync (Some DeviceClearComplete) s c = absurd (cc)

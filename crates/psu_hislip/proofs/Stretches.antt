@@ -21,7 +21,7 @@ use Rattle.psu_hislip.proofs.Transmitted.{run_transmissions}
 use Rattle.psu_hislip.proofs.Cases.{Cases, cases, is_good, erroneous}
 use Rattle.psu_hislip.proofs.Cases.Cases.{Ended, Fails, Discarded, Erroneous, Row}
 
--- a transmission is to begin
+-- between two transmissions, with no device clear begun or remembered
 pub record IsFresh (core : Core) : Type 0 where
   pub early : is_early core.clear ≡ false
   pub idle : is_begun core.clear ≡ false

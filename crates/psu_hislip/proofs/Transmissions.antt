@@ -7,7 +7,7 @@ use Rattle.psu_hislip.specs.declared.origin.Origin.{Origin}
 use Rattle.psu_hislip.specs.Answer.{joined}
 use Rattle.psu_hislip.specs.Transmission.{added, all_added, executed}
 
--- these bytes, unless they are too many
+-- these bytes, or none where they are too many
 abbrev kept : List ℕ → Option (List ℕ)
 kept text = if nat_lt 65536 (length text) then None else Some text
 

@@ -1,4 +1,4 @@
--- What is executed in a run is its transmissions.
+-- The executed transmissions of a run are those that the client sent.
 use Rattle.std.proofs.Common.{◌≡◌, ℕ, ◌+◌, Bool, true, false, Option, Some, None, List, [], ◌∷◌, ◌++◌, length, refl, sym, ap, ◌∙◌, subst, if◌then◌else◌, arith, append_assoc, length-append}
 use Rattle.std.specs.Prelude.{map, flat_map, filter}
 use Rattle.std.specs.List.{list_any}
@@ -29,7 +29,7 @@ use Rattle.psu_hislip.proofs.Cases.Cases.{Ended, Fails, Discarded, Erroneous, Ro
 
 -- # One message
 
--- what pieces make of the bytes so far, and what they ask for
+-- how pieces change the bytes so far, and the actions of the transmissions
 pub data Adds (clears : ℕ) (old new : Option (List ℕ)) (pieces : List Piece) (actions : List Act) : Type 0 where
   Silent : pieces ≡ [] → new ≡ old → transmissions actions ≡ [] → Adds clears old new pieces actions
   Goes : (payload : List ℕ) → pieces ≡ More payload ∷ [] → new ≡ added old payload → transmissions actions ≡ [] → Adds clears old new pieces actions
@@ -124,7 +124,7 @@ no_lasts : (payloads : List (List ℕ)) → lasts (map More payloads) ≡ 0
 no_lasts [] = omega arith
 no_lasts (p ∷ ps) = no_lasts ps
 
--- payloads that go on are no transmission
+-- payloads of Data alone are not a whole transmission
 none_whole : (payloads rest : List (List ℕ)) (trs : List Transmission) → map More payloads ≡ flat_map pieces_of trs ++ map More rest → trs ≡ []
 none_whole payloads rest [] e = refl
 none_whole payloads rest (tr ∷ more) e =
@@ -170,7 +170,7 @@ all_added-push start (q ∷ acc) p = all_added-push (added start q) acc p
 moved : (acc : List (List ℕ)) (p : List ℕ) (x : List Piece) → map More (acc ++ p ∷ []) ++ x ≡ map More acc ++ (More p ∷ x)
 moved acc p x = ap (λ z. z ++ x) (map-append More acc (p ∷ [])) ∙ append_assoc (map More acc) (More p ∷ []) x
 
--- what the rest of the run asks for, whatever came before it
+-- what the rest of the run asks for, whatever precedes it
 abbrev Again : Core → List Piece → List Act → Type 0
 Again next pieces acts =
     (acc : List (List ℕ)) (trs : List Transmission) (rest : List (List ℕ)) → next.transmission ≡ all_added (Some []) acc

@@ -17,6 +17,6 @@ coded (x ∷ ts) n (suc k) t a e = omega (arith, coded ts (1 + n) k t a.1 e)
 are_coded : AreCoded 0 types
 are_coded = (refl, (refl, (refl, (refl, (refl, (refl, (refl, (refl, (refl, (refl, (refl, (refl, (refl, (refl, (refl, (refl, (refl, (refl, (refl, (refl, (refl, (refl, (refl, (refl, (refl, (refl, tt))))))))))))))))))))))))))
 
--- a code that has a type is the type's
+-- a code that has a type is the code of that type
 pub code_of_type : (k : ℕ) (t : MessageType) → type_of k ≡ Some t → k ≡ code_of t
 code_of_type k t e = omega (arith, coded types 0 k t are_coded e)

@@ -18,7 +18,7 @@ pub data Act : Type 0 where
   Clear : Act
   Closed : Act
 
--- an action of the code, without where its bytes lie in memory
+-- an action of the code, with its bytes as a list
 abbrev pub act : {A : Type 0} → rust.Action A → Act
 act (action.Send side bytes) = Send side bytes.items
 act (action.Execute origin bytes) = Execute origin bytes.items

@@ -1,5 +1,5 @@
--- The core of a session: what each message asks for, and what the core is then. Source: IVI-6.1; what it leaves open is this
--- project's profile.
+-- The core of a session: the actions of each message, and the core after it. Source: IVI-6.1; what it leaves open is
+-- this project's profile.
 use Rattle.std.specs.Prelude.{◌≡◌, ℕ, ◌+◌, ◌^◌, ◌%◌, ◌==◌, ◌&&◌, ◌||◌, not, nat_lt, nat_le, Bool, true, false, if◌then◌else◌, Option, Some, None, List, [], ◌∷◌, ◌++◌, length}
 use Rattle.std.specs.Int.{w64, from_be_bytes}
 use Rattle.psu_hislip.specs.Header.{header_bytes}
@@ -22,8 +22,9 @@ use Rattle.psu_hislip.specs.declared.error_code.ErrorCode.TheVariants.{Unidentif
 use Rattle.psu_hislip.specs.declared.message_type.MessageType.{MessageType}
 use Rattle.psu_hislip.specs.declared.message_type.MessageType.TheVariants.{Initialize, FatalError, Error, AsyncLock, AsyncLockResponse, Data, DataEnd, DeviceClearComplete, DeviceClearAcknowledge, AsyncRemoteLocalControl, AsyncRemoteLocalResponse, Trigger, AsyncMaximumMessageSize, AsyncMaximumMessageSizeResponse, AsyncInitialize, AsyncInitializeResponse, AsyncDeviceClear, AsyncStatusQuery, AsyncDeviceClearAcknowledge, AsyncLockInfo}
 
--- The session's number; whether its asynchronous channel is joined; whether it has failed; the greatest message that the client
--- takes; the bytes of the transmission so far, or none where they are too many; the device clear; how many there were, modulo 2^64.
+-- The session number; whether its asynchronous channel is joined; whether it has failed; the client's maximum message
+-- size; the bytes of the transmission so far, or none where they are too many; the device clear; the number of device
+-- clears, modulo 2^64.
 pub record Core : Type 0 where
   pub session : ℕ
   pub joined : Bool
@@ -58,8 +59,8 @@ joins core side h = not (is_sync side) && not core.joined && h.kind == code_of A
 abbrev pub initializes : Header → Bool
 initializes h = h.kind == code_of Initialize || h.kind == code_of AsyncInitialize
 
--- Before both channels are there, nothing may come on the first, and on the second only what joins it; after that neither
--- initialization.
+-- Before both channels are established, no message is valid on the first, and on the second only the one that joins it;
+-- after that neither initialization is valid.
 abbrev pub misplaced : Core → Side → Header → Bool → Option FatalCode
 misplaced core side h joins =
     if is_sync side && not core.joined then Some ChannelsNotJoined
@@ -70,7 +71,7 @@ fatal core side Received.BadHeader = Some PoorlyFormedHeader
 fatal core side (Received.Frame h payload) = misplaced core side h (joins core side h)
 fatal core side (Received.Oversize h) = misplaced core side h false
 
--- the types that a channel takes
+-- the types that a channel accepts
 abbrev pub takes : Side → MessageType → Bool
 takes Sync Data = true
 takes Sync DataEnd = true
@@ -85,7 +86,7 @@ takes Async AsyncDeviceClear = true
 takes Async AsyncStatusQuery = true
 takes side type = false
 
--- the control codes that a type has, and the payload of a size
+-- errors in the control code of a type, and in the payload length of a message size
 abbrev pub ill_formed : MessageType → Header → List ℕ → Option ErrorCode
 ill_formed AsyncLock h payload = if nat_lt 1 h.control then Some UnrecognizedControl else None
 ill_formed AsyncRemoteLocalControl h payload = if nat_lt 6 h.control then Some UnrecognizedControl else None
@@ -104,7 +105,7 @@ error side Received.BadHeader = None
 
 -- # What the client has read
 
--- bit 0 of the control code
+-- bit 0 of the control code (RMT-delivered)
 abbrev pub is_delivered : Header → Bool
 is_delivered h = h.control % 2 == 1
 
@@ -118,13 +119,13 @@ is_begun Idle = false
 is_begun Begun = true
 is_begun Early = false
 
--- AsyncDeviceClear begins one, unless its DeviceClearComplete has come already
+-- AsyncDeviceClear begins a device clear, unless its DeviceClearComplete was received already
 abbrev pub after_begin : DeviceClear → DeviceClear
 after_begin Idle = Begun
 after_begin Begun = Begun
 after_begin Early = Idle
 
--- DeviceClearComplete ends one, or is remembered
+-- DeviceClearComplete ends a device clear, or is remembered
 abbrev pub after_complete : DeviceClear → DeviceClear
 after_complete Begun = Idle
 after_complete Idle = Early
@@ -136,7 +137,7 @@ cleared core =
     told (Act.Clear ∷ reply Async AsyncDeviceClearAcknowledge 0 ∷ [])
     (record core { transmission = Some []; clear = after_begin core.clear; clears = (core.clears + 1) % 2 ^ 64 })
 
--- DeviceClearComplete is answered whenever it comes
+-- DeviceClearComplete is acknowledged whenever it arrives
 abbrev pub completed : Core → Outcome
 completed core = told (reply Sync DeviceClearAcknowledge 0 ∷ []) (record core { clear = after_complete core.clear })
 
@@ -145,7 +146,7 @@ completes (Received.Frame h payload) = h.kind == code_of DeviceClearComplete
 completes (Received.Oversize h) = false
 completes Received.BadHeader = false
 
--- in a clear all of the synchronous channel is discarded but what completes it
+-- during a device clear every message on the synchronous channel is discarded except the one that completes it
 abbrev pub unless_discarded : Core → Side → Received → Outcome → Outcome
 unless_discarded core side message outcome =
     if is_sync side && is_begun core.clear && not (completes message) then told [] core else outcome
@@ -158,7 +159,7 @@ locked h string =
     if h.control == 0 then Act.Release
     else (if nat_lt 256 (length string) then reply Async AsyncLockResponse 3 else Act.Lock h.parameter string)
 
--- the greatest message that the server takes: 65,536 bytes
+-- the maximum message size that the server accepts: 65,536 bytes
 abbrev pub own_size : List ℕ
 own_size = 0 ∷ 0 ∷ 0 ∷ 0 ∷ 0 ∷ 1 ∷ 0 ∷ 0 ∷ []
 
@@ -168,18 +169,18 @@ joining core = told (reply Async AsyncInitializeResponse 0 ∷ []) (record core 
 abbrev pub origin : Core → Header → Origin
 origin core h = record { id = h.parameter; clears = core.clears }
 
--- nothing has ended what a message of this origin asked for: neither a FatalError nor a device clear has come since
+-- neither a FatalError nor a device clear has occurred since the message of this origin
 abbrev pub IsCurrent : Core → Origin → Type 0
 IsCurrent core origin = (core.failed ≡ false) × (origin.clears ≡ core.clears)
 
--- Data, DataEnd and Trigger: a DeviceClearComplete that no clear waited for is forgotten
+-- after Data, DataEnd or Trigger, a DeviceClearComplete that no clear waited for is forgotten
 abbrev pub gone_on : Core → Option (List ℕ) → Core
 gone_on core transmission = record core { transmission = transmission; clear = Idle }
 
 abbrev pub triggered : Core → Header → Outcome
 triggered core h = told (Act.Trigger (origin core h) ∷ []) (gone_on core core.transmission)
 
--- the client's size, most significant byte first
+-- the client's maximum message size, in big-endian byte order
 abbrev pub sized : Core → List ℕ → Outcome
 sized core size =
     told (Act.Send Async (frame_bytes AsyncMaximumMessageSizeResponse 0 0 own_size) ∷ []) (record core { size = Some (from_be_bytes w64 size) })
@@ -210,7 +211,7 @@ without_fault core (Received.Frame h payload) = heeded core (type_of h.kind) h p
 without_fault core (Received.Oversize h) = told [] core
 without_fault core Received.BadHeader = told [] core
 
--- a message with an error is answered and ignored
+-- a message with an error is answered by Error and ignored
 abbrev pub unless_error : Core → Side → Option ErrorCode → Outcome → Outcome
 unless_error core side None outcome = outcome
 unless_error core side (Some code) outcome = told (reply side Error (error_code code) ∷ []) core

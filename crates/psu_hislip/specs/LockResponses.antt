@@ -1,4 +1,4 @@
--- The answers to what is asked of the locks. Source: the lock protocol of IVI-6.1; its codes are this project's profile.
+-- The responses to lock messages. Source: the lock protocol of IVI-6.1; its codes are this project's profile.
 use Rattle.std.specs.Prelude.{ℕ, Option, Some, None, Result, Ok, Err, if◌then◌else◌}
 use Rattle.psu_locks.specs.declared.grant.Grant.{Grant}
 use Rattle.psu_locks.specs.declared.grant.Grant.TheVariants.{Granted, Queued, Failed}
@@ -10,11 +10,11 @@ use Rattle.psu_hislip.specs.Frame.{header_of}
 use Rattle.psu_hislip.specs.declared.header.Header.{Header}
 use Rattle.psu_hislip.specs.declared.message_type.MessageType.TheVariants.{AsyncLockResponse, AsyncLockInfoResponse}
 
--- AsyncLockResponse has its answer in its control code
+-- AsyncLockResponse has its result in its control code
 abbrev pub lock_answer : ℕ → Header
 lock_answer control = header_of AsyncLockResponse control 0 0
 
--- a request that waits has no answer yet
+-- a request that waits has no response yet
 abbrev pub lock_response : Result Grant LockRefusal → Option Header
 lock_response (Ok Granted) = Some (lock_answer 1)
 lock_response (Ok Failed) = Some (lock_answer 0)

@@ -1,4 +1,4 @@
--- What has come of a message that is not whole.
+-- The received part of an incomplete message.
 use Rattle.std.specs.Prelude.{◌≡◌, ℕ, ◌<◌, ◌≤◌, ⊤, List, [], ◌∷◌, ◌++◌, length, Option, Some, None}
 use Rattle.psu_hislip.specs.Header.{header_bytes, Fits}
 use Rattle.psu_hislip.specs.Stream.{Received, received}
@@ -14,7 +14,7 @@ awaited (rest.Payload h payload) = Begun (header_bytes h ++ payload.items)
 awaited (rest.Passing n) = Passing n
 awaited rest.Ended = Ended
 
--- no message stands yet
+-- no message is complete yet
 abbrev pub IsRest : {A : Type 0} → Rest A → Type 0
 IsRest (rest.Header head) = length head.items < 16
 IsRest (rest.Payload h payload) = Fits h × (length payload.items < h.length) × (h.length ≤ 65536)
@@ -34,7 +34,7 @@ abbrev pub all_received : {A : Type 0} → List (Message A) → List Received
 all_received [] = []
 all_received (message ∷ messages) = received message ∷ all_received messages
 
--- a piece gives more messages after these, and then a channel waits for something else
+-- a piece appends messages to these, and what the channel awaits changes from old to new
 abbrev pub IsCutOf : {A : Type 0} → List (Message A) → Awaited → List ℕ → List (Message A) → Awaited → Type 0
 IsCutOf {A} before old piece after new =
     (more : List (Message A)) × (after ≡ before ++ more) × Moves old piece (all_received more) new

@@ -1,4 +1,4 @@
--- Runs of a session: the messages of both channels in the order in which the session was told of them, and what they asked for.
+-- Runs of a session: the messages of both channels in the order in which the session received them, and their actions.
 use Rattle.std.specs.Prelude.{◌≡◌, ℕ, ◌==◌, Bool, true, false, if◌then◌else◌, Option, Some, None, List, [], ◌∷◌, ◌++◌, slice_index_or, filter, flat_map, replicate, length}
 use Rattle.std.specs.List.{list_any}
 use Rattle.psu_hislip.specs.MessageType.{code_of, type_of}
@@ -14,7 +14,7 @@ use Rattle.psu_hislip.specs.declared.side.Side.TheVariants.{Sync, Async}
 use Rattle.psu_hislip.specs.declared.message_type.MessageType.{MessageType}
 use Rattle.psu_hislip.specs.declared.message_type.MessageType.TheVariants.{FatalError, Error, Data, DataEnd, Trigger, AsyncLock, AsyncLockResponse, DeviceClearComplete, DeviceClearAcknowledge, AsyncRemoteLocalControl, AsyncRemoteLocalResponse, AsyncMaximumMessageSize, AsyncMaximumMessageSizeResponse, AsyncInitialize, AsyncInitializeResponse, AsyncDeviceClear, AsyncStatusQuery, AsyncStatusResponse, AsyncDeviceClearAcknowledge, AsyncLockInfo, AsyncLockInfoResponse}
 
--- a message and the channel on which it came
+-- a message and the channel on which it was received
 pub record Told : Type 0 where
   pub side : Side
   pub message : Received
@@ -22,7 +22,7 @@ pub record Told : Type 0 where
 abbrev pub outcome : Core → Told → Outcome
 outcome core t = outcome_of core t.side t.message
 
--- what a run asks for, and the session after it
+-- the actions of a run, and the core after it
 abbrev pub actions_of : Core → List Told → List Act
 actions_of core [] = []
 actions_of core (t ∷ ts) = (outcome core t).actions ++ actions_of (outcome core t).core ts
@@ -46,7 +46,7 @@ is_clear side type = false
 abbrev pub begins_clear : Told → Bool
 begins_clear t = is_clear t.side (type_told t.message)
 
--- and DeviceClearComplete completes it
+-- DeviceClearComplete completes a device clear
 abbrev pub is_complete : Side → Option MessageType → Bool
 is_complete Sync (Some DeviceClearComplete) = true
 is_complete side type = false
@@ -64,7 +64,7 @@ is_input side type = false
 abbrev pub brings_input : Told → Bool
 brings_input t = is_input t.side (type_told t.message)
 
--- the last DeviceClearComplete of a run has no Data, DataEnd or Trigger behind it
+-- a run has a DeviceClearComplete, and no Data, DataEnd or Trigger after its last one
 abbrev pub EndsComplete : List Told → Type 0
 EndsComplete run =
     (earlier : List Told) × (complete : Told) × (since : List Told) × (run ≡ earlier ++ complete ∷ since) × (completes_clear complete ≡ true)
@@ -87,9 +87,9 @@ executions actions = filter is_execution actions
 abbrev pub AreClosed : Core → List Told → Type 0
 AreClosed core ts = actions_of core ts ≡ replicate (length ts) Act.Closed
 
--- # Answers
+-- # Responses
 
--- a message of the server's: its channel and the code of its type
+-- a message of the server: its channel and the code of its type
 pub record Answer : Type 0 where
   pub side : Side
   pub type : ℕ
@@ -97,11 +97,11 @@ pub record Answer : Type 0 where
 abbrev pub answer_on : Side → MessageType → List Answer
 answer_on side type = record { side = side; type = code_of type } ∷ []
 
--- the third byte of a message is its type, and Error does not count as an answer
+-- the third byte of a message is its type, and Error does not count as a response
 abbrev pub answer_sent : Side → List ℕ → List Answer
 answer_sent side bytes = if slice_index_or bytes 2 0 == code_of Error then [] else record { side = side; type = slice_index_or bytes 2 0 } ∷ []
 
--- the answer that an action sends, or asks the caller for
+-- the response that an action sends, or asks the caller for
 abbrev pub answer_of : Act → List Answer
 answer_of (Act.Send side bytes) = answer_sent side bytes
 answer_of (Act.Status delivered) = answer_on Async AsyncStatusResponse
@@ -113,11 +113,11 @@ answer_of action = []
 abbrev pub answers : List Act → List Answer
 answers actions = flat_map answer_of actions
 
--- a FatalError is among the answers
+-- a FatalError is among the responses
 abbrev pub sends_fatal_error : List Act → Bool
 sends_fatal_error actions = list_any (λ answer. answer.type == code_of FatalError) (answers actions)
 
--- the answer that a type of a client's has, where it has one
+-- the response that a type of the client's messages has, if it has one
 abbrev pub due : Side → Option MessageType → List Answer
 due Sync (Some DeviceClearComplete) = answer_on Sync DeviceClearAcknowledge
 due Async (Some AsyncInitialize) = answer_on Async AsyncInitializeResponse
@@ -129,7 +129,7 @@ due Async (Some AsyncDeviceClear) = answer_on Async AsyncDeviceClearAcknowledge
 due Async (Some AsyncStatusQuery) = answer_on Async AsyncStatusResponse
 due side type = []
 
--- a message with an error has none
+-- a message with an error has no response
 abbrev pub unless_faulty : Option ErrorCode → List Answer → List Answer
 unless_faulty None answers = answers
 unless_faulty (Some code) answers = []
@@ -151,6 +151,6 @@ origins actions = flat_map origin_of actions
 abbrev pub clears_in : List Told → ℕ
 clears_in ts = length (filter begins_clear ts)
 
--- a session whose synchronous channel alone is there
+-- a session of which only the synchronous channel is established
 abbrev pub started : ℕ → Core
 started session = record { session = session; joined = false; failed = false; size = None; transmission = Some []; clear = Idle; clears = 0 }

@@ -1,4 +1,4 @@
--- A session with a device clear, message by message: that what the laws of runs ask for can be.
+-- A session with a device clear, message by message: the premises of the laws of runs can be met.
 use Rattle.std.specs.Prelude.{ℕ, List, [], ◌∷◌, length}
 use Rattle.psu_hislip.specs.Stream.Received.{Frame}
 use Rattle.psu_hislip.specs.Frame.{header_of}
@@ -12,7 +12,8 @@ use Rattle.psu_hislip.specs.declared.message_type.MessageType.TheVariants.{Data,
 abbrev pub sends : Side → MessageType → ℕ → List ℕ → Told
 sends side type parameter payload = record { side = side; message = Frame (header_of type 0 parameter (length payload)) payload }
 
--- Session 1 is joined; `A` and `B` are one transmission; `C` begins one that a device clear cuts off, with `D` after it.
+-- Session 1 is joined; `A` and `B` are one transmission; `C` begins one that a device clear cuts off, with `D` after
+-- it.
 abbrev pub first_stretch : Stretch
 first_stretch = record {
   told =
@@ -24,6 +25,6 @@ first_stretch = record {
   complete = sends Sync DeviceClearComplete 0 [];
 }
 
--- then `E` is one
+-- then `E` is a transmission
 abbrev pub last_words : List Told
 last_words = sends Sync DataEnd 6 (69 ∷ []) ∷ []

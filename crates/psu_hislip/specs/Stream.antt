@@ -1,19 +1,20 @@
--- The messages of a stream of bytes. Source: IVI-6.1 (a header, then its payload); how long a payload may be, and what a
--- bad header comes to, are this project's profile.
+-- The messages of a stream of bytes. Source: IVI-6.1 (a header, then its payload); the maximum payload length and the
+-- handling of a bad header are this project's profile.
 use Rattle.std.specs.Prelude.{◌≡◌, ◌≢◌, ◌⊎◌, ℕ, ◌<◌, ◌≤◌, List, [], ◌∷◌, ◌++◌, length, take}
 use Rattle.psu_hislip.specs.Header.{header_bytes, Fits}
 use Rattle.psu_hislip.specs.declared.header.Header.{Header}
 use Rattle.psu_hislip.specs.declared.message.Message as rust
 use Rattle.psu_hislip.specs.declared.message.Message.TheVariants as message
 
--- A message: a frame with its payload, a frame whose payload is too long to be kept, or sixteen bytes that are no header.
+-- A message: a frame with its payload, a frame whose payload is too long to be kept, or sixteen bytes that are not a
+-- header.
 pub data Received : Type 0 where
   Frame : Header → List ℕ → Received
   Oversize : Header → Received
   BadHeader : Received
 
--- The message stands at the front of the bytes, and more comes after it. An oversize frame stands once its header is there; its
--- payload is passed over as it comes. After a bad header all is passed over.
+-- The bytes begin with the message, and more follows it. An oversize frame counts as a message once its header is
+-- complete; its payload is skipped as it arrives. After a bad header everything is skipped.
 abbrev pub Stands : Received → List ℕ → List ℕ → Type 0
 Stands (Frame h payload) bytes more =
     Fits h × (bytes ≡ header_bytes h ++ (payload ++ more)) × (length payload ≡ h.length) × (h.length ≤ 65536)
@@ -22,12 +23,12 @@ Stands (Oversize h) bytes more =
     × ((length passed ≡ h.length) ⊎ ((length passed < h.length) × (more ≡ []))))
 Stands BadHeader bytes more = (16 ≤ length bytes) × (take 2 bytes ≢ 72 ∷ 83 ∷ []) × (more ≡ [])
 
--- the bytes are these messages end to end, and then a rest at which none stands
+-- the bytes are these messages concatenated, followed by a rest that does not begin with a message
 abbrev pub IsStream : List ℕ → List Received → Type 0
 IsStream bytes [] = (m : Received) (more : List ℕ) → Stands m bytes more → ⊥
 IsStream bytes (m ∷ ms) = (more : List ℕ) × Stands m bytes more × IsStream more ms
 
--- a message of the code, without where its payload lies in memory
+-- a message of the code, with its payload as a list
 abbrev pub received : {A : Type 0} → rust.Message A → Received
 received (message.Frame h payload) = Frame h payload.items
 received (message.Oversize h) = Oversize h

@@ -13,7 +13,7 @@ use Rattle.psu_hislip.specs.declared.side.Side.TheVariants.{Sync}
 use Rattle.psu_hislip.specs.declared.message_type.MessageType.{MessageType}
 use Rattle.psu_hislip.specs.declared.message_type.MessageType.TheVariants.{Data, DataEnd}
 
--- a payload that goes on, or the last one with its MessageID
+-- the payload of a Data, or that of a DataEnd with its MessageID
 pub data Piece : Type 0 where
   More : List ℕ → Piece
   Last : ℕ → List ℕ → Piece
@@ -43,7 +43,7 @@ pieces_of transmission = map More transmission.payloads ++ Last transmission.id 
 abbrev pub text_of : Transmission → List ℕ
 text_of transmission = joined transmission.payloads ++ transmission.last
 
--- what it asks for in a session that has had so many device clears
+-- its action in a session that has had so many device clears
 abbrev pub asked : ℕ → Transmission → Act
 asked clears transmission =
     if nat_lt 65536 (length (text_of transmission)) then Act.TooMuch (record { id = transmission.id; clears = clears })
@@ -54,7 +54,7 @@ is_transmission (Act.Execute origin bytes) = true
 is_transmission (Act.TooMuch origin) = true
 is_transmission action = false
 
--- what is asked for the transmissions of a run
+-- the actions of the transmissions of a run
 abbrev pub transmissions : List Act → List Act
 transmissions actions = filter is_transmission actions
 
@@ -68,8 +68,8 @@ text_asked action = None
 
 -- # Sessions with device clears
 
--- What comes up to the end of a device clear: what came before it, with the transmissions that are whole and the payloads that the
--- clear cuts off; its AsyncDeviceClear; what comes until its DeviceClearComplete; and that.
+-- The messages up to the end of a device clear: those before it, which are whole transmissions and then payloads that
+-- the clear cuts off; its AsyncDeviceClear; those received until its DeviceClearComplete; and the DeviceClearComplete.
 pub record Stretch : Type 0 where
   pub told : List Told
   pub whole : List Transmission

@@ -1,4 +1,4 @@
-// What a message of a session asks for.
+// The actions that the messages of a session ask for.
 use crate::{Origin, Side};
 use std::alloc::Allocator;
 
@@ -11,20 +11,20 @@ pub enum Action<A: Allocator + Copy> {
     Execute(Origin, Vec<u8, A>),
     /// A transmission had more than 65,536 bytes, and none were kept: the instrument reports too much data.
     TooMuch(Origin),
-    /// A trigger came: the instrument, which waits for none, reports that it is ignored.
+    /// A trigger was received. The instrument never waits for one and reports that it is ignored.
     Trigger(Origin),
-    /// The client has read the whole of the last answer.
+    /// The client has read the whole last response (RMT-delivered).
     Delivered,
-    /// The status byte is asked for, and whether the client has read the whole of the last answer.
+    /// The status byte is requested; the flag is whether the client has read the whole last response (RMT-delivered).
     Status(bool),
-    /// A lock is asked for, to wait at most so many milliseconds: the exclusive one where the string is empty, else the one shared
-    /// under that string of at most 256 bytes.
+    /// A lock is requested, with a timeout of so many milliseconds: the exclusive lock where the string is empty,
+    /// otherwise the shared lock under that string of at most 256 bytes.
     Lock(u32, Vec<u8, A>),
-    /// A lock is given up, once the messages received are finished.
+    /// A lock is to be released once the received messages are finished.
     Release,
-    /// It is asked who holds locks.
+    /// The lock information is requested (AsyncLockInfo).
     Info,
-    /// A device clear: all that the session has begun is dropped, what has an origin before it among that.
+    /// A device clear: everything that the session has begun is dropped, including what has an origin before it.
     Clear,
     /// The session has ended.
     Closed,

@@ -1,4 +1,4 @@
-// The frames of answers.
+// The frames of responses.
 ghost use Rattle.std.specs.Prelude.{◌≡◌, ◌<◌, List, ℕ, IfOk};
 ghost use Rattle.psu_hislip.specs.Answer.{answer_size, data_of, IsCut, IsAnswer, IsPart};
 
@@ -6,13 +6,13 @@ use crate::MessageType;
 use crate::frames::put_frame;
 use std::alloc::{AllocError, Allocator};
 
-/// The most bytes of a payload that is sent.
+/// The maximum size of a payload that is sent, in bytes.
 const PAYLOAD: u64 = 65_520;
 
-/// How many bytes a header has.
+/// The size of a header, in bytes.
 const HEADER: u64 = 16;
 
-/// The most bytes of a payload for a client that takes messages of this size.
+/// Returns the maximum payload size for a client that accepts messages of this size.
 pub fn answer_size(size: Option<u64>) -> usize
     ensures size { result ≡ answer_size size }
     ensures some { 0 < result }
@@ -23,7 +23,7 @@ pub fn answer_size(size: Option<u64>) -> usize
     }
 }
 
-// The full pieces as Data, and what is left for a last frame.
+// Encodes the full pieces as Data frames; returns these and the rest for a last frame.
 fn cut<A: Allocator + Copy>(
     alloc: A,
     size: usize,
@@ -42,7 +42,7 @@ fn cut<A: Allocator + Copy>(
     Ok((frames, rest))
 }
 
-/// The frames of an answer that leaves whole.
+/// Returns the frames of a response that is sent whole.
 pub fn answer_frames<A: Allocator + Copy>(
     alloc: A,
     size: usize,
@@ -57,7 +57,7 @@ pub fn answer_frames<A: Allocator + Copy>(
     Ok(frames)
 }
 
-/// The frames of a part of an answer that goes on.
+/// Returns the frames of a part of a response that continues after it.
 pub fn part_frames<A: Allocator + Copy>(
     alloc: A,
     size: usize,

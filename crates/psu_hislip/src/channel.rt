@@ -12,7 +12,7 @@ use std::alloc::{AllocError, Allocator};
 use std::marker::Model;
 use std::mem;
 
-/// What has come of a stream of bytes, cut into messages. Contracts see what the channel waits for.
+/// The receiver of a channel, which cuts a stream of bytes into messages. Contracts see what the channel waits for.
 #[derive(Drop)]
 pub struct Channel<A: Allocator + Copy> {
     alloc: A,
@@ -28,7 +28,7 @@ impl<A: Allocator + Copy> Model for Channel<A> {
 }
 
 impl<A: Allocator + Copy> Channel<A> {
-    /// A channel before its first byte.
+    /// Returns a channel before its first byte.
     pub fn new(alloc: A) -> Channel<A>
         ensures { Fed result [] [] }
     {
@@ -38,9 +38,10 @@ impl<A: Allocator + Copy> Channel<A> {
         }
     }
 
-    /// The messages that end in this piece of the stream, however it is cut. What is kept is a header and one payload.
+    /// Receives a piece of the stream and returns the messages that end in it, however the stream is cut. The channel
+    /// keeps at most a header and one payload.
     ///
-    /// Where memory is refused nothing has changed, and the piece can be fed again.
+    /// Where allocation fails, nothing has changed and the piece can be fed again.
     pub fn feed(&mut self, piece: &[u8]) -> Result<Vec<Message<A>, A>, AllocError>
         ensures fed { (stream : List ℕ) (given : List Received) → Fed self.old stream given
             → IfOk result (λ messages. Fed self.new (stream ++ piece.now) (given ++ all_received messages.items)) }
@@ -60,7 +61,8 @@ impl<A: Allocator + Copy> Channel<A> {
             payload.extend_from_slice(piece)?;
             return Ok(messages);
         }
-        // The frame that has begun has its place before the others; its payload follows once nothing can be refused.
+        // The frame that has begun goes before the others; its payload is moved in once no allocation can fail any
+        // more.
         messages.push(Message::Frame(*header, Vec::new(self.alloc)))?;
         let rest = Rest::Header(ArrayVec::new());
         let mut cut = Cut::take(self.alloc, messages, rest, &piece[wanted..])?;

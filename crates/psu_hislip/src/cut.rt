@@ -12,12 +12,12 @@ use std::alloc::{AllocError, Allocator};
 pub struct Cut<A: Allocator + Copy> {
     /// The messages.
     pub messages: Vec<Message<A>, A>,
-    /// What has come of the next one.
+    /// What has been received of the next one.
     pub rest: Rest<A>,
 }
 
 impl<A: Allocator + Copy> Cut<A> {
-    /// These messages, and those that end in a piece of the stream that follows.
+    /// Returns these messages, followed by those that end in the next piece of the stream.
     pub fn take(
         alloc: A,
         messages: Vec<Message<A>, A>,

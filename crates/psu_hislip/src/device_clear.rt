@@ -1,12 +1,13 @@
 // The device clear of a session.
 
-/// How far a device clear has come. Its two messages come on different channels, in either order.
+/// The progress of a device clear. Its two messages arrive on different channels, in either order.
 #[derive(Clone, Copy, Debug, PartialEq, Eq)]
 pub enum DeviceClear {
-    /// None is under way.
+    /// No device clear is under way.
     Idle,
-    /// AsyncDeviceClear has come: what comes on the synchronous channel is discarded.
+    /// AsyncDeviceClear was received: what arrives on the synchronous channel is discarded, except DeviceClearComplete.
     Begun,
-    /// DeviceClearComplete has come and no clear waited for it, and no Data, DataEnd or Trigger has come since.
+    /// DeviceClearComplete was received while no clear waited for it, and no Data, DataEnd or Trigger was received
+    /// since.
     Early,
 }

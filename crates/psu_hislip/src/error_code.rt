@@ -6,11 +6,11 @@ ghost use Rattle.std.specs.Prelude.{◌≡◌};
 pub enum ErrorCode {
     /// An error that has no code of its own.
     Unidentified = 0,
-    /// The type of the message is none, or none that the channel takes.
+    /// The message type is undefined, or the channel does not accept it.
     UnrecognizedType = 1,
-    /// The control code is none of those of the type.
+    /// The control code is not defined for the message type.
     UnrecognizedControl = 2,
-    /// The type is one that vendors define.
+    /// The message type is vendor-defined.
     UnrecognizedVendorType = 3,
     /// The payload is too large.
     TooLarge = 4,

@@ -6,11 +6,11 @@ ghost use Rattle.std.specs.Prelude.{◌≡◌};
 pub enum FatalCode {
     /// A header is poorly formed: it does not begin with `HS`.
     PoorlyFormedHeader = 1,
-    /// Both channels are to be used before they are joined.
+    /// A message that needs both channels was received before they were joined.
     ChannelsNotJoined = 2,
     /// The sequence of initialization is invalid.
     InvalidInitialization = 3,
-    /// There are as many clients as the server takes.
+    /// The server has as many clients as it accepts.
     TooManyClients = 4,
 }
 

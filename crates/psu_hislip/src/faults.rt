@@ -6,10 +6,10 @@ ghost use Rattle.psu_hislip.specs.Core.{takes, ill_formed, error};
 use crate::{ErrorCode, Header, Message, MessageType, Side};
 use std::alloc::Allocator;
 
-/// The least code of a type that vendors define.
+/// The lowest code of a vendor-defined message type.
 const VENDOR: u8 = 128;
 
-// Whether a channel takes a type.
+// Whether a channel accepts a message type.
 fn takes(side: Side, kind: MessageType) -> bool
     ensures { result ≡ takes side kind }
 {
@@ -34,7 +34,7 @@ fn takes(side: Side, kind: MessageType) -> bool
     }
 }
 
-// What is wrong with the control code or the payload of a type.
+// The error in the control code or the payload of a message of this type, if there is one.
 fn ill_formed(kind: MessageType, header: Header, payload: &[u8]) -> Option<ErrorCode>
     ensures { result ≡ ill_formed kind header payload.now }
 {
@@ -48,7 +48,7 @@ fn ill_formed(kind: MessageType, header: Header, payload: &[u8]) -> Option<Error
     }
 }
 
-/// Why a message is ignored that is no reason for the session to end, if it is.
+/// Returns the error for which a message is ignored without ending the session, if there is one.
 pub fn error<A: Allocator + Copy>(side: Side, message: &Message<A>) -> Option<ErrorCode>
     ensures { result ≡ error side (received message.now) }
 {

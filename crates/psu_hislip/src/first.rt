@@ -19,7 +19,7 @@ pub enum First {
 impl First {
     ghost use Rattle.psu_hislip.specs.First.{first_of};
 
-    /// What this message asks for as the first of a connection.
+    /// Returns what this message asks for as the first of a connection.
     pub fn of<A: Allocator + Copy>(message: &Message<A>) -> First
         ensures { result ≡ first_of (received message.now) }
     {

@@ -9,7 +9,7 @@ ghost use Rattle.psu_hislip.specs.Core.{reply};
 use crate::{Action, Header, MessageType, Side};
 use std::alloc::{AllocError, Allocator};
 
-/// Adds a message to the bytes that are sent, with control code 0.
+/// Appends a message with control code 0 to the bytes to send.
 pub fn put_frame<A: Allocator + Copy>(
     bytes: &mut Vec<u8, A>,
     kind: MessageType,
@@ -23,7 +23,7 @@ pub fn put_frame<A: Allocator + Copy>(
     bytes.extend_from_slice(payload)
 }
 
-/// A message without payload, to be sent.
+/// Returns the action that sends a message without payload.
 pub fn send<A: Allocator + Copy>(
     alloc: A,
     side: Side,
@@ -35,7 +35,7 @@ pub fn send<A: Allocator + Copy>(
     Ok(Action::Send(side, bytes))
 }
 
-/// A message without parameter and payload, to be sent.
+/// Returns the action that sends a message without parameter and payload.
 pub fn reply<A: Allocator + Copy>(
     alloc: A,
     side: Side,
@@ -47,7 +47,7 @@ pub fn reply<A: Allocator + Copy>(
     send(alloc, side, Header::new(kind, control, 0, 0))
 }
 
-/// One action alone.
+/// Returns a list of this one action.
 pub fn one<A: Allocator + Copy>(
     alloc: A,
     action: Action<A>,
@@ -59,7 +59,7 @@ pub fn one<A: Allocator + Copy>(
     Ok(actions)
 }
 
-/// Adds an action.
+/// Appends an action.
 pub fn put<A: Allocator + Copy>(
     actions: &mut Vec<Action<A>, A>,
     action: Action<A>,

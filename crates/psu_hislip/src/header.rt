@@ -7,7 +7,7 @@ use crate::MessageType;
 /// The header of a message (IVI-6.1), without its prologue `HS`.
 #[derive(Clone, Copy, Debug, PartialEq, Eq)]
 pub struct Header {
-    /// The code of the message's type, also where there is no such type.
+    /// The code of the message type, which may be undefined.
     pub kind: u8,
     /// The control code.
     pub control: u8,
@@ -21,7 +21,7 @@ impl Header {
     ghost use Rattle.psu_hislip.specs.Header.{header_bytes, Fits};
     ghost use Rattle.psu_hislip.specs.Frame.{header_of};
 
-    /// The header of a message of this type, control code and parameter, with so many bytes of payload.
+    /// Returns the header of a message of this type, control code and parameter, with a payload of `length` bytes.
     pub fn new(kind: MessageType, control: u8, parameter: u32, length: u64) -> Header
         ensures { result ≡ header_of kind control parameter length }
     {
@@ -33,7 +33,8 @@ impl Header {
         }
     }
 
-    /// The header that these bytes are, unless they do not begin with `HS`. Numbers come most significant byte first.
+    /// Decodes a header, or returns `None` where the bytes do not begin with `HS`. Numbers are in big-endian byte
+    /// order.
     pub fn read(bytes: &[u8; 16]) -> Option<Header>
         ensures some { IsSome result ↔ (take 2 bytes.now ≡ 72 ∷ 83 ∷ []) }
         ensures bytes { IfSome result (λ header. header_bytes header ≡ bytes.now) }
@@ -95,7 +96,7 @@ impl Header {
         ]
     }
 
-    /// The type of the message, where its code is that of one.
+    /// Returns the message type, or `None` where its code is undefined.
     pub fn message_type(self) -> Option<MessageType>
         ensures { result ≡ type_of self.kind }
     {

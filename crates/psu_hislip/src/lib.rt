@@ -1,4 +1,4 @@
-//! HiSLIP: the frames of a stream, and what each frame of a session asks for. No socket stands here.
+//! HiSLIP: the frames of a stream, and what each frame of a session asks for. This crate uses no sockets.
 //!
 //! Source: IVI-6.1 (HiSLIP 1.0, synchronized mode), with the choices of this project's profile.
 #![tactic(auto)]

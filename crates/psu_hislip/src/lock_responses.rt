@@ -1,13 +1,13 @@
-// The answers to what is asked of the locks.
+// The responses to lock messages.
 //
-// | asked by | comes to | answer | control code | parameter |
+// | message | result | response | control code | parameter |
 // |---|---|---|---|---|
 // | AsyncLock, control 1 | granted | AsyncLockResponse | 1 | 0 |
-// | | not granted in its time | | 0 | 0 |
+// | | not granted before its timeout | | 0 | 0 |
 // | | refused | | 3 | 0 |
-// | AsyncLock, control 0 | the exclusive lock is freed | AsyncLockResponse | 1 | 0 |
-// | | the shared one is freed | | 2 | 0 |
-// | | none is held | | 3 | 0 |
+// | AsyncLock, control 0 | the exclusive lock is released | AsyncLockResponse | 1 | 0 |
+// | | the shared lock is released | | 2 | 0 |
+// | | no lock is held | | 3 | 0 |
 // | AsyncLockInfo | an exclusive lock is held, or none | AsyncLockInfoResponse | 1, or 0 | sessions that hold a lock |
 ghost use Rattle.std.specs.Prelude.{◌≡◌};
 ghost use Rattle.psu_hislip.specs.LockResponses.{lock_response, release_response, lock_info_response};
@@ -15,8 +15,8 @@ ghost use Rattle.psu_hislip.specs.LockResponses.{lock_response, release_response
 use crate::{Header, MessageType};
 use psu_locks::{Freed, Grant, Info, LockRefusal};
 
-/// The answer to an AsyncLock that asks for a lock; none while the request waits. A request that waited is answered as Granted or
-/// Failed then.
+/// Returns the response to an AsyncLock that requests a lock, or `None` while the request waits. A request that waited
+/// is answered as Granted or Failed once its wait ends.
 pub fn lock_response(asked: Result<Grant, LockRefusal>) -> Option<Header>
     ensures { result ≡ lock_response asked }
 {
@@ -29,7 +29,7 @@ pub fn lock_response(asked: Result<Grant, LockRefusal>) -> Option<Header>
     Some(Header::new(MessageType::AsyncLockResponse, control, 0, 0))
 }
 
-/// The answer to an AsyncLock that gives a lock up.
+/// Returns the response to an AsyncLock that releases a lock.
 pub fn release_response(released: Result<Freed, LockRefusal>) -> Header
     ensures { result ≡ release_response released }
 {
@@ -41,7 +41,7 @@ pub fn release_response(released: Result<Freed, LockRefusal>) -> Header
     Header::new(MessageType::AsyncLockResponse, control, 0, 0)
 }
 
-/// The answer to AsyncLockInfo.
+/// Returns the response to AsyncLockInfo.
 pub fn lock_info_response(info: Info) -> Header
     ensures { result ≡ lock_info_response info }
 {

@@ -7,8 +7,8 @@ use std::alloc::Allocator;
 pub enum Message<A: Allocator + Copy> {
     /// A header and its payload, of at most 65,536 bytes.
     Frame(Header, Vec<u8, A>),
-    /// A header whose payload is longer; it is passed over.
+    /// A header whose payload is longer and is skipped.
     Oversize(Header),
-    /// Sixteen bytes that are no header. No message follows it.
+    /// Sixteen bytes that are not a header. No message follows them.
     BadHeader,
 }

@@ -13,11 +13,11 @@ pub enum MessageType {
     FatalError = 2,
     /// Either: a message was ignored.
     Error = 3,
-    /// Client: asks for a lock, or gives one up.
+    /// Client: requests or releases a lock.
     AsyncLock = 4,
-    /// Server: what came of that.
+    /// Server: the result of a lock request or a release.
     AsyncLockResponse = 5,
-    /// Either: a part of a transmission that goes on.
+    /// Either: a part of a transmission that is not its last.
     Data = 6,
     /// Either: the last part of a transmission.
     DataEnd = 7,
@@ -27,17 +27,17 @@ pub enum MessageType {
     DeviceClearAcknowledge = 9,
     /// Client: asks for remote or local control.
     AsyncRemoteLocalControl = 10,
-    /// Server: answers that.
+    /// Server: the response to AsyncRemoteLocalControl.
     AsyncRemoteLocalResponse = 11,
     /// Client: a trigger.
     Trigger = 12,
-    /// Server: an answer was interrupted, said on the synchronous channel.
+    /// Server: a response was interrupted; sent on the synchronous channel.
     Interrupted = 13,
-    /// Server: the same, said on the asynchronous channel.
+    /// Server: a response was interrupted; sent on the asynchronous channel.
     AsyncInterrupted = 14,
-    /// Client: the greatest message that it takes.
+    /// Client: the maximum message size that it accepts.
     AsyncMaximumMessageSize = 15,
-    /// Server: the greatest message that it takes.
+    /// Server: the maximum message size that it accepts.
     AsyncMaximumMessageSizeResponse = 16,
     /// Client: joins a second connection to its session.
     AsyncInitialize = 17,
@@ -47,15 +47,15 @@ pub enum MessageType {
     AsyncDeviceClear = 19,
     /// Server: a service request, with the status byte.
     AsyncServiceRequest = 20,
-    /// Client: asks for the status byte.
+    /// Client: queries the status byte.
     AsyncStatusQuery = 21,
     /// Server: the status byte.
     AsyncStatusResponse = 22,
     /// Server: the device clear has begun.
     AsyncDeviceClearAcknowledge = 23,
-    /// Client: asks who holds locks.
+    /// Client: requests the lock information.
     AsyncLockInfo = 24,
-    /// Server: who holds locks.
+    /// Server: whether the exclusive lock is held, and how many sessions hold a lock.
     AsyncLockInfoResponse = 25,
 }
 
@@ -90,7 +90,7 @@ const TYPES: [MessageType; 26] = [
 ];
 
 impl MessageType {
-    /// The type of this code; none has a code over 25.
+    /// Returns the type of this code, or `None` where the code is over 25.
     pub fn of(code: u8) -> Option<MessageType>
         ensures { result ≡ type_of code }
     {

@@ -1,10 +1,11 @@
-// Where a message stands in its session.
+// The origin of a message.
 
-/// Where a message of the synchronous channel stands in its session.
+/// The origin of a message of the synchronous channel: its place in its session.
 #[derive(Clone, Copy, Debug, PartialEq, Eq)]
 pub struct Origin {
-    /// Its MessageID, which the frames of its answer carry.
+    /// Its MessageID, which the frames of its response carry.
     pub id: u32,
-    /// How many device clears the session had had, modulo 2^64. An answer to it is dropped once there is another.
+    /// The number of device clears in the session before it, modulo 2^64. A response to it is dropped after another
+    /// device clear.
     pub clears: u64,
 }

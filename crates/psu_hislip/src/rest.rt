@@ -1,25 +1,25 @@
-// What has come of a message that is not whole.
+// The received part of an incomplete message.
 ghost use Rattle.std.specs.Prelude.{◌≡◌, IfSome, IsNone};
 ghost use Rattle.psu_hislip.specs.Rest.{awaited, IsRest, IsBegun};
 
 use arrayvec::ArrayVec;
 use std::alloc::Allocator;
 
-/// What has come of a message that is not whole.
+/// What has been received of an incomplete message.
 #[derive(Drop)]
 pub enum Rest<A: Allocator + Copy> {
     /// The first bytes of a header.
     Header(ArrayVec<u8, 16>),
     /// A header, and the first bytes of its payload.
     Payload(crate::Header, Vec<u8, A>),
-    /// A header whose payload is too long: so many bytes of it are still to be passed over.
+    /// A header whose payload is too long: so many bytes of it are still to be skipped.
     Passing(u64),
-    /// Sixteen bytes that were no header: all is passed over.
+    /// Sixteen bytes that were not a header: everything after them is skipped.
     Ended,
 }
 
 impl<A: Allocator + Copy> Rest<A> {
-    /// The same again, where no payload has begun: that takes no memory.
+    /// Returns a copy without allocating, or `None` where a payload has begun.
     pub fn copied(&self) -> Option<Rest<A>>
         requires { IsRest self.now }
         ensures same { IfSome result (λ rest. awaited rest ≡ awaited self.now) }

@@ -1,4 +1,4 @@
-// The core of a session.
+// The session core: the protocol state of one session.
 ghost use Rattle.std.specs.Prelude.{◌≡◌, ◌+◌, ◌&&◌, not, length, ◌↔◌, IsTrue, IfOk, IfSome, IsSome, OnOk, OnErr, None};
 ghost use Rattle.psu_hislip.specs.Stream.{received};
 ghost use Rattle.psu_hislip.specs.Action.{act, acts};
@@ -16,17 +16,17 @@ use crate::{Action, DeviceClear, FatalCode, Header, Message, MessageType, Origin
 use std::alloc::{AllocError, Allocator};
 use std::marker::Model;
 
-/// The most bytes of a shared lock's string.
+/// The maximum length of a shared lock's string, in bytes.
 const LOCK_STRING: usize = 256;
 
-/// The greatest message that the server takes, 65,536 bytes, as AsyncMaximumMessageSizeResponse has it.
+/// The maximum message size that the server accepts, 65,536 bytes, as AsyncMaximumMessageSizeResponse carries it.
 const SIZE: [u8; 8] = [0, 0, 0, 0, 0, 1, 0, 0];
 
 /// Version 1.0 of the protocol, in the upper half of InitializeResponse's parameter.
 const VERSION: u32 = 0x0100_0000;
 
-/// A session between its messages: whether it is joined or has failed, the client's message size, the transmission that has
-/// begun, the device clear and how many there were. Contracts see just that.
+/// The state of a session between two messages: whether it is joined or has failed, the client's maximum message size,
+/// the transmission received so far, the device clear and the number of device clears. Contracts see just that.
 #[derive(Drop)]
 pub struct SessionCore<A: Allocator + Copy> {
     alloc: A,
@@ -54,14 +54,14 @@ fn initializes(header: Header) -> bool
         || header.kind == MessageType::AsyncInitialize.code()
 }
 
-// Bit 0 of the control code.
+// Whether bit 0 of the control code (RMT-delivered) is set.
 fn is_delivered(header: Header) -> bool
     ensures { result ≡ is_delivered header }
 {
     header.control % 2 == 1
 }
 
-// Delivered, where bit 0 of the control code says so.
+// The action Delivered, where bit 0 of the control code is set.
 fn delivered<A: Allocator + Copy>(alloc: A, header: Header) -> Result<Vec<Action<A>, A>, AllocError>
     ensures { IfOk result (λ actions. acts actions.items ≡ delivered header) }
 {
@@ -71,7 +71,7 @@ fn delivered<A: Allocator + Copy>(alloc: A, header: Header) -> Result<Vec<Action
     Ok(Vec::new(alloc))
 }
 
-// What AsyncLock asks for.
+// The action that an AsyncLock asks for.
 fn locked<A: Allocator + Copy>(
     alloc: A,
     header: Header,
@@ -90,7 +90,7 @@ fn locked<A: Allocator + Copy>(
 }
 
 impl<A: Allocator + Copy> SessionCore<A> {
-    /// The core of a session of this number, whose synchronous channel alone is there.
+    /// Returns the core of a session of this number, of which only the synchronous channel is established.
     pub fn new(alloc: A, session: u16) -> SessionCore<A>
         ensures { result ≡ started session }
     {
@@ -106,7 +106,7 @@ impl<A: Allocator + Copy> SessionCore<A> {
         }
     }
 
-    /// The answer to Initialize: version 1.0 and the number of the session.
+    /// Returns the response to Initialize: version 1.0 and the session number.
     pub fn response(&self) -> Header
         ensures { result ≡ header_of InitializeResponse 0 (16777216 + self.now.session) 0 }
     {
@@ -114,8 +114,8 @@ impl<A: Allocator + Copy> SessionCore<A> {
         Header::new(MessageType::InitializeResponse, 0, parameter, 0)
     }
 
-    /// Whether the asynchronous channel is there. An AsyncInitialize of a new connection is this session's only while it isn't and
-    /// the session has not failed.
+    /// Whether the asynchronous channel is established. An AsyncInitialize on a new connection belongs to this session
+    /// only while the channel is not established and the session has not failed.
     pub fn is_joined(&self) -> bool
         ensures { result ≡ self.now.joined }
     {
@@ -129,8 +129,8 @@ impl<A: Allocator + Copy> SessionCore<A> {
         self.failed
     }
 
-    /// Whether neither a device clear nor a FatalError has come since a message of this origin. Nothing more is done for one that
-    /// isn't current.
+    /// Whether neither a device clear nor a FatalError has occurred since a message of this origin. Nothing more is
+    /// done for a message that is not current.
     pub fn is_current(&self, origin: Origin) -> bool
         ensures { IsTrue result ↔ IsCurrent self.now origin }
     {
@@ -151,7 +151,7 @@ impl<A: Allocator + Copy> SessionCore<A> {
         }
     }
 
-    // Why the session ends with a message for its place in the order of messages, if it does.
+    // The fatal error that a message causes by its place in the order of messages, if there is one.
     fn misplaced(&self, side: Side, header: Header, joins: bool) -> Option<FatalCode>
         ensures { result ≡ misplaced self.now side header joins }
     {
@@ -164,7 +164,7 @@ impl<A: Allocator + Copy> SessionCore<A> {
         None
     }
 
-    // Why the session ends with a message, if it does.
+    // The fatal error that a message causes, if there is one.
     fn fatal(&self, side: Side, message: &Message<A>) -> Option<FatalCode>
         ensures { result ≡ fatal self.now side (received message.now) }
     {
@@ -177,7 +177,8 @@ impl<A: Allocator + Copy> SessionCore<A> {
         }
     }
 
-    // Whether a message is discarded: in a clear all of the synchronous channel is but what completes it.
+    // Whether a message is discarded: during a device clear every message on the synchronous channel is, except the one
+    // that completes it.
     fn discards(&self, side: Side, message: &Message<A>) -> bool
         ensures { result ≡ (is_sync side && is_begun self.now.clear && not (completes (received message.now))) }
     {
@@ -292,7 +293,7 @@ impl<A: Allocator + Copy> SessionCore<A> {
         Ok(actions)
     }
 
-    // What a message without fault asks for, by its type.
+    // Processes a message without fault, by its type, and returns its actions.
     fn row(
         &mut self,
         kind: MessageType,
@@ -323,12 +324,14 @@ impl<A: Allocator + Copy> SessionCore<A> {
         }
     }
 
-    /// What a message on one of the session's channels asks for, in order. The first message of the asynchronous channel, its
-    /// AsyncInitialize, is one of them; that of the synchronous channel is not.
+    /// Processes a message of one of the session's channels and returns the actions that it asks for, in order. The
+    /// first message of the asynchronous channel, its AsyncInitialize, is one of these messages; the first message of
+    /// the synchronous channel is not.
     ///
-    /// What the messages of both channels ask for is done in the order of these calls, and what is to be sent on the synchronous
-    /// channel goes out in the order in which this call, `part` and `answer` gave it. After a fatal fault each message gives the
-    /// one action Closed. Where memory is refused nothing has changed, and the message can be told again.
+    /// The actions of the messages of both channels are performed in the order of these calls, and the bytes for the
+    /// synchronous channel are sent in the order in which this call, `part` and `answer` returned them. After a fatal
+    /// error each message returns the one action Closed. Where allocation fails, nothing has changed and the message
+    /// can be passed again.
     pub fn on(&mut self, side: Side, message: &Message<A>) -> Result<Vec<Action<A>, A>, AllocError>
         ensures done { IfOk result (λ actions. acts actions.items ≡ (outcome_of self.old side (received message.now)).actions) }
         ensures core { OnOk result (self.new ≡ (outcome_of self.old side (received message.now)).core) }
@@ -360,10 +363,11 @@ impl<A: Allocator + Copy> SessionCore<A> {
         }
     }
 
-    /// The frames of an answer to a transmission of this origin; none where it isn't current any more.
+    /// Returns the frames of a response to a transmission of this origin, or `None` where the origin is no longer
+    /// current.
     ///
-    /// A payload has at most the bytes that the client takes less a header's 16, but at least 1 and at most 65,520; an empty answer
-    /// is one empty frame.
+    /// The maximum payload size is the client's maximum message size less the 16 bytes of a header, but at least 1 and
+    /// at most 65,520 bytes; an empty response is one empty frame.
     pub fn answer(&self, origin: Origin, bytes: &[u8]) -> Result<Option<Vec<u8, A>>, AllocError>
         ensures current { IfOk result (λ answer. IsSome answer ↔ IsCurrent self.now origin) }
         ensures refused { OnErr result (IsCurrent self.now origin) }
@@ -376,8 +380,8 @@ impl<A: Allocator + Copy> SessionCore<A> {
         Ok(Some(frames))
     }
 
-    /// The frames of a part of an answer to a transmission of this origin, which goes on; none where it isn't current any more. After
-    /// its parts the answer ends with an `answer` of the rest.
+    /// Returns the frames of a part of a response to a transmission of this origin, or `None` where the origin is no
+    /// longer current. The response continues: after its parts it ends with an `answer` of the rest.
     pub fn part(&self, origin: Origin, bytes: &[u8]) -> Result<Option<Vec<u8, A>>, AllocError>
         ensures current { IfOk result (λ part. IsSome part ↔ IsCurrent self.now origin) }
         ensures refused { OnErr result (IsCurrent self.now origin) }

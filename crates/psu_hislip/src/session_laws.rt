@@ -1,4 +1,4 @@
-// Laws of whole runs of a session: the messages of both channels, in the order in which it is told of them.
+// Laws of whole runs of a session: the messages of both channels, in the order in which the session receives them.
 ghost use Rattle.std.specs.Prelude.{◌≡◌, ◌<◌, ◌^◌, ℕ, All, length, List, [], ◌∷◌, ◌++◌, true, false, Some, map, flat_map};
 ghost use Rattle.std.specs.List.{list_any};
 ghost use Rattle.psu_hislip.specs.Faults.{fatal_code};
@@ -12,7 +12,8 @@ ghost use Rattle.psu_hislip.specs.declared.origin.Origin.{Origin};
 ghost use Rattle.psu_hislip.specs.declared.fatal_code.FatalCode.{FatalCode};
 ghost use Rattle.psu_hislip.specs.declared.message_type.MessageType.TheVariants.{FatalError};
 
-/// A message that gives a FatalError gives Closed after it, and then each message gives Closed alone and no answer is current.
+/// A message that causes a FatalError gives Closed after it. Then each message gives Closed alone, and no origin is
+/// current.
 pub fn closed_after_a_fatal_error()
     ensures gives { (core : Core) (t : Told) → sends_fatal_error (outcome core t).actions ≡ true
         → (code : FatalCode) × ((outcome core t).actions ≡ reply t.side FatalError (fatal_code code) ∷ Closed ∷ []) }
@@ -21,29 +22,30 @@ pub fn closed_after_a_fatal_error()
         → IsCurrent (core_after (outcome core t).core later) o → ⊥ }
 {}
 
-/// Unless a session fails, each message of a type with an answer has got just one, on its channel, of the type that it asks for and
-/// in the order in which the messages came; no other message has got any but an Error.
+/// Unless a session fails, each message without an error whose type has a response gets exactly one: on its channel, of
+/// the type that it asks for, and in the order in which the messages were received. Any other message gets no response
+/// but an Error.
 pub fn one_answer_for_each_message()
     ensures { (core : Core) (run : List Told) → (core_after core run).failed ≡ false → answers (actions_of core run) ≡ flat_map answers_due run }
 {}
 
-/// Between an AsyncDeviceClear and the next DeviceClearComplete nothing is executed, unless one had come already that no Data,
-/// DataEnd or Trigger followed.
+/// Between an AsyncDeviceClear and the next DeviceClearComplete nothing is executed, unless a DeviceClearComplete was
+/// received before the AsyncDeviceClear and no Data, DataEnd or Trigger followed it.
 pub fn nothing_executed_in_a_clear()
     ensures { (session : ℕ) (before between : List Told) (clear : Told) → begins_clear clear ≡ true → (EndsComplete before → ⊥) → list_any completes_clear between ≡ false
         → executions (actions_of (core_after (started session) (before ++ clear ∷ [])) between) ≡ [] }
 {}
 
-/// Nothing that came before an AsyncDeviceClear is current after it, so no frame of an answer to it is given any more. (The clears are
-/// counted modulo 2^64.)
+/// Nothing received before an AsyncDeviceClear is current after it, so no frame of a response to it is returned any
+/// more. (The device clears are counted modulo 2^64.)
 pub fn no_answer_of_before_a_clear()
     ensures { (session : ℕ) (before later : List Told) → 0 < clears_in later → length (before ++ later) < 2 ^ 64
         → All (λ o. IsCurrent (core_after (started session) (before ++ later)) o → ⊥) (origins (actions_of (started session) before)) }
 {}
 
-/// What is executed is the transmissions that the client sent, in order and once each: of a run from the beginning of a
-/// transmission on, without a device clear, whose payloads are whole transmissions and then some that go on. One that has more
-/// than 65,536 bytes is told as that.
+/// The executed transmissions are those that the client sent, in order and once each. This holds for a run that starts
+/// at the beginning of a transmission and has no device clear, and whose payloads are whole transmissions followed by
+/// payloads of an unfinished one. A transmission of more than 65,536 bytes is reported as such.
 pub fn each_transmission_once()
     ensures { (core : Core) (run : List Told) (whole : List Transmission) (rest : List (List ℕ)) → (core_after core run).failed ≡ false
         → core.transmission ≡ Some [] → is_begun core.clear ≡ false → list_any begins_clear run ≡ false
@@ -51,8 +53,9 @@ pub fn each_transmission_once()
         → transmissions (actions_of core run) ≡ map (asked core.clears) whole }
 {}
 
-/// The same of a whole session with device clears whose messages come in their order: each drops the payloads before it that no
-/// DataEnd ended, and what comes until its DeviceClearComplete.
+/// The executed transmissions of a whole session are those that the client sent, where the two messages of each device
+/// clear arrive in their order: each clear drops the payloads before it that no DataEnd ended, and what arrives until
+/// its DeviceClearComplete.
 pub fn each_transmission_once_between_clears()
     ensures { (session : ℕ) (stretches : List Stretch) (last : List Told) (whole : List Transmission) (rest : List (List ℕ)) → All IsStretch stretches
         → list_any begins_clear last ≡ false → flat_map piece_in last ≡ flat_map pieces_of whole ++ map More rest
@@ -61,7 +64,7 @@ pub fn each_transmission_once_between_clears()
         ≡ map text_kept (flat_map (λ (s : Stretch). s.whole) stretches ++ whole) }
 {}
 
-/// There is such a session: what the laws ask for can be.
+/// Such a session exists: the premises of the laws can be met.
 pub fn a_session_with_a_clear()
     ensures stretch { IsStretch first_stretch }
     ensures good { (core_after (started 1) (run_of first_stretch ++ last_words)).failed ≡ false }

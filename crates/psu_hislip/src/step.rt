@@ -10,21 +10,21 @@ use crate::{Header, Message};
 use arrayvec::ArrayVec;
 use std::alloc::{AllocError, Allocator};
 
-/// The most bytes of a payload that is kept.
+/// The maximum size of a payload that is kept, in bytes.
 const MOST: u64 = 65_536;
 
 /// One step through a stream, up to the end of a message or of a piece.
 #[derive(Drop)]
 pub struct Step<A: Allocator + Copy> {
-    /// How many bytes of the piece it took, at least one.
+    /// The number of bytes of the piece that it took, at least one.
     pub used: usize,
-    /// The message that they ended.
+    /// The message that ends with them, if one does.
     pub message: Option<Message<A>>,
-    /// What has come of the next message.
+    /// What has been received of the next message.
     pub rest: Rest<A>,
 }
 
-// What a whole header comes to.
+// Decodes a complete header.
 fn headed<A: Allocator + Copy>(
     alloc: A,
     bytes: &[u8; 16],
@@ -120,7 +120,7 @@ fn payload<A: Allocator + Copy>(
     })
 }
 
-// Passes over bytes of a payload.
+// Skips bytes of a payload.
 fn passing<A: Allocator + Copy>(count: u64, piece: &[u8]) -> Step<A>
     requires begun { 0 < count }
     requires some { 0 < length piece.now }

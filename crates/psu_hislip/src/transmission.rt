@@ -1,4 +1,4 @@
-// A transmission.
+// A transmission: the payloads up to a DataEnd.
 ghost use Rattle.std.specs.Prelude.{◌≡◌, Some, [], IfOk, OnOk, OnErr};
 ghost use Rattle.psu_hislip.specs.Action.{act};
 ghost use Rattle.psu_hislip.specs.Transmission.{added, executed};
@@ -7,10 +7,10 @@ use crate::{Action, Origin};
 use std::alloc::{AllocError, Allocator};
 use std::marker::Model;
 
-/// The most bytes of a transmission.
+/// The maximum size of a transmission, in bytes.
 const MOST: usize = 65_536;
 
-/// The bytes of a transmission so far. Contracts see them, or none where they are too many to be kept.
+/// The bytes of a transmission so far. Contracts see them, or `None` where they are too many to be kept.
 #[derive(Drop)]
 pub struct Transmission<A: Allocator + Copy> {
     alloc: A,
@@ -29,7 +29,7 @@ impl<A: Allocator + Copy> Model for Transmission<A> {
 }
 
 impl<A: Allocator + Copy> Transmission<A> {
-    /// No bytes yet.
+    /// Returns an empty transmission.
     pub fn new(alloc: A) -> Transmission<A>
         ensures { result ≡ Some [] }
     {
@@ -40,7 +40,7 @@ impl<A: Allocator + Copy> Transmission<A> {
         }
     }
 
-    /// Adds the payload of a Data. Where memory is refused nothing has changed.
+    /// Appends the payload of a Data. Where allocation fails, nothing has changed.
     pub fn add(&mut self, payload: &[u8]) -> Result<(), AllocError>
         ensures ok { OnOk result (self.new ≡ added self.old payload.now) }
         ensures err { OnErr result (self.new ≡ self.old) }
@@ -53,7 +53,7 @@ impl<A: Allocator + Copy> Transmission<A> {
         self.bytes.extend_from_slice(payload)
     }
 
-    /// What the transmission asks for, with the payload of its DataEnd.
+    /// Returns the action of the transmission whose DataEnd has this payload.
     pub fn executed(&self, origin: Origin, payload: &[u8]) -> Result<Action<A>, AllocError>
         ensures { IfOk result (λ action. act action ≡ executed origin (added self.now payload.now)) }
     {
@@ -66,7 +66,7 @@ impl<A: Allocator + Copy> Transmission<A> {
         Ok(Action::Execute(origin, bytes))
     }
 
-    /// The next one begins.
+    /// Begins the next transmission, which is empty.
     pub fn clear(&mut self)
         ensures { self.new ≡ Some [] }
     {

@@ -1,4 +1,5 @@
--- What is kept is nonvolatile by the table, and what is nonvolatile is kept or refused: command by command.
+-- Each command that changes the nonvolatile contents is nonvolatile by the table, and each nonvolatile command changes
+-- them or is refused: command by command.
 use Rattle.std.proofs.Common.{◌≡◌, inl, inr, ℕ, Bool, true, false, cond, not, Option, Some, None, is_none, is_some, List, length, nat_lt, nat_le, refl}
 use Rattle.psu_lex.specs.declared.scpi_error.ScpiError.{ScpiError}
 use Rattle.psu_lex.specs.declared.scpi_error.ScpiError.TheVariants.{CommandProtected, DataOutOfRange, SettingsConflict, TooMuchData}
@@ -36,7 +37,7 @@ use Rattle.psu_instrument.specs.Meaning.{Situation, Meaning, Refuses, Does, Keep
 use Rattle.psu_instrument.specs.Nonvolatile.{IsRefusedOrKept}
 use Rattle.psu_instrument.specs.Supplies.{asked, level_asked, level_of, set, switch_of}
 
--- ---- what is not kept
+-- ---- commands that are not nonvolatile
 
 refused : (error : ScpiError) (change : nv.Command) → Refuses error ≡ Keeps change → ⊥
 refused error change e = cc
@@ -103,7 +104,7 @@ file_told : (s : Situation) (name : List ℕ) (found : Option ScpiError) (change
 file_told s name None change e = cc
 file_told s name (Some error) change e = cc
 
--- the enables are kept where the flag is false
+-- the enables are nonvolatile while the flag is false
 while_false : (enables : Option (ℕ × ℕ)) (kept change : nv.Command) (i : Instrument) → cond (is_some enables) (Keeps kept) (leaves i) ≡ Keeps change → not (is_none enables) ≡ true
 while_false None kept change i e = cc
 while_false (Some x) kept change i e = refl
@@ -142,7 +143,7 @@ kept_are_nonvolatile s (command.Names what from to) change e = refl
 kept_are_nonvolatile s (command.StateFile way number name) change e = refl
 kept_are_nonvolatile s (command.MacroFile way label name) change e = refl
 
--- ---- what is kept
+-- ---- commands that are nonvolatile
 
 kept : (change : nv.Command) → IsRefusedOrKept (Keeps change)
 kept change = inr (change, refl)

@@ -1,4 +1,4 @@
--- Power-on with register 0 against `*RCL 0`.
+-- Power-on with register 0, compared with `*RCL 0`.
 use Rattle.std.proofs.Common.{◌≡◌, ◌∙◌, ap, refl, Bool, List}
 use Rattle.psu_outputs.specs.Outputs.{conditions, reset_supply}
 use Rattle.psu_outputs.specs.declared.supply.Supply.{Supply}

@@ -1,4 +1,4 @@
--- No command answers nothing: command by command.
+-- No response is empty: command by command.
 use Rattle.std.proofs.Common.{◌≡◌, ◌≢◌, ℕ, zero, suc, ◌/◌, ◌%◌, ◌==◌, Bool, true, false, cond, not, Option, Some, None, List, [], ◌∷◌, ◌++◌, decimal, pos, length, refl, subst, is_some, nat_lt, nat_le}
 use Rattle.std.proofs.DigitsParse.{digits_onto-nil}
 use Rattle.std.specs.Fmt.{digit_glyph, digits_onto}

@@ -1,4 +1,4 @@
--- What each command means: the table, whose lines stand with their subsystems.
+-- The meaning of each command: the table, whose entries are defined with their subsystems.
 use Rattle.std.specs.Prelude.{ℕ}
 use Rattle.psu_tree.specs.declared.action.Action.{Action}
 use Rattle.psu_tree.specs.declared.action.Action.TheVariants as action

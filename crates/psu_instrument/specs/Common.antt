@@ -1,4 +1,4 @@
--- The common commands that are not of macros. Source: IEEE 488.2, chapter 10.
+-- The common commands, except those of macros. Source: IEEE 488.2, chapter 10.
 use Rattle.std.specs.Prelude.{ℕ, nat_lt, nat_le, Bool, false, if◌then◌else◌, Some, None, is_some, is_none, List, length, codes, decimal}
 use Rattle.psu_lex.specs.Data.{definite_text}
 use Rattle.psu_lex.specs.declared.scpi_error.ScpiError.TheVariants.{CommandProtected, DataOutOfRange, TooMuchData}
@@ -17,17 +17,17 @@ use Rattle.psu_instrument.specs.Meaning.{Situation, Meaning, Refuses, Does, Keep
 abbrev pub identity : List ℕ
 identity = codes "EXAMPLE,PSU4,0,1.0"
 
--- `*TST?`: the self-test finds no fault
+-- `*TST?`: the self-test passes
 abbrev pub self_test : Situation → Meaning
 self_test s = says s 0
 
 -- ---- status
 
--- `*CLS`: the event registers, the error queue, and an `*OPC` that waits
+-- `*CLS`: clears the event registers, the error queue, and a pending `*OPC`
 abbrev pub clear_status : Situation → Meaning
 clear_status s = leaves (record s.instrument { status = reporting.cleared s.instrument.status; pending = None })
 
--- `*ESE`, `*SRE`: kept while the power-on status clear flag is false
+-- `*ESE`, `*SRE`: nonvolatile while the power-on status clear flag is false
 abbrev pub enabled : Situation → Enable → ℕ → Meaning
 enabled s enable.EventStatus bits = if is_some s.contents.enables then Keeps (EventEnable bits) else leaves (with_ese s.instrument bits)
 enabled s enable.ServiceRequest bits = if is_some s.contents.enables then Keeps (ServiceEnable bits) else leaves (with_sre s.instrument bits)
@@ -47,8 +47,9 @@ status_byte s = says s (reporting.status_byte s.instrument.status s.available)
 
 -- ---- flags
 
--- `*PSC`: while the flag is false the enables are kept, from now on the present ones. `*EMC`: whether calls of macros are expanded.
--- `DIAGnostic:PUD:PROTect`: whether user data is protected. `OUTPut:PON:STATe`: whether the settings at power-on are those of register 0.
+-- `*PSC`: while the flag is false the enables are nonvolatile, beginning with the present ones. `*EMC`: whether macro
+-- calls are expanded. `DIAGnostic:PUD:PROTect`: whether user data is protected. `OUTPut:PON:STATe`: whether the
+-- power-on settings are those of register 0.
 abbrev pub flagged : Situation → Flag → Bool → Meaning
 flagged s flag.PowerOnClear on = Keeps (PowerOnClear (if on then None else Some (s.instrument.status.sre, s.instrument.status.ese)))
 flagged s flag.Macros on = leaves (record s.instrument { expands = on })
@@ -58,7 +59,7 @@ flagged s flag.Recall on = Keeps (Recall on)
 abbrev pub digit : Bool → ℕ
 digit on = if on then 1 else 0
 
--- the settings at power-on, as answered
+-- the choice of the power-on settings as response data
 abbrev pub choice : Bool → List ℕ
 choice recall = if recall then codes "RCL0" else codes "RST"
 
@@ -71,7 +72,8 @@ flag_asked s flag.Recall = answers s (choice s.contents.recall)
 
 -- ---- settings
 
--- `*RST`: the settings, with no trip; macros disabled, and no `*OPC` waiting. Status, protection of user data and loads stay.
+-- `*RST`: the settings, with no trip; macros disabled, and no `*OPC` pending. Status, protection of user data and loads
+-- are unchanged.
 abbrev pub reset_all : Situation → Meaning
 reset_all s = leaves (record (with_supplies s.instrument (restored s.instrument.supplies reset)) { expands = false; pending = None })
 
@@ -79,7 +81,7 @@ reset_all s = leaves (record (with_supplies s.instrument (restored s.instrument.
 abbrev pub saved : Situation → ℕ → Meaning
 saved s register = if nat_le 100 register then Refuses DataOutOfRange else Keeps (Save register (all_settings s.instrument.supplies))
 
--- `*RCL`: the register's settings, with no trip but those that follow from them
+-- `*RCL`: the register's settings, with no trips except those that they cause
 abbrev pub recalled : Situation → ℕ → Meaning
 recalled s register =
     if nat_le 100 register then Refuses DataOutOfRange
@@ -87,7 +89,7 @@ recalled s register =
 
 -- ---- user data
 
--- `*PUD`: at most 63 bytes, and only while they are not protected
+-- `*PUD`: at most 63 bytes, and only while user data is not protected
 abbrev pub user_data : Situation → List ℕ → Meaning
 user_data s bytes =
     if nat_lt 63 (length bytes) then Refuses TooMuchData

@@ -23,7 +23,7 @@ use Rattle.psu_instrument.specs.Meaning.{Situation, Meaning, Refuses, Keeps, ans
 abbrev pub stored : Situation → Option (List ℕ) → List ℕ → Meaning
 stored s name bytes = if nat_lt 32768 (length bytes) then Refuses TooMuchData else Keeps (StoreBytes (text_of name) bytes)
 
--- why a file can't be read
+-- the reason for which a file can't be read, if there is one
 abbrev pub reading_refused : Contents → List ℕ → Option ScpiError
 reading_refused c name = first_of ((not (is_name name), FileNameError) ∷ (not (has_file c.files name), FileNameNotFound) ∷ [])
 
@@ -43,7 +43,7 @@ on_two s on_names.Move from to = Keeps (Move (text_of from) (text_of to))
 
 -- ---- states and macros
 
--- between a register from 0 to 99 and a file
+-- a transfer between a register from 0 to 99 and a file
 abbrev pub state_change : Transfer → ℕ → List ℕ → nv.Command
 state_change transfer.Store register name = StoreState register name
 state_change transfer.Load register name = LoadState register name
@@ -59,7 +59,7 @@ macro_moved s transfer.Load label name = Keeps (LoadMacro (text_of label) (text_
 
 -- ---- catalog
 
--- the type of a file by the byte that stands for it
+-- the type of a file by its type byte
 abbrev pub kind_text : ℕ → List ℕ
 kind_text code = if code == 0 then codes "BIN" else (if code == 1 then codes "STAT" else codes "MACR")
 
@@ -72,7 +72,7 @@ abbrev pub entries : List Item → List ℕ
 entries [] = []
 entries (file ∷ files) = entry_of file.key file.value ++ entries files
 
--- the bytes used and those left, 512 a page, and then the files
+-- the bytes used and the bytes free, 512 a page, followed by the files
 abbrev pub catalog_text : ℕ → Contents → List ℕ
 catalog_text limit c = decimal (512 * cost_of c) ++ (44 ∷ (decimal (512 * (limit - cost_of c)) ++ entries c.files))
 

@@ -1,4 +1,4 @@
--- Macros. Source: IEEE 488.2, 10.8 (`*DMC`) and the commands beside it.
+-- Macros. Source: IEEE 488.2, 10.8 (`*DMC`) and the commands related to it.
 use Rattle.std.specs.Prelude.{◌≡◌, ◌⊎◌, ℕ, Bool, true, false, if◌then◌else◌, Option, Some, None, Result, Ok, Err, List, [], ◌∷◌, ◌++◌, map}
 use Rattle.psu_lex.specs.Data.{definite_text}
 use Rattle.psu_lex.specs.Macros.{ExpandsTo}
@@ -18,7 +18,7 @@ use Rattle.psu_instrument.specs.Meaning.{Situation, Meaning, Refuses, Keeps, ans
 abbrev pub defined : Situation → Option (List ℕ) → List ℕ → Meaning
 defined s label body = Keeps (DefineMacro (text_of label) body)
 
--- a macro's body as answered; one that is not defined has none
+-- a macro's body as response data; an undefined macro has none
 abbrev pub body_asked : Situation → Option (List ℕ) → Meaning
 body_asked s None = Refuses MacroHeaderNotFound
 body_asked s (Some body) = answers s (definite_text body)
@@ -35,12 +35,12 @@ purged s = Keeps PurgeMacros
 abbrev pub quoted : List ℕ → List ℕ
 quoted text = 34 ∷ (text ++ 34 ∷ [])
 
--- labels behind a first one
+-- labels that follow a first one
 abbrev pub more_labels : List (List ℕ) → List ℕ
 more_labels [] = []
 more_labels (label ∷ labels) = 44 ∷ (quoted label ++ more_labels labels)
 
--- labels as answered, in order of definition; `""` where there is none
+-- labels as response data, in order of definition; `""` where there is none
 abbrev pub labels_text : List (List ℕ) → List ℕ
 labels_text [] = quoted []
 labels_text (label ∷ labels) = quoted label ++ more_labels labels
@@ -65,22 +65,22 @@ HoldsParameters (Some call) list = HoldsData call.args list
 abbrev pub written : List Datum → List (List ℕ)
 written list = map (λ (d : Datum). d.text) list
 
--- the body that is called: macros are enabled, and the label is defined, without regard to case
+-- the body that is called: macros are enabled, and the label is defined, ignoring case
 abbrev pub body_called : Instrument → List Macro → Option (List ℕ) → Option (List ℕ)
 body_called i macros None = None
 body_called i macros (Some label) = if i.expands then body_at macros label else None
 
--- A body expands with these parameters, or there is an error in place of its expansion; inside an expansion no macro is expanded.
+-- A body expands with these parameters, or gives an error instead; inside an expansion no macro is expanded.
 abbrev pub ExpandsAt : Bool → List ℕ → List (List ℕ) → Result (List ℕ) ScpiError → Type 0
 ExpandsAt true body parameters outcome = outcome ≡ Err MacroRecursionError
 ExpandsAt false body parameters outcome = ExpandsTo body parameters outcome
 
--- what a call gives: a want of memory stands only in place of an expansion
+-- the result of a call: an allocation failure can replace only an expansion
 abbrev pub CallGives : Bool → List ℕ → List (List ℕ) → Result (List ℕ) ScpiError → Type 0
 CallGives inside body parameters (Ok text) = ExpandsAt inside body parameters (Ok text)
 CallGives inside body parameters (Err error) = ((error ≡ OutOfMemory) × (text : List ℕ) × ExpandsAt inside body parameters (Ok text)) ⊎ ExpandsAt inside body parameters (Err error)
 
--- what a unit gives by the body that it calls; nothing where it calls none
+-- the result of a unit with the body that it calls; none where it calls no macro
 abbrev pub UnitGives : Option (List ℕ) → Bool → List (List ℕ) → Option (Result (List ℕ) ScpiError) → Type 0
 UnitGives None inside parameters given = given ≡ None
 UnitGives (Some body) inside parameters None = ⊥

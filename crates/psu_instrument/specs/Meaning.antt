@@ -1,4 +1,4 @@
--- What a command means where it is executed.
+-- The meaning of a command in the situation where it is executed.
 use Rattle.std.specs.Prelude.{◌≡◌, ◌⊎◌, ℕ, Bool, Option, Some, None, unwrap_or, Result, Ok, Err, List, [], decimal, pos}
 use Rattle.psu_lex.specs.Decimals.{fixed3_text}
 use Rattle.psu_lex.specs.declared.scpi_error.ScpiError.{ScpiError}
@@ -11,7 +11,8 @@ use Rattle.psu_instrument.specs.declared.act.Act.{Act}
 use Rattle.psu_instrument.specs.declared.act.Act.TheVariants as act
 use Rattle.psu_instrument.specs.declared.completion.Completion.{Completion}
 
--- where a command is executed: what is kept, under its limit, the instrument, and whether the session has an answer that it has not read
+-- the situation of a command: the limit, the nonvolatile contents, the instrument, and whether the session has a
+-- response that it has not read
 pub record Situation : Type 0 where
   pub limit : ℕ
   pub contents : Contents
@@ -21,15 +22,15 @@ pub record Situation : Type 0 where
 abbrev pub situation : ℕ → Contents → Instrument → Bool → Situation
 situation limit contents instrument available = record { limit = limit; contents = contents; instrument = instrument; available = available }
 
--- A command is refused; or the instrument does it, with an answer or none, and is then as said; or it changes what is kept; or it
--- waits for the changes before it.
+-- A command is refused; or the instrument executes it, with or without a response, and has this new state; or it
+-- changes the nonvolatile contents; or it waits for the changes before it.
 pub data Meaning : Type 0 where
   Refuses : (error : ScpiError) → Meaning
   Does : (answer : Option (List ℕ)) → (new : Instrument) → Meaning
   Keeps : (change : nv.Command) → Meaning
   Completes : (completion : Completion) → Meaning
 
--- an answer, and nothing else
+-- a response, and no change
 abbrev pub answers : Situation → List ℕ → Meaning
 answers s text = Does (Some text) s.instrument
 
@@ -40,15 +41,16 @@ says s n = answers s (decimal n)
 abbrev pub says_fixed : Situation → ℕ → Meaning
 says_fixed s n = answers s (fixed3_text (pos n))
 
--- done without an answer
+-- done without a response
 abbrev pub leaves : Instrument → Meaning
 leaves i = Does None i
 
--- a label or a name; one that can be none is no text, which is no label and no name
+-- a label or a name; an invalid one is the empty text, which is not a valid label or name
 abbrev pub text_of : Option (List ℕ) → List ℕ
 text_of text = unwrap_or text []
 
--- What comes of a command that means this: a want of memory stands only in place of an answer, and leaves all as it was.
+-- The result of a command that has this meaning: an allocation failure replaces only a response, and leaves everything
+-- unchanged.
 abbrev pub ActsAs : {A : Type 0} → Meaning → Instrument → Result (Act A) ScpiError → Instrument → Type 0
 ActsAs (Refuses error) old result new = (result ≡ Err error) × (new ≡ old)
 ActsAs (Does None after) old result new = (result ≡ Ok act.Done) × (new ≡ after)

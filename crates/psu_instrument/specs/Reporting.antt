@@ -1,4 +1,5 @@
--- Errors and the groups of status registers. Sources: SCPI-1999 volume 1, chapter 9; volume 2, chapters 18 (STATus) and 21 (SYSTem).
+-- Errors and the groups of status registers. Sources: SCPI-1999 volume 1, chapter 9; volume 2, chapters 18 (STATus) and
+-- 21 (SYSTem).
 use Rattle.std.specs.Prelude.{ℕ, Option, Some, None, List, ◌++◌, ◌∷◌, length, drop, codes, decimal}
 use Rattle.psu_lex.specs.Errors as errors
 use Rattle.psu_lex.specs.declared.scpi_error.ScpiError.{ScpiError}
@@ -11,12 +12,12 @@ use Rattle.psu_instrument.specs.Meaning.{Situation, Meaning, Does, answers, says
 
 -- ---- errors
 
--- an error as answered: its number and its text; `0,"No error"` where there is none
+-- an error as response data: its number and its text; `0,"No error"` where there is none
 abbrev pub error_text : Option ScpiError → List ℕ
 error_text None = codes "0,\"No error\""
 error_text (Some error) = 45 ∷ (decimal (errors.magnitude error) ++ (codes ",\"" ++ (errors.text error ++ codes "\"")))
 
--- `SYSTem:ERRor?`: the oldest error, which leaves the queue
+-- `SYSTem:ERRor?`: returns the oldest error and removes it from the queue
 abbrev pub next_error : Situation → Meaning
 next_error s = Does (Some (error_text (reporting.oldest s.instrument.status.errors))) (with_status s.instrument (record s.instrument.status { errors = drop 1 s.instrument.status.errors }))
 

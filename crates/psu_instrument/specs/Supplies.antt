@@ -1,4 +1,5 @@
--- What is set and measured of the outputs. Source: SCPI-1999 volume 2 (SOURce, OUTPut, MEASure); SIMulation is this project's own.
+-- The settings and measurements of the outputs. Source: SCPI-1999 volume 2 (SOURce, OUTPut, MEASure); SIMulation is
+-- this project's own.
 use Rattle.std.specs.Prelude.{ℕ, not, Bool, if◌then◌else◌, Option, Some, None}
 use Rattle.psu_lex.specs.declared.scpi_error.ScpiError.TheVariants.{DataOutOfRange, SettingsConflict}
 use Rattle.psu_outputs.specs.Outputs.{supply_of, with_supply, with_load, without_trip, is_load, any_conflicts, with_all, all_settings}
@@ -21,13 +22,13 @@ use Rattle.psu_instrument.specs.Common.{digit}
 use Rattle.psu_instrument.specs.Instrument.{with_supplies}
 use Rattle.psu_instrument.specs.Meaning.{Situation, Meaning, Refuses, says, says_fixed, leaves}
 
--- what is set of an output, with its load and its trip
+-- the settings of an output, with its load and its trip
 abbrev pub supply : Situation → Output → Supply
 supply s o = supply_of s.instrument.supplies o
 
 -- ---- settings
 
--- One thing is set of an output, which may then trip. A tripped output can't be switched on.
+-- One setting of an output is changed, and the output may then trip. A tripped output can't be switched on.
 abbrev pub set : Situation → Output → Setting → Meaning
 set s o thing =
     if not (is_in_range thing) then Refuses DataOutOfRange
@@ -40,13 +41,13 @@ level_of level.Voltage n = setting.Voltage (record { 0 = n })
 level_of level.Current n = setting.Current (record { 0 = n })
 level_of level.Protection n = setting.ProtectionLevel (record { 0 = n })
 
--- what is set of a level
+-- the setting of a level
 abbrev pub level_set : Supply → Level → ℕ
 level_set supply level.Voltage = supply.settings.voltage.0
 level_set supply level.Current = supply.settings.current.0
 level_set supply level.Protection = supply.settings.level.0
 
--- `VOLTage?` and the like: what is set, or an end of its range
+-- `VOLTage?` and the other level queries: the setting, or an end of its range
 abbrev pub level_asked : Situation → Level → Output → Option Extreme → Meaning
 level_asked s which o None = says_fixed s (level_set (supply s o) which)
 level_asked s which o (Some extreme.Least) = says_fixed s 0

@@ -1,18 +1,18 @@
-// What comes of a command.
+// The results of commands.
 use crate::Completion;
 use psu_lex::Bytes;
 use psu_nv::NvCommand;
 use std::alloc::Allocator;
 
-/// What comes of a command that the instrument does not refuse.
+/// The result of a command that the instrument does not refuse.
 #[derive(Drop)]
 pub enum Act<'c, A: Allocator + Copy> {
-    /// It is done, without an answer.
+    /// The command is done, without a response.
     Done,
-    /// It is done, with this answer.
+    /// The command is done, with this response.
     Answer(Bytes<A>),
-    /// It changes what is kept: the caller makes the change.
+    /// The command changes the nonvolatile contents: the caller makes the change.
     Keep(NvCommand<'c>),
-    /// It waits for what was accepted before it: the caller knows whether that is flushed.
+    /// The command waits for the changes accepted before it: the caller knows whether they are flushed.
     Complete(Completion),
 }

@@ -1,4 +1,4 @@
-// What the instrument makes of each command.
+// The execution of each command.
 ghost use Rattle.std.specs.Prelude.{◌≡◌, ℕ, Bool, Ok};
 ghost use Rattle.psu_nv.specs.Contents.{Contents as Kept};
 ghost use Rattle.psu_instrument.specs.Commands.{action_means, meaning, query_means, register_means};
@@ -15,10 +15,11 @@ use psu_tree::{Action, Command, Enable, Flag, OnRegister, Query};
 use std::alloc::Allocator;
 
 impl Instrument {
-    /// Does a command, or says what its caller has to do of it. `limit` is that of the contents; `available`, whether the
-    /// session has an answer that it has not read.
+    /// Executes a command, or returns what the caller has to do for it. `limit` is the limit of the contents;
+    /// `available` is whether the session has a response that it has not read.
     ///
-    /// The errors are those of the command, in their order; -225 where its answer finds no memory. After each, nothing has changed.
+    /// The errors are those of the command, in their order, and -225 where the response can't be allocated. After an
+    /// error, nothing has changed.
     pub fn act<'c, A: Allocator + Copy>(
         &mut self,
         alloc: A,

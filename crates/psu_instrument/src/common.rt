@@ -1,4 +1,4 @@
-// The common commands that are not of macros.
+// The common commands, except those of macros.
 ghost use Rattle.std.specs.Prelude.{◌≡◌, ℕ, Bool, false, Option, Some, None, Ok, IfOk, decimal, if◌then◌else◌};
 ghost use Rattle.psu_nv.specs.Contents.{Contents as Kept};
 ghost use Rattle.psu_outputs.specs.Outputs.{restored};
@@ -15,17 +15,17 @@ use psu_outputs::Settings;
 use psu_tree::{Enable, Flag};
 use std::alloc::{AllocError, Allocator};
 
-/// What `*IDN?` answers: manufacturer, model, serial number, version.
+/// The response to `*IDN?`: manufacturer, model, serial number, version.
 pub(crate) const IDENTITY: &[u8] = b"EXAMPLE,PSU4,0,1.0";
 
-// A flag as answered.
+// Returns a flag as response data.
 pub(crate) fn told<A: Allocator + Copy>(alloc: A, on: bool) -> Result<Bytes<A>, AllocError>
     ensures { IfOk result (λ text. text ≡ decimal (digit on)) }
 {
     if on { whole(alloc, 1) } else { whole(alloc, 0) }
 }
 
-// The settings at power-on, as answered.
+// Returns the choice of the power-on settings as response data.
 fn choice<A: Allocator + Copy>(alloc: A, recall: bool) -> Result<Bytes<A>, AllocError>
     ensures { IfOk result (λ text. text ≡ choice recall) }
 {
@@ -84,7 +84,7 @@ impl Instrument {
         }
     }
 
-    // The enables that are kept from now on.
+    // Returns the enables that `*PSC` makes nonvolatile: none where its flag (`cleared`) is true.
     fn enables_kept(&self, cleared: bool) -> Option<(u8, u8)>
         ensures { result ≡ (if cleared then None else Some (self.now.status.sre, self.now.status.ese)) }
     {

@@ -1,4 +1,4 @@
-// Calls of macros.
+// Macro calls.
 ghost use Rattle.std.specs.Prelude.{◌≡◌, ◌<◌, ◌↔◌, List, None, length, map, IfSome, IfNone};
 ghost use Rattle.psu_lex.specs.Shown.{HoldsData};
 ghost use Rattle.psu_lex.specs.Syntax.{Datum as DatumData};
@@ -11,10 +11,10 @@ use psu_nv::Contents;
 use psu_tree::Request;
 use std::alloc::Allocator;
 
-/// The most parameters that a macro takes.
+/// The maximum number of parameters of a macro.
 const PARAMETERS: usize = 9;
 
-// The parameters of a call as written; none where there are more than a macro takes.
+// Returns the parameters of a call as written, or `None` where there are more than a macro can have.
 fn parameters<'a>(args: &Data<'a>) -> Option<ArrayVec<&'a [u8], PARAMETERS>>
     ensures all { (list : List DatumData) → HoldsData args.now list → IfSome result (λ texts. map (λ text. text.now) texts.items ≡ written list) }
     ensures many { (list : List DatumData) → HoldsData args.now list → IfNone result (9 < length list) }
@@ -31,7 +31,7 @@ fn parameters<'a>(args: &Data<'a>) -> Option<ArrayVec<&'a [u8], PARAMETERS>>
     Some(texts)
 }
 
-// What a call of a body gives.
+// Returns the result of a call of a body.
 fn called<A: Allocator + Copy>(
     alloc: A,
     body: &[u8],
@@ -50,11 +50,12 @@ fn called<A: Allocator + Copy>(
 }
 
 impl Instrument {
-    /// The expansion of the macro that a unit calls, or the error in its place; nothing where it calls none. It calls one where
-    /// macros are enabled and one of its label is defined at that moment, without regard to case (IEEE 488.2, 10.8).
+    /// Returns the expansion of the macro that a unit calls, or the error in its place, or `None` where the unit calls
+    /// none. It calls a macro if macros are enabled and a macro of its label is defined at that time, ignoring case
+    /// (IEEE 488.2, 10.8).
     ///
-    /// A call inside an expansion is -276; another number of parameters than the macro takes, -274; an expansion of more than 65,536
-    /// bytes, -223. Memory is wanted for a good expansion alone.
+    /// A call inside an expansion is -276; a number of parameters other than the one that the macro takes, -274; an
+    /// expansion of more than 65,536 bytes, -223. Memory is allocated only for a valid expansion.
     pub fn expansion<A: Allocator + Copy>(
         &self,
         alloc: A,

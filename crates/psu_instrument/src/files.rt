@@ -13,7 +13,7 @@ use psu_nv::{Contents, FileBytes, NvCommand, Register};
 use psu_tree::{OnFile, OnNames, Text, Transfer};
 use std::alloc::{AllocError, Allocator};
 
-/// The bytes of a page, in which space is told.
+/// The size of a page, the unit of space in the catalog, in bytes.
 const PAGE: u128 = 512;
 
 // `MMEMory:DATA`.
@@ -103,7 +103,7 @@ pub(crate) fn macro_moved<'c, A: Allocator + Copy>(
     }
 }
 
-// The type of a file, by the byte that stands for it.
+// Returns the type of a file, by its type byte.
 fn kind_text(code: u8) -> &'static [u8]
     ensures { result.now ≡ kind_text code }
 {
@@ -114,7 +114,7 @@ fn kind_text(code: u8) -> &'static [u8]
     }
 }
 
-// Puts a file's name, type and size behind what is there.
+// Appends a file's name, type and size.
 fn put_entry<A: Allocator + Copy>(
     text: &mut Bytes<A>,
     name: &[u8],
@@ -134,7 +134,7 @@ fn put_entry<A: Allocator + Copy>(
     text.put(b"\"")
 }
 
-// Puts the same of each file.
+// Appends the name, type and size of each file.
 fn put_entries<A: Allocator + Copy>(
     text: &mut Bytes<A>,
     files: &[Pair<A>],
@@ -147,7 +147,7 @@ fn put_entries<A: Allocator + Copy>(
     Ok(())
 }
 
-// What `MMEMory:CATalog?` answers.
+// Returns the response to `MMEMory:CATalog?`.
 pub(crate) fn catalog_text<A: Allocator + Copy>(
     alloc: A,
     limit: u16,

@@ -14,8 +14,8 @@ use std::marker::Model;
 /// Bit 0 of the event status register: operation complete.
 const OPC: u8 = 1;
 
-/// The instrument: its status, its outputs, whether calls of macros are expanded and user data is protected, and
-/// an `*OPC` that waits. Contracts see the `Instrument` of `specs/`. No call takes memory but for an answer.
+/// The instrument: its status, its outputs, whether macro calls are expanded, whether user data is protected, and a
+/// pending `*OPC`. Contracts see the `Instrument` of `specs/`. A call allocates only for a response.
 #[derive(Drop)]
 pub struct Instrument {
     pub(crate) status: Status,
@@ -33,7 +33,8 @@ impl Model for Instrument {
     ghost view = { λ i. record { status = i.status; supplies = i.outputs; expands = i.expands; protected = i.protected; pending = i.pending } };
 }
 
-// The outputs at power-on: as after `*RST` with loads of 10 ohms, or with the settings of register 0 put into these.
+// Returns the outputs at power-on: those after `*RST` with loads of 10 ohms, or these with the settings of register 0
+// applied.
 fn outputs_at_power_on<A: Allocator + Copy>(contents: &Contents<A>) -> Outputs
     ensures { result ≡ outputs_at_power_on contents.now }
 {
@@ -45,8 +46,8 @@ fn outputs_at_power_on<A: Allocator + Copy>(contents: &Contents<A>) -> Outputs
 }
 
 impl Instrument {
-    /// The instrument at power-on, by what is kept: the enables, and the settings of register 0 where they are those at power-on. An
-    /// output may trip at once, which makes no event.
+    /// Returns the instrument at power-on, from the nonvolatile contents: the enables, and the settings of register 0
+    /// where these are the power-on settings. An output may trip at once, which sets no event bit.
     pub fn power_on<A: Allocator + Copy>(contents: &Contents<A>) -> Instrument
         ensures { result ≡ power_on contents.now }
     {
@@ -60,7 +61,7 @@ impl Instrument {
         }
     }
 
-    /// Takes what concerns the instrument itself of a command that is kept: the enable registers.
+    /// Applies what concerns the instrument itself of a nonvolatile command: the enable registers.
     pub fn keep(&mut self, command: &NvCommand<'_>)
         ensures { self.new ≡ with_kept self.old (command_of command.now) }
     {
@@ -92,7 +93,7 @@ impl Instrument {
         self.status.push_error(error);
     }
 
-    // Bit 0 of the event status register: no `*OPC` waits any more.
+    // Sets bit 0 of the event status register (operation complete); no `*OPC` is pending afterwards.
     fn complete(&mut self)
         ensures { self.new ≡ with_completion self.old }
     {
@@ -100,8 +101,8 @@ impl Instrument {
         self.pending = None;
     }
 
-    /// `*OPC` while so many accepted changes are not flushed. With none it sets its bit at once; else it waits for
-    /// them, in place of an earlier one.
+    /// Executes `*OPC` while `unflushed` accepted changes are not flushed. With none it sets the operation complete bit
+    /// at once; otherwise it waits for them, in place of an earlier `*OPC`.
     pub fn pend(&mut self, unflushed: usize)
         ensures { self.new ≡ with_pending self.old unflushed }
     {
@@ -112,8 +113,8 @@ impl Instrument {
         }
     }
 
-    /// So many of the changes that were not flushed are flushed now, the oldest first: an `*OPC` that waited for no others
-    /// sets its bit.
+    /// Records that the `flushed` oldest of the unflushed changes are now flushed: a pending `*OPC` that waited for no
+    /// others sets its bit.
     pub fn flush(&mut self, flushed: usize)
         ensures { self.new ≡ with_flushed self.old flushed }
     {
@@ -127,35 +128,37 @@ impl Instrument {
         }
     }
 
-    /// The service request that the status makes as it is, with no message available: the status byte where MSS is 1.
+    /// Returns the service request of the present status, with no message available: the status byte, where MSS is 1.
     pub fn first_request(&self) -> Option<u8>
         ensures { result ≡ first_request self.now.status }
     {
         self.status.first_request()
     }
 
-    /// The status byte, with MSS in bit 6. The message available bit is the session's own mark.
+    /// Returns the status byte, with MSS in bit 6. The message available bit is the session's own.
     pub fn status_byte(&self, available: bool) -> u8
         ensures { result ≡ status_byte self.now.status available }
     {
         self.status.status_byte(available)
     }
 
-    /// The status byte as a status query shows it, with a session's own request for service in bit 6.
+    /// Returns the status byte as a status query (serial poll) reports it, with the session's own service request (RQS)
+    /// in bit 6.
     pub fn polled(&self, available: bool, requests: bool) -> u8
         ensures { result ≡ polled self.now.status available requests }
     {
         self.status.polled(available, requests)
     }
 
-    /// The bits of the status byte but for bit 6 that are enabled: service is requested where one of them goes from 0 to 1.
+    /// Returns the enabled bits of the status byte, without bit 6: a service request is made when one of them changes
+    /// from 0 to 1.
     pub fn enabled(&self, available: bool) -> u8
         ensures { result ≡ enabled self.now.status available }
     {
         self.status.enabled(available)
     }
 
-    /// Whether calls of macros are expanded (`*EMC`).
+    /// Whether macro calls are expanded (`*EMC`).
     pub fn expands(&self) -> bool
         ensures { result ≡ self.now.expands }
     {

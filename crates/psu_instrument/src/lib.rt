@@ -1,4 +1,4 @@
-//! The instrument without its sessions and its store: what each command means, and what the instrument makes of it.
+//! The instrument without its sessions and its store: the meaning of each command, and its execution.
 #![tactic(auto)]
 
 mod act;

@@ -10,7 +10,7 @@ use psu_nv::{Contents, Label, NvCommand};
 use psu_tree::{OnMacro, Text};
 use std::alloc::{AllocError, Allocator};
 
-// A label or a name; one that can be none is no text.
+// Returns a label or a name; an invalid one is the empty text.
 pub(crate) fn text_of<'c>(text: &Option<Text<'c>>) -> &'c [u8]
     ensures { result.now ≡ text_of text.now }
 {
@@ -39,7 +39,7 @@ pub(crate) fn on_label<'c, A: Allocator + Copy>(
     }
 }
 
-// Puts a text between quotes behind what is there.
+// Appends a text in quotes.
 pub(crate) fn put_quoted<A: Allocator + Copy>(
     text: &mut Bytes<A>,
     bytes: &[u8],
@@ -51,7 +51,7 @@ pub(crate) fn put_quoted<A: Allocator + Copy>(
     text.put(b"\"")
 }
 
-// Puts labels that stand behind a first one.
+// Appends labels that follow a first one.
 fn put_more<A: Allocator + Copy>(text: &mut Bytes<A>, labels: &[Label]) -> Result<(), AllocError>
     ensures { OnOk result (text.new ≡ text.old ++ more_labels labels.now) }
 {
@@ -62,7 +62,7 @@ fn put_more<A: Allocator + Copy>(text: &mut Bytes<A>, labels: &[Label]) -> Resul
     Ok(())
 }
 
-// The labels as answered.
+// Returns the labels as response data.
 pub(crate) fn labels_text<A: Allocator + Copy>(
     alloc: A,
     labels: &[Label],

@@ -13,7 +13,7 @@ use psu_lex::{Bytes, ScpiError, whole};
 use psu_status::{Filter, Group};
 use std::alloc::{AllocError, Allocator};
 
-// An error as answered.
+// Returns an error as response data.
 fn error_text<A: Allocator + Copy>(
     alloc: A,
     error: Option<ScpiError>,

@@ -1,4 +1,4 @@
-// What is set and measured of the outputs.
+// The settings and measurements of the outputs.
 ghost use Rattle.std.specs.Prelude.{◌≡◌, ℕ, Bool};
 ghost use Rattle.psu_nv.specs.Contents.{Contents as Kept};
 ghost use Rattle.psu_outputs.specs.Outputs.{restored, supply_of, with_supply, without_trip};
@@ -35,7 +35,7 @@ pub(crate) fn switch_of(switch: Switch, on: bool) -> Setting
     }
 }
 
-// The greatest value of a level, in thousandths of its unit; the least is 0.
+// Returns the maximum of a level, in thousandths of its unit; the minimum is 0.
 fn greatest_of(level: Level) -> u32
     ensures { result ≡ greatest_of level }
 {
@@ -46,14 +46,14 @@ fn greatest_of(level: Level) -> u32
 }
 
 impl Instrument {
-    // The condition of QUEStionable follows the outputs.
+    // Updates the condition register of QUEStionable from the outputs.
     fn follow(&mut self)
         ensures { self.new ≡ with_supplies self.old self.old.supplies }
     {
         self.status.condition(self.outputs.conditions());
     }
 
-    // `*RST`, `*RCL`: the settings, with no trip but those that follow from them.
+    // `*RST`, `*RCL`: applies the settings, with no trips except those that the settings cause.
     pub(crate) fn restore(&mut self, settings: Settings)
         ensures { self.new ≡ with_supplies self.old (restored self.old.supplies settings) }
     {
@@ -61,7 +61,7 @@ impl Instrument {
         self.follow();
     }
 
-    // One thing that is set of an output.
+    // Changes one setting of an output.
     pub(crate) fn set<'c, A: Allocator + Copy>(
         &mut self,
         output: Output,
@@ -95,7 +95,7 @@ impl Instrument {
         Ok(Act::Done)
     }
 
-    // What is set of a level, in thousandths of its unit.
+    // Returns the setting of a level, in thousandths of its unit.
     fn level_set(&self, level: Level, output: Output) -> u32
         ensures { result ≡ level_set (supply_of self.now.supplies output) level }
     {
@@ -107,7 +107,7 @@ impl Instrument {
         }
     }
 
-    // `VOLTage?` and the like.
+    // `VOLTage?` and the other level queries.
     pub(crate) fn level_query<'c, A: Allocator + Copy>(
         &self,
         alloc: A,

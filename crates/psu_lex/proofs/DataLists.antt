@@ -1,4 +1,4 @@
--- Data: one datum at the front of a text, and lists of them.
+-- Data: a datum at the beginning of a text, and lists of data.
 use Rattle.std.proofs.Common.{◌≡◌, ℕ, ◌≤◌, ◌==◌, Bool, true, false, List, [], ◌∷◌, ◌++◌, length, drop, refl, sym, ap, ◌∙◌, subst, arith, Option, Some, None, IfSome, IfNone, length-append, ◌+◌, ◌-◌, ◌||◌, ◌<◌, take, inl, inr}
 use Rattle.std.proofs.lemmas.List.{append-nil}
 use Rattle.std.proofs.lemmas.Option.{cond_some, some_pair_parts, same_Some}
@@ -26,11 +26,11 @@ use Rattle.psu_lex.specs.Number.Sign.{Plus, Minus, Unsigned}
 
 -- ---- the first byte
 
--- the text begins with a byte that is not white space, and that tells its class
+-- the text begins with a byte that is not white space and determines the class
 abbrev pub IsFirst : DatumClass → List ℕ → Type 0
 IsFirst class text = (x : ℕ) × (xs : List ℕ) × (text ≡ x ∷ xs) × (class ≡ class_at x) × (is_white x ≡ false)
 
--- what a number begins with
+-- what a number may begin with
 abbrev begins_number : ℕ → Bool
 begins_number b = is_digit b || b == 46 || b == 43 || b == 45
 
@@ -80,7 +80,7 @@ first_of Character text more h = first_node text h
 first_of String text more h = first_of_piece String text more h
 first_of Block text more h = first_of_piece Block text more h
 
--- ---- what follows a datum is left
+-- ---- what follows a datum is the rest
 
 as_string : (body : List ℕ) → starts_quoted body ≡ true → after_datum String body ≡ after_piece body
 as_string body t = rw t refl
@@ -106,9 +106,9 @@ datum_found Character body text next e h p = word_found body text next e h p
 datum_found String body text next e (r, c, s, w) p = quoted_found body next r c (e ∙ ap (λ (z : List ℕ). z ++ next) s) w
 datum_found Block body text next e (r, c, s, w) p = block_found body next r c (e ∙ ap (λ (z : List ℕ). z ++ next) s) w
 
--- ---- what is left follows a datum
+-- ---- the rest follows a datum
 
--- a datum of the class is all of the body but for what follows it
+-- a datum of the class is all of the body except what follows it
 abbrev Splits : DatumClass → List ℕ → List ℕ → Type 0
 Splits class body next = (text : List ℕ) × (body ≡ text ++ next) × IsDatum class text next
 
@@ -152,9 +152,9 @@ datum_whole Block body next e = elim (cases_Bool (starts 35 body)) [
   ]
 ]
 
--- ---- the datum at the front, after white space
+-- ---- the datum after white space
 
--- a datum stands at the front, after white space, and then this
+-- the text begins with a datum after white space, followed by this text
 abbrev pub Begins : List ℕ → Datum → List ℕ → Type 0
 Begins text d next = (left is_white text ≡ d.text ++ next) × IsDatum d.class d.text next × (is_parted (left is_white next) ≡ true)
 
@@ -255,7 +255,7 @@ tail_shorter text tail d e =
 no_datum : (text : List ℕ) → all_white text ≡ true → datum_at text ≡ None
 no_datum text h = ap datum_in (left_white text h)
 
--- what a list that begins so has behind its first datum
+-- what follows the first datum of a list that begins so
 pub record Rest (d : Datum) (tail : List ℕ) (list : List Datum) : Type 0 where
   pub others : List Datum
   pub is : list ≡ d ∷ others
@@ -272,11 +272,11 @@ pub none_begins : (text : List ℕ) (list : List Datum) → datum_at text ≡ No
 none_begins text [] e l = refl
 none_begins text (d ∷ more) e l = let (tail, k, m) = lists_first text d more l in absurd (cc (e, k))
 
--- no list begins where no datum does
+-- no list begins where no datum begins
 pub no_list : (text : List ℕ) (list : List Datum) → all_white text ≡ false → datum_at text ≡ None → Lists text list → ⊥
 no_list text list f e l = both (all_white text) (subst (Lists text) (none_begins text list e l) l) f
 
--- ---- a tail that goes on with a `,`
+-- ---- a tail that begins with a `,`
 
 pub comma : (tail text : List ℕ) (empty : Bool) → is_parted tail ≡ true → empty ≡ (length tail == 0) → empty ≡ false → text ≡ drop 1 tail → tail ≡ 44 ∷ text
 comma [] text empty p e f is = absurd (cc (e, f))
@@ -306,7 +306,7 @@ one_list (d ∷ list) others text l k =
     let r = rest_of text tail d others e k in
     ap (λ (z : List Datum). d ∷ z) (tails_same list r.others tail (λ (z : List ℕ). one_list list r.others z) m r.listed) ∙ sym r.is
 
--- ---- the next datum that is found behind a tail
+-- ---- the next datum after a tail
 
 pub next_holds : (tail text : List ℕ) (r : Option Found) (empty : Bool) (others : List Datum) → empty ≡ (length tail == 0) → empty ≡ false → text ≡ drop 1 tail
     → IfSome r (λ found. datum_at text ≡ Some (datum_of found.datum, found.tail.now)) → IfNone r (datum_at text ≡ None) → TailLists tail others → HoldsFound r others

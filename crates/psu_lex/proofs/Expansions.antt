@@ -16,7 +16,7 @@ use Rattle.psu_lex.specs.Scan.{after_piece}
 use Rattle.psu_lex.proofs.PieceScans.{none, whole}
 use Rattle.psu_lex.proofs.Tokens.{same_tokens, some_tokens}
 
--- ---- a byte that stays
+-- ---- a byte that is copied
 
 spells_byte : (args : List (List ℕ)) (x : ℕ) (rest : List ℕ) (most : ℕ) (text : List ℕ) → opens x ≡ false → (x == 36) ≡ false
     → Spells args rest most text → Spells args (x ∷ rest) most (x ∷ text)
@@ -97,14 +97,14 @@ spells_placeholder args (x ∷ y ∷ rest) most text h (tokens, reads, m, t) =
 pub same_text : (args : List (List ℕ)) (bytes : List ℕ) (most more : ℕ) (text other : List ℕ) → Spells args bytes most text → Spells args bytes more other → text ≡ other
 same_text args bytes most more text other s u = s.3 ∙ ap (expansion args false) (same_tokens anything bytes s.0 u.0 s.1 u.1) ∙ sym u.3
 
--- what a body gives, by its greatest placeholder and the text that it spells
+-- the result of a body, by its greatest placeholder and its expansion
 pub gives : (args : List (List ℕ)) (body text other : List ℕ) (most more : ℕ) → Spells [] body most other → Spells args body more text
     → ExpandsTo body args (if most == length args then (if nat_lt 65536 (length text) then Err TooMuchData else Ok text) else Err MacroParameterError)
 gives args body text other most more s (tokens, reads, m, t) =
     let same : most ≡ greatest false tokens = s.2 ∙ ap (greatest false) (same_tokens anything body s.0 tokens s.1 reads) in
     (tokens, reads, rw (same, t) refl)
 
--- ---- the same, as the loops go
+-- ---- in the form of the loops
 
 pub respelled : (args : List (List ℕ)) (bytes : List ℕ) (most more : ℕ) (text other : List ℕ) → more ≡ most → other ≡ text → Spells args bytes most text → Spells args bytes more other
 respelled args bytes most more text other e f s = (s.0, s.1, e ∙ s.2, f ∙ s.3)
@@ -124,7 +124,7 @@ puts_placeholder args bytes piece h e most text s =
 pub puts_kept : (args : List (List ℕ)) (bytes piece : List ℕ) (n : ℕ) → Keeps bytes n → piece ≡ take n bytes → Puts args bytes n piece
 puts_kept args bytes piece n k e most text s = (most, subst (λ (z : List ℕ). Spells args bytes most (z ++ text)) (sym e) (k args most text s))
 
--- what a list has, and what follows it, is the expansion of all
+-- the text so far and the expansion of the rest make the expansion of all
 pub put_on : (args : List (List ℕ)) (body bytes later old new piece : List ℕ) (n : ℕ)
     → ((most : ℕ) (text : List ℕ) → Spells args bytes most text → (all : ℕ) × Spells args body all (old ++ text))
     → new ≡ old ++ piece → Puts args bytes n piece → later ≡ drop n bytes

@@ -1,4 +1,4 @@
--- A header at the front of a text, up to white space or the end.
+-- The header that a text begins with, up to white space or the end.
 use Rattle.std.proofs.Common.{◌≡◌, ℕ, suc, ◌+◌, ◌<◌, ◌≤◌, ◌==◌, ◌&&◌, Bool, true, false, List, [], ◌∷◌, ◌++◌, length, take, drop, slice_index, drop-cons, add-one, refl, sym, ap, ◌∙◌, subst, append_assoc, inl, inr, if◌then◌else◌, arith}
 use Rattle.std.proofs.lemmas.Bool.{cases_Bool, eqb-true}
 use Rattle.std.proofs.lemmas.Bool.Decides.{nat_tests}
@@ -13,9 +13,9 @@ use Rattle.psu_lex.proofs.HeaderScans.{letter_plain, name_plain, no_join}
 use Rattle.psu_lex.proofs.Runs.{both}
 use Rattle.psu_lex.proofs.Searches.{drop-add}
 
--- ---- the scan of a path goes on
+-- ---- the scan of a path continues
 
--- a byte that is not white space, behind which a node has begun or not
+-- a byte that is not white space, after which a node has begun or not
 abbrev Steps : Bool → Bool → Bool → ℕ → Type 0
 Steps several begun next x = (is_dark x ≡ true) × ((rest : List ℕ) → is_path several begun (x ∷ rest) ≡ is_path several next rest)
 
@@ -55,7 +55,7 @@ reaches_joint several begun text at lt h r = reaches_on several begun false text
 
 -- ---- where it stops
 
--- behind k bytes a header ends, or the text is none
+-- a header ends after k bytes, or the text is not a header
 record Stops (several begun : Bool) (rest : List ℕ) (k : ℕ) : Type 0 where
   test : is_path several begun (run is_dark rest) ≡ (begun && is_apart (drop k rest))
   front : is_apart (drop k rest) ≡ true → take k rest ≡ run is_dark rest

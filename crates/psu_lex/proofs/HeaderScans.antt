@@ -1,4 +1,4 @@
--- Headers: what their scan accepts is a header, every header is accepted, and its parts are found.
+-- Headers: what their scan accepts is a header, every header is accepted, and the parts are found.
 use Rattle.std.proofs.Common.{◌≡◌, ℕ, ◌==◌, ◌&&◌, Bool, true, false, List, [], ◌∷◌, ◌++◌, refl, sym, ap, ◌∙◌, subst, arith, append_assoc, inl, inr, ◌-◌, not, length, take, slice_index, suc, length-append}
 use Rattle.std.proofs.lemmas.Bool.{not-true, eqb-true, and_parts, cases_Bool}
 use Rattle.std.proofs.lemmas.Bool.Decides.{nat_tests}
@@ -15,7 +15,7 @@ use Rattle.psu_lex.specs.Shown.{ShowsHeader}
 use Rattle.psu_lex.specs.declared.header.Header as rust
 use Rattle.psu_lex.proofs.WrittenData.{node_every}
 
--- the rest of a path in whose first node a byte stands, or none yet
+-- the rest of a path whose first node has begun (true), or has not (false)
 abbrev Rest : Bool → Bool → List ℕ → Type 0
 Rest several true text =
     (word : List ℕ) × (nodes : List (List ℕ)) × (asks : Bool) × (all_name word ≡ true) × (all_nodes nodes ≡ true) × (several ≡ false → nodes ≡ []) × (text ≡ word ++ (behind nodes ++ ask_text asks))
@@ -139,7 +139,7 @@ no_header text f (h, is, e) = both (is_header text) (ap is_header e ∙ header_a
 
 -- ---- one header
 
--- what stands behind a node begins with no byte of one
+-- the text after a node does not begin with a byte of a node
 behind_leads : (nodes : List (List ℕ)) (asks : Bool) → leads is_name_byte (behind nodes ++ ask_text asks) ≡ false
 behind_leads [] true = refl
 behind_leads [] false = refl
@@ -232,7 +232,7 @@ behind_every test (n ∷ ns) c f h =
     let parts = and_parts (is_node n) (all_nodes ns) h in
     rw c (every_append test n (behind ns) (every_more is_name_byte test n f (node_every n parts.0)) (behind_every test ns c f parts.1))
 
--- a test that each byte of a name passes, and the marks, `:` and `?`, is passed by each byte of a header
+-- a test that every byte of a name, and `*`, `:` and `?` pass, is passed by every byte of a header
 ask_every : (test : ℕ → Bool) (asks : Bool) → test 63 ≡ true → every test (ask_text asks) ≡ true
 ask_every test true a = rw a refl
 ask_every test false a = refl
@@ -263,7 +263,7 @@ cut_end path true =
     ap (λ (k : ℕ). take k (path ++ 63 ∷ [])) n ∙ take-append_seam path (63 ∷ [])
 cut_end path false = append-nil path
 
--- ---- the same, as the code goes
+-- ---- in the form of the code
 
 pub parts_shown : (shown : rust.Header) (text body : List ℕ) (mark : Mark) (asks : Bool) (h : Header) → IsHeader h → text ≡ header_text h → mark ≡ mark_of text → body ≡ behind_mark mark text
     → asks ≡ ends_asking body → shown.text.now ≡ text → shown.mark ≡ mark → shown.nodes.now ≡ without_ask asks body → shown.asks ≡ asks → ShowsHeader shown h

@@ -9,11 +9,11 @@ use Rattle.psu_lex.specs.Number.Sign.{Plus, Minus, Unsigned}
 use Rattle.psu_lex.specs.NumberScan.{run, left, sign_of, after_sign, fraction_of, after_fraction, exponent_with, exponent_from, exponent_of, after_exponent, is_nonempty, is_number, suffix_of, gap_of, end_of, excess_of, at_fraction, at_exponent, at_tail, scanned}
 use Rattle.psu_lex.proofs.Runs.{every, leads, digits_every, white_every, letters_every, every_head, every_tail, run_at, left_at, every_append, every_left, left_none, run_all, every_more}
 
--- what may stand behind the digits of a number
+-- what may follow the digits of a number
 abbrev is_tail : ℕ → Bool
 is_tail b = is_white b || is_letter b
 
--- what a number begins with behind its sign
+-- what a number may begin with after its sign
 abbrev is_body : ℕ → Bool
 is_body b = is_digit b || b == 46
 
@@ -39,7 +39,7 @@ every_sign test (x ∷ xs) h = elim (cases_Bool (x == 43 || x == 45)) [
   | inr f ↦ rw f h
 ]
 
--- nothing, or the first byte may stand behind digits
+-- the text is empty, or its first byte may follow digits
 abbrev tail_first : List ℕ → Bool
 tail_first [] = true
 tail_first (x ∷ xs) = is_tail x
@@ -134,7 +134,7 @@ exponent_found (Some e) later h t =
     (sym (white_every e.before) ∙ h.0) h.1 (sym (white_every e.after) ∙ h.2) (sym (digits_every e.digits) ∙ h.3) h.4 (every_first later t) in
     (found.0, found.1, first_of e.before e.letter (e.after ++ (sign_text e.sign ++ e.digits)) later (sym (white_every e.before) ∙ h.0) h.1)
 
--- ---- the suffix and the white space round it
+-- ---- the suffix and the white space around it
 
 white_no_letter : (xs : List ℕ) → every is_white xs ≡ true → leads is_letter xs ≡ false
 white_no_letter [] h = refl
@@ -175,7 +175,7 @@ tail_every gap suffix rest g s r =
     every_append is_tail gap (suffix ++ rest) (every_more is_white is_tail gap tail_white g)
     (every_append is_tail suffix rest (every_more is_letter is_tail suffix (λ x h. grind (arith, nat_tests, h)) s) (every_more is_white is_tail rest tail_white r))
 
--- ---- all of it
+-- ---- the whole number
 
 -- the parts of the scan are those of the number
 pub record Parts (text : List ℕ) (n : Number) : Type 0 where
@@ -221,7 +221,7 @@ scanned_is text n h e =
     let p = parts_of text n h e in
     rw (p.tail.end_is, p.tail.gap_is, p.tail.suffix_is, p.exponent, p.fraction, p.whole, p.sign) refl
 
--- ---- what is a number
+-- ---- texts that are numbers
 
 some_mantissa : (xs : List ℕ) → 0 < length xs → is_nonempty xs ≡ true
 some_mantissa [] h = absurd (omega (arith, h))

@@ -1,4 +1,4 @@
--- What a scan of a number finds is a number, spelled as the text is.
+-- What a scan of a number finds is a number whose spelling is the text.
 use Rattle.std.proofs.Common.{◌≡◌, ℕ, ◌==◌, ◌||◌, ◌<◌, Bool, true, false, not, List, [], ◌∷◌, ◌++◌, length, drop, refl, sym, ap, ◌∙◌, if◌then◌else◌, arith, append_assoc, inl, inr, is_none}
 use Rattle.std.proofs.lemmas.Bool.{cond_both, eqb-true, and_parts, cases_Bool}
 use Rattle.std.proofs.lemmas.List.{append-nil}
@@ -76,7 +76,7 @@ from_holds before (x ∷ xs) b = elim (cases_Bool (x == 69 || x == 101)) [
   | inr f ↦ rw f tt
 ]
 
--- ---- the suffix and the white space round it
+-- ---- the suffix and the white space around it
 
 pub left_stops : (test : ℕ → Bool) (xs : List ℕ) → leads test (left test xs) ≡ false
 left_stops test [] = refl
@@ -99,7 +99,7 @@ tail_split_at d (x ∷ s) e none =
     let later : (x ∷ s) ++ run is_white r ≡ y = ap (λ (z : List ℕ). (x ∷ s) ++ z) all ∙ ap (λ (z : List ℕ). z ++ r) e ∙ run_left is_letter y in
     ap (λ (z : List ℕ). run is_white d ++ z) later ∙ run_left is_white d
 
--- ---- all of it
+-- ---- the whole number
 
 some_length : (xs : List ℕ) → is_nonempty xs ≡ true → 0 < length xs
 some_length [] h = absurd (cc (h))

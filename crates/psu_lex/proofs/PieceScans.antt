@@ -1,4 +1,4 @@
--- Strings and blocks: what their scan leaves is what follows a whole one, and a text holds one content.
+-- Strings and blocks: what their scan leaves is what follows a whole one, and a text has one content.
 use Rattle.std.proofs.Common.{◌≡◌, ℕ, zero, suc, ◌+◌, ◌-◌, ◌==◌, ◌<◌, ◌≤◌, Bool, true, false, List, [], ◌∷◌, ◌++◌, length, take, drop, refl, sym, ap, ◌∙◌, subst, arith, append_assoc, inl, inr, length-append, slice_index, Option, Some, None, if◌then◌else◌, nat_lt, nat_le, ◌||◌, ◌&&◌, length-drop}
 use Rattle.std.proofs.lemmas.Bool.{and_parts, cases_Bool, eq-eqb, eqb-true, or_parts, or_from, eqb-false}
 use Rattle.std.proofs.lemmas.Bool.Decides.{nat_tests}
@@ -14,7 +14,7 @@ use Rattle.psu_lex.specs.Scan.{after_string, after_counted, after_block, after_p
 use Rattle.psu_lex.proofs.Runs.{both, same_head, same_tail}
 use Rattle.psu_lex.proofs.Searches.{drop-add}
 
--- ---- what follows a whole one is left
+-- ---- what follows a whole one is the rest
 
 pub no_hash : (q : ℕ) → is_quote q ≡ true → (q == 35) ≡ false
 no_hash q h = grind (arith, nat_tests, h)
@@ -57,9 +57,9 @@ found (Counted d content) more w =
 found (Open content) more (inl (e, f)) = rw (e, append-nil content, f) (ap (λ (z : List ℕ). Some z) (drop_all (length (48 ∷ content)) (48 ∷ content) (omega arith)))
 found (Open content) more (inr e) = rw (e, ends_line content, line_left 48 content) refl
 
--- ---- what is left follows a whole one
+-- ---- the rest follows a whole one
 
--- the string that begins behind a quote, where that quote stands before the text, or a quote that may end it does
+-- the string that begins after a quote, where that quote, or a quote that may end the string, precedes the text
 abbrev Closes : Bool → ℕ → List ℕ → List ℕ → Type 0
 Closes true q text more = EndsString q (q ∷ text) more
 Closes false q text more = EndsString q text more
@@ -188,7 +188,7 @@ same_piece p r x y e u v =
     let text : spelling p ≡ spelling r = append_cancel_right (spelling p) (spelling r) x (e ∙ ap (λ (z : List ℕ). spelling r ++ z) (sym rest)) in
     (sym (piece_is p x u) ∙ ap piece_of text ∙ piece_is r y v, rest)
 
--- what a string or a block holds
+-- the content of a string or a block
 abbrev content_of : Piece → List ℕ
 content_of (Quoted q bytes) = bytes
 content_of (Counted digits bytes) = bytes
@@ -197,7 +197,7 @@ content_of (Open bytes) = bytes
 pub one_string : (text bytes others : List ℕ) → IsStringOf text bytes → IsStringOf text others → bytes ≡ others
 one_string text bytes others (q, e, w) (r, k, v) = sym (quoted_is q bytes) ∙ ap quoted (sym e ∙ k) ∙ quoted_is r others
 
--- a block begins the text
+-- the text begins with a block
 pub block_begins : (text bytes : List ℕ) → IsBlockOf text bytes → (more : List ℕ) × (p : Piece) × (text ≡ spelling p ++ more) × IsWhole p more × (content_of p ≡ bytes)
 block_begins text bytes (inl (digits, e, w)) = ([], Counted digits bytes, e ∙ sym (append-nil (spelling (Counted digits bytes))), w, refl)
 block_begins text bytes (inr (more, e, w)) = (more, Open bytes, e, w, refl)
@@ -268,7 +268,7 @@ not_all text rest bytes end e le s f b =
 
 -- ---- the content
 
--- what the block holds that ends at `end`, from behind its `#` on
+-- the content of the block that ends at `end`, from after its `#`
 abbrev pub content_at : List ℕ → ℕ → List ℕ
 content_at rest end = drop (1 + (slice_index rest 0 - 48)) (take end rest)
 

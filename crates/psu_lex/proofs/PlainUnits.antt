@@ -1,4 +1,4 @@
--- A unit that reads well has no byte of 127 or more outside its strings and blocks.
+-- A unit without syntax error has no byte of 127 or more outside its strings and blocks.
 use Rattle.std.proofs.Common.{◌≡◌, ℕ, true, false, List, [], ◌∷◌, ◌++◌, refl, sym, ap, ◌∙◌, subst, arith, inl, inr}
 use Rattle.std.proofs.lemmas.Bool.{and_parts, cases_Bool}
 use Rattle.std.proofs.lemmas.Bool.Decides.{nat_tests}

@@ -1,4 +1,4 @@
--- The value of a number: rounding, holding, digits by their place, and digits that std writes.
+-- The value of a number: rounding, clamping, digits by their position, and digits that the standard library formats.
 use Rattle.std.proofs.Common.{◌/◌, length-drop, ◌≡◌, ℕ, zero, suc, ◌+◌, ◌-◌, ◌*◌, ◌^◌, ◌<◌, ◌≤◌, min, true, List, [], ◌∷◌, ◌++◌, length, take, drop, refl, sym, ap, ◌∙◌, arith, inl, inr, add-one, slice_index, ◌==◌, false, length-append, drop-cons, decimal, rules}
 use Rattle.std.proofs.lemmas.Bool.{cases_lt, cases_Bool}
 use Rattle.std.proofs.lemmas.Nat.{pow-add}
@@ -25,7 +25,7 @@ digits_tail x xs h = grind (arith, common_steps, h)
 over : (v k : ℕ) → k ≤ suc v * k
 over v k = omega (arith, suc-mul v k)
 
--- a value above 0 is over the top after 16 places
+-- a value above 0 exceeds the maximum after 16 places
 pub shift_end : (v p : ℕ) → 16 ≤ p → min (10 ^ 15) (v * 10 ^ 16) ≡ min (10 ^ 15) (v * 10 ^ p)
 shift_end zero p le = grind arith
 shift_end (suc v) p le =
@@ -53,7 +53,7 @@ twice_out q d = sym (mul_assoc q 2 d) ∙ ap (λ (z : ℕ). z * d) (mul_comm q 2
 one_more : (q m : ℕ) → (q + 1) * m ≡ q * m + m
 one_more q m = ap (λ (z : ℕ). z * m) (add-one q) ∙ suc-mul q m
 
--- whole parts and a remainder
+-- a whole part and a remainder
 pub rounded_down : (q r d : ℕ) → 2 * r < d → rounded (q * d + r) d ≡ q
 rounded_down q r d h = div-eq_of_lt-le {k = q} (2 * d) (omega (arith, twice_out q d)) (omega (arith, twice_out q d, one_more q (2 * d), h))
 
@@ -85,7 +85,7 @@ scaled_up digits up down h x le e f =
     f ∙ ap (λ (z : ℕ). min (10 ^ 15) (z * 10 ^ (up - down))) e ∙ over_mul (10 ^ 15) (value_after 0 digits) (10 ^ (up - down)) (one-le-pow (up - down) 10 (omega arith))
     ∙ ap (λ (z : ℕ). min (10 ^ 15) z) (sym (rounded_shift (value_after 0 digits) up down le))
 
--- ---- digits before and after a place
+-- ---- digits before and after a position
 
 spread : (n d p : ℕ) → (10 * n + d) * p ≡ 10 * (n * p) + d * p
 spread n d p = add-mul (10 * n) d p ∙ ap (λ (z : ℕ). z + d * p) (mul_assoc 10 n p)
@@ -124,7 +124,7 @@ digits_split (suc n) (x ∷ ds) h =
     let r = digits_split n ds (digits_tail x ds h) in
     (grind (arith, common_steps, h, r.0), r.1)
 
--- the first digit after the place says whether what is dropped is a half or more
+-- the first digit after the position decides whether what is dropped is a half or more
 half : (x : ℕ) (xs : List ℕ) → all_digits (x ∷ xs) ≡ true → (53 ≤ x → 10 ^ suc (length xs) ≤ 2 * value_after 0 (x ∷ xs)) × (x < 53 → 2 * value_after 0 (x ∷ xs) < 10 ^ suc (length xs))
 half x xs h =
     let d = x - 48 in
@@ -137,7 +137,7 @@ half x xs h =
       λ low. (let m : d * p ≤ 4 * p = mul-le-mul_right p (omega (arith, low)) in omega (arith, a, s, t, m, r)),
     )
 
--- ---- digits cut away
+-- ---- digits that are cut off
 
 -- tens that multiply and divide
 rounded_tens : (v up down : ℕ) → up ≤ down → rounded (v * 10 ^ up) (10 ^ down) ≡ rounded v (10 ^ (down - up))
@@ -163,7 +163,7 @@ cut_away digits up down h lt short =
     let none : rounded v k ≡ 0 = ap (λ (n : ℕ). rounded n k) (omega arith) ∙ rounded_down 0 v k (omega (arith, b, pow-succ' 10 (length digits), below_power digits h)) in
     omega (arith, rounded_tens v up down (omega (arith, lt)) ∙ none)
 
--- the digits before the place, rounded by the digit at it
+-- the digits before the position, rounded by the digit at it
 pub cut : (digits : List ℕ) (up down kept : ℕ) → all_digits digits ≡ true → up < down → kept + (down - up) ≡ length digits
     → (53 ≤ slice_index digits kept → rounded (value_after 0 digits * 10 ^ up) (10 ^ down) ≡ value_after 0 (take kept digits) + 1)
     × (slice_index digits kept < 53 → rounded (value_after 0 digits * 10 ^ up) (10 ^ down) ≡ value_after 0 (take kept digits))
@@ -186,7 +186,7 @@ cut digits up down kept h lt n =
       λ small. all ∙ rounded_down f b k (omega (arith, tens, halves.1 small)),
     )
 
--- ---- digits by their place
+-- ---- digits by their position
 
 pub digit_in : (ds : List ℕ) (i : ℕ) → all_digits ds ≡ true → i < length ds → (48 ≤ slice_index ds i) × (slice_index ds i < 58)
 digit_in [] i h lt = absurd (omega (arith, lt))
@@ -197,14 +197,14 @@ same_held : (top a b : ℕ) (ds : List ℕ) → min top a ≡ min top b → min 
 same_held top a b [] h = h
 same_held top a b (d ∷ ds) h = same_held top (10 * a + (d - 48)) (10 * b + (d - 48)) ds (omega (arith, h))
 
--- digits behind those of a value that is held are held as they would be behind the value itself
+-- digits appended to a capped value give the same capped result as digits appended to the value itself
 pub held_append : (top n x y : ℕ) (a b : List ℕ) → x ≡ min top (value_after n a) → y ≡ min top (value_after x b) → y ≡ min top (value_after n (a ++ b))
 held_append top n x y a b e f =
     let v = value_after n a in
     let same : min top x ≡ min top v = omega (arith, e) in
     f ∙ same_held top x v b same ∙ ap (min top) (sym (after_append n a b))
 
--- a digit more
+-- one more digit
 pub held_digit : (n : ℕ) (ds : List ℕ) (i : ℕ) → i < length ds → value_after n (take (i + 1) ds) ≡ 10 * value_after n (take i ds) + (slice_index ds i - 48)
 held_digit n ds i lt =
     let longer : take (i + 1) ds ≡ take i ds ++ slice_index ds i ∷ [] = grind (arith, common_steps, lt) in
@@ -238,7 +238,7 @@ few_digits whole fraction h =
 own : IsNumeralModel (λ ds. all_digits ds ≡ true) (value_after 0)
 own = numerals_by_fold _ (search rules) value_after (search rules)
 
--- a block as answered is a block of its bytes
+-- a block as response data is a block of its bytes
 pub definite_is_block : (bytes : List ℕ) → length bytes < 10 ^ 9 → IsBlockOf (definite_text bytes) bytes
 definite_is_block bytes small =
     let n = length bytes in

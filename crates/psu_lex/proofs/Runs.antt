@@ -1,4 +1,4 @@
--- The bytes in front that pass a test, and lists that are the same.
+-- The longest prefix of bytes that pass a test, and equal lists.
 use Rattle.std.proofs.Common.{◌≡◌, ℕ, ◌&&◌, Bool, true, false, List, [], ◌∷◌, ◌++◌, refl, sym, ap, ◌∙◌, arith, inl, inr}
 use Rattle.std.proofs.lemmas.Bool.{cases_Bool}
 use Rattle.std.proofs.lemmas.List.{append-nil}
@@ -34,7 +34,7 @@ every_head test x xs h = grind (arith, common_steps, h)
 pub every_tail : (test : ℕ → Bool) (x : ℕ) (xs : List ℕ) → every test (x ∷ xs) ≡ true → every test xs ≡ true
 every_tail test x xs h = grind (arith, common_steps, h)
 
--- ---- a run and what is left are the text
+-- ---- a run and the rest are the text
 
 pub run_left : (test : ℕ → Bool) (xs : List ℕ) → run test xs ++ left test xs ≡ xs
 run_left test [] = refl

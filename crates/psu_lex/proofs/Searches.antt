@@ -1,4 +1,4 @@
--- What a search of bytes says of the bytes before the place that it found, and of a string.
+-- What a search of bytes says about the bytes before the position that it found, and about a string.
 use Rattle.std.proofs.Common.{◌≡◌, ℕ, suc, ◌+◌, ◌-◌, ◌<◌, Bool, true, false, List, [], ◌∷◌, ◌++◌, length, take, drop, refl, sym, ap, ◌∙◌, arith, inl, inr, Some, None, slice_index, add-one, drop-cons, ◌==◌, length-drop}
 use Rattle.std.proofs.lemmas.Bool.{cases_Bool, cases_lt, eq-eqb, ne_eqb}
 use Rattle.std.proofs.lemmas.List.{take-append-drop, get_or-take, append-nil, drop_all}
@@ -74,7 +74,7 @@ string_in bytes rest q n e f h s =
     let one : drop (1 + n) (q ∷ rest) ≡ drop n rest = drop-add 1 n (q ∷ rest) in
     rw (e, ne_eqb q 35 f, h, one) s
 
--- where the rest stands in the text
+-- the position of the rest in the text
 pub suffix : (text rest : List ℕ) (n : ℕ) → rest ≡ drop n text → drop (length text - length rest) text ≡ rest
 suffix text rest n e = elim (cases_lt (length text) n) [
   | inl lt ↦

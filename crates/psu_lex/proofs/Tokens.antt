@@ -1,4 +1,4 @@
--- Each list of bytes has one list of tokens.
+-- Every list of bytes has exactly one list of tokens.
 use Rattle.std.proofs.Common.{◌≡◌, ℕ, zero, suc, ◌+◌, ◌-◌, ◌≤◌, Bool, true, false, List, [], ◌∷◌, ◌++◌, length, take, refl, sym, ap, ◌∙◌, subst, arith, inl, inr, length-append, Option, Some, None, if◌then◌else◌}
 use Rattle.std.proofs.lemmas.Bool.{cases_Bool}
 use Rattle.std.proofs.lemmas.Bool.Decides.{nat_tests}
@@ -57,7 +57,7 @@ same_tokens f bytes (t ∷ ts) (u ∷ us) (x, e, h, r) (y, d, k, s) =
     let later = same_tokens f x ts us r (subst (λ (z : List ℕ). Reads f z us) (sym same.1) s) in
     cc (same.0, later)
 
--- ---- there are some
+-- ---- every list of bytes has tokens
 
 tokens_of : (f : List ℕ → Bool) (text : List ℕ) (r : Option (List ℕ)) → ((more : List ℕ) → 2 + length more ≤ length text → (ts : List Token) × Reads f more ts) → opens_first text ≡ true
     → after_piece text ≡ r → (ts : List Token) × Reads f text ts

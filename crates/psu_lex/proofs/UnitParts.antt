@@ -1,4 +1,4 @@
--- A unit: its header, what stands behind it, and whether a text is one.
+-- A unit: its header, the text after it, and whether a text is a unit.
 use Rattle.std.proofs.Common.{◌≡◌, ℕ, Bool, true, false, List, [], ◌∷◌, ◌++◌, refl, sym, ap, ◌∙◌, subst, arith, inl, inr, Option, Some, None, Result, Ok, Err, ◌⊎◌, zero, suc, ◌==◌, ◌≤◌, length, ℤ}
 use Rattle.std.proofs.lemmas.Bool.Decides.{nat_tests}
 use Rattle.psu_lex.specs.Bytes.{is_white, is_dark, is_closed, all_white}
@@ -39,7 +39,7 @@ apart_leads (x ∷ rest) h = rw h refl
 
 -- ---- the parts of a unit are found
 
--- the header that is found, and what stands behind it
+-- the header that is found, and the text after it
 pub record Parts (text header rest : List ℕ) : Type 0 where
   pub header_is : run is_dark (left is_white text) ≡ header
   pub rest_is : left is_dark (left is_white text) ≡ rest
@@ -94,9 +94,9 @@ result_at None text r q (tokens, reads, g) (others, more, h) =
 pub one_result : (unit : Part) (r q : Result Syntax ScpiError) → SyntaxGives unit r → SyntaxGives unit q → r ≡ q
 one_result unit = result_at unit.fault unit.text
 
--- ---- the same, as the code goes
+-- ---- in the form of the code
 
--- what the code's result stands for
+-- the model of the code's result
 abbrev Given : Option UnitFault → List ℕ → Result rust.Syntax ScpiError → Type 0
 Given fault text shown = (given : Result Syntax ScpiError) × FaultGives fault text given × Shows shown given
 
@@ -129,7 +129,7 @@ some_value text places = elim (cases_Bool (is_number text)) [
 
 -- ---- a list
 
--- whether a list goes on with this
+-- whether a list may continue with this text
 abbrev GoesOn : List ℕ → Type 0
 GoesOn tail = ((more : List Datum) × TailLists tail more) ⊎ ((more : List Datum) → TailLists tail more → ⊥)
 

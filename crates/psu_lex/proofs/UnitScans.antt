@@ -73,7 +73,7 @@ step_fault first bytes at o n =
     subst (λ (z : List ℕ). Makes first (take at bytes) (drop at bytes) (record { text = z; first = first; fault = Some (fault_of (drop at bytes)) } ∷ []))
     (take-append-drop at bytes) (Faulty (drop at bytes) ∷ [], ([], sym (append-nil (drop at bytes)), (refl, o, n), refl), refl)
 
--- ---- the same, as the scan of a unit goes
+-- ---- in the form of a unit's scan
 
 pub unit_step : (first : Bool) (bytes piece : List ℕ) (at found n : ℕ) (units : List Part) → piece ≡ drop (at + found) bytes
     → has separates (take found (drop at bytes)) ≡ false → has opens (take found (drop at bytes)) ≡ false → after_piece piece ≡ Some (drop n piece) → is_closed (drop n piece) ≡ true
@@ -94,13 +94,13 @@ unit_fault first bytes piece at found fault e a b o n is =
     (ap fault_of (sym e) ∙ sym is)
     (step_fault first bytes (at + found) (subst (λ (z : List ℕ). opens_first z ≡ true) e o) (subst (HasNoPiece is_closed) e n)))
 
--- a byte more that does not stop the scan
+-- one more byte that does not stop the scan
 pub free_on : (text : List ℕ) (at : ℕ) → at < length text → has stops (take at text) ≡ false → stops (slice_index text at) ≡ false → has stops (take (at + 1) text) ≡ false
 free_on text at within f h =
     let longer : take (at + 1) text ≡ take at text ++ slice_index text at ∷ [] = grind (arith, common_steps, within) in
     ap (has stops) longer ∙ free_snoc (take at text) (slice_index text at) f h
 
--- what stands behind plain bytes, and that they neither end a unit nor begin a string or a block
+-- the text after plain bytes, which neither end a unit nor begin a string or a block
 pub plain_at : (bytes rest piece : List ℕ) (at plain : ℕ) → rest ≡ drop at bytes → piece ≡ drop plain rest → has stops (take plain rest) ≡ false
     → (piece ≡ drop (at + plain) bytes) × (has separates (take plain (drop at bytes)) ≡ false) × (has opens (take plain (drop at bytes)) ≡ false)
 plain_at bytes rest piece at plain e p f =
@@ -114,7 +114,7 @@ parts_push : (us : List rust.Unit) (u : rust.Unit) → parts (us ++ u ∷ []) �
 parts_push [] u = refl
 parts_push (v ∷ us) u = ap (λ (z : List Part). part v ∷ z) (parts_push us u)
 
--- a unit behind others, where there is more than one
+-- a unit appended to others, where there is more than one
 pub units_push : (only : Option rust.Unit) (us vs : List rust.Unit) (u : rust.Unit) (all : List Part) → only ≡ None → parts (units_in only us) ≡ all → vs ≡ us ++ u ∷ [] → parts (units_in only vs) ≡ all ++ part u ∷ []
 units_push (Some v) us vs u all e a is = absurd (cc (e))
 units_push None us vs u all e a is = ap parts is ∙ parts_push us u ∙ ap (λ (z : List Part). z ++ part u ∷ []) a
@@ -137,7 +137,7 @@ split_step first next blank rest text (x ∷ sep) later end more t s n u l f b m
 pub ended_some : (first : Bool) (text : List ℕ) → all_white text ≡ false → ended first text ≡ record { text = text; first = first; fault = None } ∷ []
 ended_some first text h = rw h refl
 
--- the bytes have tokens, and whether one of them is such a byte is known
+-- the bytes have tokens, and the flag is whether one of them is such a byte
 abbrev pub Tells : List ℕ → Bool → Type 0
 Tells bytes high = (tokens : List Token) × Reads is_closed bytes tokens × (high ≡ has_high tokens)
 
@@ -162,7 +162,7 @@ tells_fault bytes o n = (Faulty bytes ∷ [], ([], sym (append-nil bytes), (refl
 pub tells_some : (bytes : List ℕ) → (high : Bool) × Tells bytes high
 tells_some bytes = let r = some_tokens is_closed bytes in (has_high r.0, (r.0, r.1, refl))
 
--- ---- the same, as the scan goes
+-- ---- in the form of the scan
 
 pub before_opening : (bytes : List ℕ) (n : ℕ) → IsFirstByte (is_byte3 34 39 35) bytes (Some n) → (has opens (take n bytes) ≡ false) × (opens_first (drop n bytes) ≡ true)
 before_opening bytes n h = (free_before opens bytes n h, opens_at bytes n h.0.high h.1)

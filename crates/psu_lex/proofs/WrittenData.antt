@@ -1,4 +1,4 @@
--- Numbers and words: all up to a `,`, without the white space at its end.
+-- Numbers and words: the text up to a `,`, without trailing white space.
 use Rattle.std.proofs.Common.{◌≡◌, ℕ, zero, suc, ◌-◌, ◌<◌, ◌≤◌, ◌&&◌, not, Bool, true, false, List, [], ◌∷◌, ◌++◌, length, take, drop, refl, sym, ap, ◌∙◌, subst, arith, append_assoc, inl, inr, Option, Some, None, slice_index, take_all, drop-cons, unwrap_or}
 use Rattle.std.proofs.lemmas.Bool.{and_parts, cases_Bool}
 use Rattle.std.proofs.lemmas.Bool.Decides.{nat_tests}
@@ -24,13 +24,13 @@ trimmed_white : (w : List ℕ) → all_white w ≡ true → trimmed w ≡ []
 trimmed_white [] h = refl
 trimmed_white (x ∷ w) h = let p = and_parts (is_white x) (all_white w) h in rw (trimmed_white w p.1, p.0) refl
 
--- one text, whatever white space follows it
+-- trimming gives the text, whatever white space follows it
 trimmed_is : (a w : List ℕ) → all_white w ≡ true → ends_in_white a ≡ false → trimmed (a ++ w) ≡ a
 trimmed_is [] w h d = trimmed_white w h
 trimmed_is (x ∷ []) w h d = rw (trimmed_white w h, d) refl
 trimmed_is (x ∷ y ∷ a) w h d = ap (put_dark x) (trimmed_is (y ∷ a) w h d)
 
--- the text, and the white space that is cut from it
+-- the text, and the white space that is cut off
 record Trimmed (xs text : List ℕ) : Type 0 where
   space : List ℕ
   whole : xs ≡ text ++ space
@@ -55,7 +55,7 @@ last_dark (x ∷ y ∷ s) (suc m) within h = last_dark (y ∷ s) m (omega (arith
 
 -- ---- up to a `,`
 
--- no `,`, and nothing that opens a string or a block or is 127 or more
+-- not `,`, and nothing that opens a string or a block or is 127 or more
 abbrev pub is_inner : ℕ → Bool
 is_inner b = is_uncut b && not (opens b) && not (is_high b)
 
@@ -128,7 +128,7 @@ parted_leads : (tail : List ℕ) → is_parted tail ≡ true → leads is_uncut 
 parted_leads [] h = refl
 parted_leads (x ∷ tail) h = rw h refl
 
--- a text without a `,`, and the white space behind it, are all up to the `,`
+-- a text without a `,`, followed by white space, is everything up to the `,`
 uncut_run : (text next : List ℕ) → every is_uncut text ≡ true → is_parted (left is_white next) ≡ true → run is_uncut (text ++ next) ≡ text ++ run is_white next
 uncut_run text next h p =
     let space = run is_white next in
@@ -156,7 +156,7 @@ word_found body text next e h p =
     let is : is_node (written body) ≡ true = ap is_node w.0 ∙ h in
     rw is (ap (λ (z : List ℕ). Some z) w.1)
 
--- what is written, and what follows it
+-- the written text, and what follows it
 pub written_whole : (body : List ℕ) → (body ≡ written body ++ drop (length (written body)) body) × (ends_in_white (written body) ≡ false)
 written_whole body =
     let t = trimmed_parts (run is_uncut body) in
@@ -164,7 +164,7 @@ written_whole body =
     = sym (run_left is_uncut body) ∙ ap (λ (z : List ℕ). z ++ left is_uncut body) t.whole ∙ append_assoc (written body) t.space (left is_uncut body) in
     (whole ∙ ap (λ (z : List ℕ). written body ++ z) (sym (ap (drop (length (written body))) whole ∙ drop-append_seam (written body) (t.space ++ left is_uncut body))), t.dark)
 
--- the same, as the code goes
+-- where no byte is a `,`, each byte passes `is_uncut`
 has_every : (xs : List ℕ) → has (is_byte 44) xs ≡ false → every is_uncut xs ≡ true
 has_every [] h = refl
 has_every (x ∷ xs) h = rw (has_head (is_byte 44) x xs h) (has_every xs (has_tail (is_byte 44) x xs h))

@@ -1,11 +1,11 @@
--- Bytes of a message, by their use. Source: IEEE 488.2, 7.4 (white space, separators) and 7.7 (program data).
+-- Classes of the bytes of a message. Source: IEEE 488.2, 7.4 (white space, separators) and 7.7 (program data).
 use Rattle.std.specs.Prelude.{ℕ, ◌+◌, ◌*◌, ◌-◌, ◌==◌, ◌||◌, ◌&&◌, nat_lt, Bool, true, false, not, List, [], ◌∷◌, if◌then◌else◌}
 
--- white space: 0 to 32, but for NL
+-- white space: 0 to 32, except NL
 abbrev pub is_white : ℕ → Bool
 is_white b = nat_lt b 33 && not (b == 10)
 
--- anything but white space
+-- any byte that is not white space
 abbrev pub is_dark : ℕ → Bool
 is_dark b = not (is_white b)
 
@@ -17,7 +17,7 @@ separates b = b == 59 || b == 10
 abbrev pub is_quote : ℕ → Bool
 is_quote b = b == 34 || b == 39
 
--- `"`, `'` or `#`: a string or a block begins
+-- `"`, `'` or `#`: the byte begins a string or a block
 abbrev pub opens : ℕ → Bool
 opens b = b == 34 || b == 39 || b == 35
 
@@ -57,12 +57,12 @@ ends_in_newline [] = false
 ends_in_newline (x ∷ []) = x == 10
 ends_in_newline (x ∷ y ∷ more) = ends_in_newline (y ∷ more)
 
--- the number that digits write after those of n
+-- the number that the digits of n followed by more digits denote
 abbrev pub value_after : ℕ → List ℕ → ℕ
 value_after n [] = n
 value_after n (d ∷ ds) = value_after (10 * n + (d - 48)) ds
 
--- what may follow a string or a block in a message: white space, and then `,`, `;`, NL or END
+-- what may follow a string or a block in a message: white space, followed by `,`, `;`, NL or END
 abbrev pub is_closed : List ℕ → Bool
 is_closed [] = true
 is_closed (x ∷ xs) = if is_white x then is_closed xs else x == 44 || x == 59 || x == 10

@@ -1,7 +1,7 @@
--- Numbers as answered, with three decimals. Source: IEEE 488.2, 8.7.3 (NR2).
+-- Numbers as response data, with three decimals. Source: IEEE 488.2, 8.7.3 (NR2).
 use Rattle.std.specs.Prelude.{ℕ, ◌+◌, ◌/◌, ◌%◌, List, [], ◌∷◌, ◌++◌, decimal, ℤ, nat_abs, int_lt, pos, if◌then◌else◌}
 
--- three digits, zeros in front
+-- three digits, with leading zeros
 abbrev pub three_digits : ℕ → List ℕ
 three_digits n = (48 + n / 100) ∷ (48 + n / 10 % 10) ∷ (48 + n % 10) ∷ []
 

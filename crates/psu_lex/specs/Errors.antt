@@ -1,4 +1,4 @@
--- The errors: number, text, class and bit. Sources: SCPI-1999 volume 2, chapter 21; IEEE 488.2, 11.5.1.
+-- The errors: number, text, class and event status bit. Sources: SCPI-1999 volume 2, chapter 21; IEEE 488.2, 11.5.1.
 use Rattle.std.specs.Prelude.{ℕ, List, codes, nat_lt, if◌then◌else◌}
 use Rattle.psu_lex.specs.declared.error_class.ErrorClass.{ErrorClass}
 use Rattle.psu_lex.specs.declared.error_class.ErrorClass.TheVariants.{Command, Execution, Device}
@@ -72,7 +72,7 @@ text MacroHeaderNotFound = codes "Macro header not found"
 text StorageFault = codes "Storage fault"
 text QueueOverflow = codes "Queue overflow"
 
--- -1xx are command errors, -2xx execution errors, -3xx errors of the device
+-- -1xx are command errors, -2xx execution errors, -3xx device-specific errors
 abbrev pub class_of : ScpiError → ErrorClass
 class_of e = if nat_lt (magnitude e) 200 then Command else (if nat_lt (magnitude e) 300 then Execution else Device)
 

@@ -1,4 +1,4 @@
--- Words of the contracts inside this crate: bytes with or without memory of their own.
+-- Definitions for the contracts inside this crate: bytes that are stored inline or allocated.
 use Rattle.std.specs.Prelude.{ℕ, List}
 use Rattle.psu_lex.specs.declared.held.Held.{Held}
 use Rattle.psu_lex.specs.declared.held.Held.TheVariants as held

@@ -1,4 +1,4 @@
--- What the label of a macro and the name of a file may be. (The rules are this project's own.)
+-- Valid macro labels and file names. (The rules are this project's own.)
 use Rattle.std.specs.Prelude.{ℕ, ◌&&◌, ◌||◌, ◌==◌, nat_le, Bool, false, List, [], ◌∷◌, length}
 use Rattle.std.specs.List.{list_all}
 use Rattle.psu_lex.specs.Bytes.{is_letter}
@@ -16,6 +16,6 @@ is_label bytes = begins_with_letter bytes && (list_all is_name_byte bytes && nat
 abbrev pub is_file_byte : ℕ → Bool
 is_file_byte byte = is_name_byte byte || (byte == 45 || byte == 46)
 
--- the name of a file: 1 to 64 of these
+-- a file name: 1 to 64 of these
 abbrev pub is_name : List ℕ → Bool
 is_name bytes = list_all is_file_byte bytes && (nat_le 1 (length bytes) && nat_le (length bytes) 64)

@@ -1,5 +1,5 @@
--- Numbers: how they are written, and the whole number that one stands for.
--- Source: IEEE 488.2, 7.7.2 (decimal numeric data) and 7.7.3 (suffixes).
+-- Numbers: their spelling, and the whole number that is the value. Source: IEEE 488.2, 7.7.2 (decimal numeric data) and
+-- 7.7.3 (suffixes).
 use Rattle.std.specs.Prelude.{◌≡◌, ◌⊎◌, ℕ, ◌+◌, ◌*◌, ◌/◌, ◌^◌, ◌<◌, ◌==◌, ◌||◌, nat_lt, min, true, List, [], ◌∷◌, ◌++◌, length, Option, Some, None, Result, Ok, Err, ℤ, pos, neg_ℤ, if◌then◌else◌}
 use Rattle.psu_lex.specs.Bytes.{all_digits, all_letters, all_white, value_after}
 use Rattle.psu_lex.specs.declared.scpi_error.ScpiError.{ScpiError}
@@ -24,7 +24,7 @@ pub record Exponent : Type 0 where
   pub sign : Sign
   pub digits : List ℕ
 
--- a number as written: fraction is None without a point
+-- a number as written: `fraction` is None where there is no point
 pub record Number : Type 0 where
   pub sign : Sign
   pub whole : List ℕ
@@ -78,7 +78,7 @@ pub record IsNumber (n : Number) : Type 0 where
 abbrev pub rounded : ℕ → ℕ → ℕ
 rounded numerator denominator = (2 * numerator + denominator) / (2 * denominator)
 
--- digits times 10^up / 10^down, rounded and held to 10^15
+-- digits times 10^up / 10^down, rounded and capped at 10^15
 abbrev pub magnitude : List ℕ → ℕ → ℕ → ℕ
 magnitude digits up down = min (10 ^ 15) (rounded (value_after 0 digits * 10 ^ up) (10 ^ down))
 
@@ -119,20 +119,20 @@ abbrev pub without_zeros : List ℕ → List ℕ
 without_zeros [] = []
 without_zeros (d ∷ ds) = if d == 48 then without_zeros ds else d ∷ ds
 
--- the value times 10^places, or the fault in its place; the suffix is not looked at
+-- the value times 10^places, or the error in its place; the suffix is ignored
 abbrev pub valued : Number → ℕ → Result ℤ ScpiError
 valued n places =
     if nat_lt 32000 (power n.exponent) then Err ExponentTooLarge
     else (if nat_lt 255 (length (without_zeros (mantissa n))) then Err TooManyDigits else Ok (value_of n places))
 
--- what a written number gives where no suffix is asked
+-- the value or the error of a written number where no suffix is allowed
 abbrev pub reading_of : Number → ℕ → Result ℤ ScpiError
 reading_of n places =
     if nat_lt 32000 (power n.exponent) then Err ExponentTooLarge
     else (if nat_lt 255 (length (without_zeros (mantissa n))) then Err TooManyDigits
     else (if nat_lt 0 (length n.suffix) then Err InvalidSuffix else Ok (value_of n places)))
 
--- what a text gives: what its number does, or -102 where it is none
+-- the result of a text: that of its number, or -102 where it is not a number
 abbrev pub NumberGives : List ℕ → ℕ → Result ℤ ScpiError → Type 0
 NumberGives text places result =
     ((n : Number) × IsNumber n × (text ≡ number_text n) × (result ≡ reading_of n places))

@@ -1,4 +1,4 @@
--- Words of the contracts inside this crate: what a scan of a number takes, from the left, as long as it can.
+-- Definitions for the contracts inside this crate: what a scan of a number takes, from the left, as long as possible.
 use Rattle.std.specs.Prelude.{◌≡◌, ℕ, ◌==◌, ◌||◌, ◌&&◌, not, Bool, true, false, List, [], ◌∷◌, drop, Option, Some, None, is_none, ℤ, pos, neg_ℤ, if◌then◌else◌}
 use Rattle.psu_lex.specs.Bytes.{is_digit, is_letter, is_white}
 use Rattle.psu_lex.specs.Number.{Sign, Exponent, Number, mantissa}
@@ -13,7 +13,7 @@ belongs Digit = is_digit
 belongs White = is_white
 belongs Letter = is_letter
 
--- the bytes in front that pass the test, and those from the first on that does not
+-- the longest prefix of bytes that pass the test, and the rest after it
 abbrev pub run : (ℕ → Bool) → List ℕ → List ℕ
 run test [] = []
 run test (x ∷ xs) = if test x then x ∷ run test xs else []
@@ -53,7 +53,7 @@ exponent_from before (x ∷ xs) =
 abbrev pub exponent_of : List ℕ → Option Exponent
 exponent_of text = exponent_from (run is_white text) (left is_white text)
 
--- what stands behind the exponent, if there is one
+-- the text after the exponent, if there is one
 abbrev pub behind : List ℕ → List ℕ
 behind text = left is_digit (after_sign (left is_white (drop 1 (left is_white text))))
 
@@ -64,7 +64,7 @@ abbrev pub is_nonempty : List ℕ → Bool
 is_nonempty [] = false
 is_nonempty (x ∷ xs) = true
 
--- white space before a suffix, the suffix, white space at the end, and what is left over
+-- white space before a suffix, the suffix, trailing white space, and the rest
 abbrev pub suffix_of : List ℕ → List ℕ
 suffix_of text = run is_letter (left is_white text)
 
@@ -98,7 +98,7 @@ scanned text = record {
   rest = end_of (at_tail text);
 }
 
--- the text is a number: there is a digit before or after the point, and nothing is left over
+-- the text is a number: there is a digit before or after the point, and no bytes remain
 abbrev pub is_number : List ℕ → Bool
 is_number text = is_nonempty (mantissa (scanned text)) && not (is_nonempty (excess_of (at_tail text)))
 
@@ -106,7 +106,7 @@ abbrev pub with_minus : Bool → ℕ → ℤ
 with_minus false n = pos n
 with_minus true n = neg_ℤ (pos n)
 
--- the code's exponent is this one
+-- the code's exponent has these parts
 pub record ShowsPower (shown : code_power.Power) (exponent : Option Exponent) (later : List ℕ) : Type 0 where
   pub divides : shown.divides ≡ divides exponent
   pub digits : shown.digits.now ≡ power_digits exponent

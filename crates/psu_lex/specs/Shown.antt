@@ -1,4 +1,4 @@
--- What the code's values stand for: headers, data and numbers, without where they lie in memory.
+-- The model of the code's values: headers, data and numbers, with their texts as lists.
 use Rattle.std.specs.Prelude.{◌≡◌, ℕ, Bool, true, false, List, [], ◌∷◌, Option, Some, None, Result, Ok, Err}
 use Rattle.psu_lex.specs.Number.{Sign, Exponent, Number, fraction_digits}
 use Rattle.psu_lex.specs.Number.Sign.{Plus, Minus, Unsigned}
@@ -13,7 +13,7 @@ use Rattle.psu_lex.specs.declared.scpi_error.ScpiError.{ScpiError}
 
 -- ---- headers
 
--- the code's header is this one
+-- the code's header has these parts
 pub record ShowsHeader (shown : rust_header.Header) (h : Header) : Type 0 where
   pub text : shown.text.now ≡ header_text h
   pub mark : shown.mark ≡ h.mark
@@ -22,22 +22,22 @@ pub record ShowsHeader (shown : rust_header.Header) (h : Header) : Type 0 where
 
 -- ---- data
 
--- what stands behind a datum: nothing, or a `,` and the others
+-- the text after a datum: empty, or a `,` and the other data
 abbrev pub TailLists : List ℕ → List Datum → Type 0
 TailLists tail [] = tail ≡ []
 TailLists tail (datum ∷ list) = (rest : List ℕ) × (tail ≡ 44 ∷ rest) × Lists rest (datum ∷ list)
 
--- it is a datum where some text follows it
+-- it is a datum when some text follows it
 abbrev pub IsSomeDatum : Datum → Type 0
 IsSomeDatum datum = (more : List ℕ) × IsDatum datum.class datum.text more
 
--- a first datum that was found, with what stands behind it, begins this list
+-- a first datum that was found, with the text after it, begins this list
 abbrev pub HoldsFound : Option rust_found.Found → List Datum → Type 0
 HoldsFound None list = list ≡ []
 HoldsFound (Some found) list =
     (others : List Datum) × (list ≡ datum_of found.datum ∷ others) × IsSomeDatum (datum_of found.datum) × TailLists found.tail.now others
 
--- the code's data are this list
+-- the code's data have this list
 abbrev pub HoldsData : rust_data.Data → List Datum → Type 0
 HoldsData shown list = HoldsFound shown.found list
 
@@ -49,12 +49,12 @@ FirstIs (Some first) list =
 
 -- ---- units
 
--- the code's syntax is this one
+-- the code's syntax has these parts
 abbrev pub ShowsSyntax : rust.Syntax → Syntax → Type 0
 ShowsSyntax shown syntax =
     (h : Header) × IsHeader h × (syntax.header ≡ header_text h) × ShowsHeader shown.header h × HoldsData shown.parameters syntax.parameters
 
--- the code's result is this one
+-- the code's result is this result
 abbrev pub Shows : Result rust.Syntax ScpiError → Result Syntax ScpiError → Type 0
 Shows (Ok shown) (Ok syntax) = ShowsSyntax shown syntax
 Shows (Err shown) (Err error) = shown ≡ error
@@ -76,7 +76,7 @@ abbrev pub power_digits : Option Exponent → List ℕ
 power_digits None = []
 power_digits (Some e) = e.digits
 
--- the code's number is this one
+-- the code's number has these parts
 pub record ShowsNumber (shown : rust_written.Written) (n : Number) : Type 0 where
   pub negative : shown.negative ≡ is_minus n.sign
   pub whole : shown.whole.now ≡ n.whole

@@ -40,14 +40,14 @@ mark_text Star = 42 ∷ []
 mark_text Colon = 58 ∷ []
 mark_text Bare = []
 
--- what stands before the first node, that node, those behind it, and whether a `?` ends it
+-- the mark, the first node, the nodes after it, and whether the header ends with `?`
 pub record Header : Type 0 where
   pub mark : Mark
   pub node : List ℕ
   pub nodes : List (List ℕ)
   pub asks : Bool
 
--- each node with a `:` before it
+-- each node preceded by a `:`
 abbrev pub behind : List (List ℕ) → List ℕ
 behind [] = []
 behind (n ∷ ns) = 58 ∷ (n ++ behind ns)
@@ -58,11 +58,11 @@ ask_text asks = if asks then 63 ∷ [] else []
 abbrev pub header_text : Header → List ℕ
 header_text h = mark_text h.mark ++ (h.node ++ (behind h.nodes ++ ask_text h.asks))
 
--- its nodes, with `:` between them
+-- the nodes, separated by `:`
 abbrev pub path_text : Header → List ℕ
 path_text h = h.node ++ behind h.nodes
 
--- only one node stands behind a `*`
+-- a header with mark `*` has only one node
 pub record IsHeader (h : Header) : Type 0 where
   pub node : is_node h.node ≡ true
   pub nodes : all_nodes h.nodes ≡ true
@@ -84,7 +84,7 @@ class_of (Quoted q content) = String
 class_of (Counted digits content) = Block
 class_of (Open content) = Block
 
--- the string or block is whole where more of its unit follows it; one up to END takes all of the unit
+-- the string or block is whole when followed by more of its unit; one up to END takes the rest of the unit
 abbrev pub IsWholeIn : Piece → List ℕ → Type 0
 IsWholeIn (Quoted q content) more = IsWhole (Quoted q content) more
 IsWholeIn (Counted digits content) more = IsWhole (Counted digits content) more
@@ -95,18 +95,18 @@ ends_in_white [] = false
 ends_in_white (x ∷ []) = is_white x
 ends_in_white (x ∷ y ∷ more) = ends_in_white (y ∷ more)
 
--- the text is a datum of the class where more of its unit follows it
+-- the text is a datum of the class when followed by more of its unit
 abbrev pub IsDatum : DatumClass → List ℕ → List ℕ → Type 0
 IsDatum Numeric text more = (n : Number) × IsNumber n × (text ≡ number_text n) × (ends_in_white text ≡ false)
 IsDatum Character text more = is_node text ≡ true
 IsDatum class text more = (piece : Piece) × (class_of piece ≡ class) × (text ≡ spelling piece) × IsWholeIn piece more
 
--- what stands before the rest of the data: nothing where there are no more, else white space and a `,`
+-- what precedes the rest of the data: nothing where there are no more data, otherwise white space and a `,`
 abbrev pub IsBefore : List ℕ → List ℕ → List Datum → Type 0
 IsBefore next rest [] = next ≡ rest
 IsBefore next rest (datum ∷ list) = (space : List ℕ) × (all_white space ≡ true) × (next ≡ space ++ 44 ∷ rest)
 
--- white space alone, or data separated by `,` with white space allowed round each
+-- only white space, or data separated by `,` with white space allowed around each
 abbrev pub Lists : List ℕ → List Datum → Type 0
 Lists text [] = all_white text ≡ true
 Lists text (datum ∷ list) =
@@ -119,7 +119,7 @@ pub record Syntax : Type 0 where
   pub header : List ℕ
   pub parameters : List Datum
 
--- nothing, or white space first
+-- the text is empty or begins with white space
 abbrev pub is_apart : List ℕ → Bool
 is_apart [] = true
 is_apart (x ∷ xs) = is_white x
@@ -130,13 +130,13 @@ UnitReads text syntax =
     (space rest : List ℕ) × (all_white space ≡ true) × (text ≡ space ++ (syntax.header ++ rest)) × SpellsHeader syntax.header
     × (is_apart rest ≡ true) × Lists rest syntax.parameters
 
--- a byte of 127 or more stands outside strings and blocks
+-- a byte of 127 or more occurs outside strings and blocks
 abbrev pub has_high : List Token → Bool
 has_high [] = false
 has_high (Byte b ∷ tokens) = nat_lt 126 b || has_high tokens
 has_high (token ∷ tokens) = has_high tokens
 
--- what a text without such a byte, or with one, gives
+-- the result of a text without such a byte (false), or with one (true)
 abbrev pub TextGives : Bool → List ℕ → Result Syntax ScpiError → Type 0
 TextGives true text result = result ≡ Err InvalidCharacter
 TextGives false text result =
@@ -152,10 +152,10 @@ abbrev pub FaultGives : Option UnitFault → List ℕ → Result Syntax ScpiErro
 FaultGives (Some faulty) text result = result ≡ Err (error_of faulty)
 FaultGives None text result = (tokens : List Token) × Reads is_closed text tokens × TextGives (has_high tokens) text result
 
--- what a unit gives: its fault, -101, -102, or its header and data
+-- the result of a unit: its fault, -101, -102, or its header and data
 abbrev pub SyntaxGives : Part → Result Syntax ScpiError → Type 0
 SyntaxGives unit result = FaultGives unit.fault unit.text result
 
--- a datum of the code, without where it lies in memory
+-- a datum of the code, with its text as a list
 abbrev pub datum_of : rust.Datum → Datum
 datum_of datum = record { class = datum.class; text = datum.text.now }

@@ -1,4 +1,4 @@
--- Words of the contracts inside this crate: what the scan of a unit's header and data has found.
+-- Definitions for the contracts inside this crate: what the scan of a unit's header and data has found.
 use Rattle.std.specs.Prelude.{◌≡◌, ℕ, ◌+◌, ◌-◌, ◌==◌, ◌&&◌, not, nat_lt, Bool, true, false, List, [], ◌∷◌, ◌++◌, length, take, drop, slice_index, Option, Some, None, if◌then◌else◌}
 use Rattle.psu_lex.specs.Bytes.{is_dark, is_white, is_letter, is_quote, starts, starts_quoted}
 use Rattle.psu_lex.specs.NumberScan.{run, left, is_number}
@@ -15,15 +15,15 @@ abbrev pub is_empty : List ℕ → Bool
 is_empty [] = true
 is_empty (x ∷ xs) = false
 
--- another node comes
+-- another node follows
 abbrev pub joins : Bool → Bool → ℕ → Bool
 joins begun several b = begun && several && b == 58
 
--- the byte may stand in a node, which has begun or not
+-- the byte may occur in a node, which has begun or not
 abbrev pub is_part : Bool → ℕ → Bool
 is_part begun b = if begun then is_name_byte b else is_letter b
 
--- nodes joined by `:`, or one, and then an optional `?`, where a node has begun or not
+-- nodes joined by `:`, or one node, followed by an optional `?`, where a node has begun or not
 abbrev pub is_path : Bool → Bool → List ℕ → Bool
 is_path several begun [] = begun
 is_path several begun (x ∷ xs) =
@@ -34,23 +34,24 @@ abbrev pub is_header : List ℕ → Bool
 is_header [] = false
 is_header (x ∷ xs) = if x == 42 then is_path false false xs else (if x == 58 then is_path true false xs else is_path true false (x ∷ xs))
 
--- the first n bytes are all up to white space or the end, and pass the test
+-- the first n bytes are the text up to white space or the end, and pass the test
 pub record EndsDark (test : List ℕ → Bool) (text : List ℕ) (n : ℕ) : Type 0 where
   pub front : take n text ≡ run is_dark text
   pub back : drop n text ≡ left is_dark text
   pub passes : test (run is_dark text) ≡ true
 
--- what the bytes before a place say of all up to white space, where a node has begun or not
+-- the bytes before a position belong to the text up to white space, which is a path if and only if its rest from the
+-- position on is one, where a node has begun or not
 pub record Reaches (several begun : Bool) (text : List ℕ) (at : ℕ) : Type 0 where
   pub front : take at text ++ run is_dark (drop at text) ≡ run is_dark text
   pub back : left is_dark (drop at text) ≡ left is_dark text
   pub path : is_path several begun (run is_dark (drop at text)) ≡ is_path several false (run is_dark text)
 
--- the place, or the next where a `?` stands there
+-- the position, or the next one where a `?` is at the position
 abbrev pub behind_ask : List ℕ → ℕ → ℕ
 behind_ask text at = if slice_index text at == 63 then at + 1 else at
 
--- a mark by the first byte
+-- the mark that the first byte denotes
 abbrev pub mark_at : ℕ → Mark
 mark_at b = if b == 42 then Star else (if b == 58 then Colon else Bare)
 
@@ -58,7 +59,7 @@ abbrev pub mark_of : List ℕ → Mark
 mark_of [] = Bare
 mark_of (x ∷ xs) = mark_at x
 
--- the text behind a mark
+-- the text after a mark
 abbrev pub behind_mark : Mark → List ℕ → List ℕ
 behind_mark Star text = drop 1 text
 behind_mark Colon text = drop 1 text
@@ -70,7 +71,7 @@ ends_asking [] = false
 ends_asking (x ∷ []) = x == 63
 ends_asking (x ∷ y ∷ more) = ends_asking (y ∷ more)
 
--- the text without it
+-- the text without its last `?`
 abbrev pub without_ask : Bool → List ℕ → List ℕ
 without_ask true text = take (length text - 1) text
 without_ask false text = text
@@ -84,12 +85,12 @@ is_uncut b = not (b == 44)
 abbrev pub class_at : ℕ → DatumClass
 class_at b = if is_quote b then String else (if b == 35 then Block else (if is_letter b then Character else Numeric))
 
--- the end, or a `,`
+-- the text is empty or begins with `,`
 abbrev pub is_parted : List ℕ → Bool
 is_parted [] = true
 is_parted (x ∷ xs) = x == 44
 
--- the text without the white space at its end
+-- the text without trailing white space
 abbrev pub put_dark : ℕ → List ℕ → List ℕ
 put_dark x [] = if is_white x then [] else x ∷ []
 put_dark x (y ∷ ys) = x ∷ y ∷ ys
@@ -98,18 +99,18 @@ abbrev pub trimmed : List ℕ → List ℕ
 trimmed [] = []
 trimmed (x ∷ xs) = put_dark x (trimmed xs)
 
--- the text up to the `,` or the end, without the white space at its end
+-- the text up to the `,` or the end, without trailing white space
 abbrev pub written : List ℕ → List ℕ
 written body = trimmed (run is_uncut body)
 
--- what follows a datum of the class that stands at the front
+-- what follows the datum of the class that the body begins with
 abbrev pub after_datum : DatumClass → List ℕ → Option (List ℕ)
 after_datum Numeric body = if is_number (written body) then Some (drop (length (written body)) body) else None
 after_datum Character body = if is_node (written body) then Some (drop (length (written body)) body) else None
 after_datum String body = if starts_quoted body then after_piece body else None
 after_datum Block body = if starts 35 body then (if starts 48 (drop 1 body) then Some [] else after_piece body) else None
 
--- the datum that this is before what follows it, and what stands there behind white space
+-- the datum that the body is before what follows it, and what follows that after white space
 abbrev pub parted : DatumClass → List ℕ → Option (List ℕ) → Option (Datum × List ℕ)
 parted class body None = None
 parted class body (Some next) =
@@ -120,7 +121,7 @@ abbrev pub datum_in : List ℕ → Option (Datum × List ℕ)
 datum_in [] = None
 datum_in (x ∷ xs) = parted (class_at x) (x ∷ xs) (after_datum (class_at x) (x ∷ xs))
 
--- the datum at the front, after white space, and what follows it, behind white space
+-- the datum that the text begins with after white space, and what follows it after white space
 abbrev pub datum_at : List ℕ → Option (Datum × List ℕ)
 datum_at text = datum_in (left is_white text)
 

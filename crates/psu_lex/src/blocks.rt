@@ -9,17 +9,17 @@ use crate::{Bytes, ScpiError};
 use itoa::Buffer;
 use std::alloc::{AllocError, Allocator};
 
-/// Whether the block may be all of its text, where it takes these many of the bytes after `#`: nothing
-/// follows it, or it has no length.
+/// Whether the block takes up all of its text, where it consists of the first `end` bytes after `#`: nothing follows
+/// it, or it is of indefinite length.
 fn is_all(rest: &[u8], end: usize) -> bool
     ensures { result ≡ (end == length rest.now || starts 48 rest.now) }
 {
     end == rest.len() || begins(rest, b'0')
 }
 
-/// The bytes that a text stands for as block data (IEEE 488.2, 7.7.6). A text that is anything but
-/// one whole block is invalid block data; an NL may follow a block without a length, and is no part
-/// of it. Memory is wanted for a block alone.
+/// Returns the bytes that a text encodes as block data (IEEE 488.2, 7.7.6). A text other than exactly one whole block
+/// is invalid block data. An NL may follow a block of indefinite length and is not part of it. Memory is allocated only
+/// for a valid block.
 pub fn block<A: Allocator + Copy>(alloc: A, text: &[u8]) -> Result<Bytes<A>, ScpiError>
     ensures ok { IfOk result (λ bytes. IsBlockOf text.now bytes) }
     ensures err { IfErr result (λ error. Refuses InvalidBlockData (IsBlockOf text.now) error) }
@@ -43,7 +43,7 @@ pub fn block<A: Allocator + Copy>(alloc: A, text: &[u8]) -> Result<Bytes<A>, Scp
     }
 }
 
-/// The bytes as a block with its length (IEEE 488.2, 8.7.9), the length in as few digits as it needs.
+/// Returns the bytes as a block of definite length (IEEE 488.2, 8.7.9), with the length in as few digits as possible.
 pub fn definite<A: Allocator + Copy>(alloc: A, bytes: &[u8]) -> Result<Bytes<A>, AllocError>
     requires { length bytes.now < 10 ^ 9 }
     ensures exact { IfOk result (λ text. text ≡ definite_text bytes.now) }

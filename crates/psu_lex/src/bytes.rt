@@ -1,4 +1,4 @@
-// Bytes that a call hands out.
+// Bytes that a call returns.
 ghost use Rattle.std.specs.Prelude.{◌≡◌, [], ◌++◌, decimal, IfOk, OnOk, OnErr};
 
 use crate::held::Held;
@@ -7,7 +7,7 @@ use itoa::Buffer;
 use std::alloc::{AllocError, Allocator};
 use std::marker::Model;
 
-/// Bytes that a call hands out; a few that are known at once take no memory. Contracts see the list of them.
+/// Bytes that a call returns; a few bytes that are known at once need no allocation. Contracts see the list of them.
 #[derive(Drop)]
 pub struct Bytes<A: Allocator + Copy> {
     held: Held<A>,
@@ -22,7 +22,7 @@ impl<A: Allocator + Copy> Model for Bytes<A> {
     ghost view = { λ bytes. bytes_in bytes.held };
 }
 
-// A few bytes, and more behind them.
+// Returns a list of a few bytes followed by more bytes.
 fn joined<A: Allocator + Copy>(alloc: A, few: &[u8], more: &[u8]) -> Result<Vec<u8, A>, AllocError>
     ensures { IfOk result (λ list. list.items ≡ few.now ++ more.now) }
 {
@@ -32,14 +32,14 @@ fn joined<A: Allocator + Copy>(alloc: A, few: &[u8], more: &[u8]) -> Result<Vec<
 }
 
 impl<A: Allocator + Copy> Bytes<A> {
-    /// No bytes. This takes no memory.
+    /// Returns no bytes. This does not allocate.
     pub fn new(alloc: A) -> Bytes<A>
         ensures { result ≡ [] }
     {
         Bytes::many(Vec::new(alloc))
     }
 
-    /// The bytes of a list.
+    /// Returns the bytes of a list.
     pub(crate) fn many(list: Vec<u8, A>) -> Bytes<A>
         ensures { result ≡ list.items }
     {
@@ -48,7 +48,7 @@ impl<A: Allocator + Copy> Bytes<A> {
         }
     }
 
-    /// These bytes; only more than a few take memory.
+    /// Returns these bytes; allocates only for more than a few.
     pub fn of(alloc: A, bytes: &[u8]) -> Result<Bytes<A>, AllocError>
         ensures { IfOk result (λ copy. copy ≡ bytes.now) }
     {
@@ -61,7 +61,7 @@ impl<A: Allocator + Copy> Bytes<A> {
         }
     }
 
-    /// Puts bytes behind those that are there.
+    /// Appends bytes.
     pub fn put(&mut self, bytes: &[u8]) -> Result<(), AllocError>
         ensures ok { OnOk result (self.new ≡ self.old ++ bytes.now) }
         ensures err { OnErr result (self.new ≡ self.old) }
@@ -78,7 +78,7 @@ impl<A: Allocator + Copy> Bytes<A> {
         }
     }
 
-    /// Puts a number behind the bytes that are there, in decimal digits.
+    /// Appends a number in decimal digits.
     pub fn put_number(&mut self, number: u128) -> Result<(), AllocError>
         ensures ok { OnOk result (self.new ≡ self.old ++ decimal number) }
         ensures err { OnErr result (self.new ≡ self.old) }
@@ -87,7 +87,7 @@ impl<A: Allocator + Copy> Bytes<A> {
         self.put(buffer.format(number).as_bytes())
     }
 
-    /// The bytes, first to last.
+    /// Returns the bytes, in order.
     pub fn as_slice(&self) -> &[u8]
         ensures { result.now ≡ self.now }
     {

@@ -3,7 +3,7 @@ ghost use Rattle.std.specs.Prelude.{◌≡◌};
 ghost use Rattle.psu_lex.specs.Bytes.{is_white};
 ghost use Rattle.psu_lex.specs.NumberScan.{belongs};
 
-/// Whether the byte is white space: 0 to 32, but for NL.
+/// Whether the byte is white space: 0 to 32, except NL.
 #[inline(always)]
 pub fn is_white(byte: u8) -> bool
     ensures { result ≡ is_white byte }

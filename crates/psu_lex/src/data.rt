@@ -3,7 +3,7 @@ use crate::Datum;
 use crate::data_scan::next_of;
 use crate::found::Found;
 
-/// The data of a unit, in order: the first is known, those behind it are found as they are asked for.
+/// The data of a unit, in order: the first datum is known, and those after it are found on demand.
 #[derive(Clone, Copy, Debug, PartialEq, Eq)]
 pub struct Data<'a> {
     pub(crate) found: Option<Found<'a>>,
@@ -14,7 +14,7 @@ impl<'a> Data<'a> {
     ghost use Rattle.psu_lex.specs.Syntax.{Datum as DatumData};
     ghost use Rattle.psu_lex.specs.Shown.{FirstIs, HoldsData};
 
-    /// The first datum and those behind it; nothing where there is none.
+    /// Returns the first datum and those after it, or `None` where there is none.
     pub fn first(&self) -> Option<(Datum<'a>, Data<'a>)>
         ensures { (list : List DatumData) → HoldsData self.now list → FirstIs result list }
     {

@@ -15,7 +15,7 @@ use crate::pieces::{after, begins, front, is_quote_byte, whole_end};
 use crate::{Data, Datum, DatumClass};
 use memchr::memchr;
 
-/// Where the white space at the end begins.
+/// Returns the position at which the trailing white space begins.
 #[tactic(auto, using(crate::proofs::WrittenData::dark_at))]
 fn dark_end(text: &[u8]) -> usize
     ensures within { result ≤ length text.now }
@@ -29,7 +29,7 @@ fn dark_end(text: &[u8]) -> usize
     end
 }
 
-/// How many bytes stand before the `,` or the end, without the white space at their end.
+/// Returns the length of the text up to the `,` or the end, without trailing white space.
 fn written_end(body: &[u8]) -> usize
     ensures within { result ≤ length body.now }
     ensures written { take result body.now ≡ written body.now }
@@ -38,7 +38,7 @@ fn written_end(body: &[u8]) -> usize
     dark_end(front(body, end))
 }
 
-/// How many bytes the number has that is the body up to a `,`.
+/// Returns the length of the number that the body is up to a `,`, or `None` where it is not a number.
 fn number_end(body: &[u8]) -> Option<usize>
     ensures within { IfSome result (λ n. n ≤ length body.now) }
     ensures some { IfSome result (λ n. after_datum Numeric body.now ≡ Some (drop n body.now)) }
@@ -51,7 +51,7 @@ fn number_end(body: &[u8]) -> Option<usize>
     }
 }
 
-/// The same of a word.
+/// Returns the length of the word that the body is up to a `,`, or `None` where it is not a word.
 fn word_end(body: &[u8]) -> Option<usize>
     ensures within { IfSome result (λ n. n ≤ length body.now) }
     ensures some { IfSome result (λ n. after_datum Character body.now ≡ Some (drop n body.now)) }
@@ -65,7 +65,7 @@ fn word_end(body: &[u8]) -> Option<usize>
     }
 }
 
-/// How many bytes the string at the front has.
+/// Returns the length of the string that the body begins with.
 fn text_end(body: &[u8]) -> Option<usize>
     ensures within { IfSome result (λ n. n ≤ length body.now) }
     ensures some { IfSome result (λ n. after_datum String body.now ≡ Some (drop n body.now)) }
@@ -78,7 +78,7 @@ fn text_end(body: &[u8]) -> Option<usize>
     }
 }
 
-/// How many bytes the block at the front has; one without a length has all.
+/// Returns the length of the block that the body begins with; a block of indefinite length takes the whole body.
 fn bytes_end(body: &[u8]) -> Option<usize>
     ensures within { IfSome result (λ n. n ≤ length body.now) }
     ensures some { IfSome result (λ n. after_datum Block body.now ≡ Some (drop n body.now)) }
@@ -93,7 +93,7 @@ fn bytes_end(body: &[u8]) -> Option<usize>
     whole_end(body)
 }
 
-/// How many bytes the datum of this class has at the front.
+/// Returns the length of the datum of this class that the body begins with.
 fn datum_end(body: &[u8], class: DatumClass) -> Option<usize>
     ensures within { IfSome result (λ n. n ≤ length body.now) }
     ensures some { IfSome result (λ n. after_datum class body.now ≡ Some (drop n body.now)) }
@@ -107,7 +107,7 @@ fn datum_end(body: &[u8], class: DatumClass) -> Option<usize>
     }
 }
 
-/// The class of a datum by its first byte.
+/// Returns the class of a datum by its first byte.
 fn class_at(byte: u8) -> DatumClass
     ensures { result ≡ class_at byte }
 {
@@ -119,14 +119,14 @@ fn class_at(byte: u8) -> DatumClass
     }
 }
 
-/// Whether a datum may stand before this: nothing, or a `,`.
+/// Whether a datum may end before this text: it is empty or begins with `,`.
 fn is_parted(tail: &[u8]) -> bool
     ensures { result ≡ is_parted tail.now }
 {
     tail.is_empty() || tail[0] == b','
 }
 
-/// The datum at the front, after white space.
+/// Returns the datum that the text begins with, after white space.
 #[inline(always)]
 fn datum_at(text: &[u8]) -> Option<Found<'_>>
     ensures within { IfSome result (λ found. length found.tail.now ≤ length text.now) }
@@ -155,7 +155,7 @@ fn datum_at(text: &[u8]) -> Option<Found<'_>>
     })
 }
 
-/// The same, for a datum behind a `,`: few units have one, so its code stands apart.
+/// Calls `datum_at` for a datum after a `,`: few units have one, so its code is kept out of line.
 #[inline(never)]
 fn later_datum(text: &[u8]) -> Option<Found<'_>>
     ensures within { IfSome result (λ found. length found.tail.now ≤ length text.now) }
@@ -165,7 +165,7 @@ fn later_datum(text: &[u8]) -> Option<Found<'_>>
     datum_at(text)
 }
 
-/// The next datum of a list, behind the `,`; nothing where there is none.
+/// Returns the next datum of a list, after the `,`, or `None` where there is none.
 pub fn next_of(tail: &[u8]) -> Option<Found<'_>>
     ensures { (others : List DatumData) → TailLists tail.now others → HoldsFound result others }
 {
@@ -175,7 +175,8 @@ pub fn next_of(tail: &[u8]) -> Option<Found<'_>>
     later_datum(after(tail, 1))
 }
 
-/// Whether a list may go on like this behind a datum: it ends, or a `,` and data separated by `,` follow.
+/// Whether a list may continue with this text after a datum: the text is empty, or is a `,` followed by data separated
+/// by `,`.
 fn goes_on(tail: &[u8]) -> bool
     requires { is_parted tail.now ≡ true }
     ensures yes { result ≡ true → (others : List DatumData) × TailLists tail.now others }
@@ -191,7 +192,7 @@ fn goes_on(tail: &[u8]) -> bool
     true
 }
 
-/// Whether a text is white space alone, or data separated by `,`, where this is its first datum, if it has one.
+/// Whether a text is only white space, or data separated by `,`, where `found` is its first datum, if it has one.
 fn is_list(text: &[u8], found: &Option<Found<'_>>) -> bool
     requires some { IfSome found.now (λ found. datum_at text.now ≡ Some (datum_of found.datum, found.tail.now)) }
     requires none { IfNone found.now (datum_at text.now ≡ None) }
@@ -204,7 +205,7 @@ fn is_list(text: &[u8], found: &Option<Found<'_>>) -> bool
     }
 }
 
-/// The data that a text is, if it is white space alone, or data separated by `,`.
+/// Returns the data of a text that is only white space, or data separated by `,`; `None` for any other text.
 pub fn list_at(text: &[u8]) -> Option<Data<'_>>
     ensures some { IfSome result (λ shown. (list : List DatumData) × Lists text.now list × HoldsData shown list) }
     ensures none { IfNone result ((list : List DatumData) → Lists text.now list → ⊥) }

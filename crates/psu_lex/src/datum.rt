@@ -5,9 +5,9 @@ use crate::pieces::{after, front};
 /// A datum of a unit (IEEE 488.2, 7.7).
 #[derive(Clone, Copy, Debug, PartialEq, Eq)]
 pub struct Datum<'a> {
-    /// Its class, by its spelling.
+    /// The class, determined by the spelling.
     pub class: DatumClass,
-    /// The datum as written: with its quotes, `#` and suffix, without the white space round it.
+    /// The datum as written: with its quotes, `#` and suffix, without the white space around it.
     pub text: &'a [u8],
 }
 
@@ -17,8 +17,7 @@ impl<'a> Datum<'a> {
     ghost use Rattle.psu_lex.specs.Message.{doubled, spelling};
     ghost use Rattle.psu_lex.specs.Message.Piece.{Quoted};
 
-    /// What stands between the quotes of a string (IEEE 488.2, 7.7.5), as written: a quote in it stands
-    /// there twice.
+    /// Returns the text between the quotes of a string (IEEE 488.2, 7.7.5), as written: a quote in it is doubled.
     pub fn quoted(&self) -> &'a [u8]
         ensures { (quote : ℕ) (bytes : List ℕ) → self.now.text.now ≡ spelling (Quoted quote bytes) → result.now ≡ doubled quote bytes }
     {
@@ -31,7 +30,7 @@ impl<'a> Datum<'a> {
         front(rest, rest.len() - 1)
     }
 
-    /// The bytes of a block (IEEE 488.2, 7.7.6): those behind its length, or all that stands behind `#0`.
+    /// Returns the bytes of a block (IEEE 488.2, 7.7.6): those after its length, or everything after `#0`.
     pub fn bytes(&self) -> &'a [u8]
         ensures { (bytes : List ℕ) → IsDatumOf self.now.text.now bytes → result.now ≡ bytes }
     {

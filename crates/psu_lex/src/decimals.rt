@@ -1,4 +1,4 @@
-// Numbers as answered.
+// Numbers as response data.
 ghost use Rattle.std.specs.Prelude.{◌≡◌, [], ◌∷◌, ◌++◌, decimal, if◌then◌else◌, IfOk};
 ghost use Rattle.psu_lex.specs.Decimals.{fixed3_text};
 
@@ -6,7 +6,7 @@ use crate::Bytes;
 use itoa::Buffer;
 use std::alloc::{AllocError, Allocator};
 
-/// A whole number as answered (IEEE 488.2, 8.7.2).
+/// Returns a whole number as response data (NR1; IEEE 488.2, 8.7.2).
 pub fn whole<A: Allocator + Copy>(alloc: A, number: u64) -> Result<Bytes<A>, AllocError>
     ensures { IfOk result (λ text. text ≡ decimal number) }
 {
@@ -14,7 +14,7 @@ pub fn whole<A: Allocator + Copy>(alloc: A, number: u64) -> Result<Bytes<A>, All
     Bytes::of(alloc, buffer.format(number).as_bytes())
 }
 
-// Digits, behind a `-` where they are those of a number below 0.
+// Returns digits, preceded by a `-` where the number is negative.
 fn signed<A: Allocator + Copy>(
     alloc: A,
     negative: bool,
@@ -30,8 +30,8 @@ fn signed<A: Allocator + Copy>(
     Ok(text)
 }
 
-/// A number of thousandths as answered: the whole part, a point and three decimals (IEEE 488.2, 8.7.3),
-/// as `-0.005` for -5.
+/// Returns a number of thousandths as response data: the whole part, a point and three decimals (NR2; IEEE 488.2,
+/// 8.7.3), such as `-0.005` for -5.
 pub fn fixed3<A: Allocator + Copy>(alloc: A, thousandths: i64) -> Result<Bytes<A>, AllocError>
     ensures { IfOk result (λ text. text ≡ fixed3_text thousandths) }
 {

@@ -5,16 +5,16 @@ ghost use Rattle.psu_lex.specs.Errors.{class_bit};
 /// The class of an error (IEEE 488.2, 11.5.1), each with a bit of its own in the event status register.
 #[derive(Clone, Copy, Debug, PartialEq, Eq)]
 pub enum ErrorClass {
-    /// The message can't be read: -100 to -199.
+    /// The message can't be parsed: -100 to -199.
     Command,
     /// The command can't be executed: -200 to -299.
     Execution,
-    /// The instrument itself has a fault: -300 to -399.
+    /// A device-specific error: -300 to -399.
     Device,
 }
 
 impl ErrorClass {
-    /// Its bit of the event status register: CME (bit 5), EXE (bit 4) or DDE (bit 3).
+    /// Returns the bit of the event status register: CME (bit 5), EXE (bit 4) or DDE (bit 3).
     pub fn event_bit(self) -> u8
         ensures { result ≡ class_bit self }
     {

@@ -6,6 +6,6 @@ use crate::Datum;
 pub struct Found<'a> {
     /// The datum.
     pub datum: Datum<'a>,
-    /// What follows it, behind white space: nothing, or a `,` and more.
+    /// What follows the datum after white space: nothing, or a `,` and more.
     pub tail: &'a [u8],
 }

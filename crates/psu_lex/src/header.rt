@@ -1,14 +1,14 @@
-// The header of a unit by its parts.
+// The parts of a unit's header.
 use crate::Mark;
 
-/// The header of a unit (IEEE 488.2, 7.6) by its parts.
+/// The parts of a unit's header (IEEE 488.2, 7.6).
 #[derive(Clone, Copy, Debug, PartialEq, Eq)]
 pub struct Header<'a> {
     /// The header as written, with its mark and its `?`.
     pub text: &'a [u8],
-    /// What it begins with.
+    /// The mark that it begins with.
     pub mark: Mark,
-    /// Its nodes, with `:` between them.
+    /// Its nodes, separated by `:`.
     pub nodes: &'a [u8],
     /// Whether it ends with `?`.
     pub asks: bool,

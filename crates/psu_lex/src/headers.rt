@@ -10,14 +10,14 @@ use crate::class::is_white;
 use crate::pieces::{after, begins, front};
 use crate::{Header, Mark};
 
-/// Whether another node comes behind one.
+/// Whether another node follows a node.
 fn joins(several: bool, byte: u8) -> bool
     ensures { result ≡ joins true several byte }
 {
     several && byte == b':'
 }
 
-/// Whether the byte is a digit or `_`: few names have one, so its code stands apart.
+/// Whether the byte is a digit or `_`: few names have one, so its code is kept out of line.
 #[inline(never)]
 fn is_rare(byte: u8) -> bool
     ensures { result ≡ (is_digit byte || byte == 95) }
@@ -48,14 +48,14 @@ pub fn is_node(text: &[u8]) -> bool
     true
 }
 
-/// Whether nothing or white space stands here.
+/// Whether the text is empty or begins with white space.
 fn is_apart(text: &[u8]) -> bool
     ensures { result ≡ is_apart text.now }
 {
     text.is_empty() || is_white(text[0])
 }
 
-/// The place, or the next where a `?` stands there.
+/// Returns the position, or the next one where a `?` is at the position.
 fn behind_ask(text: &[u8], at: usize) -> usize
     requires { at < length text.now }
     ensures within { result ≤ length text.now }
@@ -64,7 +64,7 @@ fn behind_ask(text: &[u8], at: usize) -> usize
     if text[at] == b'?' { at + 1 } else { at }
 }
 
-/// Where the bytes of a name end that stand from a place on.
+/// Returns the position at which the bytes of a name end, from a position onward.
 fn name_end(text: &[u8], at: usize) -> usize
     requires { at ≤ length text.now }
     ensures low { at ≤ result }
@@ -80,7 +80,7 @@ fn name_end(text: &[u8], at: usize) -> usize
     text.len()
 }
 
-/// Where a path ends whose last node ends here, if nothing or white space follows it.
+/// Returns the end of a path whose last node ends at `at`, if nothing or white space follows it.
 fn last_end(text: &[u8], at: usize) -> Option<usize>
     requires { at < length text.now }
     ensures within { IfSome result (λ n. n ≤ length text.now) }
@@ -95,8 +95,8 @@ fn last_end(text: &[u8], at: usize) -> Option<usize>
     }
 }
 
-/// How many bytes stand before the first white space, if they are one node, or several joined by `:`, and
-/// then an optional `?`.
+/// Returns the length of the text before the first white space, if it is one node, or several nodes joined by `:` where
+/// these are allowed, followed by an optional `?`.
 fn path_end(text: &[u8], several: bool) -> Option<usize>
     ensures within { IfSome result (λ n. n ≤ length text.now) }
     ensures some { IfSome result (λ n. EndsDark (is_path several false) text.now n) }
@@ -118,7 +118,7 @@ fn path_end(text: &[u8], several: bool) -> Option<usize>
     }
 }
 
-/// How many bytes stand before the first white space, if they are a header.
+/// Returns the length of the text before the first white space, if it is a header.
 pub fn header_end(text: &[u8]) -> Option<usize>
     ensures within { IfSome result (λ n. n ≤ length text.now) }
     ensures some { IfSome result (λ n. EndsDark is_header text.now n) }
@@ -133,7 +133,7 @@ pub fn header_end(text: &[u8]) -> Option<usize>
     path_end(text, true)
 }
 
-/// What the text begins with.
+/// Returns the mark that the text begins with.
 fn mark_of(text: &[u8]) -> Mark
     ensures { result ≡ mark_of text.now }
 {
@@ -146,7 +146,7 @@ fn mark_of(text: &[u8]) -> Mark
     Mark::Bare
 }
 
-/// The text behind its mark.
+/// Returns the text after its mark.
 fn behind_mark(text: &[u8], mark: Mark) -> &[u8]
     requires { mark ≡ mark_of text.now }
     ensures { result.now ≡ behind_mark mark text.now }
@@ -157,7 +157,7 @@ fn behind_mark(text: &[u8], mark: Mark) -> &[u8]
     }
 }
 
-/// Whether a `?` is the last byte.
+/// Whether the last byte is a `?`.
 #[tactic(auto, using(crate::proofs::HeaderScans::last_asks))]
 fn ends_asking(text: &[u8]) -> bool
     ensures { result ≡ ends_asking text.now }
@@ -165,7 +165,7 @@ fn ends_asking(text: &[u8]) -> bool
     !text.is_empty() && text[text.len() - 1] == b'?'
 }
 
-/// The text without its `?`.
+/// Returns the text without its `?`.
 fn without_ask(text: &[u8], asks: bool) -> &[u8]
     requires { asks ≡ ends_asking text.now }
     ensures { result.now ≡ without_ask asks text.now }
@@ -177,7 +177,7 @@ fn without_ask(text: &[u8], asks: bool) -> &[u8]
     }
 }
 
-/// The parts of a header.
+/// Returns the parts of a header.
 pub fn header_of(text: &[u8]) -> Header<'_>
     requires { is_header text.now ≡ true }
     ensures { (h : Parts) × IsHeader h × (text.now ≡ header_text h) × ShowsHeader result h }

@@ -1,14 +1,14 @@
-// Bytes with or without memory of their own.
+// Bytes that are stored inline or allocated.
 use arrayvec::ArrayVec;
 use std::alloc::Allocator;
 
-/// How many bytes take no memory.
+/// The number of bytes that are stored without allocation.
 pub const FEW: usize = 16;
 
-/// Bytes: a few, or in memory of their own.
+/// Bytes: a few inline, or any number in allocated memory.
 #[derive(Drop)]
 pub enum Held<A: Allocator + Copy> {
-    /// Where they become too many, they take memory of this allocator.
+    /// A few bytes; where they become too many, memory is allocated by this allocator.
     Few(A, ArrayVec<u8, FEW>),
     Many(Vec<u8, A>),
 }

@@ -9,14 +9,14 @@ ghost use Rattle.psu_lex.specs.SyntaxScan.{is_high};
 use crate::pieces::{after, front, piece_end};
 use memchr::memchr3;
 
-/// Whether a byte of 127 or more is among these.
+/// Whether a byte of 127 or more is among these bytes.
 fn is_high(run: &[u8]) -> bool
     ensures { result ≡ has is_high run.now }
 {
     run.iter().any(|byte| *byte > 126)
 }
 
-/// Whether a byte of 127 or more stands outside strings and blocks.
+/// Whether a byte of 127 or more occurs outside strings and blocks.
 pub fn has_high(text: &[u8]) -> bool
     ensures { (tokens : List Token) × Reads is_closed text.now tokens × (result ≡ has_high tokens) }
 {

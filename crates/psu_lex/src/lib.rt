@@ -1,4 +1,4 @@
-//! Messages of SCPI: their units, headers and data, numbers, strings and blocks, and the errors that the instrument reports.
+//! SCPI messages: units, headers and data, numbers, strings and blocks, and the errors that the instrument reports.
 #![tactic(auto)]
 
 mod blocks;

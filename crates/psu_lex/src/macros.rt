@@ -1,4 +1,4 @@
-// Macros: a body with its parameters put in.
+// Macros: the expansion of a body with its parameters.
 ghost use Rattle.std.specs.Prelude.{ℕ, List, [], ◌≡◌, ◌⊎◌, ◌+◌, ◌≤◌, ◌<◌, Ok, Err, false, length, map, min, IfOk, IfErr};
 ghost use Rattle.psu_lex.specs.Message.{opens_first};
 ghost use Rattle.psu_lex.specs.Macros.{ExpandsTo, parameter};
@@ -9,10 +9,10 @@ use crate::pieces::{after, begins, front, whole_end};
 use crate::{Bytes, ScpiError};
 use std::alloc::{AllocError, Allocator};
 
-/// The most bytes that an expansion may have.
+/// The maximum size of an expansion, in bytes.
 const MOST: usize = 65_536;
 
-/// Whether a placeholder stands at the front, `$1` to `$9`.
+/// Whether the text begins with a placeholder, `$1` to `$9`.
 fn is_placeholder(rest: &[u8]) -> bool
     ensures { result ≡ begins_placeholder rest.now }
 {
@@ -22,15 +22,15 @@ fn is_placeholder(rest: &[u8]) -> bool
     rest[1] >= b'1' && rest[1] <= b'9'
 }
 
-/// Whether a string or a block may begin at the front.
+/// Whether a string or a block may begin at the first byte.
 fn opens(rest: &[u8]) -> bool
     ensures { result ≡ opens_first rest.now }
 {
     begins(rest, b'"') || begins(rest, b'\'') || begins(rest, b'#')
 }
 
-/// How many of the next bytes stay as they are: a whole string or block, one that is faulty and all
-/// that follows it, or one byte.
+/// Returns the number of next bytes that are copied unchanged: a whole string or block, a faulty one with everything
+/// after it, or one byte.
 fn verbatim(rest: &[u8]) -> usize
     requires some { 0 < length rest.now }
     requires other { begins_placeholder rest.now ≡ false }
@@ -46,7 +46,7 @@ fn verbatim(rest: &[u8]) -> usize
     }
 }
 
-/// The greatest placeholder of a body, 0 where there is none.
+/// Returns the greatest placeholder of a body, 0 where there is none.
 fn greatest_of(body: &[u8]) -> usize
     ensures { (text : List ℕ) × Spells [] body.now result text }
 {
@@ -63,7 +63,7 @@ fn greatest_of(body: &[u8]) -> usize
     most
 }
 
-/// The parameter of this place, from 0 on; one that is missing is empty.
+/// Returns the parameter at this index, counted from 0; a missing one is empty.
 fn argument<'a>(args: &[&'a [u8]], place: usize) -> &'a [u8]
     ensures { result.now ≡ parameter (map (λ arg. arg.now) args.now) place }
 {
@@ -73,7 +73,8 @@ fn argument<'a>(args: &[&'a [u8]], place: usize) -> &'a [u8]
     }
 }
 
-/// What the next bytes of a body give, and how many they are: a placeholder's parameter, or what stays as it is.
+/// Returns the text that the next bytes of a body expand to, and their number: a placeholder's parameter, or bytes that
+/// are copied unchanged.
 fn piece_at<'a>(rest: &'a [u8], args: &[&'a [u8]]) -> (&'a [u8], usize)
     requires { 0 < length rest.now }
     ensures within { (0 < result.1) × (result.1 ≤ length rest.now) }
@@ -86,14 +87,14 @@ fn piece_at<'a>(rest: &'a [u8], args: &[&'a [u8]]) -> (&'a [u8], usize)
     (front(rest, kept), kept)
 }
 
-/// A length and more, held to one more than an expansion may have.
+/// Returns the sum of two lengths, capped at one more than the maximum size of an expansion.
 fn longer(length: usize, more: usize) -> usize
     ensures { result ≡ min 65537 (length + more) }
 {
     length.saturating_add(more).min(MOST + 1)
 }
 
-/// How many bytes an expansion has, held to one more than it may have.
+/// Returns the length of an expansion, capped at one more than its maximum.
 fn length_of<'a>(body: &'a [u8], args: &[&'a [u8]]) -> usize
     ensures { (most : ℕ) × (text : List ℕ) × Spells (map (λ arg. arg.now) args.now) body.now most text × (result ≡ min 65537 (length text)) }
 {
@@ -107,7 +108,7 @@ fn length_of<'a>(body: &'a [u8], args: &[&'a [u8]]) -> usize
     length
 }
 
-/// The bytes of an expansion of this length.
+/// Returns the expansion, which has this length.
 fn filled<'a, A: Allocator + Copy>(
     alloc: A,
     body: &'a [u8],
@@ -126,12 +127,12 @@ fn filled<'a, A: Allocator + Copy>(
     Ok(Bytes::many(list))
 }
 
-/// The expansion of a macro (IEEE 488.2, 10.8): its body with `$1` to `$9` outside strings and blocks
-/// replaced by the parameters as they were written. Strings and blocks are found as in a message; one
-/// that is faulty takes the rest of the body with it, unchanged.
+/// Returns the expansion of a macro (IEEE 488.2, 10.8): its body with `$1` to `$9` outside strings and blocks replaced
+/// by the parameters as written. Strings and blocks are found as in a message; a faulty one is copied unchanged with
+/// the rest of the body.
 ///
-/// Another number of parameters than the greatest placeholder is a macro parameter error; else an
-/// expansion of more than 65,536 bytes is too much data. Memory is wanted for a good expansion alone.
+/// A number of parameters other than the greatest placeholder is a macro parameter error; otherwise an expansion of
+/// more than 65,536 bytes is too much data. Memory is allocated only for a valid expansion.
 pub fn expand<'a, A: Allocator + Copy>(
     alloc: A,
     body: &'a [u8],

@@ -16,14 +16,14 @@ fn opens(byte: u8) -> bool
     byte == b'"' || byte == b'\'' || byte == b'#'
 }
 
-/// Whether a string or a block begins here.
+/// Whether the text begins with a byte that begins a string or a block.
 fn opens_first(text: &[u8]) -> bool
     ensures { result ≡ opens_first text.now }
 {
     !text.is_empty() && opens(text[0])
 }
 
-/// Whether the byte ends a unit, or begins a string or a block. No letter and no digit does, which is seen first.
+/// Whether the byte ends a unit, or begins a string or a block. Letters and digits do neither, which is tested first.
 fn stops(byte: u8) -> bool
     ensures { result ≡ stops byte }
 {
@@ -36,7 +36,7 @@ fn stops(byte: u8) -> bool
     byte == b'\n' || opens(byte)
 }
 
-/// How many bytes stand before the first that does.
+/// Returns the number of bytes before the first that ends a unit or begins a string or a block.
 fn plain_end(text: &[u8]) -> usize
     ensures within { result ≤ length text.now }
     ensures free { has stops (take result text.now) ≡ false }
@@ -50,7 +50,7 @@ fn plain_end(text: &[u8]) -> usize
     text.len()
 }
 
-/// The fault of a string or block that is not whole.
+/// Returns the fault of a string or block that is not whole.
 fn fault_at(piece: &[u8]) -> UnitFault
     requires { opens_first piece.now ≡ true }
     ensures { result ≡ fault_of piece.now }
@@ -62,7 +62,7 @@ fn fault_at(piece: &[u8]) -> UnitFault
     }
 }
 
-/// Where the unit at the front ends, or its fault.
+/// Returns the length of the unit at the beginning, or its fault.
 fn unit_end(bytes: &[u8]) -> Result<usize, UnitFault>
     ensures within { IfOk result (λ n. n ≤ length bytes.now) }
     ensures end { IfOk result (λ n. ends_unit (drop n bytes.now) ≡ true) }
@@ -96,7 +96,7 @@ pub fn is_blank(text: &[u8]) -> bool
     true
 }
 
-/// Adds the unit that ends here, unless it is white space alone, and answers whether it is.
+/// Adds the unit that ends here, unless it is white space alone, and returns whether it is.
 fn add<'a, A: Allocator + Copy>(
     units: &mut Units<'a, A>,
     text: &'a [u8],
@@ -123,8 +123,8 @@ fn is_first(first: bool, blank: bool, separator: u8) -> bool
     separator == b'\n' || (first && blank)
 }
 
-/// Cuts a transmission, the bytes up to END, into its units. Nothing is copied, and only memory is
-/// refused: a string or block that is faulty is the fault of its unit.
+/// Splits a transmission, the bytes up to END, into its units. Nothing is copied. The only error is a failed
+/// allocation: a faulty string or block is reported as the fault of its unit.
 pub fn split<'a, A: Allocator + Copy>(alloc: A, bytes: &'a [u8]) -> Result<Units<'a, A>, AllocError>
     ensures { IfOk result (λ units. IsMessage bytes.now units) }
 {

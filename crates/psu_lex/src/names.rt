@@ -1,4 +1,4 @@
-// What the label of a macro and the name of a file may be.
+// Valid macro labels and file names.
 ghost use Rattle.std.specs.Prelude.{◌≡◌};
 ghost use Rattle.std.specs.List.{list_all};
 ghost use Rattle.psu_lex.specs.Names.{begins_with_letter, is_file_byte, is_label, is_name};
@@ -6,16 +6,15 @@ ghost use Rattle.psu_lex.specs.Syntax.{is_name_byte};
 
 use crate::headers::is_name_byte;
 
-/// Whether the bytes are the label of a macro: a letter followed by letters, digits or `_`, 1 to 12 bytes
-/// (this project's own rule).
+/// Whether the bytes are a valid macro label: a letter followed by letters, digits or `_`, 1 to 12 bytes (this
+/// project's own rule).
 pub fn is_label(bytes: &[u8]) -> bool
     ensures { result ≡ is_label bytes.now }
 {
     begins_with_letter(bytes) && are_name_bytes(bytes) && bytes.len() <= 12
 }
 
-/// Whether the bytes are the name of a file: 1 to 64 of letters, digits, `_`, `-` and `.` (this project's own
-/// rule).
+/// Whether the bytes are a valid file name: 1 to 64 of letters, digits, `_`, `-` and `.` (this project's own rule).
 pub fn is_name(bytes: &[u8]) -> bool
     ensures { result ≡ is_name bytes.now }
 {
@@ -39,14 +38,14 @@ fn are_name_bytes(bytes: &[u8]) -> bool
     bytes.iter().all(|byte| is_name_byte(*byte))
 }
 
-// Whether the byte may stand in the name of a file.
+// Whether the byte is allowed in a file name.
 fn is_file_byte(byte: u8) -> bool
     ensures { result ≡ is_file_byte byte }
 {
     is_name_byte(byte) || byte == b'-' || byte == b'.'
 }
 
-// Whether all bytes may.
+// Whether all bytes are allowed in a file name.
 fn are_file_bytes(bytes: &[u8]) -> bool
     ensures { result ≡ list_all is_file_byte bytes.now }
 {

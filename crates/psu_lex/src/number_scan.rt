@@ -8,7 +8,7 @@ use crate::class::Class;
 use crate::pieces::{after, begins, front};
 use crate::written::{Power, Written};
 
-/// Cuts the text behind the bytes of this class that it begins with.
+/// Splits the text after its longest prefix of bytes of this class.
 pub fn run_of(text: &[u8], class: Class) -> (&[u8], &[u8])
     ensures run { result.0.now ≡ run (belongs class) text.now }
     ensures left { result.1.now ≡ left (belongs class) text.now }
@@ -21,7 +21,7 @@ pub fn run_of(text: &[u8], class: Class) -> (&[u8], &[u8])
     text.split_at(text.len())
 }
 
-/// The text behind its sign, if it begins with one.
+/// Returns the text after its sign, if it begins with one.
 fn behind_sign(text: &[u8]) -> &[u8]
     ensures { result.now ≡ after_sign text.now }
 {
@@ -31,7 +31,7 @@ fn behind_sign(text: &[u8]) -> &[u8]
     text
 }
 
-/// The digits behind a point, if the text begins with one, and what follows them.
+/// Returns the digits after a point, if the text begins with one, and what follows them.
 fn fraction_at(text: &[u8]) -> (&[u8], &[u8])
     ensures digits { result.0.now ≡ fraction_digits (fraction_of text.now) }
     ensures rest { result.1.now ≡ after_fraction text.now }
@@ -42,7 +42,7 @@ fn fraction_at(text: &[u8]) -> (&[u8], &[u8])
     (front(text, 0), text)
 }
 
-/// The exponent that the text begins with, after white space.
+/// Returns the exponent that the text begins with, after white space.
 fn exponent_at(text: &[u8]) -> Power<'_>
     ensures { ShowsPower result (exponent_of text.now) (after_exponent text.now) }
 {
@@ -67,7 +67,7 @@ fn exponent_at(text: &[u8]) -> Power<'_>
     }
 }
 
-/// The suffix that stands at the front, after white space, and whether more than white space follows.
+/// Returns the suffix that the text begins with, after white space, and whether more than white space follows it.
 fn tail_at(text: &[u8]) -> (&[u8], bool)
     ensures suffix { result.0.now ≡ suffix_of text.now }
     ensures more { result.1 ≡ is_nonempty (excess_of text.now) }
@@ -88,7 +88,7 @@ fn has_digit(whole: &[u8], fraction: &[u8]) -> bool
     }
 }
 
-/// The number that the text is, if it is one.
+/// Returns the number that the text is, if it is one.
 #[inline(always)]
 pub fn scan(text: &[u8]) -> Option<Written<'_>>
     ensures some { IfSome result (λ shown. ShowsNumber shown (scanned text.now) × (is_number text.now ≡ true)) }

@@ -1,4 +1,4 @@
-// Numbers: their value as a whole number.
+// The value of a number, as a whole number.
 ghost use Rattle.std.specs.Prelude.{ℕ, ◌≡◌, ◌+◌, ◌*◌, ◌^◌, ◌≤◌, ◌<◌, ◌++◌, nat_lt, min, true, length, take, slice_index, if◌then◌else◌, ℤ, pos};
 ghost use Rattle.psu_lex.specs.Bytes.{all_digits, value_after};
 ghost use Rattle.psu_lex.specs.Number.{Number, IsNumber, NumberGives, magnitude, reading_of, valued, without_zeros};
@@ -9,10 +9,10 @@ use crate::ScpiError;
 use crate::pieces::front;
 use crate::written::Written;
 
-/// What a value is held to.
+/// The magnitude to which a value is clamped.
 const GREATEST: u64 = 1_000_000_000_000_000;
 
-/// A digit of the mantissa, counted over the point.
+/// Returns a digit of the mantissa, whose digits are counted across the point.
 fn digit_at(whole: &[u8], fraction: &[u8], at: usize) -> u8
     requires { at < length whole.now + length fraction.now }
     ensures { result ≡ slice_index (whole.now ++ fraction.now) at }
@@ -24,7 +24,7 @@ fn digit_at(whole: &[u8], fraction: &[u8], at: usize) -> u8
     }
 }
 
-/// The number that the first digits write, held to the greatest.
+/// Returns the number that the first digits denote, capped at the greatest.
 fn held(whole: &[u8], fraction: &[u8], count: usize) -> u64
     requires each { all_digits (whole.now ++ fraction.now) ≡ true }
     requires within { count ≤ length whole.now + length fraction.now }
@@ -38,7 +38,7 @@ fn held(whole: &[u8], fraction: &[u8], count: usize) -> u64
     value
 }
 
-/// The number that digits write behind those of a value, held to the greatest.
+/// Returns the number that the digits of a value followed by more digits denote, capped at the greatest.
 fn appended(value: u64, digits: &[u8]) -> u64
     requires small { value ≤ 10 ^ 15 }
     requires each { all_digits digits.now ≡ true }
@@ -52,7 +52,7 @@ fn appended(value: u64, digits: &[u8]) -> u64
     value
 }
 
-/// The value times a power of ten, held to the greatest.
+/// Returns the value times a power of ten, capped at the greatest.
 fn shifted(value: u64, power: usize) -> u64
     requires { value ≤ 10 ^ 15 }
     ensures { result ≡ min (10 ^ 15) (value * 10 ^ power) }
@@ -65,8 +65,8 @@ fn shifted(value: u64, power: usize) -> u64
     value
 }
 
-/// The digits times 10^up / 10^down, rounded half away from zero and held to the greatest. No loop is
-/// longer than the digits, however great the powers.
+/// Returns the digits times 10^up / 10^down, rounded half away from zero and capped at the greatest. No loop runs
+/// longer than there are digits, however great the powers.
 fn scaled(whole: &[u8], fraction: &[u8], up: usize, down: usize) -> u64
     requires { all_digits (whole.now ++ fraction.now) ≡ true }
     ensures { result ≡ magnitude (whole.now ++ fraction.now) up down }
@@ -88,7 +88,7 @@ fn scaled(whole: &[u8], fraction: &[u8], up: usize, down: usize) -> u64
     }
 }
 
-/// How many digits the mantissa has, leading zeros not counted.
+/// Returns the number of digits of the mantissa, not counting leading zeros.
 fn significant(whole: &[u8], fraction: &[u8]) -> usize
     ensures { result ≡ length (without_zeros (whole.now ++ fraction.now)) }
 {
@@ -101,7 +101,7 @@ fn significant(whole: &[u8], fraction: &[u8]) -> usize
     0
 }
 
-/// Whether the mantissa has more than 255 digits, leading zeros not counted.
+/// Whether the mantissa has more than 255 digits, not counting leading zeros.
 #[tactic(auto, using(crate::proofs::Rounding::few_digits))]
 fn is_too_long(whole: &[u8], fraction: &[u8]) -> bool
     ensures { result ≡ nat_lt 255 (length (without_zeros (whole.now ++ fraction.now))) }
@@ -112,14 +112,14 @@ fn is_too_long(whole: &[u8], fraction: &[u8]) -> bool
     significant(whole, fraction) > 255
 }
 
-/// The power, unless it is left out.
+/// Returns the power, or 0 where it is left out.
 fn unless(left_out: bool, power: u64) -> usize
     ensures { result ≡ (if left_out then 0 else power) }
 {
     if left_out { 0 } else { power as usize }
 }
 
-/// The value with its sign.
+/// Returns the value with its sign.
 fn signed(negative: bool, value: u64) -> i64
     requires { value ≤ 10 ^ 15 }
     ensures { result ≡ with_minus negative value }
@@ -131,7 +131,7 @@ fn signed(negative: bool, value: u64) -> i64
     }
 }
 
-/// The value of a number that was found in a text, or its fault; its suffix is not looked at.
+/// Returns the value of a number that was found in a text, or its fault. The suffix is ignored.
 #[inline(always)]
 pub fn valued(shown: &Written<'_>, places: u8) -> Result<i64, ScpiError>
     requires { (n : Number) × IsNumber n × ShowsNumber shown.now n }
@@ -153,7 +153,7 @@ pub fn valued(shown: &Written<'_>, places: u8) -> Result<i64, ScpiError>
     ))
 }
 
-/// What a number gives that was found in a text.
+/// Returns the value of a number that was found in a text, where no suffix is allowed, or its error.
 fn reading(shown: &Written<'_>, places: u8) -> Result<i64, ScpiError>
     requires { (n : Number) × IsNumber n × ShowsNumber shown.now n }
     ensures { (n : Number) → IsNumber n → ShowsNumber shown.now n → result ≡ reading_of n places }
@@ -165,11 +165,11 @@ fn reading(shown: &Written<'_>, places: u8) -> Result<i64, ScpiError>
     Ok(value)
 }
 
-/// The value of a text as decimal numeric data (IEEE 488.2, 7.7.2) times `10^places`, rounded half away
-/// from zero to a whole number and held to plus or minus 10^15.
+/// Returns the value of a text as decimal numeric data (IEEE 488.2, 7.7.2) times `10^places`, rounded half away from
+/// zero to a whole number and clamped to plus or minus 10^15.
 ///
-/// The first of these that holds is the error: the text is no number; its exponent is over 32000 either
-/// way; its mantissa has more than 255 digits, leading zeros not counted; it has a suffix.
+/// The first of these that holds is the error: the text is not a number; its exponent is over 32000 either way; its
+/// mantissa has more than 255 digits, not counting leading zeros; it has a suffix.
 pub fn number(text: &[u8], places: u8) -> Result<i64, ScpiError>
     ensures { NumberGives text.now places result }
 {

@@ -1,4 +1,4 @@
-// Where a string or a block ends.
+// The ends of strings and blocks.
 ghost use Rattle.std.specs.Prelude.{ℕ, ◌≡◌, ◌-◌, ◌≤◌, ◌<◌, true, false, length, take, drop, Some, None, IfSome, IfNone};
 ghost use Rattle.psu_lex.specs.Bytes.{all_digits, ends_in_newline, is_closed, is_quote, starts, starts_quoted, value_after};
 ghost use Rattle.psu_lex.specs.Message.{HasNoPiece};
@@ -7,7 +7,7 @@ ghost use Rattle.psu_lex.specs.Scan.{after_block, after_piece, after_string};
 use crate::class::is_white;
 use memchr::memchr2;
 
-/// The bytes from the nth on.
+/// Returns the bytes from index `n` onward.
 pub fn after(bytes: &[u8], n: usize) -> &[u8]
     requires { n ≤ length bytes.now }
     ensures { result.now ≡ drop n bytes.now }
@@ -15,7 +15,7 @@ pub fn after(bytes: &[u8], n: usize) -> &[u8]
     &bytes[n..]
 }
 
-/// The bytes from one place up to another.
+/// Returns the bytes from one index up to another.
 pub fn between(bytes: &[u8], from: usize, to: usize) -> &[u8]
     requires low { from ≤ to }
     requires high { to ≤ length bytes.now }
@@ -24,7 +24,7 @@ pub fn between(bytes: &[u8], from: usize, to: usize) -> &[u8]
     &bytes[from..to]
 }
 
-/// The first n bytes.
+/// Returns the first `n` bytes.
 pub fn front(bytes: &[u8], n: usize) -> &[u8]
     requires { n ≤ length bytes.now }
     ensures { result.now ≡ take n bytes.now }
@@ -39,7 +39,7 @@ pub fn begins(bytes: &[u8], byte: u8) -> bool
     !bytes.is_empty() && bytes[0] == byte
 }
 
-/// Whether a quote is the first byte.
+/// Whether the first byte is a quote.
 pub fn is_quote_byte(bytes: &[u8]) -> bool
     ensures { result ≡ starts_quoted bytes.now }
 {
@@ -53,7 +53,7 @@ fn is_quote(byte: u8) -> bool
     byte == b'"' || byte == b'\''
 }
 
-/// How many bytes of the text, which begins after a quote, belong to its string.
+/// Returns the number of bytes that belong to the string, where the text begins after its opening quote.
 pub fn string_end(text: &[u8], quote: u8) -> Option<usize>
     requires { is_quote quote ≡ true }
     ensures within { IfSome result (λ n. n ≤ length text.now) }
@@ -74,7 +74,7 @@ pub fn string_end(text: &[u8], quote: u8) -> Option<usize>
     None
 }
 
-/// The number that digits write.
+/// Returns the number that digits denote.
 fn decimal(digits: &[u8]) -> usize
     requires few { length digits.now < 10 }
     requires each { all_digits digits.now ≡ true }
@@ -98,7 +98,7 @@ fn are_digits(text: &[u8]) -> bool
     true
 }
 
-/// Whether what follows a string or a block may.
+/// Whether this text may follow a string or a block in a message.
 fn closes(text: &[u8]) -> bool
     ensures { result ≡ is_closed text.now }
 {
@@ -117,7 +117,7 @@ fn ends_line(text: &[u8]) -> bool
     !text.is_empty() && text[text.len() - 1] == b'\n'
 }
 
-/// How many bytes of the text, which begins after a `#`, belong to its block.
+/// Returns the number of bytes that belong to the block, where the text begins after its `#`.
 pub fn block_end(text: &[u8]) -> Option<usize>
     ensures within { IfSome result (λ n. n ≤ length text.now) }
     ensures some { IfSome result (λ n. after_block text.now ≡ Some (drop n text.now)) }
@@ -150,7 +150,7 @@ pub fn block_end(text: &[u8]) -> Option<usize>
     Some(1 + (count + length))
 }
 
-/// How many bytes the string or block at the front has.
+/// Returns the length of the string or block at the beginning.
 pub fn whole_end(bytes: &[u8]) -> Option<usize>
     ensures within { IfSome result (λ n. (0 < n) × (n ≤ length bytes.now)) }
     ensures some { IfSome result (λ n. after_piece bytes.now ≡ Some (drop n bytes.now)) }
@@ -168,7 +168,7 @@ pub fn whole_end(bytes: &[u8]) -> Option<usize>
     None
 }
 
-/// The same, where what follows is as it must be in a message.
+/// Returns the length of the string or block at the beginning, if what follows it may follow one in a message.
 pub fn piece_end(bytes: &[u8]) -> Option<usize>
     ensures within { IfSome result (λ n. (0 < n) × (n ≤ length bytes.now)) }
     ensures some { IfSome result (λ n. after_piece bytes.now ≡ Some (drop n bytes.now) × (is_closed (drop n bytes.now) ≡ true)) }

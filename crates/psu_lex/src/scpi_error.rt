@@ -9,15 +9,15 @@ use std::alloc::AllocError;
 /// An error of SCPI-1999 (volume 2, chapter 21), by its name there. Its number is negative.
 #[derive(Clone, Copy, Debug, PartialEq, Eq)]
 pub enum ScpiError {
-    /// A byte that no message may have where it stands.
+    /// A byte that is not allowed at its position in a message.
     InvalidCharacter,
-    /// The unit is not built as the grammar says.
+    /// The unit violates the grammar.
     SyntaxError,
-    /// A parameter of another class than asked.
+    /// A parameter of another class than the one required.
     DataTypeError,
-    /// More parameters than the header takes.
+    /// More parameters than the header accepts.
     ParameterNotAllowed,
-    /// Fewer parameters than the header takes.
+    /// Fewer parameters than the header requires.
     MissingParameter,
     /// A header that the instrument does not have.
     UndefinedHeader,
@@ -25,56 +25,56 @@ pub enum ScpiError {
     HeaderSuffixOutOfRange,
     /// An exponent beyond 32000 either way.
     ExponentTooLarge,
-    /// More than 255 digits of a number, leading zeros not counted.
+    /// A number of more than 255 digits, not counting leading zeros.
     TooManyDigits,
-    /// A suffix of a number that is not one of those asked.
+    /// A suffix of a number that is not one of those accepted.
     InvalidSuffix,
-    /// A string that does not end, or is followed by something.
+    /// A string that does not end, or is followed by other bytes.
     InvalidStringData,
-    /// A block whose length is wrong, or that is followed by something.
+    /// A block whose length is wrong, or that is followed by other bytes.
     InvalidBlockData,
     /// The command is protected, and protection is on.
     CommandProtected,
-    /// A trigger that nothing waits for.
+    /// A trigger while nothing waits for one.
     TriggerIgnored,
-    /// The command does not go with the present settings.
+    /// The command conflicts with the present settings.
     SettingsConflict,
     /// A number outside its range.
     DataOutOfRange,
     /// More bytes than there is room for.
     TooMuchData,
-    /// A word that is not one of those listed.
+    /// A word that is not one of the accepted ones.
     IllegalParameterValue,
-    /// Memory was refused; nothing else has changed.
+    /// An allocation failed; nothing else has changed.
     OutOfMemory,
-    /// A file does not hold what is to be loaded from it.
+    /// A file does not contain what is to be loaded from it.
     MassStorageError,
     /// The nonvolatile memory has no room for the result.
     MediaFull,
     /// There is no file of this name.
     FileNameNotFound,
-    /// A name that no file can have, or that a file has already.
+    /// An invalid file name, or the name of an existing file.
     FileNameError,
-    /// A label that no macro can have.
+    /// An invalid macro label.
     IllegalMacroLabel,
-    /// Another number of parameters than the macro takes.
+    /// A number of parameters other than the one that the macro takes.
     MacroParameterError,
-    /// A body that is too long.
+    /// A macro body that is too long.
     MacroDefinitionTooLong,
-    /// A macro inside an expansion.
+    /// A macro call inside an expansion.
     MacroRecursionError,
-    /// A macro of this label is there already.
+    /// A macro of this label already exists.
     MacroRedefinitionNotAllowed,
     /// There is no macro of this label.
     MacroHeaderNotFound,
-    /// The nonvolatile memory can't be relied on.
+    /// The nonvolatile memory is not reliable.
     StorageFault,
-    /// Errors were lost, since the queue was full.
+    /// Errors were lost because the queue was full.
     QueueOverflow,
 }
 
 impl ScpiError {
-    /// Its number without the sign, which is always a minus.
+    /// Returns the error number without its sign, which is always a minus.
     pub fn magnitude(self) -> u16
         ensures value { result ≡ magnitude self }
         ensures most { result ≤ 350 }
@@ -114,7 +114,7 @@ impl ScpiError {
         }
     }
 
-    /// Its text, as `SYSTem:ERRor?` answers it between quotes.
+    /// Returns the error text that `SYSTem:ERRor?` returns between quotes.
     pub fn text(self) -> &'static str
         ensures { result.now ≡ text self }
     {
@@ -153,7 +153,7 @@ impl ScpiError {
         }
     }
 
-    /// Its class, by its number.
+    /// Returns the class, determined by the number.
     pub fn class(self) -> ErrorClass
         ensures { result ≡ class_of self }
     {
@@ -164,7 +164,7 @@ impl ScpiError {
         }
     }
 
-    /// The bit of the event status register that it sets.
+    /// Returns the bit of the event status register that the error sets.
     pub fn event_bit(self) -> u8
         ensures { result ≡ event_bit self }
     {
@@ -172,7 +172,7 @@ impl ScpiError {
     }
 }
 
-/// Memory that is refused is an error of its own.
+/// A failed allocation is an error of its own.
 impl From<AllocError> for ScpiError {
     ghost from_gives = { λ _ error. error ≡ OutOfMemory };
 
@@ -181,7 +181,7 @@ impl From<AllocError> for ScpiError {
     }
 }
 
-/// What fills the unused places of a list of fixed capacity.
+/// The error that fills the unused places of a list of fixed capacity.
 impl Default for ScpiError {
     fn default() -> Self
         ensures { result ≡ QueueOverflow }

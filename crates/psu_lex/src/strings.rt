@@ -8,7 +8,7 @@ use crate::pieces::{between, is_quote_byte, whole_end};
 use crate::{Bytes, ScpiError};
 use std::alloc::{AllocError, Allocator};
 
-/// The bytes between the quotes, each doubled quote once.
+/// Returns the bytes between the quotes, with each doubled quote once.
 fn undoubled<A: Allocator + Copy>(alloc: A, body: &[u8], quote: u8) -> Result<Bytes<A>, AllocError>
     ensures { IfOk result (λ bytes. bytes ≡ single false quote body.now) }
 {
@@ -25,7 +25,7 @@ fn undoubled<A: Allocator + Copy>(alloc: A, body: &[u8], quote: u8) -> Result<By
     Ok(Bytes::many(list))
 }
 
-/// Whether the text is one whole string.
+/// Whether the text is exactly one whole string.
 fn is_string(text: &[u8]) -> bool
     ensures is { result ≡ is_string text.now }
     ensures long { result ≡ true → 2 ≤ length text.now }
@@ -39,8 +39,8 @@ fn is_string(text: &[u8]) -> bool
     }
 }
 
-/// The bytes that a text stands for as string data (IEEE 488.2, 7.7.5). A text that is anything but
-/// one whole string is invalid string data; memory is wanted for a string alone.
+/// Returns the bytes that a text encodes as string data (IEEE 488.2, 7.7.5). A text other than exactly one whole string
+/// is invalid string data. Memory is allocated only for a valid string.
 pub fn string<A: Allocator + Copy>(alloc: A, text: &[u8]) -> Result<Bytes<A>, ScpiError>
     ensures ok { IfOk result (λ bytes. IsStringOf text.now bytes) }
     ensures err { IfErr result (λ error. Refuses InvalidStringData (IsStringOf text.now) error) }

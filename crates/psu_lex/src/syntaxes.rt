@@ -12,7 +12,7 @@ use crate::high_bytes::has_high;
 use crate::number_scan::run_of;
 use crate::{ScpiError, Syntax, Unit};
 
-/// The header and the data of a text.
+/// Returns the header and the data of a text, if it has this syntax.
 fn cut(text: &[u8]) -> Option<Syntax<'_>>
     ensures some { IfSome result (λ shown. (syntax : Parts) × UnitReads text.now syntax × ShowsSyntax shown syntax) }
     ensures none { IfNone result ((syntax : Parts) → UnitReads text.now syntax → ⊥) }
@@ -31,10 +31,10 @@ fn cut(text: &[u8]) -> Option<Syntax<'_>>
     })
 }
 
-/// The header and the data of a unit (IEEE 488.2, 7.3.2). Nothing is copied.
+/// Returns the header and the data of a unit (IEEE 488.2, 7.3.2). Nothing is copied.
 ///
-/// The first of these that holds is the error: the unit has a fault; a byte of 127 or more stands outside
-/// its strings and blocks; it is no header that nothing, or white space and data, follow.
+/// The first of these that holds is the error: the unit has a fault; a byte of 127 or more occurs outside its strings
+/// and blocks; the unit is not a header followed by nothing, or by white space and data.
 pub fn syntax<'a>(unit: &Unit<'a>) -> Result<Syntax<'a>, ScpiError>
     ensures { (given : Result Parts Error) × SyntaxGives (part unit.now) given × Shows result given }
 {

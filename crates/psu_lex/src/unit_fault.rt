@@ -1,12 +1,12 @@
 // Faults of units.
 use crate::ScpiError;
 
-/// What is faulty of a unit: the first of its strings and blocks that is not whole.
+/// The fault of a unit: the first of its strings and blocks that is not whole.
 #[derive(Clone, Copy, Debug, PartialEq, Eq)]
 pub enum UnitFault {
-    /// It is a string.
+    /// The first one is a string.
     String,
-    /// It is a block.
+    /// The first one is a block.
     Block,
 }
 
@@ -14,7 +14,7 @@ impl UnitFault {
     ghost use Rattle.std.specs.Prelude.{◌≡◌};
     ghost use Rattle.psu_lex.specs.Syntax.{error_of};
 
-    /// Invalid string data, or invalid block data.
+    /// Returns the error of the fault: invalid string data, or invalid block data.
     pub fn error(self) -> ScpiError
         ensures { result ≡ error_of self }
     {

@@ -1,7 +1,7 @@
-// A unit by its parts.
+// The parts of a unit.
 use crate::{Data, Header};
 
-/// A unit by its parts (IEEE 488.2, 7.3.2): a header, and data.
+/// The parts of a unit (IEEE 488.2, 7.3.2): a header, and data.
 #[derive(Clone, Copy, Debug, PartialEq, Eq)]
 pub struct Syntax<'a> {
     /// Its header.

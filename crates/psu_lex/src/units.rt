@@ -11,9 +11,9 @@ use std::slice;
 /// The units of a transmission, in order. Contracts see the list of their parts.
 #[derive(Drop)]
 pub struct Units<'a, A: Allocator + Copy> {
-    /// The only one, which takes no memory.
+    /// The only unit, which needs no allocation.
     pub(crate) only: Option<Unit<'a>>,
-    /// All of them, where there is more than one.
+    /// All units, where there is more than one.
     pub(crate) list: Vec<Unit<'a>, A>,
 }
 
@@ -24,7 +24,7 @@ impl<'a, A: Allocator + Copy> Model for Units<'a, A> {
 }
 
 impl<'a, A: Allocator + Copy> Units<'a, A> {
-    /// The units, first to last.
+    /// Returns the units, in order.
     pub fn as_slice(&self) -> &[Unit<'a>]
         ensures { parts result.now ≡ self.now }
     {
@@ -34,7 +34,7 @@ impl<'a, A: Allocator + Copy> Units<'a, A> {
         }
     }
 
-    // No units.
+    // Returns no units.
     pub(crate) fn none(alloc: A) -> Units<'a, A>
         ensures { result ≡ [] }
     {
@@ -44,7 +44,7 @@ impl<'a, A: Allocator + Copy> Units<'a, A> {
         }
     }
 
-    // Puts a unit behind those that are there.
+    // Appends a unit.
     #[inline(always)]
     pub(crate) fn push(&mut self, unit: Unit<'a>) -> Result<(), AllocError>
         ensures { OnOk result (self.new ≡ self.old ++ part unit.entry ∷ []) }

@@ -3,14 +3,14 @@ use crate::ScpiError;
 use crate::number_scan::scan;
 use crate::numbers::valued;
 
-/// An exponent, with no digits where there is none.
+/// An exponent, which has no digits where there is none.
 #[derive(Clone, Copy, Debug, PartialEq, Eq)]
 pub struct Power<'a> {
     /// Whether it has a minus.
     pub(crate) divides: bool,
     /// Its digits.
     pub(crate) digits: &'a [u8],
-    /// What stands behind it.
+    /// The text after it.
     pub(crate) rest: &'a [u8],
 }
 
@@ -34,7 +34,7 @@ impl<'a> Written<'a> {
     ghost use Rattle.psu_lex.specs.Number.{Number, IsNumber, number_text, valued};
     ghost use Rattle.psu_lex.specs.Shown.{ShowsNumber};
 
-    /// The number that a text is (IEEE 488.2, 7.7.2), if it is one.
+    /// Returns the number that a text is (IEEE 488.2, 7.7.2), if it is one.
     #[inline(always)]
     pub fn of(text: &'a [u8]) -> Option<Written<'a>>
         ensures some { IfSome result (λ shown. (n : Number) × IsNumber n × (text.now ≡ number_text n) × ShowsNumber shown n) }
@@ -43,11 +43,11 @@ impl<'a> Written<'a> {
         scan(text)
     }
 
-    /// Its value times `10^places`, rounded half away from zero to a whole number and held to plus or minus
-    /// 10^15; its suffix is not looked at.
+    /// Returns the value times `10^places`, rounded half away from zero to a whole number and clamped to plus or minus
+    /// 10^15. The suffix is ignored.
     ///
-    /// The first of these that holds is the error: its exponent is over 32000 either way; its mantissa has
-    /// more than 255 digits, leading zeros not counted.
+    /// The first of these that holds is the error: the exponent is over 32000 either way; the mantissa has more than
+    /// 255 digits, not counting leading zeros.
     #[inline(always)]
     pub fn value(&self, places: u8) -> Result<i64, ScpiError>
         requires { (n : Number) × IsNumber n × ShowsNumber self.now n }
@@ -56,7 +56,7 @@ impl<'a> Written<'a> {
         valued(self, places)
     }
 
-    /// The suffix, empty where there is none.
+    /// Returns the suffix, empty where there is none.
     pub fn suffix(&self) -> &'a [u8]
         ensures { (n : Number) → ShowsNumber self.now n → result.now ≡ n.suffix }
     {

@@ -1,4 +1,4 @@
--- Before the least deadline no request fails, and at it one does.
+-- Before the least deadline no request fails, and at it at least one does.
 use Rattle.std.proofs.Common.{◌≡◌, ℕ, ◌<◌, ◌≤◌, Bool, true, false, cond, List, [], ◌∷◌, Option, IfSome, filter, map, min, refl, ◌∙◌, ap, arith}
 use Rattle.std.specs.Prelude.{nat_le}
 use Rattle.std.specs.List.{fold}
@@ -11,7 +11,7 @@ use Rattle.psu_locks.specs.Table.{FailsFirst, next_deadline}
 abbrev deadlines : List Request → List ℕ
 deadlines rs = map (λ (r : Request). r.deadline) rs
 
--- whose requests fail, where the first does or doesn't
+-- the sessions whose requests fail, where the first one does or doesn't
 abbrev failed_with : Bool → ℕ → Request → List Request → List ℕ
 failed_with b now r rs = map (λ (q : Request). q.session) (cond b (r ∷ filter (is_over now) rs) (filter (is_over now) rs))
 

@@ -1,4 +1,4 @@
--- One request looked at, of those that are left.
+-- One request examined, of those that remain.
 use Rattle.std.proofs.Common.{◌≡◌, ℕ, suc, ◌+◌, ◌<◌, ◌≤◌, Bool, true, false, cond, List, [], ◌∷◌, ◌++◌, length, get_or, take, drop, sym, ◌∙◌, ap, arith, append_assoc, drop-cons, length-append, length-drop}
 use Rattle.std.specs.Prelude.{remove}
 use Rattle.std.proofs.Math.Seq.{take-suc}
@@ -7,7 +7,7 @@ use Rattle.psu_locks.specs.declared.holders.Holders.{Holders}
 use Rattle.psu_locks.specs.declared.request.Request.{Request}
 use Rattle.psu_locks.specs.Locks.{can_grant, with_grant, holders_after, kept, granted}
 
--- what is still to be looked at, and what came of those before
+-- the requests still to be examined, and the outcome of those before
 pub record Looked (first now : Holders) (all waiting : List Request) (sessions : List ℕ) (at : ℕ) : Type 0 where
   pub holders : holders_after first all ≡ holders_after now (drop at waiting)
   pub kept_are : kept first all ≡ take at waiting ++ kept now (drop at waiting)

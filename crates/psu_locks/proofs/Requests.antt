@@ -1,4 +1,4 @@
--- The waiting requests: there are at most sixteen, and what is left of them still is of distinct sessions.
+-- The waiting requests: there are at most sixteen, and any that remain are still of distinct sessions.
 use Rattle.std.proofs.Common.{◌≡◌, ℕ, ◌<◌, ◌≤◌, Bool, true, false, cond, eqb, List, [], ◌∷◌, ◌++◌, length, map, filter, refl, sym, ◌∙◌, ap, arith}
 use Rattle.std.specs.Prelude.{◌||◌}
 use Rattle.std.specs.List.{IsDistinct, AllByRecursion, list_any}
@@ -23,7 +23,7 @@ or_both a b e f = ap (λ (x : Bool). x || b) e ∙ f
 turned : (m n : ℕ) → eqb m n ≡ false → eqb n m ≡ false
 turned m n e = grind (arith, nat_tests)
 
--- no session of the list is the one that doesn't wait
+-- no session of the list is the one that is not waiting
 apart : (rs : List Request) (s : ℕ) → waits rs s ≡ false → AllByRecursion (λ q. eqb s q ≡ false) (sessions rs)
 apart [] s e = tt
 apart (r ∷ rs) s e = let both = or_false (eqb r.session s) (waits rs s) e in (turned r.session s both.0, apart rs s both.1)
@@ -57,7 +57,7 @@ all_below rs s w most q e = by (eqb q 0) (eqb q s) refl refl
     by false true ea eb = let here : q ≡ s = grind (arith, nat_tests) in omega arith
     by false false ea eb = below rs q w (sym (ap (λ (x : Bool). x || (eqb q s || list_any (eqb q) (sessions rs))) ea ∙ ap (λ (x : Bool). x || list_any (eqb q) (sessions rs)) eb) ∙ e)
 
--- a session that doesn't wait finds room
+-- a session that is not waiting finds room
 pub room : (rs : List Request) (s : ℕ) → AreWaiting rs → waits rs s ≡ false → 1 ≤ s → s ≤ 16 → length rs < 16
 room rs s w e least most =
     let most_of : length (0 ∷ s ∷ sessions rs) ≤ 17 = length-le_from_distinct_below (0 ∷ s ∷ sessions rs) 17 (with_two rs s w e least) (all_below rs s w most) in
@@ -67,7 +67,7 @@ waits_snoc : (rs : List Request) (r : Request) (s : ℕ) → waits rs s ≡ fals
 waits_snoc [] r s e f = or_both (eqb r.session s) false f refl
 waits_snoc (q ∷ rs) r s e f = let both = or_false (eqb q.session s) (waits rs s) e in or_both (eqb q.session s) (waits (rs ++ r ∷ []) s) both.0 (waits_snoc rs r s both.1 f)
 
--- a request more, of a session that doesn't wait
+-- one more request, of a session that is not waiting
 pub one_more : (rs : List Request) (r : Request) → AreWaiting rs → waits rs r.session ≡ false → 1 ≤ r.session → r.session ≤ 16 → AreWaiting (rs ++ r ∷ [])
 one_more [] r w e least most = (least, most, refl, tt)
 one_more (q ∷ rs) r w e least most =
@@ -84,7 +84,7 @@ waits_filter p (r ∷ rs) s e =
     by true later other = or_both (eqb r.session s) (waits (filter p rs) s) other later
     by false later other = later
 
--- some of them
+-- some of the requests
 pub filtered : (p : Request → Bool) (rs : List Request) → AreWaiting rs → AreWaiting (filter p rs)
 filtered p [] w = tt
 filtered p (r ∷ rs) w = by (p r) (filtered p rs w.3) (waits_filter p rs r.session w.2)
@@ -104,7 +104,7 @@ waits_kept h (r ∷ rs) s e =
     by true later given other = given
     by false later given other = or_both (eqb r.session s) (waits (kept h rs) s) other later
 
--- those that could not be granted
+-- the requests that could not be granted
 pub still : (h : Holders) (rs : List Request) → AreWaiting rs → AreWaiting (kept h rs)
 still h [] w = tt
 still h (r ∷ rs) w = by (can_grant h r.session r.kind) (still h rs w.3) (still (with_grant h r.session r.kind) rs w.3) (waits_kept h rs r.session w.2)

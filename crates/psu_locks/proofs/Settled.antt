@@ -1,4 +1,5 @@
--- A grant to one session lets no other request be granted, so what is left after a look through the requests still can't be.
+-- A grant to one session makes no other request grantable, so those that remain after going through the requests still
+-- can't be granted.
 use Rattle.std.proofs.Common.{◌≡◌, ◌≢◌, ℕ, ◌-◌, ◌≤◌, Bool, true, false, not, cond, eqb, List, [], ◌∷◌, ◌++◌, filter, zero, suc, refl, sym, ◌∙◌, ap, arith}
 use Rattle.std.specs.Prelude.{◌||◌, ◌&&◌, is_none, slice_set}
 use Rattle.std.specs.List.{list_any}
@@ -20,7 +21,7 @@ any_set (b ∷ bs) zero e = refl
 any_set (true ∷ bs) (suc i) e = refl
 any_set (false ∷ bs) (suc i) e = any_set bs i e
 
--- a test of this form still fails where its parts do
+-- a test of this form still fails when its parts do
 still_fails : (a b c x y : Bool) → (a && (not b || c)) ≡ false → (b ≡ true → x ≡ true) → (b ≡ true → c ≡ false → y ≡ false) → (a && (not x || y)) ≡ false
 still_fails false b c x y e f g = refl
 still_fails true false c x y e f g = absurd cc
@@ -31,7 +32,7 @@ passes false b c e f = absurd cc
 passes true false c e f = absurd cc
 passes true true c e f = e
 
--- strings that are one, and another
+-- two equal strings, and a third that differs from them
 another : (x y z : List ℕ) → bytes_eq x y ≡ true → bytes_eq x z ≡ false → bytes_eq y z ≡ false
 another x y z same apart = let is : x ≡ y = (bytes_eq-Decides x y).0 same in ap (λ (w : List ℕ). bytes_eq w z) (sym is) ∙ apart
 
@@ -65,7 +66,7 @@ still_after h (r ∷ rs) s k w e least none =
     by true is passed given = given is
     by false is passed given = passed
 
--- what is left once the requests have been looked through
+-- the requests that remain after going through all of them
 pub none_left : (h : Holders) (rs : List Request) → AreWaiting rs → NoneCanBeGranted (holders_after h rs) (kept h rs)
 none_left h [] w = tt
 none_left h (r ∷ rs) w =
@@ -76,12 +77,12 @@ none_left h (r ∷ rs) w =
     by true is passed given = given
     by false is passed given = (still_after h rs r.session r.kind w.3 w.2 w.0 is, passed)
 
--- one more that can't be granted
+-- one more request that can't be granted
 pub none_and : (h : Holders) (rs : List Request) (r : Request) → NoneCanBeGranted h rs → can_grant h r.session r.kind ≡ false → NoneCanBeGranted h (rs ++ r ∷ [])
 none_and h [] r none last = (last, tt)
 none_and h (q ∷ rs) r none last = (none.0, none_and h rs r none.1 last)
 
--- some of them
+-- some of the requests
 pub none_of : (h : Holders) (p : Request → Bool) (rs : List Request) → NoneCanBeGranted h rs → NoneCanBeGranted h (filter p rs)
 none_of h p [] none = tt
 none_of h p (r ∷ rs) none = by (p r) (none_of h p rs none.1)

@@ -1,6 +1,6 @@
-// What a release gave up.
+// The result of a release.
 
-/// The lock that a release gave up: the exclusive one first, then the shared one.
+/// The lock that a release released: the exclusive lock if the session held it, otherwise the shared one.
 #[derive(Clone, Copy, Debug, PartialEq, Eq)]
 pub enum Freed {
     Exclusive,

@@ -1,12 +1,12 @@
-// What a request comes to at once.
+// The immediate result of a request.
 
-/// What a request comes to at once.
+/// The immediate result of a lock request.
 #[derive(Clone, Copy, Debug, PartialEq, Eq)]
 pub enum Grant {
     /// The session holds the lock.
     Granted,
     /// The request waits.
     Queued,
-    /// The lock can't be granted, and the request was not to wait.
+    /// The lock can't be granted, and the request was not allowed to wait.
     Failed,
 }

@@ -1,11 +1,11 @@
-// Who holds the locks, and what can be granted.
+// The lock holders, and which locks can be granted.
 ghost use Rattle.std.specs.Prelude.{◌≡◌};
 ghost use Rattle.psu_locks.specs.Locks.{shares, is_shared, holds_exclusive, may_command, can_grant, with_grant, holds_kind, freed_of, without, without_session, info_of, with_exclusive, with_sharer};
 
 use crate::{Freed, Info, Kind, LockString, Session};
 
-/// Who holds the exclusive lock, and who shares the string: a flag for each session, the first session's first. The
-/// string counts only while somebody shares it.
+/// The holder of the exclusive lock, and the sessions that share the string: a flag for each session, in the order of
+/// the session numbers. The string is meaningful only while a session shares it.
 #[derive(Drop)]
 pub struct Holders {
     pub exclusive: Option<Session>,
@@ -36,7 +36,7 @@ impl Holders {
         }
     }
 
-    /// Whether a session may command.
+    /// Whether a session may execute commands.
     pub fn may_command(&self, session: Session) -> bool
         ensures { result ≡ may_command self.now session }
     {
@@ -62,7 +62,7 @@ impl Holders {
         }
     }
 
-    /// Whether a session holds a kind of lock, under whatever string.
+    /// Whether a session holds a lock of this kind, under any string.
     pub fn holds_kind(&self, session: Session, kind: &Kind) -> bool
         ensures { result ≡ holds_kind self.now session kind.now }
     {
@@ -72,7 +72,7 @@ impl Holders {
         }
     }
 
-    /// Gives a session a lock.
+    /// Grants a lock to a session.
     pub fn put(&mut self, session: Session, kind: Kind)
         ensures { self.new ≡ with_grant self.old session kind }
     {
@@ -85,7 +85,7 @@ impl Holders {
         }
     }
 
-    /// What a release of a session gives up, if it holds any lock.
+    /// Returns the lock that a release by a session would release, if it holds one.
     pub fn freed(&self, session: Session) -> Option<Freed>
         ensures { result ≡ freed_of self.now session }
     {
@@ -98,7 +98,7 @@ impl Holders {
         }
     }
 
-    /// Takes a lock from a session.
+    /// Removes a lock of a session.
     pub fn remove(&mut self, session: Session, freed: Freed)
         ensures { self.new ≡ without self.old session freed }
     {
@@ -108,7 +108,7 @@ impl Holders {
         }
     }
 
-    /// Takes all that it holds from a session.
+    /// Removes all locks of a session.
     pub fn remove_all(&mut self, session: Session)
         ensures { self.new ≡ without_session self.old session }
     {
@@ -118,7 +118,7 @@ impl Holders {
         self.sharers[session.place()] = false;
     }
 
-    /// What is told of the locks.
+    /// Returns the lock information.
     pub fn info(&self) -> Info
         ensures { result ≡ info_of self.now }
     {

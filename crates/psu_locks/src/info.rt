@@ -1,6 +1,6 @@
-// What is told of the locks.
+// The lock information.
 
-/// What is told of the locks: whether the exclusive one is held, and how many sessions hold any.
+/// The lock information: whether the exclusive lock is held, and how many sessions hold a lock.
 #[derive(Clone, Copy, Debug, PartialEq, Eq)]
 pub struct Info {
     pub exclusive: bool,

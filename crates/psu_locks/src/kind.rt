@@ -1,11 +1,11 @@
-// What a request asks for.
+// The kinds of locks.
 use crate::LockString;
 
 /// The kind of a lock.
 #[derive(Drop)]
 pub enum Kind {
-    /// The lock that one session alone may hold.
+    /// The exclusive lock, which at most one session holds.
     Exclusive,
-    /// The lock that sessions share under one string.
+    /// The shared lock, which sessions hold under one string.
     Shared(LockString),
 }

@@ -1,4 +1,4 @@
-//! The locks of the instrument: which session may command, and which requests wait.
+//! The locks of the instrument: which session may execute commands, and which requests wait.
 //!
 //! The lock protocol is that of IVI-6.1 (HiSLIP), with the choices of this project's profile.
 #![tactic(auto)]

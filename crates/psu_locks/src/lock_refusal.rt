@@ -1,12 +1,12 @@
-// Why a call on the locks is refused.
+// The reasons for which a call on the locks is refused.
 
-/// Why a call on the locks is refused. The locks are then as they were.
+/// The reason for which a call on the locks is refused. The locks are then unchanged.
 #[derive(Clone, Copy, Debug, PartialEq, Eq)]
 pub enum LockRefusal {
-    /// The session asks for a kind of lock that it holds already.
+    /// The session requests a kind of lock that it already holds.
     AlreadyHeld,
-    /// The session releases, and holds no lock.
+    /// The session releases a lock but holds none.
     NotHeld,
-    /// A request of this session already waits.
+    /// A request of this session is already waiting.
     Waiting,
 }

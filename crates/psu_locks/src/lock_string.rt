@@ -5,7 +5,7 @@ ghost use Rattle.std.specs.Str.{bytes_eq};
 use arrayvec::ArrayVec;
 use std::marker::Model;
 
-/// The string of a shared lock: up to 256 bytes, which a contract sees as their list.
+/// The string of a shared lock: up to 256 bytes. A contract sees the list of them.
 #[derive(Drop)]
 pub struct LockString {
     bytes: ArrayVec<u8, 256>,
@@ -20,7 +20,7 @@ impl Model for LockString {
 }
 
 impl LockString {
-    /// The string of no bytes.
+    /// Returns the empty string.
     pub fn empty() -> LockString
         ensures { result ≡ [] }
     {
@@ -29,7 +29,7 @@ impl LockString {
         }
     }
 
-    /// The string of these bytes, where they are at most 256.
+    /// Returns the string of these bytes, or `None` where they are more than 256.
     pub fn new(bytes: &[u8]) -> Option<LockString>
         ensures { SomeIff result (length bytes.now ≤ 256) bytes.now }
     {

@@ -1,4 +1,4 @@
-// The table: who holds the locks, and which requests wait in order of arrival.
+// The lock table: the lock holders, and the waiting requests in order of arrival.
 ghost use Rattle.std.specs.Prelude.{◌≡◌, ◌≤◌, max, Some, None, IfOk, IfErr, IfSome, []};
 ghost use Rattle.psu_locks.specs.Locks.{Locks, no_locks, may_command, info_of, request_refusal, grant_of, after_grant, at_moment, waits, holders_after, kept, granted, looked_through, freed_of, without, without_session, of_others, failed_at, still_waiting};
 ghost use Rattle.psu_locks.specs.Table.{CommandsAlone, FailsFirst, IsSettled, next_deadline};
@@ -10,8 +10,8 @@ use crate::{Freed, Grant, Info, Kind, LockRefusal, LockString, SESSIONS, Session
 use arrayvec::ArrayVec;
 use std::marker::Model;
 
-/// The locks of an instrument with sixteen sessions. No call takes memory. A moment is a number of milliseconds from
-/// any start; one before the greatest so far counts as that one.
+/// The locks of an instrument with sixteen sessions. No call allocates. A time is a number of milliseconds from any
+/// start; a time before the latest one passed so far counts as the latest.
 #[derive(Drop)]
 pub struct LockTable {
     holders: Holders,
@@ -32,7 +32,7 @@ impl Model for LockTable {
 }
 
 impl LockTable {
-    /// No lock is held, and nobody waits.
+    /// Returns a table in which no lock is held and no request waits.
     pub fn new() -> LockTable
         ensures locks { result ≡ no_locks [] }
         ensures settled { IsSettled result }
@@ -48,8 +48,8 @@ impl LockTable {
         }
     }
 
-    /// Whether a session may command. With no lock all may; while an exclusive lock is held only its holder may; else
-    /// those that share the string.
+    /// Whether a session may execute commands. With no lock held every session may; while an exclusive lock is held
+    /// only its holder may; otherwise those that share the string.
     pub fn may_command(&self, session: Session) -> bool
         ensures value { result ≡ may_command self.now.holders session }
         ensures alone { CommandsAlone self.now.holders session }
@@ -57,14 +57,14 @@ impl LockTable {
         self.holders.may_command(session)
     }
 
-    /// Whether the exclusive lock is held, and how many sessions hold any.
+    /// Returns whether the exclusive lock is held, and how many sessions hold a lock.
     pub fn info(&self) -> Info
         ensures { result ≡ info_of self.now.holders }
     {
         self.holders.info()
     }
 
-    /// The moment at which a waiting request fails next, where one waits: the least of their deadlines.
+    /// Returns the time at which the next waiting request fails, if one waits: the least of the deadlines.
     pub fn next_deadline(&self) -> Option<u128>
         ensures deadline { result ≡ next_deadline self.now.waiting }
         ensures first { IfSome result (λ deadline. FailsFirst self.now.waiting deadline) }
@@ -73,9 +73,10 @@ impl LockTable {
         next_deadline(&self.waiting)
     }
 
-    /// Asks for a lock. What can't be granted now waits for so many milliseconds, and with a timeout of 0 fails at once.
+    /// Requests a lock. A request that can't be granted now waits for `timeout` milliseconds, and with a timeout of 0
+    /// fails at once.
     ///
-    /// A session that holds this kind of lock is refused as holding it, also where its request waits.
+    /// A session that already holds this kind of lock is refused with `AlreadyHeld`, even while a request of it waits.
     pub fn request(
         &mut self,
         session: Session,
@@ -112,8 +113,8 @@ impl LockTable {
         Ok(Grant::Queued)
     }
 
-    /// Gives up a session's exclusive lock, or else its shared one; answers which, and the sessions whose waiting
-    /// requests were then granted, in order of arrival.
+    /// Releases a session's exclusive lock, or else its shared one; returns which, and the sessions whose waiting
+    /// requests were granted as a result, in order of arrival.
     pub fn release(&mut self, session: Session) -> Result<(Freed, Sessions), LockRefusal>
         ensures freed { IfOk result (λ r. (freed_of self.old.holders session ≡ Some r.0)
             × (r.1 ≡ granted (without self.old.holders session r.0) self.old.waiting)
@@ -129,8 +130,8 @@ impl LockTable {
         Ok((freed, sessions))
     }
 
-    /// Ends a session: its locks and its request end with it. Answers the sessions whose requests were then granted, in
-    /// order of arrival.
+    /// Ends a session, removing its locks and its request. Returns the sessions whose requests were granted as a
+    /// result, in order of arrival.
     pub fn drop_session(&mut self, session: Session) -> Sessions
         ensures granted { result ≡ granted (without_session self.old.holders session) (of_others session self.old.waiting) }
         ensures left { self.new ≡ looked_through self.old (without_session self.old.holders session) (of_others session self.old.waiting) }
@@ -141,7 +142,7 @@ impl LockTable {
         look_through(&mut self.holders, &mut self.waiting)
     }
 
-    /// Fails the requests whose deadline is reached, and answers whose they were, in order of arrival.
+    /// Fails the requests whose deadlines are reached, and returns their sessions, in order of arrival.
     pub fn tick(&mut self, now: u64) -> Sessions
         ensures failed { result ≡ failed_at (max self.old.latest now) self.old.waiting }
         ensures left { self.new ≡ record (at_moment self.old now) { waiting = still_waiting (max self.old.latest now) self.old.waiting } }
@@ -162,21 +163,22 @@ fn waits(waiting: &[Request], session: Session) -> bool
         .any(|request| request.session.number() == number)
 }
 
-// The least of the deadlines.
+// Returns the least of the deadlines.
 fn next_deadline(waiting: &[Request]) -> Option<u128>
     ensures { result ≡ next_deadline waiting.now }
 {
     waiting.iter().map(|request| request.deadline).min()
 }
 
-// Takes the request of a session out.
+// Removes the request of a session.
 fn keep_others(waiting: &mut ArrayVec<Request, SESSIONS>, session: Session)
     ensures { waiting.new.items ≡ of_others session waiting.old.items }
 {
     waiting.retain(|request| request.session.number() != session.number());
 }
 
-// Looks through the waiting requests in order of arrival, and grants each that can be.
+// Goes through the waiting requests in order of arrival, grants each that can be granted, and returns the sessions of
+// those.
 fn look_through(holders: &mut Holders, waiting: &mut ArrayVec<Request, SESSIONS>) -> Sessions
     ensures holders { holders.new ≡ holders_after holders.old waiting.old.items }
     ensures kept { waiting.new.items ≡ kept holders.old waiting.old.items }
@@ -198,7 +200,7 @@ fn look_through(holders: &mut Holders, waiting: &mut ArrayVec<Request, SESSIONS>
     sessions
 }
 
-// Takes the requests out whose deadline is reached.
+// Removes the requests whose deadlines are reached, and returns their sessions.
 fn fail_at(waiting: &mut ArrayVec<Request, SESSIONS>, now: u128) -> Sessions
     ensures failed { result ≡ failed_at now waiting.old.items }
     ensures kept { waiting.new.items ≡ still_waiting now waiting.old.items }

@@ -1,7 +1,7 @@
-// A request that waits.
+// A waiting request.
 use crate::{Kind, Session};
 
-/// A request that waits: whose it is, what it asks for, and the moment at which it fails.
+/// A waiting request: its session, its kind of lock, and the time at which it fails.
 #[derive(Drop)]
 pub struct Request {
     pub session: Session,
@@ -9,7 +9,7 @@ pub struct Request {
     pub deadline: u128,
 }
 
-// What fills the unused places of a list.
+// The request that fills the unused places of a list.
 impl Default for Request {
     fn default() -> Self {
         Request {

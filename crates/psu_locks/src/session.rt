@@ -3,7 +3,7 @@ ghost use Rattle.std.specs.Prelude.{◌≡◌, ◌+◌, ◌-◌, ◌<◌, ◌≤
 
 use std::marker::Model;
 
-/// How many sessions may be open at once.
+/// The maximum number of sessions open at once.
 pub const SESSIONS: usize = 16;
 
 /// A session of the instrument: a number from 1 to 16. A contract sees the number.
@@ -25,7 +25,7 @@ impl Model for Session {
 }
 
 impl Session {
-    /// The session of a number, where it is one from 1 to 16.
+    /// Returns the session of a number, or `None` where the number is not from 1 to 16.
     pub fn new(number: u8) -> Option<Session>
         ensures { SomeIff result ((1 ≤ number) × (number ≤ 16)) number }
     {
@@ -36,7 +36,7 @@ impl Session {
         }
     }
 
-    /// The session of a place in a list of all sessions, the first place that of session 1.
+    /// Returns the session at an index in a list of all sessions; session 1 is at index 0.
     pub fn at(place: usize) -> Session
         requires { place < 16 }
         ensures { result ≡ place + 1 }
@@ -46,7 +46,7 @@ impl Session {
         }
     }
 
-    /// Its number, from 1 to 16.
+    /// Returns the number, from 1 to 16.
     pub fn number(self) -> u8
         ensures number { result ≡ self }
         ensures least { 1 ≤ result }
@@ -55,7 +55,7 @@ impl Session {
         self.number
     }
 
-    /// Its place in a list of all sessions.
+    /// Returns the index in a list of all sessions.
     pub fn place(self) -> usize
         ensures place { result ≡ self - 1 }
         ensures inside { result < 16 }

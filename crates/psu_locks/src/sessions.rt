@@ -4,7 +4,8 @@ ghost use Rattle.std.specs.Prelude.{◌≡◌, ◌↔◌, IsTrue, ◌<◌, ◌�
 use crate::{SESSIONS, Session};
 use std::marker::Model;
 
-/// Up to sixteen sessions in the order that a call says. It takes no memory. A contract sees the list of their numbers.
+/// Up to sixteen sessions, in an order that the call specifies. It needs no allocation. A contract sees the list of
+/// their numbers.
 #[derive(Drop)]
 pub struct Sessions {
     list: [Session; SESSIONS],
@@ -22,7 +23,7 @@ impl Model for Sessions {
 }
 
 impl Sessions {
-    /// No session.
+    /// Returns an empty list.
     pub fn new() -> Sessions
         ensures { result ≡ [] }
     {
@@ -32,7 +33,7 @@ impl Sessions {
         }
     }
 
-    /// One more at the end.
+    /// Appends a session.
     pub fn push(&mut self, session: Session)
         requires { length self.old < 16 }
         ensures { self.new ≡ self.old ++ session ∷ [] }
@@ -41,14 +42,14 @@ impl Sessions {
         self.count += 1;
     }
 
-    /// Whether there is none.
+    /// Whether the list is empty.
     pub fn is_empty(&self) -> bool
         ensures { IsTrue result ↔ (self.now ≡ []) }
     {
         self.as_slice().is_empty()
     }
 
-    /// The sessions in their order.
+    /// Returns the sessions in order.
     pub fn as_slice(&self) -> &[Session]
         ensures sessions { result.now ≡ self.now }
         ensures most { length result.now ≤ 16 }

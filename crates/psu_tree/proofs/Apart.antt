@@ -1,4 +1,4 @@
--- No words match two rows of the table: a test of two rows' nodes, and why it is enough.
+-- No words match two rows of the table: a test of two rows' nodes, and why it suffices.
 use Rattle.std.proofs.Common.{◌≡◌, ◌⊎◌, ℕ, zero, suc, ◌==◌, ◌&&◌, ◌||◌, Bool, true, false, not, List, [], ◌∷◌, ◌++◌, refl, sym, subst, arith, inl, inr}
 use Rattle.std.specs.Prelude.{if◌then◌else◌}
 use Rattle.std.proofs.lemmas.Bool.{and_from, and_parts, cases_Bool, or_cases}
@@ -17,7 +17,7 @@ capital_same x y z h k = grind (arith, nat_tests, h, k)
 digit_same : (x y : ℕ) → (capital x == capital y) ≡ true → is_digit x ≡ is_digit y
 digit_same x y h = grind (arith, nat_tests, h)
 
--- texts that are the same as a third are the same
+-- texts that are equal to a third are equal
 same_both : (a b c : List ℕ) → same_letters a c ≡ true → same_letters b c ≡ true → same_letters a b ≡ true
 same_both [] [] c h k = refl
 same_both [] (y ∷ b) [] h k = absurd (cc (k))
@@ -51,7 +51,7 @@ stem_same (x ∷ a) (y ∷ b) h =
 
 -- ---- nodes
 
--- a form of a node, as words have it once the digits at their ends are cut off
+-- a form of a node, as in words once the digits at their ends are cut off
 abbrev cut : Bool → List ℕ → List ℕ
 cut true form = form
 cut false form = stem form
@@ -59,7 +59,7 @@ cut false form = stem form
 abbrev seen : Mnemonic → List ℕ → List ℕ
 seen node form = cut (is_numbered node.kind) form
 
--- a form of each is the same
+-- the nodes have a form in common
 abbrev alike : Mnemonic → Mnemonic → Bool
 alike m n =
     (same_letters (seen m (short m.name)) (seen n (short n.name)) || same_letters (seen m (short m.name)) (seen n n.name))
@@ -103,7 +103,7 @@ abbrev all_bracketed : List Mnemonic → Bool
 all_bracketed [] = true
 all_bracketed (node ∷ nodes) = in_brackets node.kind && all_bracketed nodes
 
--- whether some words may match both: each step takes a word or leaves out a node, `fuel` steps are looked at
+-- whether some words may match both: each step takes a word or leaves out a node, for `fuel` steps
 abbrev may_meet : ℕ → List Mnemonic → List Mnemonic → Bool
 may_meet zero ms ns = true
 may_meet (suc fuel) [] ns = all_bracketed ns
@@ -153,7 +153,7 @@ abbrev is_free : List Mnemonic → List Entry → Bool
 is_free nodes [] = true
 is_free nodes (row ∷ rows) = not (may_meet 16 nodes row.nodes) && is_free nodes rows
 
--- no row does with any later one
+-- no row shares a header with a later one
 abbrev are_free : List Entry → Bool
 are_free [] = true
 are_free (row ∷ rows) = is_free row.nodes rows && are_free rows

@@ -1,4 +1,4 @@
--- The test of a row and the standard's sentence are the same.
+-- The test of a row agrees with the standard's rule.
 use Rattle.std.proofs.Common.{◌≡◌, ℕ, ◌&&◌, ◌||◌, Bool, true, false, List, [], ◌∷◌, refl, sym, subst, inl, inr}
 use Rattle.std.specs.Prelude.{◌↔◌}
 use Rattle.std.proofs.lemmas.Bool.{and_from, and_parts, or_cases}
@@ -32,7 +32,7 @@ matches_in (node ∷ nodes) (word ∷ words) (inr (b, m)) =
 pub same_match : (nodes : List Mnemonic) (words : List (List ℕ)) → (fits nodes words ≡ true) ↔ Matches nodes words
 same_match nodes words = (matches_out nodes words, matches_in nodes words)
 
--- a first word that names the first node, and others that match those behind it
+-- a first word that names the first node, and others that match the nodes after it
 pub matches_first : (nodes later : List Mnemonic) (node : Mnemonic) (words others : List (List ℕ)) (word : List ℕ) → nodes ≡ node ∷ later → words ≡ word ∷ others → names node word ≡ true
     → fits later others ≡ true → Matches nodes words
 matches_first nodes later node words others word e f named h =

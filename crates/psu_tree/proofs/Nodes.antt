@@ -7,7 +7,7 @@ use Rattle.psu_lex.specs.Bytes.{is_letter}
 use Rattle.psu_lex.specs.Syntax.{is_name_byte, all_name, is_node, behind}
 use Rattle.psu_tree.specs.Scans.{node_of, after_node}
 
--- ---- how far the first node goes
+-- ---- the end of the first node
 
 pub record Reaches (text : List ℕ) (at : ℕ) : Type 0 where
   pub node : node_of text ≡ take at text ++ node_of (drop at text)
@@ -74,12 +74,12 @@ node_cut (x ∷ node) nodes h =
     let p = both_true (is_letter x) (all_name node) h in
     name_cut (x ∷ node) nodes (rw (letter_name x p.0) p.1)
 
--- where nothing follows a node, there are no more
+-- where nothing follows a node, there are no more nodes
 pub no_more : (nodes : List (List ℕ)) (rest : List ℕ) → rest ≡ behind nodes → length rest ≡ 0 → nodes ≡ []
 no_more [] rest e l = refl
 no_more (n ∷ ns) rest e l = absurd (omega (arith, ap length e, l))
 
--- where something does, it is a `:` and the others
+-- where something follows it, that is a `:` and the other nodes
 pub some_more : (nodes : List (List ℕ)) (x : ℕ) (others : List ℕ) → behind nodes ≡ x ∷ others → (n : List ℕ) × (ns : List (List ℕ)) × (nodes ≡ n ∷ ns) × (others ≡ n ++ behind ns)
 some_more [] x others e = absurd (cc (e))
 some_more (n ∷ ns) x others e = (n, ns, refl, cc (e))

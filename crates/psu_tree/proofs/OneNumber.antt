@@ -1,4 +1,5 @@
--- A header that matches a row of the table has one number at most: a row has one numbered node at most, and no mnemonic ends in a digit.
+-- A header that matches a row of the table has at most one numeric suffix: a row has at most one numbered node, and no
+-- mnemonic ends in a digit.
 use Rattle.std.proofs.Common.{◌≡◌, ◌⊎◌, ℕ, ◌≤◌, ◌-◌, ◌==◌, ◌&&◌, ◌||◌, Bool, true, false, not, List, [], ◌∷◌, ◌++◌, length, drop, length-drop, refl, subst, arith, inl, inr}
 use Rattle.std.specs.Prelude.{if◌then◌else◌}
 use Rattle.std.proofs.lemmas.Bool.{and_parts, cases_Bool, or_cases}
@@ -27,7 +28,7 @@ same_length (x ∷ a) (y ∷ b) h =
     let k = same_length a b (and_parts (capital x == capital y) (same_letters a b) h).1 in
     omega (arith, k)
 
--- a word that is the same as a text without digits at its end has none either
+-- a word that is equal to a text without digits at its end has none either
 same_end : (form word : List ℕ) → same_letters form word ≡ true → digits_of form ≡ [] → digits_of word ≡ []
 same_end form word h none =
     let all : length form ≡ length word = same_length form word h in
@@ -51,12 +52,12 @@ plain_named node word p f h =
 
 -- ---- rows
 
--- no node has a number
+-- no node may have a number
 abbrev has_none : List Mnemonic → Bool
 has_none [] = true
 has_none (node ∷ nodes) = (is_plain node && not (is_numbered node.kind)) && has_none nodes
 
--- one has a number at most
+-- at most one node may have a number
 abbrev has_one : List Mnemonic → Bool
 has_one [] = true
 has_one (node ∷ nodes) = is_plain node && (if is_numbered node.kind then has_none nodes else has_one nodes)
@@ -86,7 +87,7 @@ none_one (node ∷ nodes) h =
     let q = and_parts (is_plain node) (not (is_numbered node.kind)) p.0 in
     rw (q.0, not_true (is_numbered node.kind) q.1) (none_one nodes p.1)
 
--- the nodes behind one have one number at most too
+-- the nodes after one have at most one number too
 rest_one : (numbered : Bool) (nodes : List Mnemonic) → (if numbered then has_none nodes else has_one nodes) ≡ true → has_one nodes ≡ true
 rest_one true nodes h = none_one nodes h
 rest_one false nodes h = h

@@ -1,4 +1,4 @@
--- One reading of a unit.
+-- A unit has at most one result.
 use Rattle.std.proofs.Common.{◌≡◌, ℕ, List, [], ◌∷◌, sym, ap, ◌∙◌, subst, Option, Some, Result, Ok, Err, ℤ}
 use Rattle.psu_lex.specs.Data.{IsStringOf, IsDatumOf}
 use Rattle.psu_lex.specs.Message.{Part}
@@ -18,7 +18,7 @@ use Rattle.psu_tree.specs.declared.form.Form.{Form}
 use Rattle.psu_tree.specs.declared.form.Form.TheVariants as f
 use Rattle.psu_outputs.specs.declared.output.Output.{Output}
 
--- what psu_lex's laws say
+-- the laws of psu_lex
 pub record Lawful : Type 0 where
   pub number : (m n : Number) → IsNumber m → IsNumber n → number_text m ≡ number_text n → m ≡ n
   pub string : (text bytes others : List ℕ) → IsStringOf text bytes → IsStringOf text others → bytes ≡ others
@@ -26,7 +26,7 @@ pub record Lawful : Type 0 where
   pub header : (h other : Header) → IsHeader h → IsHeader other → header_text h ≡ header_text other → h ≡ other
   pub syntax : (unit : Part) (result other : Result Syntax ScpiError) → SyntaxGives unit result → SyntaxGives unit other → result ≡ other
 
--- ---- what a datum is taken for
+-- ---- the value of a datum
 
 one_whole : Lawful → (class : DatumClass) (text : List ℕ) (r q : Result ℤ ScpiError) → WholeOf class text r → WholeOf class text q → r ≡ q
 one_whole law Numeric text r q (m, h, t, e) (n, k, u, i) = e ∙ ap (λ (z : Number). reading_of z 0) (law.number m n h k (sym t ∙ u)) ∙ sym i
@@ -64,7 +64,7 @@ one_block law Numeric text r q g h = g ∙ sym h
 one_block law Character text r q g h = g ∙ sym h
 one_block law String text r q g h = g ∙ sym h
 
--- ---- what the data of a header give
+-- ---- the result of the data of a header
 
 abbrev Same : {A : Type 0} → (Datum → Result A ScpiError → Type 0) → Type 0
 Same {A} Takes = (d : Datum) (x y : Result A ScpiError) → Takes d x → Takes d y → x ≡ y

@@ -1,4 +1,4 @@
--- A label or a name has no quote: what stands between the quotes of its string is itself.
+-- A label or a name has no quote: the text between the quotes of its string is the label or name itself.
 use Rattle.std.proofs.Common.{◌≡◌, ℕ, ◌==◌, ◌&&◌, Bool, true, false, List, [], ◌∷◌, length, refl, sym, ap, ◌∙◌, arith, inl, inr}
 use Rattle.std.specs.Prelude.{Some, None, nat_le, if◌then◌else◌}
 use Rattle.std.specs.List.{list_all}
@@ -10,7 +10,7 @@ use Rattle.psu_lex.specs.Names.{begins_with_letter, is_file_byte, is_label}
 use Rattle.psu_lex.specs.Syntax.{is_name_byte}
 use Rattle.psu_tree.specs.Parameters.{label_of, name_of}
 
--- ---- quotes twice, for a test of bytes that no quote passes
+-- ---- doubled quotes, for a test of bytes that no quote passes
 
 same_byte : (x q : ℕ) → (x == q) ≡ true → x ≡ q
 same_byte x q t = grind (arith, nat_tests, t)
@@ -63,7 +63,7 @@ label_doubled q text h = elim (cases_Bool (list_all is_name_byte text)) [
   | inr f ↦ no_label (doubled q text) (doubled_none is_name_byte q text (quote_name q h) f) ∙ sym (no_label text f)
 ]
 
--- ---- names of files
+-- ---- file names
 
 no_name : (text : List ℕ) → list_all is_file_byte text ≡ false → name_of text ≡ None
 no_name text f = rw f refl

@@ -41,13 +41,13 @@ closed (first ∷ rows) (word ∷ words) = closed rows (word ∷ words)
 closed_at : (named missing : Bool) (rows : List Row) (ws : List (List ℕ)) → named ≡ false → missing ≡ false → row_behind named missing rows ws ≡ None
 closed_at named missing rows ws n m = rw (n, m) (closed rows ws)
 
--- no words, and a root that must stand
+-- no words, and a required root
 pub none_without : (root : Node) (rows : List Row) (words : List (Bor (List ℕ))) → length words ≡ 0 → in_brackets root.kind ≡ false
     → None ≡ row_behind (named_of root (map (λ (word : Bor (List ℕ)). word.now) words)) (in_brackets root.kind) rows (map (λ (word : Bor (List ℕ)). word.now) words)
 none_without root rows [] e m = sym (closed_at false (in_brackets root.kind) rows [] refl m)
 none_without root rows (word ∷ words) e m = absurd (omega (arith, e))
 
--- a root that must stand, and is not named
+-- a required root that is not named
 pub none_named : (root : Node) (rows : List Row) (ws : List (List ℕ)) → named_of root ws ≡ false → in_brackets root.kind ≡ false → None ≡ row_behind (named_of root ws) (in_brackets root.kind) rows ws
 none_named root rows ws n m = sym (closed_at (named_of root ws) (in_brackets root.kind) rows ws n m)
 
@@ -124,7 +124,7 @@ pub unnamed : (root : Node) (ws : List (List ℕ)) (first second : ℕ) → begi
 unnamed root [] first second h f = refl
 unnamed root (word ∷ words) first second h f = apart (is_numbered root.kind) first second root.name.now word words h f
 
--- a section that is passed over
+-- a section that is skipped
 pub none_passed : (root : Node) (rows : List Row) (ws : List (List ℕ)) (begins : Bool) → (begins ≡ false → named_of root ws ≡ false) → (not begins && not (in_brackets root.kind)) ≡ true
     → row_behind (named_of root ws) (in_brackets root.kind) rows ws ≡ None
 none_passed root rows ws begins named h =

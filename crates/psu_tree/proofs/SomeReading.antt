@@ -1,4 +1,4 @@
--- Some reading of a unit.
+-- Every unit has a result.
 use Rattle.std.proofs.Common.{◌≡◌, ℕ, Bool, true, false, List, [], ◌∷◌, refl, subst, inl, inr, Option, Some, None, Result, Ok, Err}
 use Rattle.psu_lex.specs.Message.{Part}
 use Rattle.psu_lex.specs.Shown.{IsSomeDatum}
@@ -18,7 +18,7 @@ use Rattle.psu_tree.specs.declared.form.Form.TheVariants as f
 use Rattle.psu_outputs.specs.declared.output.Output.{Output}
 use Rattle.psu_tree.proofs.SomeTaken.{some_whole, some_switch, some_amount, some_word, some_string, some_block}
 
--- each is a datum where some text follows it
+-- each is a datum when some text follows it
 abbrev Good : List Datum → Type 0
 Good [] = Unit {0}
 Good (d ∷ list) = IsSomeDatum d × Good list

@@ -1,4 +1,4 @@
--- Each datum is taken for something, whatever is asked.
+-- Every datum has a value or an error, whatever class is required.
 use Rattle.std.proofs.Common.{◌≡◌, ℕ, List, [], ◌∷◌, refl, sym, subst, Result, Ok, Err, ℤ}
 use Rattle.psu_lex.specs.Number.{reading_of}
 use Rattle.psu_lex.specs.Syntax.{Datum, IsDatum}
@@ -66,9 +66,9 @@ bytes_at String text more is = (Err DataTypeError, refl)
 pub some_block : (d : Datum) → IsSomeDatum d → (taken : Result (List ℕ) ScpiError) × TakesBlock d taken
 some_block d is = bytes_at d.class d.text is.0 is.1
 
--- ---- a pair whose first datum has a fault
+-- ---- a pair whose first datum has an error
 
--- where a value can have no fault, the fault is the datum's
+-- where a value can have no error, the error is the datum's
 pub failed : {A B : Type 0} (value : A → Result B ScpiError) (taken : Result A ScpiError) (e : ScpiError) → ((a : A) → (b : B) × (value a ≡ Ok b)) → Err e ≡ next taken value → taken ≡ Err e
 failed value (Ok a) e good h = let g = good a in absurd (cc (h, g.1))
 failed value (Err x) e good h = cc (h)

@@ -1,4 +1,4 @@
--- A word without its number: the loop that goes back over digits.
+-- A word without its number: the loop that steps back over digits.
 use Rattle.std.proofs.Common.{◌≡◌, ℕ, zero, suc, ◌-◌, ◌<◌, ◌≤◌, length, take, drop, slice_index, drop-cons, true, false, List, [], ◌∷◌, refl, ap, arith, inl, inr}
 use Rattle.std.proofs.lemmas.Bool.{cases_Bool}
 use Rattle.psu_lex.specs.Bytes.{is_digit, all_digits}

@@ -1,4 +1,4 @@
--- Numeric suffixes: they are digits, and holding a number to 5 on the way changes nothing at the end.
+-- Numeric suffixes: they are digits, and capping a number at 5 on the way does not change the result.
 use Rattle.std.proofs.Common.{◌≡◌, ℕ, ◌+◌, ◌*◌, ◌-◌, ◌≤◌, true, List, [], ◌∷◌, refl, arith, inl, inr}
 use Rattle.std.specs.Prelude.{min}
 use Rattle.std.proofs.lemmas.Bool.{cases_Bool, cases_lt}

@@ -16,7 +16,7 @@ and_none : (a : Bool) → (a && false) ≡ false
 and_none true = refl
 and_none false = refl
 
--- more words than nodes match none
+-- more words than nodes do not match
 too_many : (nodes : List Mnemonic) (words : List (List ℕ)) → length nodes < length words → fits nodes words ≡ false
 too_many [] [] lt = absurd (omega (arith, lt))
 too_many [] (word ∷ words) lt = refl

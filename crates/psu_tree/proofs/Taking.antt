@@ -1,4 +1,4 @@
--- What a datum is taken for, from what its text holds.
+-- The value of a datum, from the content of its text.
 use Rattle.std.proofs.Common.{◌≡◌, ◌⊎◌, subst, ℕ, true, List, refl, sym, ap, ◌∙◌, inl, inr, Option, Result, Ok, ℤ}
 use Rattle.psu_lex.specs.Bytes.{is_quote}
 use Rattle.psu_lex.specs.Data.{IsStringOf, IsDatumOf}
@@ -44,7 +44,7 @@ string_at text more (Quoted q bytes) c e w = (q, bytes, w.0, e, (q, e, (w.0, w.1
 string_at text more (Counted digits bytes) c e w = absurd (cc (c))
 string_at text more (Open bytes) c e w = absurd (cc (c))
 
--- what stands between its quotes, whatever is made of it, where a doubled quote changes nothing
+-- the text between its quotes, whatever is made of it, where a doubled quote changes nothing
 abbrev Between : List ℕ → List ℕ → Type 0
 Between text inner = (q : ℕ) (bytes : List ℕ) → text ≡ spelling (Quoted q bytes) → inner ≡ doubled q bytes
 

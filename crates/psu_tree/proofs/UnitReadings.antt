@@ -1,4 +1,4 @@
--- A unit's reading, from the parts that its syntax shows.
+-- A unit's result, from the parts of its syntax.
 use Rattle.std.proofs.Common.{◌≡◌, ℕ, ◌<◌, Bool, true, false, List, length, refl, sym, subst, Option, Result, Ok, Err}
 use Rattle.std.specs.Prelude.{MatchBool}
 use Rattle.psu_lex.specs.Message.{Part}

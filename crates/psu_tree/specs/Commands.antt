@@ -1,5 +1,5 @@
--- The commands of the table's forms: which parameters each takes, and what it is with their values.
--- Sources: IEEE 488.2, chapter 10; SCPI-1999 volume 2; ranges of levels and loads are this instrument's own.
+-- The commands of the table's forms: the parameters that each takes, and the command with their values. Sources: IEEE
+-- 488.2, chapter 10; SCPI-1999 volume 2; the ranges of levels and loads are this instrument's own.
 use Rattle.std.specs.Prelude.{◌≡◌, ℕ, ◌%◌, List, [], ◌∷◌, Result, Ok, Err}
 use Rattle.psu_lex.specs.Syntax.{Datum}
 use Rattle.psu_lex.specs.declared.scpi_error.ScpiError.{ScpiError}
@@ -19,7 +19,7 @@ abbrev pub alone : Command → List Datum → Result Command ScpiError
 alone command [] = Ok command
 alone command (datum ∷ more) = Err ParameterNotAllowed
 
--- the command of some value that the data give, or their fault
+-- the command with a value that the data give, or their error
 abbrev pub Makes : {A : Type 0} → (Result A ScpiError → Type 0) → (A → Command) → Result Command ScpiError → Type 0
 Makes {A} Gives make reading = (given : Result A ScpiError) × Gives given × (reading ≡ mapped make given)
 
@@ -29,13 +29,13 @@ unit_of level.Voltage = 86
 unit_of level.Current = 65
 unit_of level.Protection = 86
 
--- its greatest value in thousandths of the unit; the least is 0
+-- its maximum in thousandths of the unit; the minimum is 0
 abbrev pub greatest_of : Level → ℕ
 greatest_of level.Voltage = 60000
 greatest_of level.Current = 5000
 greatest_of level.Protection = 60000
 
--- what a form reads as with these data
+-- the command of a form with these data, or their error
 abbrev pub CommandReads : Form → Output → List Datum → Result Command ScpiError → Type 0
 CommandReads (f.Action action) output list reading = reading ≡ alone (c.Action action) list
 CommandReads (f.Query query) output list reading = reading ≡ alone (c.Query query) list

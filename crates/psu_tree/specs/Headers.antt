@@ -6,7 +6,7 @@ use Rattle.psu_tree.specs.declared.form.Form.{Form}
 use Rattle.psu_tree.specs.declared.kind.Kind.{Kind}
 use Rattle.psu_tree.specs.declared.kind.Kind.TheVariants.{Must, Maybe, Numbered, MaybeNumbered}
 
--- a small letter
+-- a lowercase letter
 abbrev pub is_small : ℕ → Bool
 is_small b = nat_lt 96 b && nat_lt b 123
 
@@ -14,14 +14,14 @@ is_small b = nat_lt 96 b && nat_lt b 123
 abbrev pub capital : ℕ → ℕ
 capital b = if is_small b then b - 32 else b
 
--- the same letters without regard to case
+-- the same letters, ignoring case
 abbrev pub same_letters : List ℕ → List ℕ → Bool
 same_letters [] [] = true
 same_letters [] (y ∷ ys) = false
 same_letters (x ∷ xs) [] = false
 same_letters (x ∷ xs) (y ∷ ys) = capital x == capital y && same_letters xs ys
 
--- the short form of a mnemonic: what stands before its first small letter
+-- the short form of a mnemonic: the letters before its first lowercase letter
 abbrev pub short : List ℕ → List ℕ
 short [] = []
 short (x ∷ xs) = if is_small x then [] else x ∷ short xs
@@ -41,7 +41,7 @@ is_numbered Maybe = false
 is_numbered Numbered = true
 is_numbered MaybeNumbered = true
 
--- the node stands in brackets
+-- the node is optional
 abbrev pub in_brackets : Kind → Bool
 in_brackets Must = false
 in_brackets Maybe = true
@@ -53,11 +53,11 @@ pub record Mnemonic : Type 0 where
   pub name : List ℕ
   pub kind : Kind
 
--- a word is a form of the node, with a number behind it only where `<n>` stands
+-- a word is a form of the node, with a numeric suffix only where there is `<n>`
 abbrev pub names : Mnemonic → List ℕ → Bool
 names node word = is_form node.name (if is_numbered node.kind then stem word else word)
 
--- leaving out some bracketed nodes makes each node left a form of the word in its place
+-- some optional nodes can be left out so that each remaining node has the word in its place as a form
 abbrev pub Matches : List Mnemonic → List (List ℕ) → Type 0
 Matches [] [] = Unit {0}
 Matches [] (word ∷ words) = ⊥
@@ -65,7 +65,7 @@ Matches (node ∷ nodes) [] = (in_brackets node.kind ≡ true) × Matches nodes 
 Matches (node ∷ nodes) (word ∷ words) =
     ((names node word ≡ true) × Matches nodes words) ⊎ ((in_brackets node.kind ≡ true) × Matches nodes (word ∷ words))
 
--- the same as a test
+-- `Matches` as a test
 abbrev pub fits : List Mnemonic → List (List ℕ) → Bool
 fits [] [] = true
 fits [] (word ∷ words) = false
@@ -73,13 +73,13 @@ fits (node ∷ nodes) [] = in_brackets node.kind && fits nodes []
 fits (node ∷ nodes) (word ∷ words) =
     (names node word && fits nodes words) || (in_brackets node.kind && fits nodes (word ∷ words))
 
--- whether a command changes what is nonvolatile: never, always, or while the power-on status clear flag is false
+-- whether a command changes nonvolatile memory: never, always, or while the power-on status clear flag is false
 pub data Keeping : Type 0 where
   Never : Keeping
   Always : Keeping
   WhileFalse : Keeping
 
--- a row of the table: its nodes, what it asks for without and with a `?`, and whether its command is nonvolatile
+-- a row of the table: its nodes, its forms without and with a `?`, and whether its command changes nonvolatile memory
 pub record Entry : Type 0 where
   pub nodes : List Mnemonic
   pub command : Option Form
@@ -89,7 +89,7 @@ pub record Entry : Type 0 where
 abbrev pub form_of : Bool → Entry → Option Form
 form_of asks entry = if asks then entry.query else entry.command
 
--- what the first row asks for that the words match
+-- the form of the first row that the words match
 abbrev pub asked : List Entry → List (List ℕ) → Bool → Option Form
 asked table words asks = option_and_then (form_of asks) (find (λ entry. fits entry.nodes words) table)
 
@@ -104,7 +104,7 @@ abbrev pub ended : List ℕ → Bool → Bool → List Mnemonic
 ended [] brackets numbered = []
 ended (x ∷ xs) brackets numbered = record { name = x ∷ xs; kind = kind_of brackets numbered } ∷ []
 
--- what a byte of the notation is for
+-- the meaning of a byte of the notation
 pub data Mark : Type 0 where
   Star : Mark
   Opening : Mark
@@ -118,7 +118,7 @@ mark_of b =
     if b == 42 then Star else (if b == 91 then Opening else (if b == 93 then Closing else (if b == 58 then Colon
     else (if b == 60 || b == 62 then Angle else Letter))))
 
--- the nodes of a header as the standard writes it, behind the letters of one that has begun
+-- the nodes of a header in the standard's notation, after the letters of one that has begun
 abbrev pub nodes_from : List ℕ → Bool → Bool → List ℕ → List Mnemonic
 nodes_from name brackets numbered [] = ended name brackets numbered
 nodes_from name brackets numbered (x ∷ xs) = elim (mark_of x) as (λ _. List Mnemonic) [
@@ -130,7 +130,7 @@ nodes_from name brackets numbered (x ∷ xs) = elim (mark_of x) as (λ _. List M
   | Letter ↦ nodes_from (elim numbered as (λ _. List ℕ) [ true ↦ name | false ↦ name ++ x ∷ [] ]) brackets numbered xs
 ]
 
--- `<n>` stands for a number, brackets for what may be left out
+-- `<n>` denotes a numeric suffix, brackets denote optional nodes
 abbrev pub nodes_of : List ℕ → List Mnemonic
 nodes_of text = nodes_from [] false false text
 
@@ -144,7 +144,7 @@ only text command = record { nodes = nodes_of text; command = Some command; quer
 abbrev pub asks : List ℕ → Form → Entry
 asks text query = record { nodes = nodes_of text; command = None; query = Some query; keeping = Never }
 
--- a row whose command is nonvolatile
+-- a row whose command changes nonvolatile memory
 abbrev pub kept : Entry → Entry
 kept entry = record entry { keeping = Always }
 

@@ -1,4 +1,4 @@
--- Which commands change what is nonvolatile: the marks of the table, by its forms.
+-- Which commands change nonvolatile memory: the marks of the table, by its forms.
 use Rattle.std.specs.Prelude.{Bool, true, false, not, Option, Some, None}
 use Rattle.psu_tree.specs.Headers.{Keeping}
 use Rattle.psu_tree.specs.Headers.Keeping.{Never, Always, WhileFalse}
@@ -60,7 +60,7 @@ abbrev pub keeping_of : Option Form → Keeping
 keeping_of None = Never
 keeping_of (Some form) = of_form form
 
--- the form that a command is of
+-- the form of a command
 abbrev pub form_of : Command → Form
 form_of (c.Action action) = f.Action action
 form_of (c.Query query) = f.Query query
@@ -88,6 +88,6 @@ keeps Never flag = false
 keeps Always flag = true
 keeps WhileFalse flag = not flag
 
--- the command changes what is nonvolatile, where the flag is this
+-- the command changes nonvolatile memory, given this power-on status clear flag
 abbrev pub is_nonvolatile : Command → Bool → Bool
 is_nonvolatile command flag = keeps (of_form (form_of command)) flag

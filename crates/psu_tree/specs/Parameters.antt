@@ -1,5 +1,5 @@
--- Parameters of commands: which data they take, and what those stand for.
--- Sources: IEEE 488.2, 7.7 (data); SCPI-1999 volume 1, 7.2 (numbers, MINimum and MAXimum), 7.3 (Boolean).
+-- Parameters of commands: the data that they accept, and the values of these. Sources: IEEE 488.2, 7.7 (data);
+-- SCPI-1999 volume 1, 7.2 (numbers, MINimum and MAXimum), 7.3 (Boolean).
 use Rattle.std.specs.Prelude.{◌≡◌, ℕ, ◌==◌, ◌||◌, nat_lt, Bool, true, false, not, List, [], ◌∷◌, length, codes, Option, Some, None, Result, Ok, Err, ℤ, pos, nat_abs, int_lt, if◌then◌else◌}
 use Rattle.psu_lex.specs.Data.{IsStringOf, IsDatumOf}
 use Rattle.psu_lex.specs.Names.{is_label, is_name}
@@ -15,7 +15,7 @@ use Rattle.psu_tree.specs.declared.choice.Choice.TheVariants.{Amount, Word}
 use Rattle.psu_tree.specs.declared.extreme.Extreme.{Extreme}
 use Rattle.psu_tree.specs.declared.extreme.Extreme.TheVariants.{Least, Greatest}
 
--- what comes next where there is no fault
+-- continues with the value where there is no error
 abbrev pub next : {A B : Type 0} → Result A ScpiError → (A → Result B ScpiError) → Result B ScpiError
 next (Ok a) then_ = then_ a
 next (Err e) then_ = Err e
@@ -24,11 +24,11 @@ abbrev pub mapped : {A B : Type 0} → (A → B) → Result A ScpiError → Resu
 mapped make (Ok a) = Ok (make a)
 mapped make (Err e) = Err e
 
--- the word, without regard to case
+-- the word, ignoring case
 abbrev pub is_word : List ℕ → List ℕ → Bool
 is_word word text = same_letters word text
 
--- ---- what a datum is taken for: a fault of its class, or of its number
+-- ---- the value of a datum: an error of its class, or of its number
 
 abbrev pub WholeOf : DatumClass → List ℕ → Result ℤ ScpiError → Type 0
 WholeOf Numeric text given = (n : Number) × IsNumber n × (text ≡ number_text n) × (given ≡ reading_of n 0)
@@ -47,8 +47,8 @@ SwitchOf class text given = given ≡ Err DataTypeError
 abbrev pub TakesSwitch : Datum → Result Choice ScpiError → Type 0
 TakesSwitch datum given = SwitchOf datum.class datum.text given
 
--- the places of a suffix: thousandths of the unit where it is missing or the unit's letter; with an M before
--- the letter, the number as it is
+-- the decimal places of a suffix: 3 (thousandths of the unit) where it is missing or is the unit's letter; 0 where it
+-- is an M before the letter
 abbrev pub places_of : ℕ → List ℕ → Option ℕ
 places_of unit suffix =
     if is_word [] suffix || is_word (unit ∷ []) suffix then Some 3 else (if is_word (77 ∷ unit ∷ []) suffix then Some 0 else None)
@@ -94,12 +94,12 @@ BlockOf class text given = given ≡ Err DataTypeError
 abbrev pub TakesBlock : Datum → Result (List ℕ) ScpiError → Type 0
 TakesBlock datum given = BlockOf datum.class datum.text given
 
--- ---- what that stands for: a fault of its range
+-- ---- the value in its range: an error of the range
 
 abbrev pub counted : ℕ → ℕ → ℤ → Result ℕ ScpiError
 counted least most n = if int_lt n (pos least) || int_lt (pos most) n then Err DataOutOfRange else Ok (nat_abs n)
 
--- -32767 to 32767: whether it is other than 0
+-- -32767 to 32767: whether it is not 0
 abbrev pub flagged : ℤ → Result Bool ScpiError
 flagged n = if nat_lt 32767 (nat_abs n) then Err DataOutOfRange else Ok (not (nat_abs n == 0))
 
@@ -122,7 +122,7 @@ abbrev pub end_of : ℕ → Extreme → ℕ
 end_of most Least = 0
 end_of most Greatest = most
 
--- a number from 0 to the greatest, or an end of that range
+-- a number from 0 to the maximum, or an end of that range
 abbrev pub leveled : ℕ → Choice → Result ℕ ScpiError
 leveled most (Amount n) = counted 0 most n
 leveled most (Word text) = mapped (end_of most) (extreme_of text)
@@ -139,14 +139,14 @@ label_of text = some_if is_label text
 abbrev pub name_of : List ℕ → Option (List ℕ)
 name_of text = some_if is_name text
 
--- no fault of a range, whatever the string says: the command keeps that it is no label or no name
+-- no range error, whatever the string is: the command records that it is not a valid label or name
 abbrev pub labeled : List ℕ → Result (Option (List ℕ)) ScpiError
 labeled text = Ok (label_of text)
 
 abbrev pub named : List ℕ → Result (Option (List ℕ)) ScpiError
 named text = Ok (name_of text)
 
--- ---- the data of a header: their number, then each by its class from the left, then each by its range
+-- ---- the data of a header: first their number, then the class of each from the left, then the range of each
 
 -- one parameter
 abbrev pub One : {A B : Type 0} → (Datum → Result A ScpiError → Type 0) → (A → Result B ScpiError) → List Datum → Result B ScpiError → Type 0
@@ -160,7 +160,7 @@ Perhaps Takes value [] given = given ≡ Ok None
 Perhaps {A} Takes value (datum ∷ []) given = (taken : Result A ScpiError) × Takes datum taken × (given ≡ mapped Some (next taken value))
 Perhaps Takes value (datum ∷ other ∷ more) given = given ≡ Err ParameterNotAllowed
 
--- both classes before both ranges
+-- both classes are checked before both ranges
 abbrev pub paired : {A B C D : Type 0} → Result A ScpiError → (A → Result C ScpiError) → Result B ScpiError → (B → Result D ScpiError) → Result (C × D) ScpiError
 paired first value second other = next first (λ a. next second (λ b. next (value a) (λ c. mapped (λ d. (c, d)) (other b))))
 

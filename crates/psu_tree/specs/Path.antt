@@ -1,10 +1,11 @@
--- The nodes of a header at a path, and how the path moves. Source: SCPI-1999 volume 1, 6.2.4 (traversal of the header tree).
+-- The nodes of a header at a path, and how the path moves. Source: SCPI-1999 volume 1, 6.2.4 (traversal of the header
+-- tree).
 use Rattle.std.specs.Prelude.{ℕ, ◌-◌, Bool, true, false, List, [], ◌∷◌, ◌++◌, length, take}
 use Rattle.psu_lex.specs.Syntax.{Header}
 use Rattle.psu_lex.specs.declared.mark.Mark.{Mark}
 use Rattle.psu_lex.specs.declared.mark.Mark.TheVariants.{Star, Colon, Bare}
 
--- the nodes of a header read at a path; `*` is a node of its own
+-- the nodes of a header at a path; `*` is a node of its own
 abbrev pub words_at : Mark → List (List ℕ) → List (List ℕ) → List (List ℕ)
 words_at Star path nodes = (42 ∷ []) ∷ nodes
 words_at Colon path nodes = nodes
@@ -16,14 +17,14 @@ words_of path h = words_at h.mark path (h.node ∷ h.nodes)
 abbrev pub all_but_last : List (List ℕ) → List (List ℕ)
 all_but_last words = take (length words - 1) words
 
--- where the path stands behind a header that read well: at its nodes without the last, which for a single node is the root
--- behind a leading `:`, and the path itself without one; a common header leaves it
+-- the path after a header without error: its nodes without the last, which for a single node is the root after a
+-- leading `:`, and the path itself without one; a common header leaves the path unchanged
 abbrev pub moved : Mark → List (List ℕ) → List (List ℕ) → List (List ℕ)
 moved Star path words = path
 moved Colon path words = all_but_last words
 moved Bare path words = all_but_last words
 
--- the same, where it read well or not: a fault leaves the path
+-- the path after a header, whether it is without error (true) or not: an error leaves the path unchanged
 abbrev pub path_behind : Bool → List (List ℕ) → Header → List (List ℕ)
 path_behind true path h = moved h.mark path (words_of path h)
 path_behind false path h = path

@@ -1,5 +1,5 @@
--- The command of a unit, or the first fault of its reading; and the call of a macro that it may be.
--- Sources: SCPI-1999 volume 1, 6.2 (headers); volume 2, chapter 21 (the errors); IEEE 488.2, 7.6, 7.7, 10.8.
+-- The command of a unit, or its first error; and the macro call that it may be. Sources: SCPI-1999 volume 1, 6.2
+-- (headers); volume 2, chapter 21 (the errors); IEEE 488.2, 7.6, 7.7, 10.8.
 use Rattle.std.specs.Prelude.{◌≡◌, ℕ, ◌==◌, Bool, true, false, List, [], ◌∷◌, length, drop, Option, Some, None, Result, Ok, Err, is_ok, if◌then◌else◌}
 use Rattle.psu_lex.specs.Bytes.{value_after}
 use Rattle.psu_lex.specs.Message.{Part}
@@ -33,20 +33,20 @@ abbrev pub output_at : ℕ → Result Output ScpiError
 output_at n =
     if n == 1 then Ok First else (if n == 2 then Ok Second else (if n == 3 then Ok Third else (if n == 4 then Ok Fourth else Err HeaderSuffixOutOfRange)))
 
--- missing is 1
+-- a missing suffix means 1
 abbrev pub output_of : List ℕ → Result Output ScpiError
 output_of [] = Ok First
 output_of (d ∷ ds) = output_at (value_after 0 (d ∷ ds))
 
 -- ---- headers
 
--- a form and its output, or the fault of the header: -113 comes before -114
+-- a form and its output, or the error of the header: -113 takes precedence over -114
 abbrev pub placed : Option Form → Result Output ScpiError → Result (Form × Output) ScpiError
 placed None output = Err UndefinedHeader
 placed (Some form) (Err fault) = Err fault
 placed (Some form) (Ok output) = Ok (form, output)
 
--- what the table asks for where a header has these nodes, and of which output
+-- the form in the table of a header with these nodes, and its output
 abbrev pub header_reads : List (List ℕ) → Bool → Result (Form × Output) ScpiError
 header_reads words asks = placed (asked table words asks) (output_of (suffix_of words))
 
@@ -61,18 +61,18 @@ SyntaxReads path (Err e) reading = reading ≡ Err e
 SyntaxReads path (Ok syntax) reading =
     (h : Header) × IsHeader h × (syntax.header ≡ header_text h) × FormReads (header_reads (words_of path h) h.asks) syntax.parameters reading
 
--- the unit reads as this at the path
+-- the result of a unit at the path
 abbrev pub Reads : List (List ℕ) → Part → Result Command ScpiError → Type 0
 Reads path unit reading = (given : Result Syntax ScpiError) × SyntaxGives unit given × SyntaxReads path given reading
 
--- ---- the path behind a unit
+-- ---- the path after a unit
 
 abbrev pub SyntaxMoves : List (List ℕ) → Result Syntax ScpiError → Result Command ScpiError → List (List ℕ) → Type 0
 SyntaxMoves path (Err e) reading next = next ≡ path
 SyntaxMoves path (Ok syntax) reading next =
     (h : Header) × IsHeader h × (syntax.header ≡ header_text h) × (next ≡ path_behind (is_ok reading) path h)
 
--- where the path stands behind a unit with this reading
+-- the path after a unit with this result
 abbrev pub Moves : List (List ℕ) → Part → Result Command ScpiError → List (List ℕ) → Type 0
 Moves path unit reading next = (given : Result Syntax ScpiError) × SyntaxGives unit given × SyntaxMoves path given reading next
 
@@ -84,6 +84,6 @@ SyntaxCalls (Err e) call = call ≡ None
 SyntaxCalls (Ok syntax) None = is_label syntax.header ≡ false
 SyntaxCalls (Ok syntax) (Some call) = (is_label syntax.header ≡ true) × (call.label.now ≡ syntax.header) × HoldsData call.args syntax.parameters
 
--- the call that a unit may be: its syntax alone says so, whatever it reads as
+-- the macro call that a unit may be: its syntax alone determines this, whatever its result
 abbrev pub Calls : Part → Option rust_call.MacroCall → Type 0
 Calls unit call = (given : Result Syntax ScpiError) × SyntaxGives unit given × SyntaxCalls given call

@@ -1,4 +1,4 @@
--- What holds of all rows of a table: no header is that of two of them, or has two numbers.
+-- Properties of all rows of a table: no header matches two of them, or has two numeric suffixes.
 use Rattle.std.specs.Prelude.{◌≡◌, ◌⊎◌, ℕ, Bool, List, [], ◌∷◌, ◌++◌}
 use Rattle.psu_tree.specs.Headers.{Entry, Matches, asked, form_of}
 use Rattle.psu_tree.specs.Reading.{digits_of}
@@ -9,13 +9,13 @@ HaveNoHeaderInCommon rows =
     (before between behind : List Entry) (row other : Entry) (words : List (List ℕ))
     → rows ≡ before ++ row ∷ (between ++ other ∷ behind) → Matches row.nodes words → Matches other.nodes words → ⊥
 
--- words that match a row ask for what that row says, wherever it stands
+-- words that match a row have the form of that row, wherever the row is
 abbrev pub EachIsAskedByItsHeaders : List Entry → Type 0
 EachIsAskedByItsHeaders rows =
     (before behind : List Entry) (row : Entry) (words : List (List ℕ)) (asks : Bool)
     → rows ≡ before ++ row ∷ behind → Matches row.nodes words → asked rows words asks ≡ form_of asks row
 
--- of two nodes of a header that matches a row, one ends without a digit
+-- of any two nodes of a header that matches a row, one ends without a digit
 abbrev pub HaveOneNumber : List Entry → Type 0
 HaveOneNumber rows =
     (before behind : List Entry) (row : Entry) (front middle back : List (List ℕ)) (word other : List ℕ)

@@ -1,4 +1,5 @@
--- The table of commands. Sources: IEEE 488.2, chapter 10; SCPI-1999 volume 2; what `SIMulation` and `DIAGnostic` have is this instrument's own.
+-- The table of commands. Sources: IEEE 488.2, chapter 10; SCPI-1999 volume 2; the commands of `SIMulation` and
+-- `DIAGnostic` are this instrument's own.
 use Rattle.std.specs.Prelude.{List, [], ◌∷◌, codes}
 use Rattle.psu_tree.specs.Headers.{Entry, both, only, asks, kept, kept_while_false}
 use Rattle.psu_tree.specs.declared.form.Form.TheVariants.{Action, Query, OutputQuery, ClearTrip, Enable, Flag, Filter, Register, Load, Level, LevelQuery, Switch, Protect, PowerOn, UserData, Define, Macro, Contents, File, Names, StateFile, MacroFile}

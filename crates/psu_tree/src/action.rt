@@ -1,6 +1,6 @@
-// What commands do that take nothing.
+// Commands without parameters.
 
-/// What a command does that takes nothing.
+/// The action of a command without parameters.
 #[derive(Clone, Copy)]
 pub enum Action {
     ClearStatus,

@@ -1,7 +1,7 @@
-// Data that may be a number or a word.
+// Data that are a number or a word.
 use crate::Text;
 
-/// What a datum is where a number or one of some words is asked.
+/// A datum where a number or one of some words is required.
 #[derive(Drop)]
 pub enum Choice<'a> {
     /// The number.

@@ -1,4 +1,4 @@
-// Commands that read well.
+// Parsed commands.
 use crate::{
     Action, Enable, Extreme, Flag, Level, OnFile, OnMacro, OnNames, OnRegister, OutputQuery, Query,
     Switch, Text, Transfer,
@@ -6,7 +6,7 @@ use crate::{
 use psu_outputs::Output;
 use psu_status::{Filter, Group};
 
-/// A command that reads well, with its values. It borrows its texts from the message.
+/// A parsed command with its values. It borrows its texts from the message.
 #[derive(Drop)]
 pub enum Command<'a> {
     Action(Action),
@@ -29,15 +29,15 @@ pub enum Command<'a> {
     Switch(Switch, Output, bool),
     /// At most 63 bytes.
     UserData(Text<'a>),
-    /// A label, or none where the string can be no label; and a body.
+    /// A label, or none where the string is not a valid label; and a body.
     Define(Option<Text<'a>>, Text<'a>),
-    /// A label, or none where the string can be no label.
+    /// A label, or none where the string is not a valid label.
     Macro(OnMacro, Option<Text<'a>>),
-    /// A name, or none where the string can be no name; and at most 32,768 bytes.
+    /// A name, or none where the string is not a valid name; and at most 32,768 bytes.
     Contents(Option<Text<'a>>, Text<'a>),
-    /// A name, or none where the string can be no name.
+    /// A name, or none where the string is not a valid name.
     File(OnFile, Option<Text<'a>>),
-    /// Two names, each none where the string can be no name.
+    /// Two names, each none where the string is not a valid name.
     Names(OnNames, Option<Text<'a>>, Option<Text<'a>>),
     /// A register, and a name or none.
     StateFile(Transfer, u8, Option<Text<'a>>),

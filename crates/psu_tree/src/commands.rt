@@ -1,4 +1,4 @@
-// The commands of the table's forms, with their data.
+// The parameters of the table's commands, form by form.
 ghost use Rattle.std.specs.Prelude.{List};
 ghost use Rattle.psu_lex.specs.Shown.{HoldsData};
 ghost use Rattle.psu_lex.specs.Syntax.{Datum as DatumData};
@@ -19,7 +19,7 @@ use psu_lex::{Data, ScpiError};
 use psu_outputs::Output;
 use psu_status::{Filter, Group};
 
-// An enable register and its value.
+// Parses an enable register command: the value of the register.
 fn enable<'a>(which: Enable, parameters: &Data<'a>) -> Result<Command<'a>, ScpiError>
     ensures { (output : SomeOutput) (list : List DatumData) → HoldsData parameters.now list → CommandReads (f.Enable which) output list result }
 {
@@ -27,7 +27,7 @@ fn enable<'a>(which: Enable, parameters: &Data<'a>) -> Result<Command<'a>, ScpiE
     Ok(Command::Enable(which, value as u8))
 }
 
-// A flag by a number.
+// Parses a flag command, whose parameter is a number.
 fn flag<'a>(which: Flag, parameters: &Data<'a>) -> Result<Command<'a>, ScpiError>
     ensures { (output : SomeOutput) (list : List DatumData) → HoldsData parameters.now list → CommandReads (f.Flag which) output list result }
 {
@@ -35,7 +35,7 @@ fn flag<'a>(which: Flag, parameters: &Data<'a>) -> Result<Command<'a>, ScpiError
     Ok(Command::Flag(which, value))
 }
 
-// A register of a status group, without bit 15.
+// Parses a command for a register of a status group: its value, without bit 15.
 fn filter<'a>(group: Group, which: Filter, parameters: &Data<'a>) -> Result<Command<'a>, ScpiError>
     ensures { (output : SomeOutput) (list : List DatumData) → HoldsData parameters.now list → CommandReads (f.Filter group which) output list result }
 {
@@ -43,7 +43,7 @@ fn filter<'a>(group: Group, which: Filter, parameters: &Data<'a>) -> Result<Comm
     Ok(Command::Filter(group, which, (value % 32_768) as u16))
 }
 
-// A register of settings.
+// Parses a command on a register of settings: its number.
 fn register<'a>(what: OnRegister, parameters: &Data<'a>) -> Result<Command<'a>, ScpiError>
     ensures { (output : SomeOutput) (list : List DatumData) → HoldsData parameters.now list → CommandReads (f.Register what) output list result }
 {
@@ -51,7 +51,7 @@ fn register<'a>(what: OnRegister, parameters: &Data<'a>) -> Result<Command<'a>, 
     Ok(Command::Register(what, value as u8))
 }
 
-// A load.
+// Parses a load command.
 fn load<'a>(output: Output, parameters: &Data<'a>) -> Result<Command<'a>, ScpiError>
     ensures { (list : List DatumData) → HoldsData parameters.now list → CommandReads f.Load output list result }
 {
@@ -59,7 +59,7 @@ fn load<'a>(output: Output, parameters: &Data<'a>) -> Result<Command<'a>, ScpiEr
     Ok(Command::Load(output, value))
 }
 
-// A level.
+// Parses a level command.
 fn level<'a>(which: Level, output: Output, parameters: &Data<'a>) -> Result<Command<'a>, ScpiError>
     ensures { (list : List DatumData) → HoldsData parameters.now list → CommandReads (f.Level which) output list result }
 {
@@ -67,7 +67,7 @@ fn level<'a>(which: Level, output: Output, parameters: &Data<'a>) -> Result<Comm
     Ok(Command::Level(which, output, value))
 }
 
-// The query of a level.
+// Parses a level query.
 fn level_query<'a>(
     which: Level,
     output: Output,
@@ -79,7 +79,7 @@ fn level_query<'a>(
     Ok(Command::LevelQuery(which, output, value))
 }
 
-// A switch of an output.
+// Parses a switch command for an output.
 fn switch<'a>(
     which: Switch,
     output: Output,
@@ -91,7 +91,7 @@ fn switch<'a>(
     Ok(Command::Switch(which, output, value))
 }
 
-// The protection of user data.
+// Parses the command that protects user data.
 fn protect<'a>(parameters: &Data<'a>) -> Result<Command<'a>, ScpiError>
     ensures { (output : SomeOutput) (list : List DatumData) → HoldsData parameters.now list → CommandReads f.Protect output list result }
 {
@@ -99,7 +99,7 @@ fn protect<'a>(parameters: &Data<'a>) -> Result<Command<'a>, ScpiError>
     Ok(Command::Flag(Flag::Protection, value))
 }
 
-// The settings at power-on.
+// Parses the command that chooses the settings at power-on.
 fn power_on<'a>(parameters: &Data<'a>) -> Result<Command<'a>, ScpiError>
     ensures { (output : SomeOutput) (list : List DatumData) → HoldsData parameters.now list → CommandReads f.PowerOn output list result }
 {
@@ -107,7 +107,7 @@ fn power_on<'a>(parameters: &Data<'a>) -> Result<Command<'a>, ScpiError>
     Ok(Command::Flag(Flag::Recall, value))
 }
 
-// User data.
+// Parses the user data command.
 fn user_data<'a>(parameters: &Data<'a>) -> Result<Command<'a>, ScpiError>
     ensures { (output : SomeOutput) (list : List DatumData) → HoldsData parameters.now list → CommandReads f.UserData output list result }
 {
@@ -115,7 +115,7 @@ fn user_data<'a>(parameters: &Data<'a>) -> Result<Command<'a>, ScpiError>
     Ok(Command::UserData(value))
 }
 
-// A macro.
+// Parses a macro definition.
 fn define<'a>(parameters: &Data<'a>) -> Result<Command<'a>, ScpiError>
     ensures { (output : SomeOutput) (list : List DatumData) → HoldsData parameters.now list → CommandReads f.Define output list result }
 {
@@ -123,7 +123,7 @@ fn define<'a>(parameters: &Data<'a>) -> Result<Command<'a>, ScpiError>
     Ok(Command::Define(value.0, value.1))
 }
 
-// What is done with a macro.
+// Parses a command on a macro.
 fn on_macro<'a>(what: OnMacro, parameters: &Data<'a>) -> Result<Command<'a>, ScpiError>
     ensures { (output : SomeOutput) (list : List DatumData) → HoldsData parameters.now list → CommandReads (f.Macro what) output list result }
 {
@@ -131,7 +131,7 @@ fn on_macro<'a>(what: OnMacro, parameters: &Data<'a>) -> Result<Command<'a>, Scp
     Ok(Command::Macro(what, value))
 }
 
-// The contents of a file.
+// Parses the command that writes the contents of a file.
 fn contents<'a>(parameters: &Data<'a>) -> Result<Command<'a>, ScpiError>
     ensures { (output : SomeOutput) (list : List DatumData) → HoldsData parameters.now list → CommandReads f.Contents output list result }
 {
@@ -139,7 +139,7 @@ fn contents<'a>(parameters: &Data<'a>) -> Result<Command<'a>, ScpiError>
     Ok(Command::Contents(value.0, value.1))
 }
 
-// What is done with a file.
+// Parses a command on a file.
 fn on_file<'a>(what: OnFile, parameters: &Data<'a>) -> Result<Command<'a>, ScpiError>
     ensures { (output : SomeOutput) (list : List DatumData) → HoldsData parameters.now list → CommandReads (f.File what) output list result }
 {
@@ -147,7 +147,7 @@ fn on_file<'a>(what: OnFile, parameters: &Data<'a>) -> Result<Command<'a>, ScpiE
     Ok(Command::File(what, value))
 }
 
-// What is done with two files.
+// Parses a command on two files.
 fn on_names<'a>(what: OnNames, parameters: &Data<'a>) -> Result<Command<'a>, ScpiError>
     ensures { (output : SomeOutput) (list : List DatumData) → HoldsData parameters.now list → CommandReads (f.Names what) output list result }
 {
@@ -155,7 +155,7 @@ fn on_names<'a>(what: OnNames, parameters: &Data<'a>) -> Result<Command<'a>, Scp
     Ok(Command::Names(what, value.0, value.1))
 }
 
-// A register to or from a file.
+// Parses a transfer of a register to or from a file.
 fn state_file<'a>(what: Transfer, parameters: &Data<'a>) -> Result<Command<'a>, ScpiError>
     ensures { (output : SomeOutput) (list : List DatumData) → HoldsData parameters.now list → CommandReads (f.StateFile what) output list result }
 {
@@ -163,7 +163,7 @@ fn state_file<'a>(what: Transfer, parameters: &Data<'a>) -> Result<Command<'a>, 
     Ok(Command::StateFile(what, value.0, value.1))
 }
 
-// A macro to or from a file.
+// Parses a transfer of a macro to or from a file.
 fn macro_file<'a>(what: Transfer, parameters: &Data<'a>) -> Result<Command<'a>, ScpiError>
     ensures { (output : SomeOutput) (list : List DatumData) → HoldsData parameters.now list → CommandReads (f.MacroFile what) output list result }
 {
@@ -171,7 +171,7 @@ fn macro_file<'a>(what: Transfer, parameters: &Data<'a>) -> Result<Command<'a>, 
     Ok(Command::MacroFile(what, value.0, value.1))
 }
 
-/// The command of a form at an output with its data, or their first fault.
+/// Returns the command of a form at an output with its data, or their first error.
 pub fn command_of<'a>(
     form: Form,
     output: Output,

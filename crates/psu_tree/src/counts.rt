@@ -1,4 +1,4 @@
-// How many data a header has.
+// The number of data of a header.
 ghost use Rattle.std.specs.Prelude.{◌≡◌, List};
 ghost use Rattle.psu_lex.specs.Shown.{HoldsData};
 ghost use Rattle.psu_lex.specs.Syntax.{Datum as DatumData};
@@ -8,7 +8,7 @@ ghost use Rattle.psu_tree.specs.Taken.{OneIs, PerhapsIs, TwoIs};
 use crate::Command;
 use psu_lex::{Data, Datum, ScpiError};
 
-/// The command, where it has no parameter.
+/// Returns the command, if it has no parameter.
 pub fn alone<'a>(command: Command<'a>, parameters: &Data<'_>) -> Result<Command<'a>, ScpiError>
     ensures { (list : List DatumData) → HoldsData parameters.now list → result ≡ alone command.entry list }
 {
@@ -18,7 +18,7 @@ pub fn alone<'a>(command: Command<'a>, parameters: &Data<'_>) -> Result<Command<
     }
 }
 
-/// One parameter, or none.
+/// Returns the only parameter, or `None` where there is none.
 pub fn perhaps<'a>(parameters: &Data<'a>) -> Result<Option<Datum<'a>>, ScpiError>
     ensures { (list : List DatumData) → HoldsData parameters.now list → PerhapsIs result list }
 {
@@ -31,7 +31,7 @@ pub fn perhaps<'a>(parameters: &Data<'a>) -> Result<Option<Datum<'a>>, ScpiError
     }
 }
 
-/// One parameter.
+/// Returns the only parameter.
 pub fn one<'a>(parameters: &Data<'a>) -> Result<Datum<'a>, ScpiError>
     ensures { (list : List DatumData) → HoldsData parameters.now list → OneIs result list }
 {
@@ -44,7 +44,7 @@ pub fn one<'a>(parameters: &Data<'a>) -> Result<Datum<'a>, ScpiError>
     }
 }
 
-/// Two parameters.
+/// Returns the only two parameters.
 pub fn two<'a>(parameters: &Data<'a>) -> Result<(Datum<'a>, Datum<'a>), ScpiError>
     ensures { (list : List DatumData) → HoldsData parameters.now list → TwoIs result list }
 {

@@ -1,4 +1,4 @@
-// Headers with two parameters: the classes of both come before the range of either.
+// Headers with two parameters: the classes of both are checked before the range of either.
 ghost use Rattle.std.specs.Prelude.{◌≡◌, ◌≤◌, List, Ok, IfOk};
 ghost use Rattle.psu_lex.specs.Shown.{HoldsData};
 ghost use Rattle.psu_lex.specs.Syntax.{Datum as DatumData};
@@ -10,7 +10,7 @@ use crate::parameters::{counted, whole};
 use crate::texts::{at_most, block, label, name};
 use psu_lex::{Data, ScpiError};
 
-/// A label, or none where the string is no label, and a body.
+/// Returns a label, or none where the string is not a valid label, and a body.
 pub fn label_and_body<'a>(parameters: &Data<'a>) -> Result<(Option<Text<'a>>, Text<'a>), ScpiError>
     ensures { (list : List DatumData) → HoldsData parameters.now list → Two TakesString labeled TakesBlock (λ body. Ok body) list result }
 {
@@ -19,7 +19,7 @@ pub fn label_and_body<'a>(parameters: &Data<'a>) -> Result<(Option<Text<'a>>, Te
     Ok((label, block(&second)?))
 }
 
-/// A name, or none where the string is no name, and bytes that are not too many.
+/// Returns a name, or none where the string is not a valid name, and at most `most` bytes.
 pub fn name_and_bytes<'a>(
     parameters: &Data<'a>,
     most: usize,
@@ -31,7 +31,7 @@ pub fn name_and_bytes<'a>(
     Ok((name, at_most(block(&second)?, most)?))
 }
 
-/// Two names, each none where the string is no name.
+/// Returns two names, each none where the string is not a valid name.
 pub fn two_names<'a>(
     parameters: &Data<'a>,
 ) -> Result<(Option<Text<'a>>, Option<Text<'a>>), ScpiError>
@@ -42,7 +42,7 @@ pub fn two_names<'a>(
     Ok((before, name(&second)?))
 }
 
-/// A register, and a name or none.
+/// Returns a register number, and a name, or none where the string is not a valid name.
 pub fn register_and_name<'a>(parameters: &Data<'a>) -> Result<(u8, Option<Text<'a>>), ScpiError>
     ensures { (list : List DatumData) → HoldsData parameters.now list → Two TakesWhole (counted 0 99) TakesString named list result }
 {
@@ -52,7 +52,7 @@ pub fn register_and_name<'a>(parameters: &Data<'a>) -> Result<(u8, Option<Text<'
     Ok((counted(register, 0, 99)? as u8, name))
 }
 
-/// A label or none, and a name or none.
+/// Returns a label and a name, each none where the string is not a valid one.
 pub fn label_and_name<'a>(
     parameters: &Data<'a>,
 ) -> Result<(Option<Text<'a>>, Option<Text<'a>>), ScpiError>

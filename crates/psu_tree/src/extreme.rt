@@ -1,6 +1,6 @@
 // Ends of a range.
 
-/// The end of a range: MINimum or MAXimum (SCPI-1999 volume 1, 7.2).
+/// An end of a range: MINimum or MAXimum (SCPI-1999 volume 1, 7.2).
 #[derive(Clone, Copy)]
 pub enum Extreme {
     Least,

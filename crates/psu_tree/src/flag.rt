@@ -6,6 +6,6 @@ pub enum Flag {
     PowerOnClear,
     Macros,
     Protection,
-    /// Whether the settings at power-on are those of register 0.
+    /// Whether the power-on settings are those of register 0.
     Recall,
 }

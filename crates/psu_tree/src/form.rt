@@ -1,20 +1,20 @@
-// What the headers of the table ask for.
+// The forms of the table's headers.
 use crate::{
     Action, Enable, Flag, Level, OnFile, OnMacro, OnNames, OnRegister, OutputQuery, Query, Switch,
     Transfer,
 };
 use psu_status::{Filter, Group};
 
-/// What a header asks for: its parameters, by their kinds, and what they are for.
+/// The form of a header: its parameters, by their kinds, and their use.
 #[derive(Clone, Copy)]
 pub enum Form {
-    /// Nothing.
+    /// No parameter.
     Action(Action),
-    /// Nothing.
+    /// No parameter.
     Query(Query),
-    /// Nothing; of the header's output.
+    /// No parameter; applies to the header's output.
     OutputQuery(OutputQuery),
-    /// Nothing; of the header's output.
+    /// No parameter; applies to the header's output.
     ClearTrip,
     /// 0 to 255.
     Enable(Enable),
@@ -28,11 +28,11 @@ pub enum Form {
     Load,
     /// Volts or amperes.
     Level(Level),
-    /// Perhaps MIN or MAX.
+    /// Optionally MIN or MAX.
     LevelQuery(Level),
     /// ON, OFF or a number.
     Switch(Switch),
-    /// The same.
+    /// ON, OFF or a number.
     Protect,
     /// RST or RCL0.
     PowerOn,

@@ -1,14 +1,14 @@
 // Kinds of nodes.
 
-/// Whether a node may be left out (it stands in brackets), and whether a number may follow it (`<n>`).
+/// Whether a node is optional (in brackets), and whether a numeric suffix may follow it (`<n>`).
 #[derive(Clone, Copy)]
 pub enum Kind {
-    /// It stands, without a number.
+    /// Required, without a numeric suffix.
     Must,
-    /// It may be left out.
+    /// Optional, without a numeric suffix.
     Maybe,
-    /// It stands, and a number may follow it.
+    /// Required, with an optional numeric suffix.
     Numbered,
-    /// It may be left out, and a number may follow it.
+    /// Optional, with an optional numeric suffix.
     MaybeNumbered,
 }

@@ -1,4 +1,5 @@
-//! The command of a unit, or its first fault: headers against the table of commands, and their parameters.
+//! The command of a unit, or its first error: headers are looked up in the table of commands, and their parameters are
+//! checked.
 #![tactic(auto)]
 
 mod action;

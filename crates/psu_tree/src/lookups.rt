@@ -1,4 +1,4 @@
-// The row of a header. A row whose first letter is another than the header's is passed over.
+// The row of a header. Rows whose first letter differs from the header's are skipped.
 ghost use Rattle.std.specs.Prelude.{◌≡◌, ◌==◌, ◌&&◌, not, true, false, map, if◌then◌else◌};
 ghost use Rattle.std.specs.Option.{option_copied};
 ghost use Rattle.psu_tree.specs.Headers.{asked, fits, in_brackets};
@@ -9,7 +9,7 @@ ghost use Rattle.psu_tree.specs.Table.{table};
 use crate::walks::{capital, is_named, is_small, may_miss, patterns, walk};
 use crate::{Form, Node, Row, Section};
 
-// The first letter of the words.
+// Returns the first letter of the words, as a capital; 0 where there is none.
 fn first_letter(words: &[&[u8]]) -> u8
     ensures { result ≡ first_letter (map (λ word. word.now) words.now) }
 {
@@ -22,7 +22,7 @@ fn first_letter(words: &[&[u8]]) -> u8
     capital(*letter)
 }
 
-// The second letter of the words.
+// Returns the second letter of the first word, as a capital; 0 where there is none.
 fn second_letter(words: &[&[u8]]) -> u8
     ensures { result ≡ second_letter (map (λ word. word.now) words.now) }
 {
@@ -38,7 +38,7 @@ fn second_letter(words: &[&[u8]]) -> u8
     capital(*letter)
 }
 
-// Whether the mnemonic begins with another capital.
+// Whether the mnemonic begins with a capital other than this letter.
 #[inline(always)]
 fn begins_apart(letter: u8, name: &[u8]) -> bool
     ensures { result ≡ begins_apart letter name.now }
@@ -49,7 +49,7 @@ fn begins_apart(letter: u8, name: &[u8]) -> bool
     !is_small(*first) && *first != letter
 }
 
-// Whether no word with this first letter names the node, which must stand.
+// Whether the node is required and no word with this first letter names it.
 #[inline(always)]
 fn is_apart(letter: u8, node: &Node) -> bool
     ensures { result ≡ is_apart letter (mnemonic node.now) }
@@ -57,7 +57,7 @@ fn is_apart(letter: u8, node: &Node) -> bool
     !may_miss(node.kind) && begins_apart(letter, node.name.as_bytes())
 }
 
-// The same of the first of the nodes.
+// Whether the first of the nodes is required and no word with this first letter names it.
 #[inline(always)]
 fn rows_apart(letter: u8, nodes: &[Node]) -> bool
     ensures { result ≡ rows_apart letter (map mnemonic nodes.now) }
@@ -68,7 +68,7 @@ fn rows_apart(letter: u8, nodes: &[Node]) -> bool
     is_apart(letter, node)
 }
 
-// Whether words of this first letter match the nodes.
+// Whether these words, which have this first letter, match the nodes.
 #[inline(always)]
 fn fits(letter: u8, nodes: &[Node], words: &[&[u8]]) -> bool
     requires { letter ≡ first_letter (map (λ word. word.now) words.now) }
@@ -80,7 +80,7 @@ fn fits(letter: u8, nodes: &[Node], words: &[&[u8]]) -> bool
     walk(nodes, words)
 }
 
-// The first of the rows that the words match.
+// Returns the first of the rows that the words match.
 fn row_at<'a>(letter: u8, rows: &'a [Row], words: &[&[u8]]) -> Option<&'a Row>
     requires { letter ≡ first_letter (map (λ word. word.now) words.now) }
     ensures { option_copied result ≡ row_at rows.now (map (λ word. word.now) words.now) }
@@ -93,7 +93,8 @@ fn row_at<'a>(letter: u8, rows: &'a [Row], words: &[&[u8]]) -> Option<&'a Row>
     None
 }
 
-// The first of the rows that the words match behind a first node that they have, or that is left out.
+// Returns the first of the rows whose nodes match the words after the root (`later`) or, with the root left out, all
+// words.
 fn row_either<'a>(letter: u8, rows: &'a [Row], words: &[&[u8]], later: &[&[u8]]) -> Option<&'a Row>
     requires { letter ≡ first_letter (map (λ word. word.now) words.now) }
     ensures { option_copied result ≡ row_either rows.now (map (λ word. word.now) words.now) (map (λ word. word.now) later.now) }
@@ -110,7 +111,7 @@ fn row_either<'a>(letter: u8, rows: &'a [Row], words: &[&[u8]], later: &[&[u8]])
     None
 }
 
-// Whether the first word names the root, where it begins with its letters.
+// Whether the first word names the root. It does so only if the words begin with the root's letters.
 fn is_named_first(begins: bool, root: &Node, words: &[&[u8]]) -> bool
     requires { begins ≡ false → named_of root.now (map (λ word. word.now) words.now) ≡ false }
     ensures { result ≡ named_of root.now (map (λ word. word.now) words.now) }
@@ -124,7 +125,7 @@ fn is_named_first(begins: bool, root: &Node, words: &[&[u8]]) -> bool
     is_named(root, word)
 }
 
-// The first of a section's rows that the words match.
+// Returns the first of a section's rows that the words match.
 fn row_in<'a>(letter: u8, begins: bool, section: &'a Section, words: &[&[u8]]) -> Option<&'a Row>
     requires letter { letter ≡ first_letter (map (λ word. word.now) words.now) }
     requires named { begins ≡ false → named_of section.now.root (map (λ word. word.now) words.now) ≡ false }
@@ -148,14 +149,14 @@ fn row_in<'a>(letter: u8, begins: bool, section: &'a Section, words: &[&[u8]]) -
     }
 }
 
-// What a row asks for, with or without a `?`.
+// Returns the form of a row, with or without a `?`.
 fn asked_by(row: &Row, asks: bool) -> Option<Form>
     ensures { result ≡ (if asks then row.now.query else row.now.command) }
 {
     if asks { row.query } else { row.command }
 }
 
-// Whether a section is passed over by words that begin with its letters, or do not.
+// Whether a section is skipped: its root is required, and the words do not begin with its letters.
 #[inline(always)]
 fn is_passed(begins: bool, section: &Section) -> bool
     ensures { result ≡ (not begins && not (in_brackets section.now.root.kind)) }
@@ -163,7 +164,7 @@ fn is_passed(begins: bool, section: &Section) -> bool
     !begins && !may_miss(section.root.kind)
 }
 
-// Whether these are the letters that a section's node begins with.
+// Whether the node of a section begins with these letters.
 #[inline(always)]
 fn has_letters(section: &Section, first: u8, second: u8) -> bool
     ensures { result ≡ (section.now.first == first && section.now.second == second) }
@@ -171,7 +172,7 @@ fn has_letters(section: &Section, first: u8, second: u8) -> bool
     section.first == first && section.second == second
 }
 
-// What the first row asks for that the words match.
+// Returns the form of the first row that the words match.
 fn form_in(sections: &[Section], words: &[&[u8]], asks: bool) -> Option<Form>
     requires { each_begins sections.now ≡ true }
     ensures { result ≡ asked (entries sections.now) (map (λ word. word.now) words.now) asks }
@@ -192,8 +193,8 @@ fn form_in(sections: &[Section], words: &[&[u8]], asks: bool) -> Option<Form>
     None
 }
 
-/// What the table asks for where a header has these nodes, with or without a `?`; nothing where no row
-/// has such a header.
+/// Returns the form in the table of a header with these nodes, with or without a `?`; `None` where no row has such a
+/// header.
 pub fn form_of(words: &[&[u8]], asks: bool) -> Option<Form>
     ensures { result ≡ asked table (map (λ word. word.now) words.now) asks }
 {

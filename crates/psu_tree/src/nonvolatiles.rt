@@ -1,10 +1,10 @@
-// Which commands change what is nonvolatile.
+// Which commands change nonvolatile memory.
 ghost use Rattle.std.specs.Prelude.{◌≡◌};
 ghost use Rattle.psu_tree.specs.Nonvolatile.{is_nonvolatile};
 
 use crate::{Action, Command, Flag, OnFile, OnMacro, OnRegister};
 
-/// Whether the command changes what is nonvolatile, where the power-on status clear flag is this.
+/// Whether the command changes nonvolatile memory, where `flag` is the power-on status clear flag.
 pub fn nonvolatile(command: &Command<'_>, flag: bool) -> bool
     ensures { result ≡ is_nonvolatile command.now flag }
 {

@@ -1,6 +1,6 @@
-// What is done with a file.
+// Operations on a file.
 
-/// What is done with a file.
+/// An operation on a file.
 #[derive(Clone, Copy)]
 pub enum OnFile {
     Ask,

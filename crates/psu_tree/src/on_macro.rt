@@ -1,6 +1,6 @@
-// What is done with a macro.
+// Operations on a macro.
 
-/// What is done with a macro of a label.
+/// An operation on the macro of a label.
 #[derive(Clone, Copy)]
 pub enum OnMacro {
     Ask,

@@ -1,6 +1,6 @@
-// What is done with two files.
+// Operations on two files.
 
-/// What is done with two names of files.
+/// An operation on two file names.
 #[derive(Clone, Copy)]
 pub enum OnNames {
     Copy,

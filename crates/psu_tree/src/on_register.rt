@@ -1,6 +1,6 @@
-// What is done with a register.
+// Operations on a register.
 
-/// What is done with a register of settings.
+/// An operation on a register of settings.
 #[derive(Clone, Copy)]
 pub enum OnRegister {
     Save,

@@ -1,6 +1,6 @@
-// What is asked of an output.
+// Queries of an output.
 
-/// What a query asks of one output.
+/// A query of one output.
 #[derive(Clone, Copy)]
 pub enum OutputQuery {
     State,

@@ -1,4 +1,4 @@
-// What data stand for.
+// The values of data.
 ghost use Rattle.std.specs.Prelude.{◌≡◌, ◌≤◌, ◌||◌, ℕ, [], ◌∷◌, IfOk};
 ghost use Rattle.psu_lex.specs.Number.{Number, IsNumber, number_text};
 ghost use Rattle.psu_lex.specs.Shown.{IsSomeDatum};
@@ -12,7 +12,7 @@ use crate::walks::is_same;
 use crate::{Choice, Extreme, Level, Text};
 use psu_lex::{Datum, DatumClass, ScpiError, Written, number};
 
-// Whether the text is this word, without regard to case.
+// Whether the text is this word, ignoring case.
 fn is_word(text: &[u8], word: &[u8]) -> bool
     ensures { result ≡ same_letters word.now text.now }
 {
@@ -21,7 +21,7 @@ fn is_word(text: &[u8], word: &[u8]) -> bool
 
 // ---- numbers
 
-/// The whole number that a datum is.
+/// Returns the whole number of a datum.
 pub fn whole(datum: &Datum<'_>) -> Result<i64, ScpiError>
     ensures { IsSomeDatum (datum_of datum.now) → TakesWhole (datum_of datum.now) result }
 {
@@ -33,7 +33,7 @@ pub fn whole(datum: &Datum<'_>) -> Result<i64, ScpiError>
     }
 }
 
-/// The number, where it lies in a range.
+/// Returns the number, if it is in a range.
 pub fn counted(number: i64, least: u32, most: u32) -> Result<u32, ScpiError>
     ensures value { result ≡ counted least most number }
     ensures within { IfOk result (λ n. n ≤ most) }
@@ -47,7 +47,7 @@ pub fn counted(number: i64, least: u32, most: u32) -> Result<u32, ScpiError>
     Ok(number.unsigned_abs() as u32)
 }
 
-/// Whether the number is other than 0, from -32767 to 32767.
+/// Whether the number, from -32767 to 32767, is not 0.
 pub fn flagged(number: i64) -> Result<bool, ScpiError>
     ensures { result ≡ flagged number }
 {
@@ -57,7 +57,7 @@ pub fn flagged(number: i64) -> Result<bool, ScpiError>
     Ok(number.unsigned_abs() != 0)
 }
 
-// A number as a choice.
+// Returns a number as a choice.
 fn chosen<'a>(number: Result<i64, ScpiError>) -> Result<Choice<'a>, ScpiError>
     ensures { result ≡ mapped Choice.Amount number }
 {
@@ -69,7 +69,7 @@ fn chosen<'a>(number: Result<i64, ScpiError>) -> Result<Choice<'a>, ScpiError>
 
 // ---- switches
 
-/// ON, OFF, or a number.
+/// Returns the choice of a switch: ON, OFF, or a number.
 pub fn switch_of<'a>(datum: &Datum<'a>) -> Result<Choice<'a>, ScpiError>
     ensures { IsSomeDatum (datum_of datum.now) → TakesSwitch (datum_of datum.now) result }
 {
@@ -80,7 +80,7 @@ pub fn switch_of<'a>(datum: &Datum<'a>) -> Result<Choice<'a>, ScpiError>
     }
 }
 
-// Whether a word is ON.
+// Whether a word is ON (true) or OFF (false).
 fn is_on(word: &[u8]) -> Result<bool, ScpiError>
     ensures { result ≡ switched (Choice.Word word.now) }
 {
@@ -105,7 +105,7 @@ pub fn switched(choice: &Choice<'_>) -> Result<bool, ScpiError>
 
 // ---- levels
 
-// The letter of a level's unit.
+// Returns the letter of a level's unit.
 fn unit_of(level: Level) -> u8
     ensures { result ≡ unit_of level }
 {
@@ -115,7 +115,7 @@ fn unit_of(level: Level) -> u8
     }
 }
 
-// The greatest value of a level, in thousandths of its unit.
+// Returns the maximum of a level, in thousandths of its unit.
 fn greatest_of(level: Level) -> u16
     ensures { result ≡ greatest_of level }
 {
@@ -125,14 +125,14 @@ fn greatest_of(level: Level) -> u16
     }
 }
 
-// Whether the suffix is missing or the unit.
+// Whether the suffix is missing or is the unit.
 fn is_unit(suffix: &[u8], unit: u8) -> bool
     ensures { result ≡ (same_letters [] suffix.now || same_letters (unit ∷ []) suffix.now) }
 {
     suffix.is_empty() || is_word(suffix, &[unit])
 }
 
-// The places of a suffix: 3 where it is missing or the unit, 0 where an M stands before the unit.
+// Returns the decimal places of a suffix: 3 where it is missing or is the unit, 0 where it is an M before the unit.
 fn places_of(suffix: &[u8], unit: u8) -> Option<u8>
     ensures { result ≡ places_of unit suffix.now }
 {
@@ -145,7 +145,7 @@ fn places_of(suffix: &[u8], unit: u8) -> Option<u8>
     None
 }
 
-// A number in thousandths of the unit.
+// Returns a number in thousandths of the unit.
 fn amount_of(text: &[u8], unit: u8) -> Result<i64, ScpiError>
     ensures { ((n : Number) × IsNumber n × (text.now ≡ number_text n)) → (n : Number) × IsNumber n × (text.now ≡ number_text n) × (result ≡ amount_of unit n) }
 {
@@ -162,7 +162,7 @@ fn amount_of(text: &[u8], unit: u8) -> Result<i64, ScpiError>
     }
 }
 
-/// A number in thousandths of the level's unit, or a word.
+/// Returns a number in thousandths of the level's unit, or a word.
 pub fn amount<'a>(datum: &Datum<'a>, level: Level) -> Result<Choice<'a>, ScpiError>
     ensures { IsSomeDatum (datum_of datum.now) → TakesAmount (unit_of level) (datum_of datum.now) result }
 {
@@ -173,7 +173,7 @@ pub fn amount<'a>(datum: &Datum<'a>, level: Level) -> Result<Choice<'a>, ScpiErr
     }
 }
 
-// MIN or MAX.
+// Returns the end of a range that a word names: MIN or MAX.
 fn extreme_of(word: &[u8]) -> Result<Extreme, ScpiError>
     ensures { result ≡ extreme_of word.now }
 {
@@ -192,7 +192,7 @@ fn extreme_of(word: &[u8]) -> Result<Extreme, ScpiError>
     Err(ScpiError::IllegalParameterValue)
 }
 
-// An end of a level's range.
+// Returns an end of a level's range.
 fn end_of(level: Level, extreme: Extreme) -> u16
     ensures { result ≡ end_of (greatest_of level) extreme }
 {
@@ -202,7 +202,7 @@ fn end_of(level: Level, extreme: Extreme) -> u16
     }
 }
 
-/// The value of a level, from 0 to its greatest.
+/// Returns the value of a level, from 0 to its maximum.
 pub fn leveled(choice: &Choice<'_>, level: Level) -> Result<u16, ScpiError>
     ensures { result ≡ leveled (greatest_of level) choice.now }
 {
@@ -212,7 +212,7 @@ pub fn leveled(choice: &Choice<'_>, level: Level) -> Result<u16, ScpiError>
     }
 }
 
-/// MIN or MAX.
+/// Returns the end of a range that a datum names: MIN or MAX.
 pub fn extreme(datum: &Datum<'_>) -> Result<Extreme, ScpiError>
     ensures { Gives TakesWord extreme_of (datum_of datum.now) result }
 {
@@ -224,9 +224,9 @@ pub fn extreme(datum: &Datum<'_>) -> Result<Extreme, ScpiError>
     }
 }
 
-// ---- settings at power-on
+// ---- power-on settings
 
-// Whether the settings at power-on are those of register 0: RCL0, or RST.
+// Whether the power-on settings are those of register 0: RCL0 (true) or RST (false).
 fn recalled(word: &[u8]) -> Result<bool, ScpiError>
     ensures { result ≡ recalled word.now }
 {
@@ -239,7 +239,7 @@ fn recalled(word: &[u8]) -> Result<bool, ScpiError>
     Err(ScpiError::IllegalParameterValue)
 }
 
-/// RST or RCL0.
+/// Whether a datum is RCL0 (true) or RST (false).
 pub fn recall(datum: &Datum<'_>) -> Result<bool, ScpiError>
     ensures { Gives TakesWord recalled (datum_of datum.now) result }
 {

@@ -1,12 +1,12 @@
-// The path of a message.
+// The header path of a message.
 ghost use Rattle.std.specs.Prelude.{◌≡◌, List, ℕ, [], map};
 
 use crate::words::Words;
 use arrayvec::ArrayVec;
 use std::marker::Model;
 
-/// The nodes that a header without a leading `:` is read after, borrowed from the message. Contracts see
-/// the list of them.
+/// The nodes relative to which a header without a leading `:` is resolved, borrowed from the message. Contracts see the
+/// list of them.
 #[derive(Drop)]
 pub struct Path<'a> {
     pub(crate) words: Words<'a>,
@@ -19,7 +19,7 @@ impl<'a> Model for Path<'a> {
 }
 
 impl<'a> Path<'a> {
-    /// The root of the tree, where each message starts.
+    /// Returns the root of the tree, where each message starts.
     pub fn root() -> Path<'a>
         ensures { result ≡ [] }
     {

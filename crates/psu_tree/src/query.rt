@@ -1,8 +1,8 @@
-// What queries ask that take nothing.
+// Queries without parameters.
 use crate::{Enable, Flag};
 use psu_status::{Filter, Group};
 
-/// What a query asks that takes nothing.
+/// A query without parameters.
 #[derive(Clone, Copy)]
 pub enum Query {
     Identification,

@@ -17,7 +17,7 @@ use psu_lex::{Data, Header, Mark, ScpiError, Syntax, Unit, is_label, syntax};
 use psu_outputs::Output;
 use std::mem;
 
-// A form at an output; or the fault of its header.
+// Returns a form and the output of its header, or the error of the header.
 fn at_output(
     form: Option<Form>,
     output: Result<Output, ScpiError>,
@@ -33,14 +33,14 @@ fn at_output(
     }
 }
 
-// What a header of these nodes asks for, and of which output; or its fault.
+// Returns the form of a header with these nodes and the output that it applies to, or its error.
 fn placed(words: &[&[u8]], asks: bool) -> Result<(Form, Output), ScpiError>
     ensures { result ≡ header_reads (map (λ word. word.now) words.now) asks }
 {
     at_output(form_of(words, asks), header_output(words))
 }
 
-// The command of a header's nodes and its data, or their first fault.
+// Returns the command of a header's nodes and its data, or their first error.
 fn reading_of<'a>(
     words: &[&[u8]],
     asks: bool,
@@ -54,7 +54,8 @@ fn reading_of<'a>(
     }
 }
 
-// What a unit's parts read as at a path; where they read well, the words are the header's nodes.
+// Returns the command of a unit's parts at a path, or their first error. Where there is no error, the words are the
+// header's nodes.
 fn read_parts<'a>(
     words: &mut Words<'a>,
     path: &Path<'a>,
@@ -70,9 +71,9 @@ fn read_parts<'a>(
     reading_of(words.as_slice(), parts.header.asks, &parts.parameters)
 }
 
-/// The command of a unit that stands at a path, or the first fault of its reading. The order of faults: those
-/// of its syntax; -113, -114; -109, -108; then of each parameter from the left its class, its number's digits
-/// and its suffix (-104, -123, -124, -131); then of each its range (-222, -223, -224).
+/// Returns the command of a unit at a path, or its first error. The order of the errors: those of its syntax; -113,
+/// -114; -109, -108; then for each parameter from the left its class, the digits of its number and its suffix (-104,
+/// -123, -124, -131); then for each its range (-222, -223, -224).
 pub fn read_unit<'a>(path: &Path<'a>, unit: &Unit<'a>) -> Result<Command<'a>, ScpiError>
     ensures { Reads path.now (part unit.now) result }
 {
@@ -92,7 +93,7 @@ fn is_call(header: &Header<'_>) -> bool
     !header.asks && is_label(header.text)
 }
 
-// The call that a unit may be.
+// Returns the macro call that a unit may be.
 fn call_of<'a>(parts: &Syntax<'a>) -> Option<MacroCall<'a>>
     ensures { (given : Parts) → ShowsSyntax parts.now given → SyntaxCalls (Ok given) result }
 {
@@ -106,7 +107,8 @@ fn call_of<'a>(parts: &Syntax<'a>) -> Option<MacroCall<'a>>
     }
 }
 
-// Moves the path to a header's nodes without the last, which it takes out of the words; a common header leaves it.
+// Moves the path to a header's nodes without the last, taking the last out of the words; a common header leaves the
+// path unchanged.
 fn move_path<'a>(path: &mut Path<'a>, words: &mut Words<'a>, mark: Mark)
     ensures { path.new ≡ moved mark path.old (map (λ word. word.now) words.old.items) }
 {
@@ -123,10 +125,10 @@ fn move_path<'a>(path: &mut Path<'a>, words: &mut Words<'a>, mark: Mark)
     }
 }
 
-/// A unit as it reads at a path, which moves behind it: to the nodes of its header without the last, unless
-/// the header is common or the reading is a fault. So a single node behind a leading `:` leads to the root, and one without leaves
-/// the path (SCPI-1999 volume 1, 6.2.4). A macro's call is given where the header has the form of a
-/// label, whatever the reading. `inside` says whether the unit stands in an expansion.
+/// Parses a unit at a path, and moves the path for the next unit: to the nodes of its header without the last, unless
+/// the header is common or the result is an error. So a single node after a leading `:` leads to the root, and one
+/// without it leaves the path unchanged (SCPI-1999 volume 1, 6.2.4). A macro call is returned where the header has the
+/// form of a label, whatever the parse result. `inside` is whether the unit is in an expansion.
 pub fn request<'a>(path: &mut Path<'a>, unit: &Unit<'a>, inside: bool) -> Request<'a>
     ensures reading { Reads path.old (part unit.now) result.reading }
     ensures moves { Moves path.old (part unit.now) result.reading path.new }

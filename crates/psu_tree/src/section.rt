@@ -6,7 +6,7 @@ use crate::{Node, Row};
 pub struct Section {
     /// The first letter of its mnemonic.
     pub first: u8,
-    /// The second one, 0 where there is none: a header that begins with other letters is passed over.
+    /// The second letter, 0 where there is none: a header that begins with other letters skips the section.
     pub second: u8,
     pub root: Node,
     pub rows: &'static [Row],

@@ -13,7 +13,7 @@ use crate::texts::{at_most, block, label, name};
 use crate::{Extreme, Level, Text};
 use psu_lex::{Data, ScpiError};
 
-/// A number in a range.
+/// Returns a number in a range.
 pub fn one_count(parameters: &Data<'_>, least: u32, most: u32) -> Result<u32, ScpiError>
     ensures reads { (list : List DatumData) → HoldsData parameters.now list → One TakesWhole (counted least most) list result }
     ensures within { IfOk result (λ n. n ≤ most) }
@@ -22,7 +22,7 @@ pub fn one_count(parameters: &Data<'_>, least: u32, most: u32) -> Result<u32, Sc
     counted(whole(&datum)?, least, most)
 }
 
-/// A number from -32767 to 32767, and whether it is other than 0.
+/// Whether a number from -32767 to 32767 is not 0.
 pub fn one_flag(parameters: &Data<'_>) -> Result<bool, ScpiError>
     ensures { (list : List DatumData) → HoldsData parameters.now list → One TakesWhole flagged list result }
 {
@@ -30,7 +30,7 @@ pub fn one_flag(parameters: &Data<'_>) -> Result<bool, ScpiError>
     flagged(whole(&datum)?)
 }
 
-/// ON, OFF, or a number.
+/// Whether a switch is on: ON, OFF, or a number.
 pub fn one_switch(parameters: &Data<'_>) -> Result<bool, ScpiError>
     ensures { (list : List DatumData) → HoldsData parameters.now list → One TakesSwitch switched list result }
 {
@@ -38,7 +38,7 @@ pub fn one_switch(parameters: &Data<'_>) -> Result<bool, ScpiError>
     switched(&switch_of(&datum)?)
 }
 
-/// The value of a level.
+/// Returns the value of a level.
 pub fn one_level(parameters: &Data<'_>, level: Level) -> Result<u16, ScpiError>
     ensures { (list : List DatumData) → HoldsData parameters.now list → One (TakesAmount (unit_of level)) (leveled (greatest_of level)) list result }
 {
@@ -46,7 +46,7 @@ pub fn one_level(parameters: &Data<'_>, level: Level) -> Result<u16, ScpiError>
     leveled(&amount(&datum, level)?, level)
 }
 
-/// MIN, MAX, or nothing.
+/// Returns MIN or MAX, or `None` where there is no parameter.
 pub fn perhaps_extreme(parameters: &Data<'_>) -> Result<Option<Extreme>, ScpiError>
     ensures { (list : List DatumData) → HoldsData parameters.now list → Perhaps TakesWord extreme_of list result }
 {
@@ -56,7 +56,7 @@ pub fn perhaps_extreme(parameters: &Data<'_>) -> Result<Option<Extreme>, ScpiErr
     Ok(Some(extreme(&datum)?))
 }
 
-/// RST or RCL0: whether it is RCL0.
+/// Whether the parameter is RCL0 (true) or RST (false).
 pub fn one_recall(parameters: &Data<'_>) -> Result<bool, ScpiError>
     ensures { (list : List DatumData) → HoldsData parameters.now list → One TakesWord recalled list result }
 {
@@ -64,7 +64,7 @@ pub fn one_recall(parameters: &Data<'_>) -> Result<bool, ScpiError>
     recall(&datum)
 }
 
-/// A block that is not too long.
+/// Returns a block of at most `most` bytes.
 pub fn one_block<'a>(parameters: &Data<'a>, most: usize) -> Result<Text<'a>, ScpiError>
     ensures { (list : List DatumData) → HoldsData parameters.now list → One TakesBlock (at_most most) list result }
 {
@@ -72,7 +72,7 @@ pub fn one_block<'a>(parameters: &Data<'a>, most: usize) -> Result<Text<'a>, Scp
     at_most(block(&datum)?, most)
 }
 
-/// A label, or none where the string is no label.
+/// Returns a label, or none where the string is not a valid label.
 pub fn one_label<'a>(parameters: &Data<'a>) -> Result<Option<Text<'a>>, ScpiError>
     ensures { (list : List DatumData) → HoldsData parameters.now list → One TakesString labeled list result }
 {
@@ -80,7 +80,7 @@ pub fn one_label<'a>(parameters: &Data<'a>) -> Result<Option<Text<'a>>, ScpiErro
     label(&datum)
 }
 
-/// The name of a file, or none where the string is no name.
+/// Returns a file name, or none where the string is not a valid name.
 pub fn one_name<'a>(parameters: &Data<'a>) -> Result<Option<Text<'a>>, ScpiError>
     ensures { (list : List DatumData) → HoldsData parameters.now list → One TakesString named list result }
 {

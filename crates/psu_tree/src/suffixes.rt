@@ -7,7 +7,7 @@ use crate::walks::number_of;
 use psu_lex::ScpiError;
 use psu_outputs::Output;
 
-// The output of a number.
+// Returns the output of a number.
 fn output_at(number: usize) -> Result<Output, ScpiError>
     ensures { result ≡ output_at number }
 {
@@ -20,7 +20,7 @@ fn output_at(number: usize) -> Result<Output, ScpiError>
     }
 }
 
-// The number that digits write, held to 5.
+// Returns the number that digits denote, capped at 5.
 fn suffix_value(digits: &[u8], before: usize) -> usize
     requires digits { all_digits digits.now ≡ true }
     requires before { before ≤ 5 }
@@ -35,7 +35,7 @@ fn suffix_value(digits: &[u8], before: usize) -> usize
     }
 }
 
-// The output of a numeric suffix.
+// Returns the output of a numeric suffix.
 fn output_of(digits: &[u8]) -> Result<Output, ScpiError>
     requires { all_digits digits.now ≡ true }
     ensures { result ≡ output_of digits.now }
@@ -46,7 +46,7 @@ fn output_of(digits: &[u8]) -> Result<Output, ScpiError>
     output_at(suffix_value(digits, 0))
 }
 
-// The digits at the end of the first node that has some.
+// Returns the digits at the end of the first node that has some.
 fn suffix_of<'a>(words: &[&'a [u8]]) -> &'a [u8]
     ensures { result.now ≡ suffix_of (map (λ word. word.now) words.now) }
 {
@@ -59,7 +59,7 @@ fn suffix_of<'a>(words: &[&'a [u8]]) -> &'a [u8]
     &[]
 }
 
-/// The output of a header: the number of the node that has one.
+/// Returns the output of a header: the number of the node that has one.
 #[tactic(auto, using(crate::proofs::SuffixNumbers::suffix_digits))]
 pub fn header_output(words: &[&[u8]]) -> Result<Output, ScpiError>
     ensures { result ≡ output_of (suffix_of (map (λ word. word.now) words.now)) }

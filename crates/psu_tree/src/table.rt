@@ -11,7 +11,7 @@ use crate::{
 use psu_status::Filter as F;
 use psu_status::Group::{Operation, Questionable};
 
-// One node, as the standard writes it.
+// A node, in the standard's notation.
 macro_rules! node {
     (*) => { Node { name: "*", kind: Kind::Must } };
     ([$name:ident <n> :]) => { Node { name: stringify!($name), kind: Kind::MaybeNumbered } };
@@ -20,7 +20,7 @@ macro_rules! node {
     ($name:ident) => { Node { name: stringify!($name), kind: Kind::Must } };
 }
 
-// The nodes of a header, as the standard writes it.
+// The nodes of a header, in the standard's notation.
 macro_rules! nodes {
     (@ [$($done:expr),*]) => { &[$($done),*] };
     (@ [$($done:expr),*] : $($rest:tt)+) => { nodes!(@ [$($done),*] $($rest)+) };
@@ -36,7 +36,7 @@ macro_rules! row {
     ({$($part:tt)*}? $query:expr) => { Row { nodes: nodes!($($part)*), command: None, query: Some($query) } };
 }
 
-// What programs ask for again and again stands first, since the rows are tried in this order.
+// The commands that programs send most often come first, since the rows are tried in this order.
 const COMMON: [Row; 20] = [
     row!({ESR}? Query(Q::EventStatus)),
     row!({STB}? Query(Q::StatusByte)),
@@ -114,8 +114,8 @@ const SOURCE: [Row; 6] = [
     row!({VOLTage:PROTection:CLEar} ClearTrip),
 ];
 
-/// The table of commands, by the first nodes of their headers: those whose first node may be left out stand
-/// last, since their rows are tried for each header that came so far.
+/// The table of commands, by the first nodes of the headers. Sections whose first node is optional come last, since
+/// their rows are tried for each header that no earlier row matched.
 pub static PATTERNS: [Section; 10] = [
     Section {
         first: b'*',

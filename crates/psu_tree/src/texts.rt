@@ -8,7 +8,7 @@ ghost use Rattle.psu_tree.specs.Taken.{Gives};
 use crate::Text;
 use psu_lex::{Datum, DatumClass, ScpiError, is_label, is_name};
 
-// The label that a text is, or none.
+// Returns the label that a text is, or `None` where it is not a valid label.
 fn label_of(text: &[u8]) -> Option<Text<'_>>
     ensures { result ≡ label_of text.now }
 {
@@ -19,7 +19,7 @@ fn label_of(text: &[u8]) -> Option<Text<'_>>
     }
 }
 
-// The name of a file that a text is, or none.
+// Returns the file name that a text is, or `None` where it is not a valid name.
 fn name_of(text: &[u8]) -> Option<Text<'_>>
     ensures { result ≡ name_of text.now }
 {
@@ -30,7 +30,8 @@ fn name_of(text: &[u8]) -> Option<Text<'_>>
     }
 }
 
-/// The label that a string is, or none. A quote in it stands there twice, and a label has none.
+/// Returns the label that a string is, or `None` where it is not a valid label. A quote in a string is doubled, and a
+/// label has no quote.
 pub fn label<'a>(datum: &Datum<'a>) -> Result<Option<Text<'a>>, ScpiError>
     ensures { IsSomeDatum (datum_of datum.now) → Gives TakesString labeled (datum_of datum.now) result }
 {
@@ -42,7 +43,8 @@ pub fn label<'a>(datum: &Datum<'a>) -> Result<Option<Text<'a>>, ScpiError>
     }
 }
 
-/// The name of a file that a string is, or none. A quote in it stands there twice, and a name has none.
+/// Returns the file name that a string is, or `None` where it is not a valid name. A quote in a string is doubled, and
+/// a name has no quote.
 pub fn name<'a>(datum: &Datum<'a>) -> Result<Option<Text<'a>>, ScpiError>
     ensures { IsSomeDatum (datum_of datum.now) → Gives TakesString named (datum_of datum.now) result }
 {
@@ -54,7 +56,7 @@ pub fn name<'a>(datum: &Datum<'a>) -> Result<Option<Text<'a>>, ScpiError>
     }
 }
 
-/// The bytes of a block.
+/// Returns the bytes of a block.
 pub fn block<'a>(datum: &Datum<'a>) -> Result<Text<'a>, ScpiError>
     ensures { IsSomeDatum (datum_of datum.now) → TakesBlock (datum_of datum.now) result }
 {
@@ -68,7 +70,7 @@ pub fn block<'a>(datum: &Datum<'a>) -> Result<Text<'a>, ScpiError>
     }
 }
 
-/// Bytes that are not too many.
+/// Returns the text, if it has at most `most` bytes.
 pub fn at_most(text: Text<'_>, most: usize) -> Result<Text<'_>, ScpiError>
     ensures { result ≡ at_most most text.entry }
 {

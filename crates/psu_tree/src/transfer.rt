@@ -1,6 +1,6 @@
 // Directions of a transfer.
 
-/// Into a file, or out of it.
+/// The direction of a transfer: into a file, or out of it.
 #[derive(Clone, Copy)]
 pub enum Transfer {
     Store,

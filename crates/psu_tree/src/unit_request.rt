@@ -1,14 +1,14 @@
-// Units as they read.
+// Parsed units.
 use crate::{Command, MacroCall};
 use psu_lex::ScpiError;
 
-/// A unit as it reads.
+/// A parsed unit.
 #[derive(Drop)]
 pub struct Request<'a> {
-    /// The call that it is where a macro of this label is defined.
+    /// The macro call that the unit is where a macro of this label is defined.
     pub call: Option<MacroCall<'a>>,
-    /// Its command, or the first fault of its reading.
+    /// The command of the unit, or its first error.
     pub reading: Result<Command<'a>, ScpiError>,
-    /// Whether it stands in an expansion.
+    /// Whether the unit is in an expansion.
     pub inside: bool,
 }

@@ -1,4 +1,4 @@
-// Headers against the table.
+// Matching headers with the rows of the table.
 ghost use Rattle.std.specs.Prelude.{◌≡◌, ◌≤◌, [], length, map, true, IsTrue, ◌↔◌};
 ghost use Rattle.psu_tree.specs.Headers.{Matches, capital, fits, in_brackets, is_form, is_numbered, is_small, names, same_letters, stem};
 ghost use Rattle.psu_tree.specs.Scans.{digit_before};
@@ -9,7 +9,7 @@ ghost use Rattle.psu_tree.specs.Table.{table};
 use crate::table::PATTERNS;
 use crate::{Kind, Node, Section};
 
-/// The table of commands.
+/// Returns the table of commands.
 pub fn patterns() -> &'static [Section]
     ensures rows { entries result.now ≡ table }
     ensures letters { each_begins result.now ≡ true }
@@ -17,21 +17,21 @@ pub fn patterns() -> &'static [Section]
     &PATTERNS
 }
 
-/// Whether the byte is a small letter.
+/// Whether the byte is a lowercase letter.
 pub fn is_small(byte: u8) -> bool
     ensures { result ≡ is_small byte }
 {
     byte >= b'a' && byte <= b'z'
 }
 
-/// A letter as a capital.
+/// Returns a letter as a capital.
 pub fn capital(byte: u8) -> u8
     ensures { result ≡ capital byte }
 {
     if is_small(byte) { byte - 32 } else { byte }
 }
 
-/// Whether the texts are the same without regard to case.
+/// Whether the texts are equal, ignoring case.
 pub fn is_same(name: &[u8], word: &[u8]) -> bool
     ensures { result ≡ same_letters name.now word.now }
 {
@@ -75,7 +75,7 @@ fn is_form(name: &[u8], word: &[u8]) -> bool
     is_form_within(name, word)
 }
 
-// Whether a digit stands before a place.
+// Whether the byte before a position is a digit.
 fn has_digit_before(word: &[u8], end: usize) -> bool
     requires { end ≤ length word.now }
     ensures { result ≡ digit_before word.now end }
@@ -86,7 +86,7 @@ fn has_digit_before(word: &[u8], end: usize) -> bool
     word[end - 1].is_ascii_digit()
 }
 
-// A word without the digits at its end.
+// Returns a word without the digits at its end.
 fn without_number(word: &[u8]) -> &[u8]
     ensures stem { result.now ≡ stem word.now }
     ensures within { length result.now ≤ length word.now }
@@ -98,14 +98,14 @@ fn without_number(word: &[u8]) -> &[u8]
     &word[..end]
 }
 
-/// The digits at the end of a word.
+/// Returns the digits at the end of a word.
 pub fn number_of(word: &[u8]) -> &[u8]
     ensures { result.now ≡ digits_of word.now }
 {
     &word[without_number(word).len()..]
 }
 
-// Whether a number may follow the node.
+// Whether a numeric suffix may follow the node.
 fn is_numbered(kind: Kind) -> bool
     ensures { result ≡ is_numbered kind }
 {
@@ -115,7 +115,7 @@ fn is_numbered(kind: Kind) -> bool
     }
 }
 
-// Whether the node stands in brackets.
+// Whether the node is optional.
 pub fn may_miss(kind: Kind) -> bool
     ensures { result ≡ in_brackets kind }
 {
@@ -138,7 +138,7 @@ pub fn is_named(node: &Node, word: &[u8]) -> bool
     is_form(node.name.as_bytes(), form)
 }
 
-// Whether all of the nodes may be left out.
+// Whether all of the nodes are optional.
 fn may_miss_all(nodes: &[Node]) -> bool
     ensures { result ≡ fits (map mnemonic nodes.now) [] }
 {
@@ -150,14 +150,14 @@ fn may_miss_all(nodes: &[Node]) -> bool
     true
 }
 
-// Whether no word is left, and the nodes may be left out.
+// Whether no word is left, and all of the nodes are optional.
 fn are_spent(nodes: &[Node], words: &[&[u8]]) -> bool
     ensures { result ≡ true → fits (map mnemonic nodes.now) (map (λ word. word.now) words.now) ≡ true }
 {
     words.is_empty() && may_miss_all(nodes)
 }
 
-/// Whether leaving out some bracketed nodes makes each node left a form of the word in its place.
+/// Whether some optional nodes can be left out so that each remaining node has the word in its place as a form.
 pub fn walk(nodes: &[Node], words: &[&[u8]]) -> bool
     ensures exact { result ≡ fits (map mnemonic nodes.now) (map (λ word. word.now) words.now) }
     ensures matches { IsTrue result ↔ Matches (map mnemonic nodes.now) (map (λ word. word.now) words.now) }

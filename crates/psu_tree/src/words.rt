@@ -9,13 +9,13 @@ use crate::Path;
 use arrayvec::ArrayVec;
 use psu_lex::{Header, Mark};
 
-/// The most nodes that a header of the table has.
+/// The maximum number of nodes of a header in the table.
 pub const MOST: usize = 5;
 
 /// Nodes as written.
 pub type Words<'a> = ArrayVec<&'a [u8], MOST>;
 
-// Where the first node ends.
+// Returns the length of the first node.
 fn node_end(text: &[u8]) -> usize
     ensures within { result ≤ length text.now }
     ensures node { take result text.now ≡ node_of text.now }
@@ -29,7 +29,8 @@ fn node_end(text: &[u8]) -> usize
     text.len()
 }
 
-// Adds the nodes of a text, with `:` between them; not all of them where they are too many.
+// Appends the nodes of a text, which are separated by `:`, and returns whether they fit; only some are appended where
+// they do not.
 fn add_nodes<'a>(words: &mut Words<'a>, text: &'a [u8]) -> bool
     ensures { (node : List ℕ) (nodes : List (List ℕ)) → is_node node ≡ true → all_nodes nodes ≡ true → text.now ≡ node ++ behind nodes →
         MatchBool result (map (λ word. word.now) words.new.items ≡ map (λ word. word.now) words.old.items ++ node ∷ nodes)
@@ -45,7 +46,7 @@ fn add_nodes<'a>(words: &mut Words<'a>, text: &'a [u8]) -> bool
     add_nodes(words, others)
 }
 
-// Adds the nodes of a path.
+// Appends the nodes of a path.
 fn add_path<'a>(words: &mut Words<'a>, path: &Path<'a>)
     requires { words.old.items ≡ [] }
     ensures { map (λ word. word.now) words.new.items ≡ path.now }
@@ -56,7 +57,7 @@ fn add_path<'a>(words: &mut Words<'a>, path: &Path<'a>)
     let _ = words.try_extend_from_slice(path.words.as_slice());
 }
 
-/// Makes the words the nodes that a header has from the root on, `*` a node of its own; false where they are
+/// Makes `words` the nodes of a header from the root on, where `*` is a node of its own. Returns false where there are
 /// more than a header of the table has.
 pub fn add_words<'a>(words: &mut Words<'a>, path: &Path<'a>, header: &Header<'a>) -> bool
     requires { words.old.items ≡ [] }

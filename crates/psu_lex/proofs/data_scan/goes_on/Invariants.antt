@@ -4,7 +4,7 @@ use Rattle.psu_lex.specs.Shown.{TailLists}
 use Rattle.psu_lex.specs.SyntaxScan.{is_parted}
 use Rattle.psu_lex.proofs.data_scan.goes_on.Given as goal
 
--- a list goes on with the tail exactly where one goes on with the rest
+-- a list continues with the tail if and only if one continues with the rest
 abbrev pub invariant-next : goal.invariant-next
 invariant-next l = record {
   up : (others : List Datum) → TailLists l.rest others → (all : List Datum) × TailLists l.tail all;
