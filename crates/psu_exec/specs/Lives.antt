@@ -1,5 +1,4 @@
--- Two executions of a device from its power-on, event by event: what the rules allow, in contrast to what they
--- forbid.
+-- Two executions of a device from its power-on, event by event: examples of what the rules allow.
 use Rattle.std.specs.Prelude.{ℕ, Bool, true, false, Some, None, Ok, List, [], ◌∷◌, decimal}
 use Rattle.psu_disk.specs.Disk.{DiskState}
 use Rattle.psu_items.specs.declared.broken.BrokenCause.TheVariants.{Device}
