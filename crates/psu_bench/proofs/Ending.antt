@@ -1,4 +1,4 @@
--- The disk of an end that is accepted.
+-- The disk of an accepted end.
 use Rattle.std.proofs.Common.{List, ℕ, Result, Ok, Err}
 use Rattle.std.specs.Prelude.{OnOk}
 use Rattle.psu_disk.specs.Disk.{DiskState}

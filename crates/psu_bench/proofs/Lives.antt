@@ -14,7 +14,7 @@ use Rattle.psu_turn.specs.declared.numbered.Numbered.{Numbered}
 use Rattle.psu_bench.specs.Calls.{Admits, AdmitsOn, HasDisk, HasNoSession}
 use Rattle.psu_bench.specs.Lives.{Happening, Called, Moved, HistoriesHappen, LeadsOverDisks, Lives, LivesAreEvents, SeenHistoriesHappen, SomeHistoryHappens, ThreadsLeavePrefix, by_one, calls_in}
 
--- ---- what happens are events
+-- ---- happenings are events
 
 events_of : (happenings : List Happening) (w new : World) → Lives w happenings new → (events : List Event) × Run w events new
 events_of [] w new same = ([], same)
@@ -22,7 +22,7 @@ events_of (Called call disk ∷ more) w new (inl (mid, happens, rest)) = let r =
 events_of (Called call disk ∷ more) w new (inr (absent, same, rest)) = events_of more w new rest
 events_of (Moved disk ∷ more) w new (mid, happens, rest) = let r = events_of more mid new rest in (DiskCall disk ∷ r.0, (mid, happens, r.1))
 
--- a disk call leaves the device
+-- a disk call leaves the device's state unchanged
 still : (w mid : World) (disk : DiskState) → Happens w (DiskCall disk) mid → mid.state ≡ w.state
 still w mid disk (moves, inl (keeps, is)) = ap (λ (z : World). z.state) is
 still w mid disk (moves, inr (keeps, is)) = ap (λ (z : World). z.state) is
@@ -40,9 +40,9 @@ leads_of (Moved disk ∷ more) w new (mid, happens, rest) = subst (λ (s : State
 pub lives_are_events : LivesAreEvents
 lives_are_events w new happenings lives = (events_of happenings w new lives, leads_of happenings w new lives)
 
--- ---- a history happens where its ends are true of disks
+-- ---- a history happens if its ends are true of disks
 
--- a disk that may stand after a call
+-- a disk that a call may leave
 disk_after : (w : World) (entry : Entry) → HasDisk w.state entry → (disk : DiskState) × DiskAfter w entry disk
 disk_after w (GaveBack finished (Some over)) has = has
 disk_after w (GaveBack finished None) has = (w.disk, refl)
@@ -88,7 +88,7 @@ happen (call ∷ history) w last running (next, inr (absent, same), has, rest) =
       r.4,
     )
 
--- ---- and there alone
+-- ---- and only then
 
 has_after : (w : World) (entry : Entry) (disk : DiskState) → DiskAfter w entry disk → HasDisk w.state entry
 has_after w (GaveBack finished (Some over)) disk is = (disk, is)
@@ -110,7 +110,7 @@ has_after w (Ticked now failed) disk is = tt
 has_after w (Informed info) disk is = tt
 has_after w (Due deadline) disk is = tt
 
--- a call with a session that isn't open gives no end back
+-- a call for a session that isn't open gives no end back
 has_absent : (s : State) (entry : Entry) → HasNoSession s entry → HasDisk s entry
 has_absent s (GaveBack finished over) absent = absurd absent
 has_absent s (Executed session request reply) absent = tt
@@ -146,7 +146,7 @@ pub histories_happen : HistoriesHappen
 unfolding Happened
 histories_happen w history last running = (happen history w last running, led_to w history last)
 
--- ---- what a seat has seen happens
+-- ---- the history that a seat has seen happens
 
 on_disk : (honest : Type 0) (s next : State) (entry : Entry) → honest → AdmitsOn honest s entry next → Admits s entry next × HasDisk s entry
 on_disk honest s next (GaveBack finished over) h (admits, has) = (admits, has h)
@@ -176,9 +176,9 @@ pub seen_histories_happen : (honest : Type 0) → SeenHistoriesHappen honest
 unfolding Happened
 seen_histories_happen honest w history last h running leads = happen history w last running (over_disks honest history w.state last h leads)
 
--- ---- one that does
+-- ---- a history that happens
 
--- no power is lost
+-- no power loss, no end of the process and no restart
 Goes : List Event → Type 0
 Goes [] = ⊤
 Goes (Call entry disk ∷ more) = Goes more
@@ -201,7 +201,7 @@ unfolding Goes
 some_history_happens first torn disk start moves either mends each =
     let life = breaks_and_mends first torn disk start moves either mends each in (life.0, lives_of (broken_life first torn disk) first life.0 tt life.2, life.3)
 
--- ---- what a power loss leaves
+-- ---- possible crash images
 
 pub threads_leave_prefix : ThreadsLeavePrefix
 threads_leave_prefix first now happenings image start lives left =

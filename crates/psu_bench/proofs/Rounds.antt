@@ -14,7 +14,7 @@ use Rattle.psu_exec.specs.declared.finished.Finished.TheVariants as finished
 use Rattle.psu_turn.specs.Seats.{Sight, IsSame}
 use Rattle.psu_bench.specs.Rounds.{IsEndOf, IsRound, AreRounds}
 
--- what a job came to is what it may come to
+-- the result of a run is a possible result of the job
 pub end_of : {D A : Type 0} {G : Ghosts D} (j : AnyJob D A G) (end : Finished D A G) → RunsTo j end → IsEndOf (job_data j) (finished_of end)
 end_of (job.Commit planned) (finished.Stored store) r = (refl, r.0.limit, r.0.items)
 end_of (job.Commit planned) (finished.Unstarted store batch cause) r = (refl, ap (λ s. s.limit) r.store, ap (λ s. s.items) r.store, r.batch_is)
@@ -25,7 +25,7 @@ end_of (job.Reopen alloc old) (finished.Unstarted store batch cause) r = absurd 
 end_of (job.Reopen alloc old) (finished.Broken broken) r = (r.same.limit, r.same.before, r.same.batch)
 end_of (job.Reopen alloc old) (finished.Reopened store) r = (refl, r.limit, r.items)
 
--- a round with no job
+-- a round without a job
 pub idle_round : (e : NoJob) → IsRound (none_of e) (Took (none_of e) ∷ [])
 idle_round no_job.Nothing = refl
 idle_round no_job.Out = refl
@@ -39,7 +39,7 @@ append_append (x ∷ xs) b c = λ k. x ∷ append_append xs b c k
 pub both_calls : {X : Type 0} (old mid new : List X) (a b : X) → mid ≡ old ++ a ∷ [] → new ≡ mid ++ b ∷ [] → new ≡ old ++ a ∷ b ∷ []
 both_calls old mid new a b first second = second ∙ (ap (λ l. l ++ b ∷ []) first ∙ append_append old (a ∷ []) (b ∷ []))
 
--- one round more
+-- one more round
 pub one_more : (n : ℕ) (old now new : List Entry) → (calls : List Entry) × (now ≡ old ++ calls) × AreRounds n calls → (taken : Taken) × (calls : List Entry) × (new ≡ now ++ calls) × IsRound taken calls
     → (calls : List Entry) × (new ≡ old ++ calls) × AreRounds (n + 1) calls
 one_more n old now new p q = let next : suc n ≡ n + 1 = omega arith in (

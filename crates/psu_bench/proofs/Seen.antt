@@ -1,4 +1,4 @@
--- What a seat has seen, call by call.
+-- The history that a seat has seen, call by call.
 use Rattle.std.proofs.Common.{◌≡◌, ◌⊎◌, inl, inr, List, ◌∷◌, ◌++◌, ap, ◌∙◌, subst, append_assoc}
 use Rattle.psu_turn.specs.Seats.{Sight, Calls}
 use Rattle.psu_exec.specs.Device.{State}
@@ -12,7 +12,7 @@ call_seen honest old new entry c = record { seen = (c.seen.0 ++ _, c.seen.1 ∙ 
 pub seen_then : (honest : Type 0) (old mid new : Sight State Entry) → HasSeen honest old mid → HasSeen honest mid new → HasSeen honest old new
 seen_then honest old mid new p q = record { seen = (p.seen.0 ++ q.seen.0, q.seen.1 ∙ ap (λ l. l ++ q.seen.0) p.seen.1 ∙ append_assoc old.seen p.seen.0 q.seen.0); legal = q.legal; own = q.own }
 
--- behind a seat that is as it was, or has seen calls of its own
+-- after no calls, or after earlier calls of the seat
 pub seen_more : (honest : Type 0) (old mid new : Sight State Entry) → (mid ≡ old) ⊎ HasSeen honest old mid → HasSeen honest mid new → HasSeen honest old new
 seen_more honest old mid new (inl same) q = subst (λ (v : Sight State Entry). HasSeen honest v new) same q
 seen_more honest old mid new (inr p) q = seen_then honest old mid new p q

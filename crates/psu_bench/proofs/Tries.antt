@@ -20,7 +20,7 @@ length_more : (replies : List Reply) (last : Reply) → length (replies ++ last 
 length_more [] last = refl
 length_more (r ∷ replies) last = let more = length_more replies last in omega (arith, more)
 
--- What a worker has called so far: each reply before the last put the unit off.
+-- The calls of a worker so far: after each reply before the last the unit was to be tried again.
 pub record Tried (session : ℕ) (request : Request) (tries left : ℕ) (old now : List Entry) (last : Reply) : Type 0 where
   pub before : List Reply
   pub are : now ≡ old ++ tries_from session request None (before ++ last ∷ [])
@@ -42,7 +42,7 @@ tried_again session request tries left less old now new last reply t off is one 
   count = let longer = length_more t.before last in let count = t.count in omega (arith, longer, count, one);
 }
 
--- The worker is done, by its outcome or as no try is left.
+-- The worker is done, because of its outcome or because no try is left.
 pub tries_end : (session : ℕ) (request : Request) (tries left : ℕ) (old now : List Entry) (last : Reply) → Tried session request tries left old now last → (is_put_off last ≡ true → left ≡ 0)
     → (calls : List Entry) × (now ≡ old ++ calls) × AreTries session tries request calls last
 tries_end session request tries left old now last t over = (

@@ -1,4 +1,4 @@
--- The calls of the bench, each with its reply: those of the device, and those with a session that isn't open.
+-- The calls of the bench, each with its reply: those of the device, and those for a session that isn't open.
 use Rattle.std.specs.Prelude.{◌≡◌, ◌⊎◌, ℕ, false, Option, Some, None, Result, Ok, Err, [], ⊤}
 use Rattle.psu_disk.specs.Disk.{DiskState}
 use Rattle.psu_exec.specs.Device.{State, is_open, target, Later}
@@ -8,7 +8,7 @@ use Rattle.psu_exec.specs.World.{IsTrueOf}
 use Rattle.psu_locks.specs.declared.grant.Grant.TheVariants.{Failed}
 use Rattle.psu_locks.specs.declared.lock_refusal.LockRefusal.TheVariants.{NotHeld}
 
--- Another thread may have closed the session: the call acts on nothing, and answers so.
+-- The session isn't open, as another thread may have closed it: the call has no effect, and this reply.
 abbrev pub HasNoSession : State → Entry → Type 0
 HasNoSession s (Executed session request reply) = (is_open s session ≡ false) × (reply ≡ Later)
 HasNoSession s (Settled session reply) = (is_open s session ≡ false) × (reply ≡ Later)
@@ -28,16 +28,16 @@ HasNoSession s (Ticked now failed) = ⊥
 HasNoSession s (Informed info) = ⊥
 HasNoSession s (Due deadline) = ⊥
 
--- From old, the call may be answered so and leave new.
+-- In state s, the call may get this reply and lead to the state t.
 abbrev pub Admits : State → Entry → State → Type 0
 Admits s e t = Allows s e t ⊎ (HasNoSession s e × (t ≡ s))
 
--- where the call gives back an end that is accepted, that end is true of some disk
+-- if the call gives back an end that is accepted, that end is true of some disk
 abbrev pub HasDisk : State → Entry → Type 0
 HasDisk s (GaveBack finished (Some over)) = (disk : DiskState) × IsTrueOf (target s.flush) finished disk
 HasDisk s _ = ⊤
 
--- so it is; and an end that is accepted is true of some disk, where the disks of its kind are honest
+-- a call that `Admits` allows; an end that is accepted is also true of some disk, if the disks of its kind are honest
 abbrev pub AdmitsOn : Type 0 → State → Entry → State → Type 0
 AdmitsOn honest s (GaveBack finished over) t = Admits s (GaveBack finished over) t × (honest → HasDisk s (GaveBack finished over))
 AdmitsOn honest s e t = Admits s e t

@@ -1,4 +1,4 @@
--- The histories of the bench as events of the theorem on power loss.
+-- The histories of the bench as events of the power-loss theorem.
 use Rattle.std.specs.Prelude.{◌≡◌, ◌⊎◌, ◌↔◌, ℕ, List, [], ◌∷◌}
 use Rattle.psu_disk.specs.Disk.{DiskState, Left}
 use Rattle.psu_items.specs.Image.{Stands, EachStands, EachIsEither}
@@ -24,8 +24,8 @@ calls_in [] = []
 calls_in (Called call disk ∷ more) = call ∷ calls_in more
 calls_in (Moved disk ∷ more) = calls_in more
 
--- They happen one after another, from this world to that one. A call is an event, or one with a session that isn't open, and then nothing
--- happens; a disk call is an event.
+-- These happen one after another, from world w to the world new. A call is an event, or is for a session that isn't
+-- open, and then nothing changes; a disk call is an event.
 abbrev pub Lives : World → List Happening → World → Type 0
 Lives w [] new = new ≡ w
 Lives w (Called call disk ∷ more) new =
@@ -33,7 +33,7 @@ Lives w (Called call disk ∷ more) new =
     ⊎ (HasNoSession w.state call.entry × (disk ≡ w.disk) × Lives w more new)
 Lives w (Moved disk ∷ more) new = (mid : World) × Happens w (DiskCall disk) mid × Lives mid more new
 
--- What happens are events of the theorem on power loss, and its calls are a legal history.
+-- What happens are events of the power-loss theorem, and its calls are a legal history.
 abbrev pub LivesAreEvents : Type 0
 LivesAreEvents = (w new : World) (happenings : List Happening) → Lives w happenings new
     → ((events : List Event) × Run w events new) × Leads Admits w.state (calls_in happenings) new.state
@@ -43,17 +43,17 @@ abbrev pub LeadsOverDisks : State → List (Numbered Entry) → State → Type 0
 LeadsOverDisks first [] last = first ≡ last
 LeadsOverDisks first (call ∷ more) last = (next : State) × Admits first call.entry next × HasDisk first call.entry × LeadsOverDisks next more last
 
--- Those histories happen, and no others.
+-- Exactly those histories happen.
 abbrev pub HistoriesHappen : Type 0
 HistoriesHappen = (w : World) (history : List (Numbered Entry)) (last : State) → w.mode ≡ Running
     → LeadsOverDisks w.state history last ↔ ((happenings : List Happening) × (new : World) × (calls_in happenings ≡ history) × Lives w happenings new × (new.state ≡ last))
 
--- So what a seat has seen happens, where the disks of the bench's kind are honest.
+-- So the history that a seat has seen happens, if the disks of the bench's kind are honest.
 abbrev pub SeenHistoriesHappen : Type 0 → Type 0
 SeenHistoriesHappen honest = (w : World) (history : List (Numbered Entry)) (last : State) → honest → w.mode ≡ Running → Leads (AdmitsOn honest) w.state history last
     → (happenings : List Happening) × (new : World) × (calls_in happenings ≡ history) × Lives w happenings new × (new.state ≡ last)
 
--- what one thread does where these events happen, up to a power loss or the process's end
+-- the happenings of one thread that causes these events, up to a power loss, the process's end or a restart
 abbrev pub by_one : List Event → List Happening
 by_one [] = []
 by_one (Call entry disk ∷ more) = Called (numbered 1 entry) disk ∷ by_one more
@@ -62,14 +62,15 @@ by_one (Loss image ∷ more) = []
 by_one (Stop ∷ more) = []
 by_one (Restart limit contents ∷ more) = []
 
--- There are such histories: one with a job whose disk fails, a reopening of the store, and a 1 that is answered for what it then holds.
+-- There are such histories: one with a job whose disk fails, a reopening of the store, and a response 1 for what the
+-- store then holds.
 abbrev pub SomeHistoryHappens : Type 0
 SomeHistoryHappens = (first : World) (torn disk : DiskState)
     → IsStart first → Moves first.disk torn → EachIsEither torn first.limit (items_of first.start) (items_of (cleared first)) → Moves torn disk → EachStands disk first.limit (items_of (cleared first))
     → (last : World) × Lives first (by_one (broken_life first torn disk)) last × (answered last.history ≡ 3)
 
--- Whatever threads do, what a power loss may leave stands for the contents after a front of the executed units that holds every unit before an
--- answered `*OPC?`; they may be kept.
+-- Whatever threads do, each possible crash image represents the contents after a prefix of the executed units that
+-- includes every unit before an answered `*OPC?`; an image can store these contents.
 abbrev pub ThreadsLeavePrefix : Type 0
 ThreadsLeavePrefix = (first now : World) (happenings : List Happening) (image : List ℕ)
     → IsStart first → Lives first happenings now → Left now.disk image

@@ -1,18 +1,19 @@
--- What the worker of a session calls.
+-- The calls of a session's worker.
 use Rattle.std.specs.Prelude.{◌≡◌, ℕ, ◌+◌, ◌≤◌, Bool, true, false, All, length, Option, Some, None, List, [], ◌∷◌, ◌++◌}
 use Rattle.psu_tree.specs.declared.unit_request.Request.{Request}
 use Rattle.psu_exec.specs.Device.{Reply, Parked, Held, Later}
 use Rattle.psu_exec.specs.Calls.{Entry}
 use Rattle.psu_exec.specs.Calls.Entry.{Executed, Settled}
 
--- the unit is not done with
+-- whether the unit is to be tried again
 abbrev pub is_put_off : Reply → Bool
 is_put_off Parked = true
 is_put_off Held = true
 is_put_off Later = true
 is_put_off _ = false
 
--- A try, by the reply to the one before it (none: it is the first): what parked is settled, else the unit is executed.
+-- A try, by the reply to the one before it (none for the first): a parked unit is settled, otherwise the unit is
+-- executed.
 abbrev pub try_after : ℕ → Request → Option Reply → Reply → Entry
 try_after session request (Some Parked) reply = Settled session reply
 try_after session request _ reply = Executed session request reply
@@ -22,7 +23,8 @@ abbrev pub tries_from : ℕ → Request → Option Reply → List Reply → List
 tries_from session request before [] = []
 tries_from session request before (reply ∷ more) = try_after session request before reply ∷ tries_from session request (Some reply) more
 
--- One try to so many. Each reply before the last puts the unit off; the last is the outcome, and puts it off only where no try is left.
+-- At least one try and at most this number. After each reply before the last the unit is to be tried again; the last
+-- reply is the outcome, and after it the unit is to be tried again only if no try is left.
 pub record AreTries (session tries : ℕ) (request : Request) (calls : List Entry) (outcome : Reply) : Type 0 where
   pub before : List Reply
   pub are : calls ≡ tries_from session request None (before ++ outcome ∷ [])

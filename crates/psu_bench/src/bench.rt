@@ -1,4 +1,4 @@
-//! The state behind its turn.
+//! The shared state, which threads call in turns.
 ghost use Rattle.std.specs.Prelude.{◌≡◌, IfOk, IfErr, length};
 ghost use Rattle.psu_turn.specs.Seats.{Begins, IsOf, Calls, Sees, Splits, Joins, Closes};
 ghost use Rattle.psu_exec.specs.Calls.Entry.{Executed, Settled, Took, GaveBack, Opened, Closed, Cleared, Sent, Delivered, Queried, Fetched, Told, Locked, Released, Ticked, Informed, Due};
@@ -18,10 +18,10 @@ use std::marker::{Brand, Model};
 use std::snapshot::Snapshot;
 use std::sync::Wait;
 
-/// What a thread needs for its calls of a bench.
+/// The handle that a thread needs for its calls of a bench.
 pub type Seat<A> = psu_turn::Seat<Device<A>, Call>;
 
-/// The one state, called by many threads in turn. Contracts see which bench it is.
+/// The device's state, shared by threads that call it in turns. Contracts see which bench it is.
 #[derive(Drop)]
 pub struct Bench<D: Disk, A: Allocator + Copy> {
     turn: Turn<Guarded<D, A>, A>,
@@ -40,7 +40,7 @@ impl<D: Disk, A: Allocator + Copy> Model for Bench<D, A> {
 impl<D: Disk, A: Allocator + Copy> Bench<D, A> {
     ghost use Rattle.psu_exec.specs.Jobs.{finished_of, taken_of};
 
-    /// A bench, with the first seat. Where there is no memory the state comes back as it was.
+    /// Creates a bench with its first seat. If an allocation fails, the state is returned unchanged.
     pub fn new(alloc: A, exec: Exec<D, A>) -> Result<(Bench<D, A>, Seat<A>), NoMemory<Exec<D, A>>>
         ensures seat { IfOk result (λ made. Begins made.0 exec.device made.1) }
         ensures back { IfErr result (λ refused. refused.object ≡ exec) }
@@ -63,7 +63,7 @@ impl<D: Disk, A: Allocator + Copy> Bench<D, A> {
         }
     }
 
-    /// One unit of a session, in a turn. Later where the session isn't open.
+    /// Executes one unit of a session, in a turn; Later if the session isn't open.
     pub fn execute<R: Wait>(
         &self,
         rt: &R,
@@ -82,7 +82,7 @@ impl<D: Disk, A: Allocator + Copy> Bench<D, A> {
         reply
     }
 
-    /// What the wait of a session came to, in a turn. Later where the session isn't open.
+    /// Returns the result of a session's wait, in a turn; Later if the session isn't open.
     pub fn settle<R: Wait>(&self, rt: &R, seat: &mut Seat<A>, session: Session) -> Outcome<A>
         requires own { IsOf self.now seat.old }
         ensures call { Calls (AdmitsOn D.honest) seat.old (Settled session (outcome_of result)) seat.new }
@@ -95,7 +95,7 @@ impl<D: Disk, A: Allocator + Copy> Bench<D, A> {
         reply
     }
 
-    /// A job, in a turn.
+    /// Takes a job, in a turn.
     pub fn take<R: Wait>(&self, rt: &R, seat: &mut Seat<A>) -> Result<Job<D, A>, NoJob>
         requires own { IsOf self.now seat.old }
         ensures call { Calls (AdmitsOn D.honest) seat.old (Took (taken_of result)) seat.new }
@@ -107,7 +107,7 @@ impl<D: Disk, A: Allocator + Copy> Bench<D, A> {
         reply
     }
 
-    /// A job's end, in a turn.
+    /// Gives back a finished job, in a turn.
     pub fn give_back<R: Wait>(
         &self,
         rt: &R,
@@ -125,7 +125,7 @@ impl<D: Disk, A: Allocator + Copy> Bench<D, A> {
         reply
     }
 
-    /// Opens the session of the least free number, in a turn.
+    /// Opens a session under the least free number, in a turn.
     pub fn open_session<R: Wait>(&self, rt: &R, seat: &mut Seat<A>) -> Result<Session, Crowded>
         requires own { IsOf self.now seat.old }
         ensures call { Calls (AdmitsOn D.honest) seat.old (Opened (session_of result)) seat.new }
@@ -137,7 +137,7 @@ impl<D: Disk, A: Allocator + Copy> Bench<D, A> {
         reply
     }
 
-    /// Closes a session, in a turn, where it is open. Answers the sessions whose requests for a lock were then granted.
+    /// Closes a session if it is open, in a turn. Returns the sessions whose lock requests were then granted.
     pub fn close_session<R: Wait>(&self, rt: &R, seat: &mut Seat<A>, session: Session) -> Sessions
         requires own { IsOf self.now seat.old }
         ensures call { Calls (AdmitsOn D.honest) seat.old (Closed session result) seat.new }
@@ -150,7 +150,7 @@ impl<D: Disk, A: Allocator + Copy> Bench<D, A> {
         reply
     }
 
-    /// Drops the wait of a session, in a turn, where it is open.
+    /// Drops the wait of a session if it is open, in a turn.
     pub fn clear<R: Wait>(&self, rt: &R, seat: &mut Seat<A>, session: Session)
         requires own { IsOf self.now seat.old }
         ensures call { Calls (AdmitsOn D.honest) seat.old (Cleared session) seat.new }
@@ -161,7 +161,7 @@ impl<D: Disk, A: Allocator + Copy> Bench<D, A> {
         self.turn.leave::<Brand, _, _>(seat, taken, &session, &());
     }
 
-    /// An answer is sent to a session, in a turn, where it is open.
+    /// If a session is open, records that a response was sent to it, in a turn.
     pub fn sent<R: Wait>(&self, rt: &R, seat: &mut Seat<A>, session: Session)
         requires own { IsOf self.now seat.old }
         ensures call { Calls (AdmitsOn D.honest) seat.old (Sent session) seat.new }
@@ -172,7 +172,7 @@ impl<D: Disk, A: Allocator + Copy> Bench<D, A> {
         self.turn.leave::<Brand, _, _>(seat, taken, &session, &());
     }
 
-    /// What was sent to a session is delivered, in a turn, where it is open.
+    /// If a session is open, records that what was sent to it is delivered, in a turn.
     pub fn delivered<R: Wait>(&self, rt: &R, seat: &mut Seat<A>, session: Session)
         requires own { IsOf self.now seat.old }
         ensures call { Calls (AdmitsOn D.honest) seat.old (Delivered session) seat.new }
@@ -183,7 +183,7 @@ impl<D: Disk, A: Allocator + Copy> Bench<D, A> {
         self.turn.leave::<Brand, _, _>(seat, taken, &session, &());
     }
 
-    /// The answer to a status query of a session, in a turn. 0 where the session isn't open.
+    /// Returns the response to a status query of a session, in a turn; 0 if the session isn't open.
     pub fn status<R: Wait>(&self, rt: &R, seat: &mut Seat<A>, session: Session) -> u8
         requires own { IsOf self.now seat.old }
         ensures call { Calls (AdmitsOn D.honest) seat.old (Queried session result) seat.new }
@@ -196,7 +196,7 @@ impl<D: Disk, A: Allocator + Copy> Bench<D, A> {
         reply
     }
 
-    /// The service request of a session, in a turn. None where the session isn't open.
+    /// Fetches the service request of a session, in a turn; none if the session isn't open.
     pub fn requests<R: Wait>(&self, rt: &R, seat: &mut Seat<A>, session: Session) -> Option<u8>
         requires own { IsOf self.now seat.old }
         ensures call { Calls (AdmitsOn D.honest) seat.old (Fetched session result) seat.new }
@@ -209,7 +209,8 @@ impl<D: Disk, A: Allocator + Copy> Bench<D, A> {
         reply
     }
 
-    /// The sessions that asked for service since this was asked last, and whether a take would give a job, in a turn.
+    /// Returns the sessions that have requested service since the last call, and whether a take would return a job,
+    /// in a turn.
     pub fn news<R: Wait>(&self, rt: &R, seat: &mut Seat<A>) -> (Sessions, bool)
         requires own { IsOf self.now seat.old }
         ensures call { Calls (AdmitsOn D.honest) seat.old (Told result.0 result.1) seat.new }
@@ -221,7 +222,8 @@ impl<D: Disk, A: Allocator + Copy> Bench<D, A> {
         reply
     }
 
-    /// A session asks for a lock, in a turn; moments and the timeout are in milliseconds. Failed where the session isn't open.
+    /// Requests a lock for a session, in a turn. `now` and `timeout` are in milliseconds. `Failed` if the session
+    /// isn't open.
     pub fn lock<R: Wait>(
         &self,
         rt: &R,
@@ -242,7 +244,7 @@ impl<D: Disk, A: Allocator + Copy> Bench<D, A> {
         reply
     }
 
-    /// A session gives up a lock, in a turn. It holds none where it isn't open.
+    /// Releases a lock of a session, in a turn. A session that isn't open holds none.
     pub fn release<R: Wait>(
         &self,
         rt: &R,
@@ -260,7 +262,7 @@ impl<D: Disk, A: Allocator + Copy> Bench<D, A> {
         reply
     }
 
-    /// Fails the requests for locks whose time is over, in a turn.
+    /// Fails the lock requests whose timeout has expired, in a turn.
     pub fn tick<R: Wait>(&self, rt: &R, seat: &mut Seat<A>, now: u64) -> Sessions
         requires own { IsOf self.now seat.old }
         ensures call { Calls (AdmitsOn D.honest) seat.old (Ticked now result) seat.new }
@@ -272,7 +274,7 @@ impl<D: Disk, A: Allocator + Copy> Bench<D, A> {
         reply
     }
 
-    /// What is told of the locks, in a turn.
+    /// Returns whether the exclusive lock is held, and how many sessions hold a lock, in a turn.
     pub fn info<R: Wait>(&self, rt: &R, seat: &mut Seat<A>) -> Info
         requires own { IsOf self.now seat.old }
         ensures call { Calls (AdmitsOn D.honest) seat.old (Informed result) seat.new }
@@ -284,7 +286,7 @@ impl<D: Disk, A: Allocator + Copy> Bench<D, A> {
         reply
     }
 
-    /// The moment at which a request for a lock fails next, in a turn.
+    /// Returns the earliest time at which a waiting lock request fails, in a turn.
     pub fn next_deadline<R: Wait>(&self, rt: &R, seat: &mut Seat<A>) -> Option<u128>
         requires own { IsOf self.now seat.old }
         ensures call { Calls (AdmitsOn D.honest) seat.old (Due result) seat.new }
@@ -296,7 +298,7 @@ impl<D: Disk, A: Allocator + Copy> Bench<D, A> {
         reply
     }
 
-    /// The number of calls so far. It waits for nobody.
+    /// Returns the number of calls so far. It waits for no other thread.
     pub fn progress(&self, seat: &mut Seat<A>) -> u64
         requires own { IsOf self.now seat.old }
         ensures look { Sees (AdmitsOn D.honest) seat.old seat.new }
@@ -306,7 +308,7 @@ impl<D: Disk, A: Allocator + Copy> Bench<D, A> {
         self.turn.progress(seat)
     }
 
-    /// A seat for another thread. It waits for nobody.
+    /// Creates a seat for another thread. It waits for no other thread.
     pub fn split(&self, seat: &mut Seat<A>) -> Seat<A>
         requires own { IsOf self.now seat.old }
         ensures same { seat.new ≡ seat.old }
@@ -316,7 +318,7 @@ impl<D: Disk, A: Allocator + Copy> Bench<D, A> {
         self.turn.split(seat)
     }
 
-    /// Gives a seat up, and has seen its calls. It waits for nobody.
+    /// Consumes another seat; this seat has then seen its calls. It waits for no other thread.
     pub fn join(&self, seat: &mut Seat<A>, other: Seat<A>)
         requires own { IsOf self.now seat.old × IsOf self.now other }
         ensures join { Joins (AdmitsOn D.honest) seat.old other seat.new }
@@ -325,7 +327,7 @@ impl<D: Disk, A: Allocator + Copy> Bench<D, A> {
         self.turn.join(seat, other);
     }
 
-    /// Waits for the last turn, and hands the state out.
+    /// Waits for the last turn, and returns the state.
     pub fn close<R: Wait>(self, rt: &R, seat: Seat<A>) -> Exec<D, A>
         requires own { IsOf self seat }
         ensures close { Closes (AdmitsOn D.honest) seat result.device }

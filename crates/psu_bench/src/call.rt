@@ -1,7 +1,7 @@
-//! What a call and its reply are in the history.
+//! The entries of the history.
 use std::marker::Model;
 
-/// A call of the device with its reply. No value of it is made: contracts alone speak of it.
+/// A call of the device with its reply. No value of this type is made; only contracts refer to it.
 pub struct Call {
     unmade: (),
 }

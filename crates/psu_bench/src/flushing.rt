@@ -10,8 +10,8 @@ use psu_disk::Disk;
 use std::alloc::Allocator;
 use std::sync::Wait;
 
-/// Makes so many rounds: each takes a job, runs it outside the turn, and gives back what it came to. The gate is asked before a job is
-/// run. With one round it returns at once.
+/// Runs this number of rounds: each takes a job, runs it outside the turn, and gives back its result. The gate is
+/// called before a job is run. With one round it returns at once.
 pub fn flusher<D: Disk + Drop, A: Allocator + Copy, R: Wait, G: Gate>(
     rt: &R,
     bench: &Bench<D, A>,
@@ -31,7 +31,8 @@ pub fn flusher<D: Disk + Drop, A: Allocator + Copy, R: Wait, G: Gate>(
     seat
 }
 
-// One round. What is given back is no stranger's where nobody else takes jobs of this bench; a stranger's is let go.
+// Runs one round. The finished job is no stranger's if no other thread takes jobs of this bench; a stranger's is
+// dropped.
 fn one_round<D: Disk + Drop, A: Allocator + Copy, R: Wait, G: Gate>(
     rt: &R,
     bench: &Bench<D, A>,

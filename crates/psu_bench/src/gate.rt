@@ -1,12 +1,13 @@
-//! Where a thread may be held up from outside.
+//! Gates, by which a thread can be blocked from outside.
 use crate::Point;
 
-/// Asked at each point before the thread goes on. It waits for nobody: one that holds a thread up looks a bounded number of times.
+/// Called at each point before the thread continues. It waits for no other thread: a gate that blocks a thread checks
+/// a bounded number of times.
 pub trait Gate {
     fn at(&self, point: Point);
 }
 
-/// A gate that holds nobody up.
+/// A gate that blocks no thread.
 #[derive(Clone, Copy, Debug, PartialEq, Eq)]
 pub struct Open;
 

@@ -2,7 +2,7 @@
 use crate::{Gate, Point};
 use psu_disk::{Disk, DiskFault};
 
-/// A disk that asks a gate before each write, and is the disk below it otherwise, call by call.
+/// A disk that calls a gate before each write, and otherwise passes each call to the disk below it.
 #[derive(Drop)]
 pub struct Gated<D: Disk, G: Gate> {
     inner: D,
@@ -12,7 +12,7 @@ pub struct Gated<D: Disk, G: Gate> {
 impl<D: Disk, G: Gate + Drop> Gated<D, G> {
     ghost use Rattle.std.specs.Prelude.{◌≡◌};
 
-    /// A disk behind a gate.
+    /// Puts a gate before the writes of a disk.
     pub fn new(inner: D, gate: G) -> Gated<D, G>
         ensures inner { result.inner ≡ inner }
     {

@@ -1,4 +1,4 @@
-//! The state, called by threads that may close one another's sessions.
+//! The device's state, called by threads that may close each other's sessions.
 ghost use Rattle.std.specs.Prelude.{◌≡◌};
 ghost use Rattle.psu_exec.specs.Calls.Entry.{Executed, Settled, Took, GaveBack, Opened, Closed, Cleared, Sent, Delivered, Queried, Fetched, Told, Locked, Released, Ticked, Informed, Due};
 ghost use Rattle.psu_exec.specs.Shown.{outcome_of, over_of};
@@ -13,10 +13,10 @@ use psu_exec::{
 use psu_turn::Machine;
 use std::alloc::Allocator;
 
-/// The state with its store. A call with a session that isn't open acts on nothing.
+/// The device's state with its store. A call for a session that isn't open has no effect.
 #[derive(Drop)]
 pub struct Guarded<D: Disk, A: Allocator + Copy> {
-    // Several kilobytes, which would else be moved twice in each turn.
+    // Several kilobytes, which would otherwise be moved twice in each turn.
     pub exec: Box<Exec<D, A>, A>,
 }
 
@@ -33,7 +33,7 @@ impl<D: Disk, A: Allocator + Copy> Machine for Guarded<D, A> {
 impl<D: Disk, A: Allocator + Copy> Guarded<D, A> {
     ghost use Rattle.psu_exec.specs.Jobs.{finished_of, taken_of};
 
-    /// One unit of a session. Later where the session isn't open.
+    /// Executes one unit of a session; Later if the session isn't open.
     pub fn execute(&mut self, session: Session, request: &Request<'_>) -> Outcome<A>
         ensures call { Admits self.old.exec.value.device (Executed session request.now (outcome_of result)) self.new.exec.value.device }
     {
@@ -43,7 +43,7 @@ impl<D: Disk, A: Allocator + Copy> Guarded<D, A> {
         self.exec.execute(session, request)
     }
 
-    /// What the wait of a session came to. Later where the session isn't open.
+    /// Returns the result of a session's wait; Later if the session isn't open.
     pub fn settle(&mut self, session: Session) -> Outcome<A>
         ensures call { Admits self.old.exec.value.device (Settled session (outcome_of result)) self.new.exec.value.device }
     {
@@ -53,21 +53,21 @@ impl<D: Disk, A: Allocator + Copy> Guarded<D, A> {
         self.exec.settle(session)
     }
 
-    /// A job, as `Exec::take` gives it.
+    /// Takes a job, as `Exec::take` does.
     pub fn take(&mut self) -> Result<Job<D, A>, NoJob>
         ensures call { Admits self.old.exec.value.device (Took (taken_of result)) self.new.exec.value.device }
     {
         self.exec.take()
     }
 
-    /// A job's end, as `Exec::give_back` takes it.
+    /// Gives back a finished job, as `Exec::give_back` does.
     pub fn give_back(&mut self, finished: Finished<D, A>) -> Result<Sessions, Stranger<D, A>>
         ensures call { AdmitsOn D.honest self.old.exec.value.device (GaveBack (finished_of finished) (over_of result)) self.new.exec.value.device }
     {
         self.exec.give_back(finished)
     }
 
-    /// Opens the session of the least free number.
+    /// Opens a session under the least free number.
     pub fn open_session(&mut self) -> Result<Session, Crowded>
         ensures call { Admits self.old.exec.value.device (Opened (session_of result)) self.new.exec.value.device }
     {
@@ -77,7 +77,7 @@ impl<D: Disk, A: Allocator + Copy> Guarded<D, A> {
         }
     }
 
-    /// Closes a session, where it is open.
+    /// Closes a session if it is open.
     pub fn close_session(&mut self, session: Session) -> Sessions
         ensures call { Admits self.old.exec.value.device (Closed session result) self.new.exec.value.device }
     {
@@ -87,7 +87,7 @@ impl<D: Disk, A: Allocator + Copy> Guarded<D, A> {
         self.exec.close_session(session)
     }
 
-    /// Drops the wait of a session, where it is open.
+    /// Drops the wait of a session if it is open.
     pub fn clear(&mut self, session: Session)
         ensures call { Admits self.old.exec.value.device (Cleared session) self.new.exec.value.device }
     {
@@ -96,7 +96,7 @@ impl<D: Disk, A: Allocator + Copy> Guarded<D, A> {
         }
     }
 
-    /// An answer is sent to a session, where it is open.
+    /// If a session is open, records that a response was sent to it.
     pub fn sent(&mut self, session: Session)
         ensures call { Admits self.old.exec.value.device (Sent session) self.new.exec.value.device }
     {
@@ -105,7 +105,7 @@ impl<D: Disk, A: Allocator + Copy> Guarded<D, A> {
         }
     }
 
-    /// What was sent to a session is delivered, where it is open.
+    /// If a session is open, records that what was sent to it is delivered.
     pub fn delivered(&mut self, session: Session)
         ensures call { Admits self.old.exec.value.device (Delivered session) self.new.exec.value.device }
     {
@@ -114,7 +114,7 @@ impl<D: Disk, A: Allocator + Copy> Guarded<D, A> {
         }
     }
 
-    /// The answer to a status query. 0 where the session isn't open.
+    /// Returns the response to a status query; 0 if the session isn't open.
     pub fn status(&mut self, session: Session) -> u8
         ensures call { Admits self.old.exec.value.device (Queried session result) self.new.exec.value.device }
     {
@@ -124,7 +124,7 @@ impl<D: Disk, A: Allocator + Copy> Guarded<D, A> {
         self.exec.status(session)
     }
 
-    /// The service request of a session. None where it isn't open.
+    /// Fetches the service request of a session; none if it isn't open.
     pub fn requests(&mut self, session: Session) -> Option<u8>
         ensures call { Admits self.old.exec.value.device (Fetched session result) self.new.exec.value.device }
     {
@@ -134,14 +134,14 @@ impl<D: Disk, A: Allocator + Copy> Guarded<D, A> {
         self.exec.requests(session)
     }
 
-    /// Who asked for service, and whether there is a job, as `Exec::news` tells it.
+    /// Returns the sessions that have requested service, and whether there is a job, as `Exec::news` does.
     pub fn news(&mut self) -> (Sessions, bool)
         ensures call { Admits self.old.exec.value.device (Told result.0 result.1) self.new.exec.value.device }
     {
         self.exec.news()
     }
 
-    /// A session asks for a lock. Failed where it isn't open.
+    /// Requests a lock for a session; `Failed` if it isn't open.
     pub fn lock(
         &mut self,
         session: Session,
@@ -157,7 +157,7 @@ impl<D: Disk, A: Allocator + Copy> Guarded<D, A> {
         self.exec.lock(session, kind, now, timeout)
     }
 
-    /// A session gives up a lock. It holds none where it isn't open.
+    /// Releases a lock of a session. A session that isn't open holds none.
     pub fn release(&mut self, session: Session) -> Result<(Freed, Sessions), LockRefusal>
         ensures call { Admits self.old.exec.value.device (Released session result) self.new.exec.value.device }
     {
@@ -167,21 +167,21 @@ impl<D: Disk, A: Allocator + Copy> Guarded<D, A> {
         self.exec.release(session)
     }
 
-    /// Requests for locks fail in time, as `Exec::tick` does it.
+    /// Fails the lock requests whose timeout has expired, as `Exec::tick` does.
     pub fn tick(&mut self, now: u64) -> Sessions
         ensures call { Admits self.old.exec.value.device (Ticked now result) self.new.exec.value.device }
     {
         self.exec.tick(now)
     }
 
-    /// What is told of the locks.
+    /// Returns whether the exclusive lock is held, and how many sessions hold a lock.
     pub fn info(&self) -> Info
         ensures call { Admits self.now.exec.value.device (Informed result) self.now.exec.value.device }
     {
         self.exec.info()
     }
 
-    /// When a request for a lock fails next.
+    /// The earliest time at which a waiting lock request fails.
     pub fn next_deadline(&self) -> Option<u128>
         ensures call { Admits self.now.exec.value.device (Due result) self.now.exec.value.device }
     {

@@ -3,9 +3,9 @@ ghost use Rattle.psu_bench.specs.Lives.{HistoriesHappen, LivesAreEvents, SeenHis
 
 use psu_disk::Disk;
 
-/// The theorem on power loss holds of threads: what happens while they run, the calls of a legal history and the disk calls of its jobs, is a
-/// list of events of the theorem, calls with closed sessions apart, which leave everything as it is. The histories that happen are those
-/// whose accepted ends are each true of some disk, and there are such.
+/// The power-loss theorem holds for threads: what happens while they run, the calls of a legal history and the disk
+/// calls of its jobs, is a list of events of the theorem, except for calls for closed sessions, which change nothing.
+/// The histories that happen are those whose accepted ends are each true of some disk, and there are such histories.
 pub fn histories_are_lives()
     ensures events { LivesAreEvents }
     ensures each { HistoriesHappen }
@@ -13,7 +13,7 @@ pub fn histories_are_lives()
     ensures prefix { ThreadsLeavePrefix }
 {}
 
-/// What a seat has seen of a bench over honest disks happens.
+/// The history that a seat has seen of a bench over honest disks is one that happens.
 pub fn seen_histories_happen<D: Disk>()
     ensures { SeenHistoriesHappen D.honest }
 {}

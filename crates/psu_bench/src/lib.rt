@@ -1,4 +1,4 @@
-//! The one state that many threads call in turn, and one legal history of their calls.
+//! The device's state, shared by threads that call it in turns, and the one legal history of their calls.
 #![tactic(auto)]
 
 mod bench;

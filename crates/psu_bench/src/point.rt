@@ -1,6 +1,6 @@
-//! Points at which a gate is asked.
+//! The points at which a gate is called.
 
-/// Where a thread of the bench is.
+/// A point that a thread of the bench has reached.
 #[derive(Clone, Copy, Debug, PartialEq, Eq)]
 pub enum Point {
     /// The flusher has a job, and has not begun to run it.

@@ -13,8 +13,8 @@ use psu_exec::{Outcome, Request, Session};
 use std::alloc::Allocator;
 use std::sync::Wait;
 
-/// Executes a unit of a session, in at most so many tries: what parked is settled, and what is held or comes later is executed again.
-/// Gives the last outcome, once the gate was asked. With one try it returns at once.
+/// Executes a unit of a session in at most `tries` tries: after Parked it is settled, after Held or Later it is
+/// executed again. Returns the last outcome, after the gate was called. With one try it returns at once.
 pub fn session_worker<D: Disk, A: Allocator + Copy, R: Wait, G: Gate>(
     rt: &R,
     bench: &Bench<D, A>,
@@ -48,7 +48,7 @@ fn is_put_off<A: Allocator + Copy>(outcome: &Outcome<A>) -> bool
     matches!(outcome, Outcome::Parked | Outcome::Held | Outcome::Later)
 }
 
-// Settles what parked, and executes the unit again after any other outcome.
+// Settles a unit that was parked, and executes it again after any other outcome.
 fn next_try<D: Disk, A: Allocator + Copy, R: Wait>(
     rt: &R,
     bench: &Bench<D, A>,

@@ -1,4 +1,4 @@
--- What comes of a command, as the step of its unit.
+-- The effect of a command, as the step of its unit.
 use Rattle.std.proofs.Common.{◌≡◌, ◌⊎◌, inl, inr, ℕ, Bool, true, false, Option, Some, None, Ok, Err, List, refl, sym, ap, subst, ◌∙◌}
 use Rattle.psu_lex.specs.declared.scpi_error.ScpiError.{ScpiError}
 use Rattle.psu_lex.specs.declared.scpi_error.ScpiError.TheVariants.{MediaFull, OutOfMemory}
@@ -20,7 +20,7 @@ use Rattle.psu_exec.proofs.Changes.{sound_after}
 
 -- ---- steps
 
--- the state that is seen
+-- the state on the left of an equation
 abbrev pub seen : {s t : State} → s ≡ t → State
 seen {s} {t} e = s
 
@@ -43,14 +43,14 @@ answered_step s mid new session request reply free now may is then k = record {
   fitting = k.fitting;
 }
 
--- what a unit is answered that calls a macro, and one that calls none
+-- the reply to a unit that calls a macro, and to one that calls none
 pub called_so : (s : State) (session : ℕ) (request : Request) (reply : Reply) → (body : List ℕ) × (called s request ≡ Some body) × AnswersCall request body reply → AnswersCalled s session request (called s request) reply
 called_so s session request reply call = subst (λ (o : Option (List ℕ)). AnswersCalled s session request o reply) (sym call.1) call.2
 
 pub meant_so : (s : State) (session : ℕ) (request : Request) (reply : Reply) → called s request ≡ None → MayMean s.flush (meant (here s session) request.reading) reply → AnswersCalled s session request (called s request) reply
 meant_so s session request reply none may = subst (λ (o : Option (List ℕ)). AnswersCalled s session request o reply) (sym none) may
 
--- ---- what comes of a command
+-- ---- the effect of a command
 
 pub failed : (A : Type 0) (s : State) (session : ℕ) (m : Meaning) (e : ScpiError) (new : Instrument) → ActsAs {A = A} m s.volatile.instrument (Err e) new
     → MayMean s.flush m (Error e) × (refused (with_instrument s new) e ≡ after_meant s session m (Error e))
@@ -95,18 +95,18 @@ completes A (Does (Some text) after) i new c (inr h) = absurd (let bad = h.0 in 
 completes A (Keeps other) i new c h = absurd h
 completes A (Completes other) i new c h = (cc, h.1)
 
--- what is done of it afterwards is done of the command
+-- what is done for an equal meaning is done for the command
 pub then_done : (s after : State) (session : ℕ) (m n : Meaning) (new : Instrument) (reply : Reply) → m ≡ n → new ≡ s.volatile.instrument → MayMean s.flush n reply → after ≡ after_meant (with_instrument s new) session n reply
     → MayMean s.flush m reply × (after ≡ after_meant s session m reply)
 then_done s after session m n new reply e same may is = rw e (may, is ∙ ap (λ (i : Instrument). after_meant (with_instrument s i) session n reply) same)
 
--- ---- changes of what is kept
+-- ---- changes of the nonvolatile contents
 
--- what is not refused fits
+-- a change that is not refused fits
 pub fits_of : (limit : ℕ) (c : Contents) (change : nv.Command) → nv.refused c change ≡ None → nv.answer limit c change ≡ None → fits limit (nv.apply c change) ≡ true
 fits_of limit c change found h = elim (cases_Bool (fits limit (nv.apply c change))) [ inl fit ↦ fit | inr full ↦ absurd (let bad = rw (found, full) at h in cc) ]
 
--- a change that is not made: it doesn't fit, or memory is refused
+-- a change that is not made: it doesn't fit, or an allocation fails
 pub not_made : (f : Flush) (change : nv.Command) (e : ScpiError) → nv.refused f.contents change ≡ None → is_whole f.store ≡ true
     → ((e ≡ OutOfMemory) × (fits f.limit (nv.apply f.contents change) ≡ true)) ⊎ ((e ≡ MediaFull) × (fits f.limit (nv.apply f.contents change) ≡ false)) → MayMean f (Keeps change) (Error e)
 not_made f change e found whole (inl m) = inr (ap Error m.0, ap (λ (reply : Reply). wants_memory (Some change) reply) (answers true m.1)) where

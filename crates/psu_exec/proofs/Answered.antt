@@ -1,4 +1,4 @@
--- No unit, and no wait's end, is answered by nothing.
+-- No unit and no ended wait has an empty response.
 use Rattle.std.proofs.Common.{◌≡◌, ◌≢◌, ◌⊎◌, inl, inr, ℕ, Bool, true, false, ◌==◌, ◌&&◌, not, if◌then◌else◌, Option, Some, None, Result, Ok, Err, List, [], decimal, refl, sym, ◌∙◌, subst}
 use Rattle.psu_lex.specs.declared.scpi_error.ScpiError.{ScpiError}
 use Rattle.psu_lex.specs.declared.scpi_error.ScpiError.TheVariants.{StorageFault}
@@ -20,7 +20,7 @@ use Rattle.psu_exec.proofs.Answering.{IsCall, IsPutOff, answer_is_no_call, ways}
 abbrev HasText : Reply → Type 0
 HasText reply = (text : List ℕ) → reply ≡ Answer text → text ≢ []
 
--- ---- what is meant
+-- ---- meanings
 
 complete_told : (c : Completion) → HasText (answer_complete c)
 complete_told completion.Query text is = subst (λ (z : List ℕ). z ≢ []) (let same : decimal 1 ≡ text = cc in same) (some_digit 1)
@@ -38,7 +38,7 @@ kept_silent None false fitting text is = cc
 kept_silent None true false text is = cc
 kept_silent None true true text is = cc
 
--- what a meaning says
+-- the response of a meaning is not empty
 abbrev Says : Meaning → Type 0
 Says m = (text : List ℕ) (new : Instrument) → m ≡ Does (Some text) new → text ≢ []
 

@@ -1,10 +1,11 @@
--- How a unit may be answered: a lock denies it, it comes later, it calls a macro, or it is what it means.
+-- The replies that a unit may get: a lock denies it, it is late, it calls a macro, or the reply follows from its
+-- meaning.
 use Rattle.std.proofs.Common.{◌≡◌, ◌⊎◌, inl, inr, ℕ, Bool, true, false, Option, Some, None, Result, Ok, Err, List, refl, sym, subst}
 use Rattle.psu_lex.specs.declared.scpi_error.ScpiError.{ScpiError}
 use Rattle.psu_tree.specs.declared.unit_request.Request.{Request}
 use Rattle.psu_exec.specs.Device.{Reply, Done, Answer, Parked, Held, Later, State, AnswersBeside, AnswersCalled, AnswersNow, MayAnswer, MayMean, answer_call, called, here, is_denied, is_later, meant}
 
--- the answer of some call
+-- the reply to some call
 abbrev pub IsCall : Reply → Type 0
 IsCall reply = (given : Result (List ℕ) ScpiError) × (reply ≡ answer_call given)
 
@@ -12,7 +13,7 @@ of_called : (s : State) (session : ℕ) (request : Request) (reply : Reply) (bod
 of_called s session request reply None h = inr h
 of_called s session request reply (Some body) h = inl (h.given, h.is)
 
--- what the unit comes to while it is not executed
+-- the replies to a unit that is not executed
 abbrev pub IsPutOff : Reply → Type 0
 IsPutOff Held = Unit {0}
 IsPutOff Later = Unit {0}
@@ -36,7 +37,7 @@ pub ways : (s : State) (session : ℕ) (request : Request) (reply : Reply) → M
     → IsPutOff reply ⊎ ((is_later s session request ≡ false) × (IsCall reply ⊎ MayMean s.flush (meant (here s session) request.reading) reply))
 ways s session request reply may = of_beside s session request reply (is_denied s session) may
 
--- a call is answered by nothing else
+-- the other replies are no replies to a call
 pub done_is_no_call : IsCall Done → ⊥
 done_is_no_call (Ok text, e) = cc
 done_is_no_call (Err error, e) = cc
@@ -49,7 +50,7 @@ pub parked_is_no_call : IsCall Parked → ⊥
 parked_is_no_call (Ok text, e) = cc
 parked_is_no_call (Err error, e) = cc
 
--- ---- the other way
+-- ---- the converse
 
 pub is_held : (s : State) (session : ℕ) (request : Request) → is_denied s session ≡ true → MayAnswer s session request Held
 is_held s session request denied = subst (λ (b : Bool). AnswersBeside b s session request Held) (sym denied) refl

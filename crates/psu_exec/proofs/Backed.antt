@@ -1,4 +1,4 @@
--- A latch that is set has an enabled bit that is, whatever is called.
+-- RQS is set only while an enabled bit is set, after each call.
 use Rattle.std.proofs.Common.{◌≡◌, inl, inr, ℕ, zero, suc, Bool, true, false, not, cond, eqb, Some, None, List, [], ◌∷◌, map, get_or, replicate, refl, sym, ap, subst, ◌∙◌}
 use Rattle.std.specs.Prelude.{◌&&◌, slice_set}
 use Rattle.std.specs.Int.Bits.{and_zero_r}
@@ -19,7 +19,7 @@ both_true false b h = cc
 none_rises : (old new : ℕ) → eqb new 0 ≡ true → rises old new ≡ false
 none_rises old new zeros = let is : new ≡ 0 = eqb-true new 0 zeros in rw is (ap (λ (n : ℕ). not (eqb n 0)) (and_zero_r _))
 
--- the latch of a session whose enabled bits were old and are new, by what its latch was
+-- RQS of a session whose enabled bits were old and are new, by its previous value
 at_bits : (rise zeros was : Bool) (m : Mark) → (rise ≡ true → zeros ≡ false) → (m.latch ≡ true → was ≡ false)
     → (cond rise (requested m) (cond (zeros && not was) (released m) m)).latch ≡ true → zeros ≡ false
 at_bits true zeros was m up since set = up refl
@@ -34,7 +34,7 @@ by_bits old new m since set = at_bits (rises old new) (eqb new 0) (eqb old 0) m 
     up true is r = let bad : true ≡ false = sym r ∙ none_rises old new is in cc
     up false is r = is
 
--- the latch changes nothing of what is available
+-- a change of RQS leaves MAV as it was
 same_at : (rise fall : Bool) (m : Mark) → (cond rise (requested m) (cond fall (released m) m)).available ≡ m.available
 same_at true fall m = by m.latch where
   by : (b : Bool) → (cond b m (record m { latch = true; unfetched = true; untold = true })).available ≡ m.available

@@ -6,7 +6,7 @@ use Rattle.psu_tree.specs.declared.unit_request.Request.{Request}
 use Rattle.psu_instrument.specs.Macros.{HoldsParameters, UnitGives, written}
 use Rattle.psu_exec.specs.Device.{Reply, State, AnswersCall, answer_call, called}
 
--- what is given of a unit is an answer of its call
+-- an expansion or error of a unit's call is a reply to it
 pub calls : (s : State) (request : Request) (body : Option (List ℕ)) (given : Result (List ℕ) ScpiError) (reply : Reply) → called s request ≡ body → (body ≡ None → ⊥) → reply ≡ answer_call given
     → ((list : List Datum) → HoldsParameters request.call list → UnitGives body request.inside (written list) (Some given)) → (x : List ℕ) × (called s request ≡ Some x) × AnswersCall request x reply
 calls s request None given reply e some is gives = absurd (some refl)

@@ -1,4 +1,4 @@
--- What is kept after `*PSC`.
+-- The contents after `*PSC`.
 use Rattle.std.proofs.Common.{◌≡◌, ℕ, ◌≤◌, ◌&&◌, Bool, true, false, Option, Some, None, List, ◌++◌, length, bit_and, nat_le, refl, sym, ap, ◌∙◌, arith}
 use Rattle.std.specs.Prelude.{unwrap_or}
 use Rattle.std.proofs.lemmas.Bool.{leb-true}
@@ -31,7 +31,7 @@ sound_cleared c is = record {
   sorted = is.sorted;
 }
 
--- with others
+-- with other enables
 bit_6 : (n : ℕ) → bit_and (without_mss n) 64 ≡ 0
 bit_6 n = and_assoc 64 n 191 ∙ and_zero_r n
 
@@ -52,7 +52,7 @@ sound_kept c sre ese is = record {
   sorted = is.sorted;
 }
 
--- without enables they cost no more
+-- contents without enables cost at most as much
 without_some : (enables : Option (ℕ × ℕ)) (rest : List Item) → cost rest ≤ cost (enables_items enables ++ rest)
 without_some None rest = omega arith
 without_some (Some e) rest = omega arith

@@ -1,4 +1,4 @@
--- A unit is answered Held exactly where a lock denies its session.
+-- The reply to a unit is Held exactly if a lock denies its session.
 use Rattle.std.proofs.Common.{◌≡◌, inl, inr, ℕ, Bool, true, false, cond, Option, Some, None, Result, Ok, Err, List, refl, ap, subst, ◌∙◌}
 use Rattle.psu_lex.specs.declared.scpi_error.ScpiError.{ScpiError}
 use Rattle.psu_lex.specs.declared.scpi_error.ScpiError.TheVariants.{StorageFault}
@@ -55,7 +55,7 @@ held_is_denied s new session request reply step is = denied_at s session request
 pub denied_is_held : (s new : State) (session : ℕ) (request : Request) (reply : Reply) → Step s session request reply new → is_denied s session ≡ true → reply ≡ Held
 denied_is_held s new session request reply step denied = subst (λ (b : Bool). AnswersBeside b s session request reply) denied step.may
 
--- what is put off leaves all as it was
+-- a unit that is not executed leaves the state unchanged
 pub held_leaves : (s new : State) (session : ℕ) (request : Request) (reply : Reply) → Step s session request reply new → reply ≡ Held → new ≡ s
 held_leaves s new session request reply step is = step.is ∙ ap (after_unit s session request) is ∙ followed_same s
 

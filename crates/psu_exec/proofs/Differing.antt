@@ -1,4 +1,4 @@
--- The edits that make a map that of contents, part after part.
+-- The edits that turn a map into that of contents, part by part.
 use Rattle.std.proofs.Common.{◌≡◌, ℕ, zero, suc, ◌+◌, ◌<◌, ◌≤◌, List, [], ◌∷◌, ◌++◌, length, map, take, slice_index_or, refl, sym, ap, ◌∙◌, subst, arith, append_assoc, append-nil}
 use Rattle.std.proofs.Math.Seq.{take-suc}
 use Rattle.std.proofs.lemmas.Grind.{flat_map-append}
@@ -67,7 +67,7 @@ pub all_files : (f : Item → List Edit) (files : List Item) (r edits : List Edi
     → edits ≡ r ++ flat_map f (map file_item files)
 all_files f files r edits n list same all seen = seen ∙ ap (λ (l : List Item). r ++ flat_map f (map file_item l)) (take_all n files (subst (λ (l : List Item). length l ≤ n) same all))
 
--- all that is gone
+-- the removals of all items that are gone
 pub all_removals : (target before : List Item) (made : List Edit) (n : ℕ) (list : List Item) → list ≡ before → length list ≤ n → made ≡ flat_map (removal target) (take n before) → made ≡ flat_map (removal target) before
 all_removals target before made n list same all seen = seen ∙ ap (flat_map (removal target)) (take_all n before (subst (λ (l : List Item). length l ≤ n) same all))
 

@@ -1,4 +1,4 @@
--- What the end of a job leaves of the flush part, and of who is there.
+-- The flush part, the open sessions and the locks after the end of a job.
 use Rattle.std.proofs.Common.{◌≡◌, ◌⊎◌, inl, inr, ap}
 use Rattle.std.specs.Prelude.{◌≢◌}
 use Rattle.psu_items.specs.declared.commit.UnstartedCause.TheVariants as unstarted

@@ -1,4 +1,5 @@
--- Marks whose sessions' enabled bits stay as they were, or change with the status alone, or at one session alone.
+-- Service states of sessions whose enabled bits are unchanged, or change by the status alone, or change for one
+-- session alone.
 use Rattle.std.proofs.Common.{◌≡◌, ℕ, zero, suc, Bool, true, false, not, cond, eqb, List, [], ◌∷◌, map, get_or, refl, ap, ap₂, sym, ◌∙◌}
 use Rattle.std.specs.Prelude.{◌&&◌, bit_and, slice_set}
 use Rattle.std.specs.Int.Bits.{and_zero_l, xor_self}
@@ -47,21 +48,21 @@ same_enabled a b e f = ap₂ (λ (r u : ℕ). record { read = r; unread = u }) e
 pub enabled_pair : (status : Reported) (read unread : ℕ) → read ≡ enabled status false → unread ≡ enabled status true → record { read = read; unread = unread } ≡ enabled_of status
 enabled_pair status read unread e f = ap₂ (λ (r u : ℕ). record { read = r; unread = u }) e f
 
--- one session's mark alone changes
+-- one session's service state alone changes
 each_set : (status : Reported) (ms : List Mark) (i : ℕ) (x : Mark)
     → each_latched status status ms (slice_set ms i x) ≡ slice_set ms i (latched (enabled status (get_or ms i no_mark).available) (enabled status x.available) x)
 each_set status [] i x = refl
 each_set status (m ∷ ms) zero x = ap (λ (xs : List Mark). latched (enabled status m.available) (enabled status x.available) x ∷ xs) (each_same status ms)
 each_set status (m ∷ ms) (suc i) x = ap₂ (λ (y : Mark) (ys : List Mark). y ∷ ys) (latched_same (enabled status m.available) m) (each_set status ms i x)
 
--- the mark of a session that is sent an answer, or reads it
+-- the service state of a session that is sent a response, or reads it
 abbrev pub changed : Reported → Bool → Mark → Mark
 changed status b m = latched (enabled status m.available) (enabled status b) (with_available m b)
 
 pub followed_at : (s : State) (session : ℕ) (b : Bool) → with_mark s session (changed s.volatile.instrument.status b (mark_of s session)) ≡ with_answer s session b
 followed_at s session b = ap (with_marks s) (sym (each_set s.volatile.instrument.status s.volatile.marks (place_of session) (with_available (mark_of s session) b)))
 
--- the state after a step that follows the status alone
+-- the state after a step that changes enabled bits by the status alone
 pub followed_by : (before after : State) (old : Enabled) (marks : List Mark) → old ≡ enabled_of before.volatile.instrument.status → before.volatile.marks ≡ after.volatile.marks
     → marks ≡ map (latched_by old (enabled_of after.volatile.instrument.status)) after.volatile.marks → with_marks after marks ≡ followed before after
 followed_by before after old marks e same is =

@@ -1,4 +1,4 @@
--- What an opening may leave stands for what stood before it.
+-- Each possible crash image of an opening represents what one from before it represented.
 use Rattle.std.proofs.Common.{◌⊎◌, inl, inr, ℕ, List}
 use Rattle.psu_disk.specs.Disk.{DiskState, Left}
 use Rattle.psu_disk.specs.Ranges.{reads_left}

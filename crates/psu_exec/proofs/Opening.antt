@@ -34,7 +34,7 @@ free_at : (n : ℕ) (list : List Bool) (session : ℕ) → free_from n list ≡ 
 free_at n [] session h = cc
 free_at n (b ∷ list) session h = free_one n b list session h (λ m e. free_at m list session e)
 
--- none is free
+-- no place is free
 taken_one : (n : ℕ) (b : Bool) (list : List Bool) → cond b (free_from (suc n) list) (Some n) ≡ None → ((m : ℕ) → free_from m list ≡ None → (k : ℕ) → k < length list → get_or list k false ≡ true)
     → (k : ℕ) → k < length (b ∷ list) → get_or (b ∷ list) k false ≡ true
 taken_one n false list h rest k lt = cc
@@ -85,11 +85,11 @@ apart (suc a) (suc b) x y h g e = omega (arith, e)
 pub places_are_apart : PlacesAreApart
 places_are_apart s one other h g e = apart one other _ _ h g e
 
--- the session that opens has a number from 1 on
+-- the number of the session that opens is at least 1
 pub first_open : (s : State) (session : ℕ) → least_free s ≡ Some session → 1 ≤ session
 first_open s session e = let r = free_at 1 s.volatile.open_now session e in let number = r.number in omega arith
 
--- what one session says of another at its place
+-- two open sessions at one place
 pub at_same : (s : State) (one other : ℕ) → place_of one ≡ place_of other → 1 ≤ other → is_open s one ≡ true → is_open s other ≡ true
 at_same s one other same from h = at_place s.volatile.open_now other true from (rw (sym same) (open_part _ _ h)) where
   open_part : (a b : Bool) → a && b ≡ true → b ≡ true

@@ -15,7 +15,7 @@ use Rattle.psu_exec.specs.Device.{Flush, held_of, is_broken, map_held, target}
 use Rattle.psu_exec.proofs.Batches.{changed-batch}
 use Rattle.psu_exec.proofs.Touching.{there}
 
--- edits of which this is the first
+-- edits with this first edit
 pub with_first : (edits : List Edit) (first : Edit) (key : List ℕ) (value : Option (List ℕ)) → 1 ≤ length edits → first ≡ get_or edits 0 first → first.key ≡ key → first.value ≡ value
     → edits ≡ record { key = key; value = value } ∷ take (length edits - 1) (drop 1 edits)
 with_first [] first key value some at k v = absurd (omega (arith, some))
@@ -27,7 +27,7 @@ with_first (e ∷ edits) first key value some at k v =
     one : (first : Edit) (key : List ℕ) (value : Option (List ℕ)) → first.key ≡ key → first.value ≡ value → first ≡ record { key = key; value = value }
     one first key value k v = rw (sym k, sym v) refl
 
--- where the edits of one item are not next, all of them are not there
+-- if the edits of one item are not next, the edits of all items are not there
 pub not_next : {X A : Type 0} (f : X → List A) (xs : List X) (n : ℕ) (x : X) (all rest : List A) → n < length xs → x ≡ get_or xs n x → all ≡ flat_map f (take n xs) ++ rest
     → ((more : List A) → rest ≡ f x ++ more → ⊥) → (more : List A) → all ≡ flat_map f xs ++ more → ⊥
 not_next f [] n x all rest lt at done none more e = omega (arith, lt)
@@ -38,13 +38,13 @@ not_next f (y ∷ ys) (suc n) x all rest lt at done none more e =
     let same : f y ++ front ≡ f y ++ (flat_map f ys ++ more) = sym (append_assoc (f y) (flat_map f (take n ys)) rest) ∙ (sym done ∙ (e ∙ append_assoc (f y) (flat_map f ys) more)) in
     not_next f ys n x front rest (omega (arith, lt)) at refl none more (append_cancel_left (f y) front (flat_map f ys ++ more) same)
 
--- items that a target has want no removal
+-- items that a target has need no removal
 no_removals : (target items : List Item) → AllByRecursion (λ (i : Item). get target i.key ≡ Some i.value) items → flat_map (removal target) items ≡ []
 no_removals target [] own = refl
 no_removals target (i ∷ items) own =
     ap (λ (o : Option (List ℕ)). cond (is_some o) [] (record { key = i.key; value = None } ∷ []) ++ flat_map (removal target) items) own.0 ∙ no_removals target items own.1
 
--- and such as the map before has no assignment
+-- items that the map before has need no assignment
 no_assignments : (before items : List Item) → AllByRecursion (λ (i : Item). get before i.key ≡ Some i.value) items → flat_map (assignment before) items ≡ []
 no_assignments before [] own = refl
 no_assignments before (i ∷ items) own = ap (λ (l : List Edit). l ++ flat_map (assignment before) items) (there before i.key i.value own.0) ∙ no_assignments before items own.1
@@ -54,12 +54,12 @@ middle f whole front part back is in_front behind =
     ap (flat_map f) is ∙ flat_map-append f front (part ++ back) ∙ ap (λ (l : List Edit). l ++ flat_map f (part ++ back)) in_front
     ∙ flat_map-append f part back ∙ ap (λ (l : List Edit). flat_map f part ++ l) behind ∙ append-nil (flat_map f part)
 
--- the same of maps that are these
+-- the difference of two lists, stated of the maps that they equal
 pub between_of : (one before other target gone come : List Item) → one ≡ before → other ≡ target → AreBetween one other gone come → AreBetween before target gone come
 between_of one before other target gone come same_before same_target between =
     record { front = between.front; back = between.back; one_is = sym same_before ∙ between.one_is; other_is = sym same_target ∙ between.other_is }
 
--- what two maps have the same in front and behind wants no edit
+-- the common prefix and suffix of two maps need no edit
 module _ (before target gone come : List Item) (between : AreBetween before target gone come) where
   pub removals_between : IsSorted target → flat_map (removal target) before ≡ flat_map (removal target) gone
   removals_between sorted =
@@ -88,7 +88,7 @@ pub no_batch : (plan : Planned) (target : List Item) → ((rest : List Edit) →
 unfolding batch
 no_batch plan target none b = none (flat_map (assignment plan.map) target) b
 
--- the batch by what is between
+-- the batch by the items between the common prefix and suffix
 module _ (plan : Planned) (target gone come : List Item) (between : AreBetween plan.map target gone come) (sorted : IsSorted plan.map) (sorted_target : IsSorted target) (edits : List Edit) (are : edits ≡ plan.edits) where
   with_removals : (rest : List Edit) → edits ≡ flat_map (removal target) gone ++ rest → plan.edits ≡ flat_map (removal target) plan.map ++ rest
   with_removals rest e = sym are ∙ (e ∙ ap (λ (l : List Edit). l ++ rest) (sym (removals_between plan.map target gone come between sorted_target)))
@@ -106,7 +106,7 @@ module _ (plan : Planned) (target gone come : List Item) (between : AreBetween p
 pub led : (plan : Planned) (target : List Item) → IsSorted plan.map → IsSorted target → plan.edits ≡ batch plan.map target → changed plan.map plan.edits ≡ target
 led plan target sp st b = ap (changed plan.map) b ∙ changed-batch plan.map target sp st
 
--- the target of a job that is out, against the edits that are planned
+-- the target of a job that is out, compared by the planned edits
 pub aimed : (f : Flush) (held : Option ℕ) (plan : Planned) (map : List Item) → HasEdits held plan → f.held ≡ held_of held (changed plan.map plan.edits) → is_some f.held ≡ true
     → (plan.edits ≡ batch plan.map map → changed plan.map plan.edits ≡ map) → (plan.edits ≡ batch plan.map map → map ≡ target f) × (map ≡ target f → plan.edits ≡ batch plan.map map)
 aimed f None plan map has e some leads = absurd (let bad = sym some ∙ ap is_some e in cc)

@@ -1,4 +1,4 @@
--- The store of a job that was given back, at home.
+-- The store of a job that was given back.
 use Rattle.std.proofs.Common.{◌≡◌, inl, inr, ◌⊎◌, not, false, Option, Some, refl, sym, subst, ◌∙◌}
 use Rattle.psu_disk.specs.declared.disk.Disk.{Ghosts}
 use Rattle.psu_items.specs.declared.commit.UnstartedCause.TheVariants as unstarted
@@ -13,7 +13,7 @@ use Rattle.psu_exec.specs.declared.ending.Ending.TheVariants as ending
 use Rattle.psu_exec.specs.declared.finished.Finished.{Finished}
 use Rattle.psu_exec.specs.declared.finished.Finished.TheVariants as finished
 
--- what holds of a store at home
+-- the invariant of a store while no job is out
 pub record IsHome {D A : Type 0} {G : Ghosts D} (f : Flush) (home : Home D A G) : Type 0 where
   pub holds : home_map home ≡ f.before
   pub sized : home_limit home ≡ f.limit
@@ -34,11 +34,11 @@ returned f new (finished.Reopened store) expected (inr is) goal = rw is.1 (recor
     before_is (inl e) = e
     before_is (inr e) = absurd (is.0 e)
 
--- what is put into a place is there
+-- a store that is put into the place is the one there
 pub at_home : {D A : Type 0} {G : Ghosts D} (f : Flush) (place : Option (Home D A G)) (put own : Home D A G) → place ≡ Some put → put ≡ own → IsHome f own → (h : Home D A G) → place ≡ Some h → IsHome f h
 at_home f place put own here is home h at = let both = sym here ∙ at in subst (IsHome f) (sym is ∙ cc) home
 
--- an ended job is out no more
+-- no job is out after a job has ended
 pub out_after : (s : State) (e : Ending) → (ended s e).flush.out ≡ false
 out_after s ending.Flushed = refl
 out_after s ending.Kept = refl

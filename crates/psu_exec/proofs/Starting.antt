@@ -1,4 +1,4 @@
--- Why a map is no start, and where one is.
+-- Why a power-on from a map fails, and when it doesn't.
 use Rattle.std.proofs.Common.{◌≡◌, List, sym, ap, ◌∙◌}
 use Rattle.psu_map.specs.Map.{Item}
 use Rattle.psu_nv.specs.Contents.{Contents, IsContents, items_of}
@@ -14,7 +14,7 @@ no_start items decoding.BadKey keys e c is same = let good = contents_keys c is 
 no_start items decoding.BadValue value e c is same = value.1 (record { contents = c; are = is; items_are = same })
 no_start items decoding.Memory kept e c is same = cc
 
--- where memory is wanted, the map is that of contents
+-- if the cause is memory, the map is that of contents
 pub kept_start : (items own : List Item) (fault : DecodeFault) → IsFault items fault → cause_of fault ≡ Memory → items ≡ own → (c : Contents) × IsContents c × (items_of c ≡ own)
 kept_start items own decoding.BadKey keys e is = absurd cc
 kept_start items own decoding.BadValue value e is = absurd cc

@@ -1,4 +1,4 @@
--- A part that has not changed wants no edit, and a change leaves each part but its own.
+-- A part that has not changed needs no edit, and a change leaves each part but its own.
 use Rattle.std.proofs.Common.{◌≡◌, ◌≢◌, ◌⊎◌, ◌&&◌, ◌||◌, is_some, ℕ, zero, suc, ◌+◌, ◌<◌, ◌==◌, not, Bool, true, false, cond, Option, Some, None, List, [], ◌∷◌, ◌++◌, length, map, refl, sym, ap, ◌∙◌, subst, inl, inr, arith, append-nil, slice_index_or, slice_set, replicate}
 use Rattle.std.proofs.lemmas.Bool.Decides.{nat_tests}
 use Rattle.std.proofs.lemmas.Grind.{flat_map-append}
@@ -26,7 +26,7 @@ use Rattle.psu_exec.specs.declared.condition.Condition.TheVariants.{Whole}
 
 -- ---- what has not changed
 
--- an item that is there wants no assignment
+-- an item that is there needs no assignment
 pub there : (before : List Item) (key value : List ℕ) → get before key ≡ Some value → assignment before (item_of key value) ≡ []
 there before key value e =
     ap (λ (o : Option (List ℕ)). cond (is_value value o) [] (record { key = key; value = Some value } ∷ [])) e
@@ -77,7 +77,7 @@ unchanged_part p before c part keeps same = at (alone c part)
         ap (flat_map (assignment before)) one ∙ append-nil (assignment before (item_of (key_of part) value))
         ∙ there before (key_of part) value (keeps part same ∙ part_found c part ∙ ap value_in one)
 
--- no register wants an edit where none by itself does
+-- no register needs an edit if none by itself does
 none_of : (f : Item → List Edit) (q : ℕ) (registers : List (List OutputSettings)) → ((k : ℕ) → flat_map f (register_items (q + k) (settings_at registers k)) ≡ []) → flat_map f (registers_items q registers) ≡ []
 none_of f q [] each = refl
 none_of f q (s ∷ registers) each =
@@ -101,16 +101,16 @@ unchanged_files p before c keeps none sorted = each c.files (all_own c.files sor
         (there before (5 ∷ i.key) i.value (keeps (kept.File i.key) none ∙ part_found c (kept.File i.key) ∙ value_file i.key (get c.files i.key) ∙ own.0))
         ∙ each files own.1
 
--- an item stays of whose key the part has not changed
+-- an item stays if the part of its key has not changed
 pub stays_there : (p : ChangedParts) (before new : List Item) (n : ℕ) (i : Item) → KeepsOthers p before new → IsSorted before → n < length before → i ≡ slice_index_or before n i → IsUnchanged p i.key → is_some (get new i.key) ≡ true
 stays_there p before new n i keeps sorted within at part =
     let own : get before i.key ≡ Some i.value = subst (λ (j : Item). get before j.key ≡ Some j.value) (sym at) (all_at (λ (j : Item). get before j.key ≡ Some j.value) before n i within (all_own before sorted)) in
     let kept : get before i.key ≡ get new i.key = subst (λ (k : List ℕ). get before k ≡ get new k) (sym part.1) (keeps part.0 part.2) in
     ap is_some (sym kept ∙ own)
 
--- ---- what a change leaves
+-- ---- the parts that a change leaves
 
--- what hasn't changed with these parts more had not changed before, and is kept as it was
+-- a part that isn't in the larger set was not in the smaller one, and is kept as it was
 abbrev LeavesOthers : ChangedParts → ChangedParts → Contents → Contents → Type 0
 LeavesOthers p q c d = (part : Part) → is_changed q part ≡ false → (is_changed p part ≡ false) × (value_in (part_items c part) ≡ value_in (part_items d part))
 
@@ -158,7 +158,7 @@ module _ (p : ChangedParts) (c : Contents) where
   recall_alone on (kept.File name) same = (same, refl)
   recall_alone on kept.Recall same = cc
 
-  -- a mark that isn't set is another's, and was not set before
+  -- a flag that isn't set is another register's, and was not set before
   unset : (marks : List Bool) (r n : ℕ) → slice_index_or (slice_set marks r true) n true ≡ false → (n ≢ r) × (slice_index_or marks n true ≡ false)
   unset [] r n e = cc
   unset (m ∷ marks) zero zero e = cc
@@ -231,7 +231,7 @@ keeps_same p old new e = λ part same. ap (λ (m : List Item). get m (key_of par
 pub keeps_from : (p : ChangedParts) (old other new : List Item) → old ≡ other → KeepsOthers p old new → KeepsOthers p other new
 keeps_from p old other new e keeps = subst (λ (m : List Item). KeepsOthers p m new) e keeps
 
--- at home a whole store's target is its map
+-- while no job is out, the target of a whole store is its map
 pub at_home : (f : Flush) → IsConsistent f → f.out ≡ false → f.store ≡ Whole → target f ≡ f.before
 at_home f c home whole = ap (map_held f.before) (none f.held (c.out ∙ ap (λ (b : Bool). b || is_broken f.store) home ∙ ap is_broken whole))
   where

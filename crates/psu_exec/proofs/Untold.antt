@@ -1,11 +1,11 @@
--- The sessions that are to be told of, one more looked at.
+-- The sessions with a service request to report, after one more place.
 use Rattle.std.proofs.Common.{◌≡◌, ◌≤◌, ◌<◌, ℕ, suc, ◌+◌, Bool, true, false, List, [], ◌∷◌, ◌++◌, length, take, get_or, refl, sym, ap, ap₂, ◌∙◌, arith, append_assoc}
 use Rattle.std.specs.Prelude.{◌&&◌}
 use Rattle.std.proofs.lemmas.List.{take_more, length-take-le}
 use Rattle.psu_exec.specs.Latches.{named, untold_from}
 use Rattle.psu_exec.specs.declared.mark.Mark.{Mark}
 
--- nothing after it
+-- a list with nothing after it
 alone : (n : ℕ) (b : Bool) → named n b ++ [] ≡ named n b
 alone n true = refl
 alone n false = refl

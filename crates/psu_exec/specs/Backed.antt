@@ -1,4 +1,4 @@
--- What holds of every latch.
+-- The invariant of RQS.
 use Rattle.std.specs.Prelude.{◌≡◌, ℕ, ◌==◌, true, false, List, [], ◌∷◌, ⊤}
 use Rattle.psu_status.specs.Status.{Reported, enabled}
 use Rattle.psu_nv.specs.Contents.{Contents}
@@ -6,7 +6,7 @@ use Rattle.psu_exec.specs.declared.mark.Mark.{Mark}
 use Rattle.psu_exec.specs.Device.{State, power_on}
 use Rattle.psu_exec.specs.Calls.{Entry, Allows}
 
--- a latch is set only while an enabled bit of its session is
+-- RQS is set only while an enabled bit of its session is set
 abbrev pub IsBacked : Reported → Mark → Type 0
 IsBacked status m = m.latch ≡ true → (enabled status m.available == 0) ≡ false
 
@@ -14,7 +14,7 @@ abbrev pub AreBacked : Reported → List Mark → Type 0
 AreBacked status [] = ⊤
 AreBacked status (m ∷ marks) = IsBacked status m × AreBacked status marks
 
--- each call leaves it so, and a power-on
+-- each call preserves this, and a power-on establishes it
 abbrev pub EachLatchStaysBacked : Type 0
 EachLatchStaysBacked = (s new : State) (entry : Entry) → Allows s entry new → AreBacked s.volatile.instrument.status s.volatile.marks → AreBacked new.volatile.instrument.status new.volatile.marks
 

@@ -1,4 +1,4 @@
--- Which parts of what is kept may have changed.
+-- The parts of the nonvolatile contents that may have changed.
 use Rattle.std.specs.Prelude.{◌≡◌, ℕ, ◌&&◌, Bool, true, false, List, slice_index_or, slice_set}
 use Rattle.psu_map.specs.Map.{Item, get}
 use Rattle.psu_nv.specs.Commands.{Command, ServiceEnable, EventEnable, PowerOnClear, Save, User, DefineMacro, RemoveMacro, PurgeMacros, StoreBytes, Delete, Copy, Move, StoreState, LoadState, StoreMacro, LoadMacro, Recall}
@@ -6,7 +6,7 @@ use Rattle.psu_nv.specs.Parts as kept
 use Rattle.psu_nv.specs.Parts.{Part, key_of}
 use Rattle.psu_exec.specs.declared.changed_parts.ChangedParts.{ChangedParts}
 
--- a part is among them; of the files all are or none
+-- whether a part is in the set; either all files are or none
 abbrev pub is_changed : ChangedParts → Part → Bool
 is_changed p kept.Enables = p.enables
 is_changed p (kept.Register number) = p.some_register && slice_index_or p.registers number true
@@ -19,11 +19,11 @@ is_changed p kept.Recall = p.recall
 abbrev pub IsUnchanged : ChangedParts → List ℕ → Type 0
 IsUnchanged p key = (part : Part) × (key ≡ key_of part) × (is_changed p part ≡ false)
 
--- with this register
+-- the set with this register
 abbrev pub with_register : ChangedParts → ℕ → ChangedParts
 with_register p number = record p { registers = slice_set p.registers number true; some_register = true }
 
--- with the part that this change makes another
+-- the set with the part that this change modifies
 abbrev pub with_change : ChangedParts → Command → ChangedParts
 with_change p (ServiceEnable bits) = record p { enables = true }
 with_change p (EventEnable bits) = record p { enables = true }
@@ -43,6 +43,6 @@ with_change p (StoreMacro label name) = record p { files = true }
 with_change p (LoadMacro label name) = record p { macros = true }
 with_change p (Recall on) = record p { recall = true }
 
--- two maps have the same of each part that isn't among them
+-- two maps have the same value of each part that isn't in the set
 abbrev pub KeepsOthers : ChangedParts → List Item → List Item → Type 0
 KeepsOthers p old new = (part : Part) → is_changed p part ≡ false → get old (key_of part) ≡ get new (key_of part)

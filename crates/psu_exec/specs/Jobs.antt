@@ -1,4 +1,4 @@
--- Jobs and the stores that they hold.
+-- Jobs, their results, and the stores that they have.
 use Rattle.std.specs.Prelude.{◌≡◌, ◌≢◌, ◌⊎◌, ◌≤◌, ◌+◌, ◌^◌, ℕ, List, Bool, true, false, Result, Ok, Err}
 use Rattle.psu_disk.specs.Disk.{HasFailed}
 use Rattle.psu_disk.specs.declared.disk.Disk.{Ghosts}
@@ -21,21 +21,21 @@ use Rattle.psu_exec.specs.declared.finished.Finished.TheVariants as finished
 use Rattle.psu_exec.specs.declared.home.Home.{Home}
 use Rattle.psu_exec.specs.declared.home.Home.TheVariants as home
 
--- what a job came to, without where its parts lie
+-- the result of a finished job, as data
 abbrev pub finished_of : {D A : Type 0} {G : Ghosts D} → Finished D A G → JobEnd
 finished_of (finished.Stored store) = JobEnd.Stored store.limit store.items
 finished_of (finished.Unstarted store batch cause) = JobEnd.Unstarted store.limit store.items batch cause
 finished_of (finished.Broken broken) = JobEnd.Failed broken.limit broken.before broken.batch broken.cause
 finished_of (finished.Reopened store) = JobEnd.Reopened store.limit store.items
 
--- the disk in it
+-- the disk of a finished job
 abbrev pub finished_disk : {D A : Type 0} {G : Ghosts D} → Finished D A G → D
 finished_disk (finished.Stored store) = store.disk
 finished_disk (finished.Unstarted store batch cause) = store.disk
 finished_disk (finished.Broken broken) = broken.disk
 finished_disk (finished.Reopened store) = store.disk
 
--- the store at home once a job is given back
+-- the store once a job is given back
 abbrev pub home_of : {D A : Type 0} {G : Ghosts D} → Finished D A G → Home D A G
 home_of (finished.Stored store) = home.Whole store
 home_of (finished.Unstarted store batch cause) = home.Whole store
@@ -58,7 +58,8 @@ abbrev pub is_home_whole : {D A : Type 0} {G : Ghosts D} → Home D A G → Bool
 is_home_whole (home.Whole store) = true
 is_home_whole (home.Failed broken) = false
 
--- what a broken store at home was to be changed by, and into which map; of a whole one what is given
+-- the batch that a broken store was to be changed by, and the map that this leads to; for a whole store, the given
+-- one
 abbrev pub home_edits : {D A : Type 0} {G : Ghosts D} → List Edit → Home D A G → List Edit
 home_edits edits (home.Whole store) = edits
 home_edits edits (home.Failed broken) = broken.batch
@@ -67,7 +68,7 @@ abbrev pub home_goal : {D A : Type 0} {G : Ghosts D} → List Item → Home D A 
 home_goal goal (home.Whole store) = goal
 home_goal goal (home.Failed broken) = changed broken.before broken.batch
 
--- a job with its maps, without where its parts lie
+-- a job with its maps, as data
 abbrev pub job_data : {D A : Type 0} {G : Ghosts D} → Job D A G → JobData
 job_data (job.Commit planned) = record { kind = Commit; limit = planned.store.limit; before = planned.store.items; target = changed planned.store.items planned.batch; edits = planned.batch }
 job_data (job.Reopen alloc broken) = record { kind = Reopen; limit = broken.limit; before = broken.before; target = changed broken.before broken.batch; edits = broken.batch }
@@ -76,31 +77,34 @@ abbrev pub job_disk : {D A : Type 0} {G : Ghosts D} → Job D A G → D
 job_disk (job.Commit planned) = planned.store.disk
 job_disk (job.Reopen alloc broken) = broken.disk
 
--- the store of a job, as it was at home
+-- the store of a job, as it was before the job was taken
 abbrev pub job_home : {D A : Type 0} {G : Ghosts D} → Job D A G → Home D A G
 job_home (job.Commit planned) = home.Whole planned.store
 job_home (job.Reopen alloc broken) = home.Failed broken
 
--- what a take gives
+-- the reply to a take
 abbrev pub taken_of : {D A : Type 0} {G : Ghosts D} → Result (Job D A G) NoJob → Taken
 taken_of (Ok job) = Taken.Job (job_data job)
 taken_of (Err e) = none_of e
 
--- What a commit of the batch to the store may come to: Stored only where the count of failures did not rise, Broken only where it rose or stands at its last value.
+-- The possible results of a commit of the batch to the store: Stored only if the count of failures did not rise,
+-- Broken only if it rose or is at its last value.
 abbrev pub CommitsTo : {D A : Type 0} {G : Ghosts D} → MapOn D → List Edit → Finished D A G → Type 0
 CommitsTo {D} {A} {G} old batch (finished.Stored store) = HasStored old batch store × (Ghosts.failures G store.disk ≡ Ghosts.failures G old.disk)
 CommitsTo old batch (finished.Unstarted store back cause) = IsUnchanged old batch store back cause
 CommitsTo old batch (finished.Broken broken) = HasBroken old batch broken
 CommitsTo old batch (finished.Reopened store) = ⊥
 
--- The store of the map before or of the target, under the number of the root that counted, and no call of the disk failed.
+-- A store of the map before or of the target, under the number of the root that was current, and no call of the disk
+-- failed.
 pub record HasReopened {D A : Type 0} {G : Ghosts D} (old : Broken D A G) (store : MapOn D) : Type 0 where
   pub items : (store.items ≡ old.before) ⊎ (store.items ≡ changed old.before old.batch)
   pub limit : store.limit ≡ old.limit
   pub failures : Ghosts.failures G store.disk ≡ Ghosts.failures G old.disk
   pub number : Ghosts.honest G → store.number ≡ number_in (counting (Ghosts.state G old.disk).bytes) (Ghosts.state G old.disk).bytes
 
--- It is still broken: where a call of the disk failed the count tells, and else none did.
+-- The store is still broken. If its cause is a failed call of the disk, the count of failures shows it; otherwise no
+-- call failed.
 pub record HasNotReopened {D A : Type 0} {G : Ghosts D} (old broken : Broken D A G) : Type 0 where
   pub same : IsStillBroken old broken
   pub later : Ghosts.failures G old.disk ≤ Ghosts.failures G broken.disk
@@ -108,7 +112,7 @@ pub record HasNotReopened {D A : Type 0} {G : Ghosts D} (old broken : Broken D A
   pub quiet : broken.cause ≢ broken_cause.Device → Ghosts.failures G broken.disk ≡ Ghosts.failures G old.disk
   pub strange : Ghosts.honest G → broken.cause ≢ broken_cause.Strange
 
--- What a reopening may come to: a store of the map before or of the target, or one that is still broken.
+-- The possible results of a reopening: a store of the map before or of the target, or one that is still broken.
 abbrev pub ReopensTo : {D A : Type 0} {G : Ghosts D} → Broken D A G → Finished D A G → Type 0
 ReopensTo old (finished.Stored store) = ⊥
 ReopensTo old (finished.Unstarted store back cause) = ⊥
@@ -119,19 +123,20 @@ abbrev pub RunsTo : {D A : Type 0} {G : Ghosts D} → Job D A G → Finished D A
 RunsTo (job.Commit planned) finished = CommitsTo planned.store planned.batch finished
 RunsTo (job.Reopen alloc broken) finished = ReopensTo broken finished
 
--- a commit behind which there is no number for a root
+-- a commit after which no number for a root is left
 abbrev pub IsAtLastNumber : {D A : Type 0} {G : Ghosts D} → Job D A G → Type 0
 IsAtLastNumber (job.Commit planned) = 2 ^ 64 ≤ planned.store.number + 1
 IsAtLastNumber (job.Reopen alloc broken) = ⊥
 
--- not begun, since the root's number is the last
+-- a commit that was not started, since the root has the last number
 abbrev pub IsLastNumber : {D A : Type 0} {G : Ghosts D} → Finished D A G → Type 0
 IsLastNumber (finished.Stored store) = ⊥
 IsLastNumber (finished.Unstarted store back cause) = cause ≡ unstarted.Worn
 IsLastNumber (finished.Broken broken) = ⊥
 IsLastNumber (finished.Reopened store) = ⊥
 
--- whatever a power loss leaves of the disk stands for the map that the store holds, under its number; of a broken one for the map before, or for the map after the batch
+-- Each possible crash image of the disk represents the map that the store holds, under its number; for a broken
+-- store, the map before or the map after the batch.
 abbrev pub EndStands : {D A : Type 0} {G : Ghosts D} → Finished D A G → Type 0
 EndStands {D} {A} {G} (finished.Stored store) = IsOnDisk (Ghosts.state G) store
 EndStands {D} {A} {G} (finished.Unstarted store batch cause) = IsOnDisk (Ghosts.state G) store

@@ -1,4 +1,5 @@
--- Why a device does not start from its disk, by why the disk is not opened or the power does not come on; none for a want of memory.
+-- Why a device does not start from its disk, by why the disk is not opened or the power-on failed; none for an
+-- allocation failure.
 use Rattle.std.specs.Prelude.{Option, Some, None}
 use Rattle.psu_pages.specs.declared.open_cause.OpenCause.{OpenCause}
 use Rattle.psu_pages.specs.declared.open_cause.OpenCause.TheVariants as opening

@@ -1,12 +1,13 @@
-// Which parts of what is kept may have changed.
+// The parts of the nonvolatile contents that may have changed.
 use psu_nv::{NvCommand, Part, Register};
 
-/// Which parts of what is kept may differ from the map that the store holds, or that its job aims at. Each register is a part; all files are one.
+/// The set of parts of the nonvolatile contents that may differ from the map that the store holds, or from the target
+/// of its job. Each register is a part; all files together are one.
 #[derive(Clone, Copy)]
 pub struct ChangedParts {
     enables: bool,
     registers: [bool; 100],
-    // Whether there is one among the registers.
+    // Whether a register is in the set.
     some_register: bool,
     user: bool,
     macros: bool,
@@ -20,7 +21,7 @@ impl ChangedParts {
     ghost use Rattle.psu_nv.specs.Views.{command_of, part_of};
     ghost use Rattle.psu_exec.specs.Changed.{IsUnchanged, is_changed, with_change, with_register};
 
-    /// No part.
+    /// The empty set.
     pub fn none() -> ChangedParts
         ensures { (part : Kept) → is_changed result part ≡ false }
     {
@@ -35,7 +36,7 @@ impl ChangedParts {
         }
     }
 
-    /// Every part.
+    /// The set of all parts.
     pub fn all() -> ChangedParts
         ensures { (part : Kept) → is_changed result part ≡ true }
     {
@@ -50,7 +51,7 @@ impl ChangedParts {
         }
     }
 
-    /// Whether a part is among them.
+    /// Whether a part is in the set.
     pub fn has(&self, part: Part<'_>) -> bool
         ensures { result ≡ is_changed self.now (part_of part.entry) }
     {
@@ -66,7 +67,7 @@ impl ChangedParts {
         }
     }
 
-    /// Whether the part of a key may be among them.
+    /// Whether the part of a key may be in the set.
     #[inline]
     pub fn has_key(&self, key: &[u8]) -> bool
         ensures { result ≡ false → IsUnchanged self.now key.now }
@@ -80,7 +81,7 @@ impl ChangedParts {
         }
     }
 
-    /// Whether the register of a number is among them.
+    /// Whether the register of a number is in the set.
     #[inline]
     pub fn has_register(&self, number: u8) -> bool
         ensures { result ≡ is_changed self.now (KeptRegister number) }
@@ -88,21 +89,21 @@ impl ChangedParts {
         self.some_register && (number >= 100 || self.registers[number as usize])
     }
 
-    /// Whether a register is among them.
+    /// Whether a register is in the set.
     pub fn has_registers(&self) -> bool
         ensures { result ≡ self.now.some_register }
     {
         self.some_register
     }
 
-    /// Whether the files are among them.
+    /// Whether the files are in the set.
     pub fn has_files(&self) -> bool
         ensures { result ≡ self.now.files }
     {
         self.files
     }
 
-    /// The part that a change makes another is among them from now on.
+    /// Adds the part that a change modifies.
     pub fn add(&mut self, change: &NvCommand<'_>)
         ensures { self.new ≡ with_change self.old (command_of change.now) }
     {

@@ -1,5 +1,5 @@
-// Why no session opens.
+// The error of opening a session.
 
-/// No session can be opened any more.
+/// No further session can be opened.
 #[derive(Clone, Copy, Debug, PartialEq, Eq)]
 pub struct Crowded;

@@ -1,4 +1,4 @@
-// The one state, without its store.
+// The device's state, without its store.
 ghost use Rattle.std.specs.Prelude.{◌≡◌, ◌==◌, true, IfOk};
 ghost use Rattle.psu_nv.specs.Contents.{IsContents, fits};
 ghost use Rattle.psu_exec.specs.Device.{State, followed, is_open, power_on};
@@ -18,17 +18,19 @@ use psu_items::Plan;
 use std::alloc::{AllocError, Allocator};
 use std::marker::Model;
 
-/// The one state: what is kept, the instrument, the sessions, and what is accepted and not yet flushed.
+/// The device's state: the nonvolatile contents, the instrument, the sessions, and the accepted changes that are not
+/// yet flushed.
 #[derive(Drop)]
 pub struct Device<A: Allocator + Copy> {
     alloc: A,
     limit: u16,
     contents: Contents<A>,
-    // The map that the store holds, or held before its job, with the batch of the job that is out or of the store that broke.
+    // The map that the store holds, or held before its job, with the batch of the job that is out or of the store
+    // that broke.
     map: Plan<A>,
     // How many changes are in that batch.
     held: Option<usize>,
-    // What may differ from the map that the batch makes, or from the store's where there is none.
+    // The parts that may differ from the map that the batch produces, or from the store's map if there is no batch.
     touched: ChangedParts,
     unflushed: usize,
     store: Condition,
@@ -36,7 +38,7 @@ pub struct Device<A: Allocator + Copy> {
     waits: [Option<Wait>; SESSIONS],
     open_now: [bool; SESSIONS],
     marks: [Mark; SESSIONS],
-    // With the strings of locks, which are not to be moved with the device.
+    // In a box with its strings of locks, which are not to be moved with the device.
     locks: Box<LockTable, A>,
     instrument: Instrument,
 }
@@ -100,7 +102,7 @@ impl<A: Allocator + Copy> Device<A> {
         self.open_now[session.place()]
     }
 
-    /// What is kept without power.
+    /// The nonvolatile contents.
     pub(crate) fn contents(&self) -> &Contents<A>
         ensures value { result.now ≡ self.now.flush.contents }
         ensures consistent { IsConsistent self.now.flush }
@@ -108,28 +110,28 @@ impl<A: Allocator + Copy> Device<A> {
         &self.contents
     }
 
-    /// Whether the store can take a commit.
+    /// The condition of the store: whether it can take a commit.
     pub(crate) fn condition(&self) -> Condition
         ensures { result ≡ self.now.flush.store }
     {
         self.store
     }
 
-    /// Whether all that is accepted is flushed.
+    /// Whether all accepted changes are flushed.
     pub(crate) fn is_flushed(&self) -> bool
         ensures { result ≡ (self.now.flush.unflushed == 0) }
     {
         self.unflushed == 0
     }
 
-    /// The service request that the instrument makes as it is.
+    /// The service request that the instrument makes in its present state.
     pub(crate) fn first_request(&self) -> Option<u8>
         ensures { result ≡ first_request self.now.volatile.instrument.status }
     {
         self.instrument.first_request()
     }
 
-    // The enabled bits of a session that has read its answers, and of one that has not.
+    // The enabled bits of a session that has read its responses, and of one that has not.
     fn enabled(&self) -> Enabled
         ensures { result ≡ enabled_of self.now.volatile.instrument.status }
     {
@@ -139,7 +141,7 @@ impl<A: Allocator + Copy> Device<A> {
         }
     }
 
-    // The latches of all sessions follow their enabled bits, which were these before the step.
+    // Updates the RQS bits of all sessions after a step that changed their enabled bits, which were `old` before it.
     fn follow(&mut self, old: Enabled)
         ensures { (before : State) → old ≡ enabled_of before.volatile.instrument.status → before.volatile.marks ≡ self.old.volatile.marks → self.new ≡ followed before self.old }
     {

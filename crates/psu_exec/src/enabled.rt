@@ -1,7 +1,7 @@
-// The bits that a service request is made by.
+// The bits that cause a service request.
 ghost use Rattle.std.specs.Prelude.{◌≡◌};
 
-/// The enabled bits of a session that has read its answers, and of one that has not.
+/// The enabled bits of a session that has read its responses, and of one that has not.
 #[derive(Clone, Copy, Debug, PartialEq, Eq)]
 pub struct Enabled {
     pub read: u8,
@@ -11,7 +11,7 @@ pub struct Enabled {
 impl Enabled {
     ghost use Rattle.psu_exec.specs.Latches.{bits_of};
 
-    /// Those of a session, by whether an answer was sent that it has not read.
+    /// The enabled bits of a session, by whether a response was sent that it has not read.
     pub fn bits(self, available: bool) -> u8
         ensures { result ≡ bits_of self available }
     {

@@ -1,6 +1,6 @@
-// What a job's end makes of the store.
+// The endings of a job.
 
-/// What a job's end makes of the store and of the changes that are not flushed.
+/// The effect of a job's end on the store and on the unflushed changes.
 #[derive(Clone, Copy, Debug, PartialEq, Eq)]
 pub enum Ending {
     /// The target's changes are flushed.
@@ -9,6 +9,6 @@ pub enum Ending {
     Kept,
     /// The store is broken, and keeps its target.
     Broken,
-    /// The store takes no commit any more.
+    /// The store accepts no further commit.
     Worn,
 }

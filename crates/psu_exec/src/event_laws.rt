@@ -1,4 +1,4 @@
-// The events of the theorem on power loss are the calls of the program.
+// Laws that relate the calls of the program to the events of the power-loss theorem.
 ghost use Rattle.std.specs.Prelude.{◌≡◌, ◌+◌, ◌≤◌, length, OnOk};
 ghost use Rattle.psu_disk.specs.Disk.{HasCause, Holds, IsSynced, Range};
 ghost use Rattle.psu_exec.specs.Events.{CallsHappen, DiskCallsHappen, MomentsAreEither, MomentsKeepMaps, RestartCallsHappen, RestartsHappen};
@@ -6,7 +6,8 @@ ghost use Rattle.psu_exec.specs.World.{Moves};
 
 use psu_disk::{Disk, DiskFault};
 
-/// What a call of the device ensures makes it an event; so does what a job or an opening ensures of each of its disk calls, and a power-on.
+/// The postconditions of a call of the device make it an event; so do those of a job or of an opening for each of its
+/// disk calls, and those of a power-on.
 pub fn calls_are_events()
     ensures calls { CallsHappen }
     ensures disk_calls { DiskCallsHappen }
@@ -14,13 +15,14 @@ pub fn calls_are_events()
     ensures restarts { RestartsHappen }
 {}
 
-/// What a job, and an opening, ensure of every moment since they began holds after each of their disk calls.
+/// What the postconditions of a job or of an opening state of every moment since its start holds after each of its
+/// disk calls.
 pub fn moments_are_events<D: Disk>()
     ensures jobs { D.tells → MomentsAreEither D.moment D.left_since D.state }
     ensures openings { D.tells → MomentsKeepMaps D.moment D.left_since D.state }
 {}
 
-/// A read, whether it works or fails, moves the disk as an event may.
+/// Reads from the disk. Whether the read succeeds or fails, the disk changes as an event may change it.
 pub fn read_is_an_event<D: Disk>(disk: &mut D, at: u64, into: &mut [u8]) -> Result<(), DiskFault>
     requires { at + length into.old ≤ D.extent disk.old }
     ensures moves { D.honest → Moves (D.state disk.old) (D.state disk.new) }
@@ -30,7 +32,7 @@ pub fn read_is_an_event<D: Disk>(disk: &mut D, at: u64, into: &mut [u8]) -> Resu
     disk.read(at, into)
 }
 
-/// A write, whether it works or fails, moves the disk as an event may.
+/// Writes to the disk. Whether the write succeeds or fails, the disk changes as an event may change it.
 pub fn write_is_an_event<D: Disk>(disk: &mut D, at: u64, bytes: &[u8]) -> Result<(), DiskFault>
     requires { at + length bytes.now ≤ D.extent disk.old }
     ensures moves { D.honest → Moves (D.state disk.old) (D.state disk.new) }
@@ -40,7 +42,7 @@ pub fn write_is_an_event<D: Disk>(disk: &mut D, at: u64, bytes: &[u8]) -> Result
     disk.write(at, bytes)
 }
 
-/// A sync, whether it works or fails, moves the disk as an event may.
+/// Syncs the disk. Whether the sync succeeds or fails, the disk changes as an event may change it.
 pub fn sync_is_an_event<D: Disk>(disk: &mut D) -> Result<(), DiskFault>
     ensures moves { D.honest → Moves (D.state disk.old) (D.state disk.new) }
     ensures synced { D.honest → OnOk result (IsSynced (D.state disk.new)) }

@@ -1,4 +1,4 @@
-//! The one state with its store, and its jobs.
+//! The device's state together with its store, and every call on them.
 ghost use Rattle.std.specs.Prelude.{◌≡◌, ◌≢◌, [], ◌↔◌, ◌<◌, ◌≤◌, ◌==◌, IfOk, IfErr, IfSome, OnOk, OnErr, true, false, Some, None, is_none, not, List, ℕ};
 ghost use Rattle.std.specs.Option.{ForSome};
 ghost use Rattle.psu_map.specs.Batch.{changed};
@@ -29,7 +29,7 @@ use psu_nv::DecodeFault;
 use std::alloc::{AllocError, Allocator};
 use std::mem;
 
-/// The one state with its store, which is away while a job is out.
+/// The device's state with its store. While a job is out, the job has the store.
 #[derive(Drop)]
 pub struct Exec<D: Disk, A: Allocator + Copy> {
     alloc: A,
@@ -49,16 +49,17 @@ impl<D: Disk, A: Allocator + Copy> Exec<D, A> {
     ghost use Rattle.psu_exec.specs.declared.home.Home.TheVariants as at_home;
     ghost use Rattle.psu_exec.specs.Ends.{IsEnd};
 
-    /// Powers on with what the store holds. The registers are as the standard prescribes: PON alone is set, and the enables are
-    /// kept exactly where the power-on status clear flag is false. It is `BadItems` exactly where the items are those of no
-    /// contents.
+    /// Powers on with the contents that the store holds. The registers are as IEEE 488.2 prescribes: only PON is set,
+    /// and the enables keep their values exactly if the power-on status clear flag is false. The cause of an error is
+    /// `BadItems` exactly if the items encode no contents.
     pub fn power_on(alloc: A, store: Store<D, A>) -> Result<Exec<D, A>, PowerFault<D, A>>
         ensures state { IfOk result (λ e. e.device ≡ power_on store.limit e.device.flush.contents) }
         ensures found { IfOk result (λ e. items_of e.device.flush.contents ≡ store.items) }
         ensures only { IfOk result (λ e. (c : Kept) → IsContents c → items_of c ≡ store.items → c ≡ e.device.flush.contents) }
         ensures sound { IfOk result (λ e. IsContents e.device.flush.contents) }
         ensures fitting { IfOk result (λ e. fits store.limit e.device.flush.contents ≡ true) }
-        // In the standard's words: 96 exactly where enables are kept with bit 5 of SRE and bit 7 of ESE, else none.
+        // As IEEE 488.2 prescribes: 96 exactly if the enables are kept with bit 5 of SRE and bit 7 of ESE set,
+        // otherwise none.
         ensures request { IfOk result (λ e. first_request e.device.volatile.instrument.status ≡ prescribed e.device.flush.contents.enables) }
         ensures home { IfOk result (λ e. e.home ≡ Some (at_home.Whole store)) }
 
@@ -93,15 +94,16 @@ impl<D: Disk, A: Allocator + Copy> Exec<D, A> {
         }
     }
 
-    /// One unit of a session that is open.
+    /// Executes one program message unit of an open session.
     pub fn execute(&mut self, session: Session, request: &Request<'_>) -> Outcome<A>
         requires open { is_open self.old.device session ≡ true }
         ensures step { Allows self.old.device (Executed session request.now (outcome_of result)) self.new.device }
         ensures home { self.new.home ≡ self.old.home }
 
-        // What follows from the step: `*OPC?` is answered only where no change is left that is not flushed; no answer is empty; an error is
-        // reported and changes nothing else but the latches that follow; a unit that is to come later changes nothing; it is Held exactly
-        // where another session's lock denies it, and then nothing changes.
+        // Consequences of the step: `*OPC?` is answered only if no change is unflushed; no response is empty; an
+        // error is reported and changes nothing else but the RQS bits that follow from it; a unit with the outcome
+        // Later changes nothing; the outcome is Held exactly if another session's lock denies the session, and then
+        // nothing changes.
         ensures complete { asks_opc request.now.reading ≡ true → (text : List ℕ) → outcome_of result ≡ Answer text → self.old.device.flush.unflushed ≡ 0 }
         ensures text { (text : List ℕ) → outcome_of result ≡ Answer text → text ≢ [] }
         ensures refused { (e : AnyError) → outcome_of result ≡ Error e → self.new.device ≡ followed self.old.device (refused self.old.device e) }
@@ -109,36 +111,36 @@ impl<D: Disk, A: Allocator + Copy> Exec<D, A> {
         ensures held { (outcome_of result ≡ Held) ↔ (is_denied self.old.device session ≡ true) }
         ensures same { outcome_of result ≡ Held → self.new.device ≡ self.old.device }
 
-        // What follows from the step: the condition still holds, and no lock changes.
+        // Consequences of the step: the precondition still holds, and no lock changes.
         ensures still_open { is_open self.new.device session ≡ true }
         ensures still_locked { self.new.device.volatile.locks ≡ self.old.device.volatile.locks }
     {
         self.device.execute(session, request)
     }
 
-    /// What the wait of a session that is open came to: Done where it isn't parked, Parked only while a change is left that is not
-    /// flushed.
+    /// Returns the result of an open session's wait: Done if the session isn't parked, Parked only while a change is
+    /// unflushed.
     pub fn settle(&mut self, session: Session) -> Outcome<A>
         requires open { is_open self.old.device session ≡ true }
         ensures step { Allows self.old.device (Settled session (outcome_of result)) self.new.device }
         ensures home { self.new.home ≡ self.old.home }
 
-        // What follows from the step: the session waits on only while a change is left that is not flushed, its wait ends with 1
-        // only where none before it is left, no answer is empty, and an error is reported.
+        // Consequences of the step: the session keeps waiting only while a change is unflushed; its wait ends with 1
+        // only if no change before it is unflushed; no response is empty; and an error is reported.
         ensures parked { result ≡ Outcome.Parked → 0 < self.old.device.flush.unflushed }
         ensures complete { (text : List ℕ) → outcome_of result ≡ Answer text → (c : Completion) × (wait_of self.old.device.flush session ≡ Some (Until c 0)) }
         ensures text { (text : List ℕ) → outcome_of result ≡ Answer text → text ≢ [] }
         ensures refused { (e : AnyError) → outcome_of result ≡ Error e → self.new.device.volatile ≡ (followed self.old.device (refused self.old.device e)).volatile }
         ensures kept { self.new.device.flush.contents ≡ self.old.device.flush.contents }
 
-        // What follows from the step: the condition still holds, and no lock changes.
+        // Consequences of the step: the precondition still holds, and no lock changes.
         ensures still_open { is_open self.new.device session ≡ true }
         ensures still_locked { self.new.device.volatile.locks ≡ self.old.device.volatile.locks }
     {
         self.device.settle(session)
     }
 
-    /// Opens the session of the least free number; `Crowded` where there are sixteen.
+    /// Opens a session under the least free number; `Crowded` if sixteen sessions are open.
     pub fn open_session(&mut self) -> Result<Session, Crowded>
         ensures opened { IfOk result (λ session. Allows self.old.device (Opened (Some session)) self.new.device) }
         ensures open { IfOk result (λ session. is_open self.new.device session ≡ true) }
@@ -148,8 +150,8 @@ impl<D: Disk, A: Allocator + Copy> Exec<D, A> {
         self.device.open_session()
     }
 
-    /// Closes a session that is open: its wait, its marks, its locks and its request end with it. Answers the sessions whose requests
-    /// for a lock were then granted, in order of arrival.
+    /// Closes an open session: drops its wait, its service state, its locks and its lock request. Returns the
+    /// sessions whose lock requests were then granted, in order of arrival.
     pub fn close_session(&mut self, session: Session) -> Sessions
         requires { is_open self.old.device session ≡ true }
         ensures step { Allows self.old.device (Closed session result) self.new.device }
@@ -158,7 +160,7 @@ impl<D: Disk, A: Allocator + Copy> Exec<D, A> {
         self.device.close_session(session)
     }
 
-    /// An answer is sent to a session that is open: a message is available to it until it is delivered.
+    /// Records that a response was sent to an open session: a message is available to it (MAV) until it is delivered.
     pub fn sent(&mut self, session: Session)
         requires { is_open self.old.device session ≡ true }
         ensures step { Allows self.old.device (Sent session) self.new.device }
@@ -167,7 +169,7 @@ impl<D: Disk, A: Allocator + Copy> Exec<D, A> {
         self.device.sent(session);
     }
 
-    /// What was sent to a session that is open is delivered.
+    /// Records that what was sent to an open session is delivered.
     pub fn delivered(&mut self, session: Session)
         requires { is_open self.old.device session ≡ true }
         ensures step { Allows self.old.device (Delivered session) self.new.device }
@@ -176,8 +178,8 @@ impl<D: Disk, A: Allocator + Copy> Exec<D, A> {
         self.device.delivered(session);
     }
 
-    /// The answer to a status query of a session that is open: the status byte with the session's request for service in bit 6,
-    /// which is then cleared.
+    /// Returns the response to a status query of an open session: the status byte with the session's RQS in bit 6.
+    /// RQS is then cleared.
     pub fn status(&mut self, session: Session) -> u8
         requires { is_open self.old.device session ≡ true }
         ensures step { Allows self.old.device (Queried session result) self.new.device }
@@ -186,7 +188,8 @@ impl<D: Disk, A: Allocator + Copy> Exec<D, A> {
         self.device.status(session)
     }
 
-    /// The service request of a session that is open, once for all that were made since the last: the status byte with bit 6 set.
+    /// Fetches the service request of an open session, one for all that were made since the last fetch: the status
+    /// byte with bit 6 set.
     pub fn requests(&mut self, session: Session) -> Option<u8>
         requires { is_open self.old.device session ≡ true }
         ensures step { Allows self.old.device (Fetched session result) self.new.device }
@@ -195,7 +198,8 @@ impl<D: Disk, A: Allocator + Copy> Exec<D, A> {
         self.device.requests(session)
     }
 
-    /// The open sessions that asked for service since this was asked last, and whether a take would give a job.
+    /// Returns the open sessions that have requested service since the last call, and whether a take would return a
+    /// job.
     pub fn news(&mut self) -> (Sessions, bool)
         ensures step { Allows self.old.device (Told result.0 result.1) self.new.device }
         ensures home { self.new.home ≡ self.old.home }
@@ -203,8 +207,8 @@ impl<D: Disk, A: Allocator + Copy> Exec<D, A> {
         self.device.news()
     }
 
-    /// A session that is open asks for a lock; moments and the timeout are in milliseconds. What can't be granted now waits so long,
-    /// and with a timeout of 0 fails at once.
+    /// Requests a lock for an open session. `now` and `timeout` are in milliseconds. A request that can't be granted
+    /// now waits for the timeout; with a timeout of 0 it fails at once.
     pub fn lock(
         &mut self,
         session: Session,
@@ -219,8 +223,8 @@ impl<D: Disk, A: Allocator + Copy> Exec<D, A> {
         self.device.lock(session, kind, now, timeout)
     }
 
-    /// A session that is open gives up its exclusive lock, or else its shared one; answers which, and the sessions whose requests were
-    /// then granted, in order of arrival.
+    /// Releases the exclusive lock of an open session, or else its shared one. Returns which, and the sessions whose
+    /// requests were then granted, in order of arrival.
     pub fn release(&mut self, session: Session) -> Result<(Freed, Sessions), LockRefusal>
         requires { is_open self.old.device session ≡ true }
         ensures step { Allows self.old.device (Released session result) self.new.device }
@@ -229,7 +233,7 @@ impl<D: Disk, A: Allocator + Copy> Exec<D, A> {
         self.device.release(session)
     }
 
-    /// Fails the requests for locks whose time is over, and answers whose they were, in order of arrival.
+    /// Fails the lock requests whose timeout has expired, and returns their sessions, in order of arrival.
     pub fn tick(&mut self, now: u64) -> Sessions
         ensures step { Allows self.old.device (Ticked now result) self.new.device }
         ensures home { self.new.home ≡ self.old.home }
@@ -237,31 +241,31 @@ impl<D: Disk, A: Allocator + Copy> Exec<D, A> {
         self.device.tick(now)
     }
 
-    /// Whether the exclusive lock is held, and how many sessions hold any.
+    /// Returns whether the exclusive lock is held, and how many sessions hold a lock.
     pub fn info(&self) -> Info
         ensures { Allows self.now.device (Informed result) self.now.device }
     {
         self.device.info()
     }
 
-    /// The moment at which a request for a lock fails next, where one waits.
+    /// The earliest time at which a waiting lock request fails, if one waits.
     pub fn next_deadline(&self) -> Option<u128>
         ensures step { Allows self.now.device (Due result) self.now.device }
         ensures first { IfSome result (λ deadline. FailsFirst self.now.device.volatile.locks.waiting deadline) }
 
-        // What holds of the locks at every moment: no request waits that can be granted, and at most one of each session.
+        // An invariant of the locks: no waiting request can be granted, and each session has at most one.
         ensures settled { IsSettled self.now.device.volatile.locks }
     {
         self.device.next_deadline()
     }
 
-    /// Drops the wait of a session that is open.
+    /// Drops the wait of an open session.
     pub fn clear(&mut self, session: Session)
         requires { is_open self.old.device session ≡ true }
         ensures step { Allows self.old.device (Cleared session) self.new.device }
         ensures home { self.new.home ≡ self.old.home }
 
-        // What follows from the step: the condition still holds, and no lock changes.
+        // Consequences of the step: the precondition still holds, and no lock changes.
         ensures still_open { is_open self.new.device session ≡ true }
         ensures still_locked { self.new.device.volatile.locks ≡ self.old.device.volatile.locks }
     {
@@ -275,7 +279,8 @@ impl<D: Disk, A: Allocator + Copy> Exec<D, A> {
         self.device.is_open(session)
     }
 
-    /// What is kept without power, all that is accepted included: what the store's map stands for, changed by the tail.
+    /// The nonvolatile contents with all accepted changes: what the store's map represents, with the unflushed
+    /// changes made.
     pub fn contents(&self) -> &Contents<A>
         ensures value { result.now ≡ self.now.device.flush.contents }
         ensures consistent { IsConsistent self.now.device.flush }
@@ -283,28 +288,28 @@ impl<D: Disk, A: Allocator + Copy> Exec<D, A> {
         self.device.contents()
     }
 
-    /// Whether the store can take a commit.
+    /// The condition of the store: whether it can take a commit.
     pub fn condition(&self) -> Condition
         ensures { result ≡ self.now.device.flush.store }
     {
         self.device.condition()
     }
 
-    /// Whether all that is accepted is flushed.
+    /// Whether all accepted changes are flushed.
     pub fn is_flushed(&self) -> bool
         ensures { result ≡ (self.now.device.flush.unflushed == 0) }
     {
         self.device.is_flushed()
     }
 
-    /// The service request that the instrument makes as it is.
+    /// The service request that the instrument makes in its present state.
     pub fn first_request(&self) -> Option<u8>
         ensures { result ≡ first_request self.now.device.volatile.instrument.status }
     {
         self.device.first_request()
     }
 
-    /// A job. Of a whole store it commits the present contents; a broken one it opens again.
+    /// Takes a job: one that commits the present contents to a whole store, or one that reopens a broken store.
     pub fn take(&mut self) -> Result<Job<D, A>, NoJob>
         ensures step { Allows self.old.device (Took (taken_of result)) self.new.device }
         ensures job { IfOk result (λ job. self.old.home ≡ Some (job_home job)) }
@@ -326,12 +331,12 @@ impl<D: Disk, A: Allocator + Copy> Exec<D, A> {
         }
     }
 
-    /// The job's end: what it came to counts where a job is out and the limit, the maps and the batch are the expected ones.
-    /// Then it gives the sessions whose wait is over. Else it is handed back, and nothing has changed.
+    /// Gives back a finished job. It is accepted if a job is out and its limit, maps and batch are the expected ones;
+    /// the sessions whose wait is then over are returned. Otherwise it is handed back, and nothing has changed.
     pub fn give_back(&mut self, finished: Finished<D, A>) -> Result<Sessions, Stranger<D, A>>
         ensures step { Allows self.old.device (GaveBack (finished_of finished) (over_of result)) self.new.device }
-        // Whatever a power loss leaves of the disk that comes with it stands for the map that it says; of a broken store's for the map
-        // before, or the target.
+        // Each possible crash image of its disk represents the map that the result states; for a broken store, the
+        // map before or the target.
         ensures stands { D.honest → OnOk result (IsTrueOf (target self.old.device.flush) (finished_of finished) (D.state (finished_disk finished))) }
         ensures home { OnOk result (self.new.home ≡ Some (home_of finished)) }
         ensures free { OnOk result (self.new.device.flush.out ≡ false) }
@@ -346,7 +351,7 @@ impl<D: Disk, A: Allocator + Copy> Exec<D, A> {
         Ok(self.device.sessions_over())
     }
 
-    /// Ends it: what remains is its store, or the whole of it where a job is out.
+    /// Ends the `Exec`: returns its store, or the whole `Exec` if a job is out.
     pub fn end(self) -> Ended<D, A>
         ensures { IsEnd self result }
     {
@@ -369,7 +374,7 @@ impl<D: Disk, A: Allocator + Copy> Exec<D, A> {
     }
 }
 
-// Why items are those of no contents that a power-on takes.
+// The cause of a failed power-on whose items could not be decoded.
 fn cause_of(fault: DecodeFault) -> PowerCause
     ensures { result ≡ cause_of fault }
 {
@@ -379,7 +384,7 @@ fn cause_of(fault: DecodeFault) -> PowerCause
     }
 }
 
-// A job whose batch leads to the map of contents that fit, which the store can hold.
+// Builds the commit of a batch that leads to the map of contents that fit, which the store can hold.
 fn planned_of<D: Disk, A: Allocator + Copy>(
     alloc: A,
     store: Store<D, A>,
@@ -392,7 +397,7 @@ fn planned_of<D: Disk, A: Allocator + Copy>(
     Planned::new(alloc, store, batch)
 }
 
-// The store of a job that is given back.
+// The store of a job that was given back.
 fn home_after<D: Disk, A: Allocator + Copy>(finished: Finished<D, A>) -> Home<D, A>
     ensures { result ≡ home_of finished }
 {
@@ -404,7 +409,7 @@ fn home_after<D: Disk, A: Allocator + Copy>(finished: Finished<D, A>) -> Home<D,
     }
 }
 
-// The store is at home again.
+// Puts the store back into its place, which is empty.
 fn bring_home<D: Disk, A: Allocator + Copy>(place: &mut Option<Home<D, A>>, home: Home<D, A>)
     requires { place.old ≡ None }
     ensures { place.new ≡ Some home }

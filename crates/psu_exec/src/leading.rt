@@ -1,4 +1,4 @@
-// Whether planned edits lead to a map, with no memory.
+// Whether planned edits lead to a map, checked without allocation.
 ghost use Rattle.std.specs.Prelude.{◌≡◌, ◌↔◌, ◌++◌, ◌∷◌, IsTrue, IfSome, IfNone, List, Some, None, option_map};
 ghost use Rattle.std.specs.List.{flat_map};
 ghost use Rattle.psu_map.specs.Batch.{changed, Edit as EditData};
@@ -9,7 +9,7 @@ use crate::difference::is_value;
 use psu_items::{Edit, Items, Pair, Plan};
 use std::alloc::Allocator;
 
-// The edits behind this first one; none where another is the first.
+// The edits after the first one, if the first has this key and value; otherwise none.
 fn behind<'e, A: Allocator + Copy>(
     edits: &'e [Edit<A>],
     key: &[u8],
@@ -30,7 +30,8 @@ fn behind<'e, A: Allocator + Copy>(
     }
 }
 
-// The edits behind the removal of an item whose key the target has not. Keys come in their order, and `next` goes with them.
+// The edits after the removal of an item whose key the target does not have; all of them if the target has it; none
+// if another edit is first. Keys come in order, and `next` advances with them.
 fn behind_removal<'e, A: Allocator + Copy>(
     edits: &'e [Edit<A>],
     target: &Items<A>,
@@ -46,7 +47,8 @@ fn behind_removal<'e, A: Allocator + Copy>(
     behind(edits, pair.key(), None)
 }
 
-// The edits behind the assignment of an item that is new or differs.
+// The edits after the assignment of an item that is new or differs; all of them if the item is unchanged; none if
+// another edit is first.
 fn behind_assignment<'e, A: Allocator + Copy>(
     edits: &'e [Edit<A>],
     before: &Plan<A>,
@@ -62,7 +64,7 @@ fn behind_assignment<'e, A: Allocator + Copy>(
     behind(edits, pair.key(), Some(pair.value()))
 }
 
-// The edits behind the removals of these pairs. The first of them would stand at the place `next` of the target.
+// The edits after the removals of these pairs. The first pair would be at the place `next` of the target.
 fn behind_removals<'e, A: Allocator + Copy>(
     edits: &'e [Edit<A>],
     target: &Items<A>,
@@ -82,7 +84,8 @@ fn behind_removals<'e, A: Allocator + Copy>(
     Some(rest)
 }
 
-// Whether these edits are the assignments of these pairs. The first of them would stand at the place `next` of the map before.
+// Whether these edits are the assignments of these pairs. The first pair would be at the place `next` of the map
+// before.
 fn are_assignments<A: Allocator + Copy>(
     edits: &[Edit<A>],
     before: &Plan<A>,
@@ -101,7 +104,8 @@ fn are_assignments<A: Allocator + Copy>(
     rest.is_empty()
 }
 
-/// Whether the planned edits are those that make the map this one. Items that both maps have in front and behind are compared once.
+/// Whether the planned edits are those that turn the planned map into the target. Items of the common prefix and the
+/// common suffix of both maps are compared once.
 pub fn leads_to<A: Allocator + Copy>(plan: &Plan<A>, target: &Items<A>) -> bool
     ensures is { IsTrue result ↔ (plan.now.edits ≡ batch plan.now.map target.now) }
     ensures leads { IsTrue result → changed plan.now.map plan.now.edits ≡ target.now }

@@ -1,15 +1,16 @@
-// What a session is told.
+// The service state of a session.
 
-/// What a session is told: whether an answer was sent that it has not read, its latch of the request for service, and whether it has
-/// a service request that is not fetched, and one that was not told of. That of a session which isn't open counts for nothing.
+/// The service state of a session: whether a response was sent that it has not read (MAV), its request for service
+/// (RQS), and whether it has a service request that is not fetched, and one that is not reported by `news`. That of a
+/// session which isn't open has no meaning.
 #[derive(Clone, Copy, Debug, PartialEq, Eq)]
 pub struct Mark {
-    /// MAV: an answer was sent that is not known to be delivered.
+    /// MAV: a response was sent that is not known to be delivered.
     pub available: bool,
     /// RQS.
     pub latch: bool,
     /// A service request was made that is not fetched.
     pub unfetched: bool,
-    /// A service request was made since the news was asked for last.
+    /// A service request was made since the last call of `news`.
     pub untold: bool,
 }

@@ -1,10 +1,10 @@
-// The marks of all sessions.
+// The service states of all sessions.
 ghost use Rattle.std.specs.Prelude.{◌≡◌, ◌+◌, ◌<◌, ◌≤◌, ◌&&◌, ◌++◌, length, map};
 ghost use Rattle.psu_exec.specs.Latches.{latched, latched_by, named, no_mark, told, untold_from};
 
 use crate::{Enabled, Mark, SESSIONS, Session, Sessions};
 
-/// The mark of a session that asked for nothing.
+/// The service state of a session that was sent no response and has not requested service.
 pub fn no_mark() -> Mark
     ensures { result ≡ no_mark }
 {
@@ -16,8 +16,8 @@ pub fn no_mark() -> Mark
     }
 }
 
-/// A mark whose session's enabled bits were old and are new. The latch is set where one of them rises, and then service is requested,
-/// unless it was set before; it is cleared where none of them is left.
+/// Returns the service state of a session whose enabled bits were `old` and are `new`. If one of them rises, RQS is
+/// set and service is requested, unless RQS was set before; if none of them is left, RQS is cleared.
 pub fn latched(old: u8, new: u8, mark: Mark) -> Mark
     ensures { result ≡ latched old new mark }
 {
@@ -41,14 +41,14 @@ pub fn latched(old: u8, new: u8, mark: Mark) -> Mark
     mark
 }
 
-// The mark of a session, as the status alone changes.
+// The service state of a session after a change of the status alone.
 fn latched_by(old: Enabled, new: Enabled, mark: Mark) -> Mark
     ensures { result ≡ latched_by old new mark }
 {
     latched(old.bits(mark.available), new.bits(mark.available), mark)
 }
 
-/// The latches of all sessions follow the enabled bits as the status changes.
+/// Updates RQS of all sessions after a change of the status.
 pub fn follow(marks: &mut [Mark; SESSIONS], old: Enabled, new: Enabled)
     ensures { marks.new ≡ map (latched_by old new) marks.old }
 {
@@ -66,7 +66,7 @@ fn follow_each(marks: &mut [Mark; SESSIONS], old: Enabled, new: Enabled)
     }
 }
 
-/// All are told of.
+/// Marks the service requests of all sessions as reported.
 pub fn tell_all(marks: &mut [Mark; SESSIONS])
     ensures { marks.new ≡ map told marks.old }
 {
@@ -84,7 +84,7 @@ fn tell(mark: Mark) -> Mark
     }
 }
 
-// The session of a place, where it is open and to be told of.
+// Adds the session of a place if it is open and has a service request to report.
 fn put_untold(sessions: &mut Sessions, place: usize, is_open: bool, mark: Mark)
     requires place { place < 16 }
     requires room { length sessions.old ≤ place }
@@ -95,7 +95,7 @@ fn put_untold(sessions: &mut Sessions, place: usize, is_open: bool, mark: Mark)
     }
 }
 
-/// The open sessions that are to be told of.
+/// The open sessions that have a service request to report.
 pub fn untold(open_now: &[bool; SESSIONS], marks: &[Mark; SESSIONS]) -> Sessions
     ensures { result ≡ untold_from 1 open_now.now marks.now }
 {

@@ -1,4 +1,4 @@
-// Why a device doesn't start from its disk.
+// The reasons for which a device doesn't start.
 ghost use Rattle.std.specs.Prelude.{◌≡◌};
 ghost use Rattle.psu_exec.specs.Starts.{start_of_opening, start_of_power_on};
 
@@ -6,28 +6,28 @@ use crate::PowerCause;
 use psu_items::OpenCause;
 use thiserror::Error;
 
-/// Why a device doesn't start from its disk, apart from a want of memory.
+/// Why a device doesn't start from its disk, other than for an allocation failure.
 #[derive(Clone, Copy, Debug, PartialEq, Eq, Error)]
 pub enum StartCause {
     /// A call of the disk failed.
     #[error("device fault")]
     Device,
-    /// The disk has no two roots, or none of them is open.
+    /// The disk doesn't have two roots, or none of them is open.
     #[error("no root")]
     NoRoot,
-    /// What the root that counts says is wrong.
+    /// The content of the current root is invalid.
     #[error("bad root")]
     BadRoot,
-    /// The root that counts is of a version that is not read.
+    /// The current root has a version that is not supported.
     #[error("bad version")]
     BadVersion,
-    /// The items are those of no contents.
+    /// The items encode no contents.
     #[error("bad items")]
     BadItems,
 }
 
 impl StartCause {
-    /// Why a disk isn't opened; none for want of memory.
+    /// Returns the cause for a disk that isn't opened; none for an allocation failure.
     pub fn of_opening(cause: OpenCause) -> Option<StartCause>
         ensures { result ≡ start_of_opening cause }
     {
@@ -40,7 +40,7 @@ impl StartCause {
         }
     }
 
-    /// Why there is no power-on with an opened store; none for want of memory.
+    /// Returns the cause for a failed power-on with an opened store; none for an allocation failure.
     pub fn of_power_on(cause: PowerCause) -> Option<StartCause>
         ensures { result ≡ start_of_power_on cause }
     {

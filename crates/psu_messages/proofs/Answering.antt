@@ -1,4 +1,4 @@
--- What is sent for a transmission.
+-- The texts that are sent for a transmission.
 use Rattle.std.proofs.Common.{◌≡◌, ℕ, Bool, true, false, List, [], ◌∷◌, ◌++◌, refl, sym, ap, ◌∙◌, subst, append_assoc}
 use Rattle.std.proofs.lemmas.List.{append-nil}
 use Rattle.psu_tree.specs.declared.unit_request.Request.{Request}
@@ -18,7 +18,7 @@ pub taken : (source : Source) (deeds : List Deed) (c : Course) → Taken source 
 taken source deeds c New = Begins
 taken source deeds c (Call {deeds = before} {c = old} t added new comes) = comes before (taken source before old t)
 
--- ---- lists of deeds
+-- ---- lists of effects
 
 pub answers_append : (xs ys : List Deed) → answers (xs ++ ys) ≡ answers xs ++ answers ys
 answers_append [] ys = refl
@@ -41,7 +41,7 @@ open_more (Sent text true ∷ xs) deed e f = absurd (cc (e))
 
 -- ---- the message that has begun
 
--- messages that are answered, and deeds of one whose answers make this text
+-- answered messages, and the effects of one whose responses make this text
 record Telling (deeds : List Deed) (text : Text) : Type 0 where
   whole : List Deed
   now : List Deed
@@ -59,7 +59,7 @@ replied given sent text Parked m = subst (λ (z : List (List ℕ)). Makes z sent
 replied given sent text Held m = subst (λ (z : List (List ℕ)). Makes z sent text) (sym (append-nil given)) m
 replied given sent text Later m = subst (λ (z : List (List ℕ)). Makes z sent text) (sym (append-nil given)) m
 
--- a deed that sends nothing and answers so
+-- an effect that sends nothing and has this reply
 pub told_by : (now : List Deed) (text : Text) (deed : Deed) (reply : Reply) → answers (deed ∷ []) ≡ answer_in reply → text_sent (deed ∷ []) ≡ [] → Makes (answers now) (text_sent now) text
     → Makes (answers (now ++ deed ∷ [])) (text_sent (now ++ deed ∷ [])) (text_after text reply)
 told_by now text deed reply gives quiet m =

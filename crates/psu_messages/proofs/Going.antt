@@ -1,4 +1,4 @@
--- What is done, one after another.
+-- Effects, one after another.
 use Rattle.std.proofs.Common.{◌≡◌, ◌&&◌, if◌then◌else◌, ℕ, ◌+◌, Bool, true, false, Option, Some, None, List, [], ◌∷◌, ◌++◌, refl, sym, ap, ◌∙◌, subst, append_assoc, ◌⊎◌, inl, inr, Result, Ok, Err, OnErr, IfErr, IsErrAnd}
 use Rattle.std.proofs.lemmas.List.{append-nil}
 use Rattle.psu_tree.specs.declared.unit_request.Request.{Request}
@@ -34,11 +34,11 @@ behind does source was mid now c d e p q = record {
   comes = λ before b. subst (λ (z : List Deed). Comes source z e) (append_assoc before p.added q.added) (q.comes (before ++ p.added) (p.comes before b));
 }
 
--- one deed
+-- one effect
 pub one : {X : Type 0} (does : X → Deed → X → Type 0) (source : Source) (was now : X) (c d : Course) (deed : Deed) → does was deed now → ((before : List Deed) → Comes source before c → Comes source (before ++ deed ∷ []) d) → Goes does source was c now d
 one does source was now c d deed e goes = record { added = deed ∷ []; runs = (now, e, refl); comes = goes }
 
--- no deed
+-- no effect
 none : {X : Type 0} (does : X → Deed → X → Type 0) (source : Source) (was : X) (c d : Course) → ((before : List Deed) → Comes source before c → Comes source before d) → Goes does source was c was d
 none does source was c d goes = record {
   added = [];
@@ -53,7 +53,7 @@ leaves does source was c is = none does source was c (outside c) (λ before b. L
 pub tries : {X : Type 0} (does : X → Deed → X → Type 0) (source : Source) (was now : X) (c : Course) (request : Request) (reply : Reply) → IsNext source c request → Trial does was c.standing.parked request now reply → Goes does source was c now (tried c reply)
 tries does source was now c request reply next t = one does source was now c (tried c reply) t.deed t.done (λ before b. Tries b request next t.deed reply t.is)
 
--- its answer told
+-- a try whose response is gathered
 pub tells : {X : Type 0} (does : X → Deed → X → Type 0) (source : Source) (was mid now : X) (c : Course) (request : Request) (reply : Reply) (text : Text) → IsNext source c request → Trial does was c.standing.parked request mid reply
     → Tells does mid c.text reply now text → Goes does source was c now (course (standing_after c.standing reply) (expansion_after c.standing.inside c.expansion reply) text)
 tells {X} does source was mid now c request reply text next t (inl (same, is)) =
@@ -65,7 +65,7 @@ tells {X} does source was mid now c request reply text next t (inr (answered, lo
     subst (λ (z : Text). Goes does source was c now (course (standing_after c.standing reply) (expansion_after c.standing.inside c.expansion reply) z)) (sym is)
     (behind does source was mid now c d (sent d) (tries does source was mid c request reply next t) (one does source mid now d (sent d) (Sent d.text.rest false) sends (λ before b. Sends b answered long)))
 
--- ---- a step
+-- ---- one step
 
 waiting_expansion : (parked : Bool) (inside : Option ℕ) (expansion : Option (List ℕ)) (reply : Reply) (need : Need) → needs parked reply ≡ Some need → expansion_after inside expansion reply ≡ expansion
 waiting_expansion parked (Some n) expansion reply need e = refl
@@ -119,7 +119,7 @@ ending_error : (s : Standing) (short : Bool) → (if short then Some Memory else
 ending_error s false e = refl
 ending_error s true e = absurd (cc (e))
 
--- a unit of the transmission that has come to its end
+-- a unit of the transmission that has ended
 plain_standing : (units : ℕ) (parked : Bool) (reply : Reply) → needs parked reply ≡ None → is_expansion reply ≡ false → standing_after (record { units = units; inside = None; parked = parked }) reply ≡ record { units = units + 1; inside = None; parked = false }
 plain_standing units parked Done e is = refl
 plain_standing units parked (Answer text) e is = refl
@@ -146,13 +146,13 @@ told_plain does source was mid now units parked later text after request reply n
     (subst (λ (z : Standing). Goes does source was (plain units parked text) now (course z (expansion_after None None reply) after)) (plain_standing units parked reply e is)
     (tells does source was mid now (plain units parked text) request reply after next t tells_it)))
 
--- one that is replaced
+-- a unit that an expansion replaces
 pub replaced : {X : Type 0} (does : X → Deed → X → Type 0) (source : Source) (was now : X) (units : ℕ) (parked later : Bool) (text : Text) (request : Request) (body : List ℕ) → IsNext source (plain units parked text) request
     → Trial does was parked request now (Expand body) → later ≡ false → Goes does source was (plain units parked text) now (within units body 0 later text)
 replaced does source was now units parked later text request body next t over =
     subst (λ (z : Bool). Goes does source was (plain units parked text) now (within units body 0 z text)) (sym over) (tries does source was now (plain units parked text) request (Expand body) next t)
 
--- a unit of an expansion that has
+-- a unit of an expansion that has ended
 within_standing : (units done : ℕ) (parked : Bool) (reply : Reply) → needs parked reply ≡ None → standing_after (record { units = units; inside = Some done; parked = parked }) reply ≡ record { units = units; inside = Some (done + 1); parked = false }
 within_standing units done parked Done e = refl
 within_standing units done parked (Answer text) e = refl
@@ -177,18 +177,18 @@ pub on_err : {T E : Type 0} (r : Result T E) (P : Type 0) → P → OnErr r P
 on_err (Ok x) P p = tt
 on_err (Err e) P p = p
 
--- what stopped is passed on
+-- the reason of a stop is passed on
 pub passed_on : {T E : Type 0} (r : Result T E) (e : E) (P : E → Type 0) → IsErrAnd r (λ told. told ≡ e) → P e → IfErr r P
 passed_on (Ok x) e P is p = tt
 passed_on (Err told) e P is p = subst P (sym is) p
 
--- ---- where it stops
+-- ---- stops
 
 module _ {X S : Type 0} {does : X → Deed → X → Type 0} {fails : X → Request → S → X → Type 0} {stops : X → S → X → Type 0} {source : Source} where
   pub stops_on : {was mid now : X} {c d : Course} {stop : S} {left : Text} → Goes does source was c mid d → Stops does fails stops source mid d stop now left → Stops does fails stops source was c stop now left
   stops_on {was} {mid} {now} {c} {d} goes s = record { mid = s.mid; new = s.new; goes = behind does source was mid s.mid c d s.new goes s.goes; cut = s.cut; text = s.text }
 
-  -- where it is, with something that is to be ended
+  -- at the present point, with something that is to be ended
   pub some_stop : {was now : X} {c : Course} {stop : S} {left : Text} → IsUnended c → stops was stop now → left ≡ c.text → Stops does fails stops source was c stop now left
   some_stop {was} {now} {c} begun s same = record { mid = was; new = c; goes = stay does source was was c refl; cut = Stopped begun s; text = same }
 
@@ -198,7 +198,7 @@ module _ {X S : Type 0} {does : X → Deed → X → Type 0} {fails : X → Requ
   broken_off {was} {now} {c} request next (inl (parked, failed)) same = record { mid = was; new = c; goes = stay does source was was c refl; cut = Failed request next parked failed; text = same }
   broken_off {was} {now} {c} request next (inr (parked, s)) same = some_stop (inr (inl parked)) s same
 
-  -- behind the next unit, whose answer is told or is not
+  -- after the next unit, whose response is gathered or is not
   pub untold : {was mid now : X} {c : Course} {request : Request} {reply : Reply} {stop : S} {left : Text} → IsNext source c request → Trial does was c.standing.parked request mid reply → stops mid stop now → IsLeft c.text reply left
       → Stops does fails stops source was c stop now left
   untold {was} {mid} {now} {c} {request} {reply} next t s (inl same) =
@@ -206,7 +206,7 @@ module _ {X S : Type 0} {does : X → Deed → X → Type 0} {fails : X → Requ
   untold {was} {mid} {now} {c} {request} {reply} next t s (inr (same, answered)) =
       record { mid = mid; new = tried c reply; goes = tries does source was mid c request reply next t; cut = Stopped (inl (ap (λ (x : Text). x.answered) (sym same) ∙ answered)) s; text = same }
 
--- the place that it had reached
+-- the point that it had reached
 pub reached : {X S : Type 0} {does : X → Deed → X → Type 0} {fails : X → Request → S → X → Type 0} {stops : X → S → X → Type 0} {source : Source} {was now : X} {c : Course} {stop : S} {left : Text} → Halts does fails stops source was c stop now left
     → (mid : X) × (d : Course) × Goes does source was c mid d × (((request : Request) × fails mid request stop now) ⊎ stops mid stop now)
 reached {X} {S} {does} {fails} {stops} {source} {was} {now} {c} {stop} {left} (inl (s, same)) = (was, c, stay does source was was c refl, inr s)
@@ -217,7 +217,7 @@ reached {X} {S} {does} {fails} {stops} {source} {was} {now} {c} {stop} {left} (i
   by (Untold here request next deed reply try d s) =
       (here, tried h.new reply, behind does source was h.mid here c h.new (tried h.new reply) h.goes (one does source h.mid here h.new (tried h.new reply) deed d (λ before b. Tries b request next deed reply try)), inr s)
 
--- ---- what each deed leaves as it is
+-- ---- what each effect leaves unchanged
 
 kept : {X Y : Type 0} (does : X → Deed → X → Type 0) (part : X → Y) → ((x y : X) (deed : Deed) → does x deed y → part y ≡ part x) → (x : X) (deeds : List Deed) (y : X) → Runs does x deeds y → part y ≡ part x
 kept does part keeps x [] y same = ap part same
@@ -226,7 +226,7 @@ kept does part keeps x (deed ∷ deeds) y runs = kept does part keeps runs.0 dee
 pub kept_goes : {X Y : Type 0} {does : X → Deed → X → Type 0} {source : Source} {x y : X} {c d : Course} → Goes does source x c y d → (part : X → Y) → ((x y : X) (deed : Deed) → does x deed y → part y ≡ part x) → part y ≡ part x
 kept_goes {X} {Y} {does} {source} {x} {y} goes part keeps = kept does part keeps x goes.added y goes.runs
 
--- where it stopped too
+-- also if the execution stopped
 pub kept_halts : {X Y S : Type 0} {does : X → Deed → X → Type 0} {fails : X → Request → S → X → Type 0} {stops : X → S → X → Type 0} {source : Source} {was now : X} {c : Course} {stop : S} {left : Text} → Halts does fails stops source was c stop now left
     → (part : X → Y) → ((x y : X) (deed : Deed) → does x deed y → part y ≡ part x) → ((x y : X) (request : Request) (stop : S) → fails x request stop y → part y ≡ part x) → ((x y : X) (stop : S) → stops x stop y → part y ≡ part x) → part now ≡ part was
 kept_halts {X} {Y} {S} {does} {fails} {stops} {source} {was} {now} {c} {stop} {left} halts part done failed stopped =

@@ -12,7 +12,7 @@ use Rattle.psu_messages.specs.Turns.{IsInside}
 use Rattle.psu_messages.proofs.Going.{leaves}
 use Rattle.psu_messages.proofs.Places.{LeadsFrom, unit_at, behind_all}
 
--- where the code begins is where the next unit stands, where there is one
+-- the code begins at the place of the next unit, if there is one
 pub begins_at : (list rest : List rust.Unit) (at done i : ℕ) → rest ≡ drop at list → i < length rest → at ≡ min done (length list) → done + i ≡ at + i
 begins_at list rest at done i is within there =
     let more : length rest ≡ length (drop at list) = ap length is in
@@ -26,7 +26,7 @@ inside_at body units list before rest at done i filler from path next request ar
     subst (λ (z : ℕ). IsInside body z request) (sym (e ∙ begins_at list rest at done i back fewer there))
     (part (slice_index_or rest i filler), unit_at true body units list rest at i (at + i) filler path next request are same back fewer refl leads reads)
 
--- all of an expansion
+-- all units of an expansion are done
 pub leaves_all : {X : Type 0} (does : X → Deed → X → Type 0) (source : Source) (was : X) (place : ℕ) (body : List ℕ) (done : ℕ) (parked : Bool) (text : Text) (units : List Part) (list : List rust.Unit) → IsMessage body units → parts list ≡ units
     → length list ≤ done → Goes does source was (within place body done parked text) was (plain (place + 1) false text)
 leaves_all does source was place body done parked text units list are same all = leaves does source was (within place body done parked text) (body, done, refl, refl, behind_all body units list done are same all)

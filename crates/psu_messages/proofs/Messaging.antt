@@ -34,7 +34,7 @@ same_first one (units.Text bytes) place request other first late (p, u, e) (q, v
     sym e ∙ ap (λ (x : Part). x.first) same ∙ f
 same_first one (Fault error) place request other first late (z, is, e) (y, it, f) = e ∙ sym f
 
--- the unit at a place is the first of a message, where there is one
+-- the unit at a place, if there is one, is the first of a message
 abbrev IsBeginning : Source → ℕ → Type 0
 IsBeginning source place = (request : Request) (first : Bool) → Asks source place request first → first ≡ true
 
@@ -157,7 +157,7 @@ fresh source place parked e = record { done = []; part = []; is = refl; whole = 
 acted : (now : List Deed) (parked : Bool) (request : Request) (deed : Deed) (reply : Reply) → IsTry parked request deed reply → acts (now ++ deed ∷ []) ≡ [] → ⊥
 acted now parked request deed reply try e = no_more (acts now) deed (sym (acts_append now (deed ∷ []) ∙ ap (λ (l : List Deed). acts now ++ l) (acts_one parked request deed reply try)) ∙ e)
 
--- a try of the message that has begun
+-- a try of a unit of the message that has begun
 goes_on : (source : Source) (deeds : List Deed) (old new : Course) (request : Request) (deed : Deed) (reply : Reply) → (n : Now source deeds old) → IsTry old.standing.parked request deed reply → new.text ≡ text_after old.text reply
     → At (IsAskedIn source n.from) n.from (acts (n.now ++ deed ∷ [])) new.standing.units new.standing.parked new.expansion new.standing.inside → Now source (deeds ++ deed ∷ []) new
 goes_on source deeds old new request deed reply n try text at =
@@ -197,7 +197,7 @@ goes_over one source deeds old new request deed reply n try text clear some done
       clean = λ e. absurd (acted [] old.standing.parked request deed reply try e);
     }
 
--- ---- the course
+-- ---- the execution
 
 abbrev begun_at : ℕ → Bool → Option (List ℕ) → Text → Course
 begun_at place parked expansion text = record { standing = record { units = place; inside = None; parked = parked }; expansion = expansion; text = text }
@@ -209,7 +209,7 @@ tried_at place inside parked expansion text reply = record {
   text = text_after text reply;
 }
 
--- a try of a unit behind the first of its message, or of the first of another
+-- a try of a unit after the first of its message, or of the first unit of another
 tries_later : OneList → (source : Source) (deeds : List Deed) (place : ℕ) (parked : Bool) (expansion : Option (List ℕ)) (text : Text) (request : Request) (deed : Deed) (reply : Reply) (first : Bool)
     → (n : Now source deeds (begun_at place parked expansion text)) → Asks source place request first → (first ≡ true → text.answered ≡ false) → IsTry parked request deed reply → place == n.from ≡ false → (place ≡ n.from → ⊥)
     → Now source (deeds ++ deed ∷ []) (tried_at place None parked expansion text reply)
@@ -225,7 +225,7 @@ tries_later one source deeds place parked expansion text request deed reply true
     (over_at (IsAskedIn source n.from) n.from (acts n.now) place parked expansion None n.at nobody) asks
     (try_outside (IsAskedIn source place) place [] place parked expansion request deed reply (fresh source place parked rest) (subst (λ (b : Bool). Asks source place request b) (sym (eq-eqb place place refl)) asks) try)
 
--- a try of a unit that is none of an expansion
+-- a try of a unit that isn't inside an expansion
 tries_outside : OneList → (source : Source) (deeds : List Deed) (place : ℕ) (parked : Bool) (expansion : Option (List ℕ)) (text : Text) (request : Request) (deed : Deed) (reply : Reply) (first : Bool)
     → Now source deeds (begun_at place parked expansion text) → Asks source place request first → (first ≡ true → text.answered ≡ false) → IsTry parked request deed reply
     → Now source (deeds ++ deed ∷ []) (tried_at place None parked expansion text reply)
@@ -245,7 +245,7 @@ tries_at one source deeds place (Some next) parked expansion text request deed r
     goes_on source deeds _ (tried_at place (Some next) parked expansion text reply) request deed reply n try refl
     (try_within (IsAskedIn source n.from) n.from n.now place parked expansion next request deed reply n.at (same_body expansion n.at.body body next p request n.at.stands stands unit) try)
 
--- a message has ended behind its last unit
+-- a message has ended after its last unit
 record Closed (source : Source) (from : ℕ) (now : List Deed) (place : ℕ) (parked : Bool) (expansion : Option (List ℕ)) (inside : Option ℕ) : Type 0 where
   some : from < place
   units : UnitsDone (IsAskedIn source from) from place (acts now)

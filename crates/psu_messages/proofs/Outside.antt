@@ -31,7 +31,7 @@ ends_before (units.Text bytes) place request (p, unit, first) =
     (unit.units, unit.are, subst (λ (z : List Part). IsBetween None z) (sym unit.here) (first, refl))
 ends_before (Fault error) place request asks = λ _. refl
 
--- behind the last unit
+-- after the last unit
 pub ends_all : (bytes : List ℕ) (place : ℕ) (inside : Option ℕ) → IsBehind bytes place → EndsMessage (units.Text bytes) place inside
 ends_all bytes place inside (list, are, all) =
     let none : drop place list ≡ [] = grind (arith, common_steps) in
@@ -57,9 +57,9 @@ asks_at bytes all list before rest at done i filler from path next request are s
     subst (λ (z : ℕ). Asks (units.Text bytes) z request (slice_index_or rest i filler).first) (sym (e ∙ begins_at list rest at done i back within there))
     (part (slice_index_or rest i filler), unit_at false bytes all list rest at i (at + i) filler path next request are same back within refl leads reads, refl)
 
--- ---- what stands in the next unit's place
+-- ---- the expansion in the next unit's place
 
--- no expansion stands there
+-- there is none
 pub without : {T : Type 0} (x : Option T) → is_some x ≡ false → x ≡ None
 without None e = refl
 without (Some y) e = absurd (cc (e))
@@ -69,13 +69,13 @@ pub to_plain : {A X : Type 0} (does : X → Deed → X → Type 0) (source : Sou
 to_plain {A} does source was now c units expansion parked text none goes =
     subst (λ (z : Option (Expansion A)). Goes does source was c now (course (record { units = units; inside = inside_of z; parked = parked }) (body_of z) text)) (sym none) goes
 
--- one does
+-- there is one
 pub from_within : {A X : Type 0} (does : X → Deed → X → Type 0) (source : Source) (was now : X) (d : Course) (units : ℕ) (expansion : Option (Expansion A)) (some : Expansion A) (parked : Bool) (text : Text) → expansion ≡ Some some
     → Goes does source was (within units some.body some.done parked text) now d → Goes does source was (course (record { units = units; inside = inside_of expansion; parked = parked }) (body_of expansion) text) now d
 from_within {A} does source was now d units expansion some parked text is goes =
     subst (λ (z : Option (Expansion A)). Goes does source was (course (record { units = units; inside = inside_of z; parked = parked }) (body_of z) text) now d) (sym is) goes
 
--- an outcome that is no expansion
+-- an outcome that isn't an expansion
 pub tells_plain : {A : Type 0} (o : Outcome A) → ((body : List ℕ) → o ≡ outcome.Expand body → ⊥) → is_expansion (outcome_of o) ≡ false
 tells_plain outcome.Done none = refl
 tells_plain (outcome.Answer text) none = refl
@@ -85,7 +85,7 @@ tells_plain outcome.Parked none = refl
 tells_plain outcome.Held none = refl
 tells_plain outcome.Later none = refl
 
--- ---- a turn
+-- ---- the turn of a unit
 
 pub turn_ends : (source : Source) (place : ℕ) (request : Request) (first : Bool) → Asks source place request first → first ≡ true → EndsMessage source place None
 turn_ends source place request first asks e = ends_before source place request (subst (λ (z : Bool). Asks source place request z) e asks)

@@ -1,4 +1,4 @@
--- Units as they read, one after another.
+-- The reading of units, one after another.
 use Rattle.std.proofs.Common.{◌≡◌, ℕ, zero, suc, Bool, true, false, if◌then◌else◌, ◌+◌, ◌<◌, ◌≤◌, List, [], ◌∷◌, ◌++◌, length, take, drop, slice_index_or, drop-cons, refl, sym, ap, ◌∙◌, subst, arith}
 use Rattle.std.proofs.lemmas.Grind.{common_steps}
 use Rattle.std.proofs.lemmas.List.{take_more, drop-drop}
@@ -63,7 +63,7 @@ after_at : (list rest : List rust.Unit) (at i k : ℕ) → rest ≡ drop at list
 after_at list rest at i k is there =
     ap (λ (z : List rust.Unit). drop (suc i) z) is ∙ drop-drop (suc i) at list ∙ ap (λ (n : ℕ). drop n list) (omega arith)
 
--- the units behind the first ones are those of the rest
+-- the units after the first ones are those of the rest
 pub rest_at : (list rest : List rust.Unit) (at i k : ℕ) (filler : rust.Unit) → rest ≡ drop at list → i < length rest → k ≡ at + i → drop k list ≡ slice_index_or rest i filler ∷ drop (k + 1) list
 rest_at list rest at i k filler is within there =
     ap (λ (n : ℕ). drop n list) there ∙ sym (drop-drop i at list) ∙ ap (λ (z : List rust.Unit). drop i z) (sym is) ∙ drop-cons rest i filler within
@@ -89,7 +89,7 @@ unit_at inside bytes units list rest at i k filler path next request are same is
   reads = reads;
 }
 
--- the path behind one more
+-- the path after one more unit
 pub leads_next : (inside : Bool) (list rest : List rust.Unit) (at i k : ℕ) (filler : rust.Unit) (path next : List (List ℕ)) (request : Request) → rest ≡ drop at list → i < length rest → k ≡ at + i → Leads inside (parts (take k list)) path
     → IsRequest inside (path_at path (part (slice_index_or rest i filler))) (part (slice_index_or rest i filler)) request next → Leads inside (parts (take (k + 1) list)) next
 leads_next inside list rest at i k filler path next request is within there leads reads =
@@ -102,7 +102,7 @@ behind_all bytes units list k are same all =
 
 -- ---- from a place on
 
--- behind so many units of the rest the path stands here, if it stood there before them
+-- after i units of the rest the path is this one, if it was `from` before them
 abbrev pub LeadsFrom : Bool → List rust.Unit → ℕ → List (List ℕ) → ℕ → List (List ℕ) → Type 0
 LeadsFrom inside rest at from i path = (list : List rust.Unit) → rest ≡ drop at list → Leads inside (parts (take at list)) from → Leads inside (parts (take (at + i) list)) path
 

@@ -1,4 +1,4 @@
--- The units of a transmission, each to its end.
+-- The units of a transmission, each executed to its end.
 use Rattle.std.proofs.Common.{◌≡◌, ◌&&◌, if◌then◌else◌, ℕ, ◌+◌, ◌≤◌, Bool, true, false, Option, Some, None, List, [], ◌∷◌, ◌++◌, length, drop, refl, sym, ap, ◌∙◌, subst, append_assoc, arith}
 use Rattle.std.proofs.lemmas.List.{append-nil}
 use Rattle.std.proofs.lemmas.Grind.{common_steps}
@@ -23,7 +23,7 @@ use Rattle.psu_messages.specs.Turns.UnitsDone.{NoUnit, Plain, Expanded}
 abbrev pub OneList : Type 0
 OneList = (bytes : List ℕ) (all others : List Part) → IsMessage bytes all → IsMessage bytes others → all ≡ others
 
--- ---- where no unit is left
+-- ---- no unit is left
 
 no_part : (list : List Part) (place : ℕ) (p : Part) (after : List Part) → length list ≤ place → drop place list ≡ p ∷ after → ⊥
 no_part list place p after all here =
@@ -42,7 +42,7 @@ pub untried : (Is : Request → Type 0) (deeds : List Deed) (parked : Bool) → 
 untried Is deeds parked nobody Untried = refl
 untried Is deeds parked nobody (Again t request is deed reply need try e) = absurd (nobody request is)
 
--- ---- lists of deeds
+-- ---- lists of effects
 
 pub acts_append : (xs ys : List Deed) → acts (xs ++ ys) ≡ acts xs ++ acts ys
 acts_append [] ys = refl
@@ -65,7 +65,7 @@ acts_try : (deeds front part : List Deed) (parked : Bool) (request : Request) (d
 acts_try deeds front part parked request deed reply try is =
     acts_append deeds (deed ∷ []) ∙ ap (λ (l : List Deed). acts deeds ++ l) (acts_one parked request deed reply try) ∙ ap (λ (l : List Deed). l ++ deed ∷ []) is ∙ append_assoc front part (deed ∷ [])
 
--- ---- how far the units are
+-- ---- the progress of the units
 
 pub record Outside (Asked : ℕ → Request → Type 0) (from : ℕ) (all : List Deed) (place : ℕ) (parked : Bool) : Type 0 where
   pub done : List Deed
@@ -207,7 +207,7 @@ try_within Asked from deeds place parked expansion next request deed Parked w as
 try_within Asked from deeds place parked expansion next request deed Held w asks try = stays_within Asked from deeds place parked expansion next request deed Held Lock w asks try refl
 try_within Asked from deeds place parked expansion next request deed Later w asks try = stays_within Asked from deeds place parked expansion next request deed Later Room w asks try refl
 
--- ---- the course
+-- ---- the execution
 
 pub same_body : (expansion : Option (List ℕ)) (body other : List ℕ) (place : ℕ) (p : Part) (request : Request) → expansion ≡ Some body → expansion ≡ Some other → IsUnit true other place p request → IsInside body place request
 same_body expansion body other place p request e f unit =

@@ -1,4 +1,5 @@
--- What is sent for a transmission, message by message. Source: IEEE 488.2, 8.4: the answers of a message's units, joined by `;` and ended by NL.
+-- The texts that are sent for a transmission, message by message. Source: IEEE 488.2, 8.4: the responses of a
+-- message's units, joined by `;` and ended by NL.
 use Rattle.std.specs.Prelude.{◌≡◌, ℕ, ◌||◌, Bool, true, false, List, [], ◌∷◌, ◌++◌}
 use Rattle.psu_exec.specs.Device.{Reply, Done, Answer, Error, Expand, Parked, Held, Later}
 use Rattle.psu_answers.specs.Response.{are_some, joined}
@@ -15,7 +16,7 @@ answer_in Parked = []
 answer_in Held = []
 answer_in Later = []
 
--- the answers that units gave, in order
+-- the responses of units, in order
 abbrev pub answers : List Deed → List (List ℕ)
 answers [] = []
 answers (Executed request reply ∷ deeds) = answer_in reply ++ answers deeds
@@ -36,7 +37,7 @@ ends_text (Executed request reply ∷ deeds) = ends_text deeds
 ends_text (Settled reply ∷ deeds) = ends_text deeds
 ends_text (Sent text last ∷ deeds) = last || ends_text deeds
 
--- A message with answers: they are sent whole, the last piece behind its last unit.
+-- A message with responses: they are sent whole, the last piece after its last unit.
 pub record IsAnswered (deeds : List Deed) : Type 0 where
   pub before : List Deed
   pub piece : List ℕ
@@ -45,32 +46,32 @@ pub record IsAnswered (deeds : List Deed) : Type 0 where
   pub answered : are_some (answers before) ≡ true
   pub text : text_sent deeds ≡ joined (answers before) ++ 10 ∷ []
 
--- messages with answers, one after another
+-- messages with responses, one after another
 pub data AreAnswered : List Deed → Type 0 where
   None : AreAnswered []
   More : {deeds : List Deed} → AreAnswered deeds → (message : List Deed) → IsAnswered message → AreAnswered (deeds ++ message)
 
--- no answer, and nothing sent
+-- no response, and nothing sent
 pub record IsSilent (deeds : List Deed) : Type 0 where
   pub answers : answers deeds ≡ []
   pub text : text_sent deeds ≡ []
   pub ends : ends_text deeds ≡ false
 
--- all answers are sent, each message's in a text of its own, and nothing else
+-- all responses are sent, those of each message in a text of their own, and nothing else
 abbrev pub AllIsSent : List Deed → Type 0
 AllIsSent deeds = (before : List Deed) × (after : List Deed) × (deeds ≡ before ++ after) × AreAnswered before × IsSilent after
 
 -- ---- any number of calls
 
--- What calls did for one transmission, one after another, each as the relation of a call says.
+-- The effects of calls for one transmission, one after another, each as the relation of a call says.
 pub data Taken (source : Source) : List Deed → Course → Type 0 where
   New : Taken source [] beginning
   Call : {deeds : List Deed} {c : Course} → Taken source deeds c → (added : List Deed) (new : Course) → ((before : List Deed) → Comes source before c → Comes source (before ++ added) new) → Taken source (deeds ++ added) new
 
--- Whoever makes the calls, and however many, together they come to one course of the transmission.
+-- Whichever threads make the calls, and however many there are, together they are one execution of the transmission.
 abbrev pub CallsAreOneCourse : Type 0
 CallsAreOneCourse = (source : Source) (deeds : List Deed) (c : Course) → Taken source deeds c → Comes source deeds c
 
--- Once nothing is left to do, all answers are sent.
+-- Once nothing is left to do, all responses are sent.
 abbrev pub OverIsSent : Type 0
 OverIsSent = (source : Source) (deeds : List Deed) (c : Course) → Comes source deeds c → IsOver source c → AllIsSent deeds

@@ -1,4 +1,4 @@
--- How a transmission is executed: what was done for it, and how far it has come with that.
+-- The legal executions of a transmission: its effects, and the progress that they lead to.
 use Rattle.std.specs.Prelude.{◌≡◌, ◌⊎◌, ℕ, ◌&&◌, ◌<◌, Bool, true, false, Option, Some, None, is_some, List, [], ◌∷◌, ◌++◌, length, if◌then◌else◌}
 use Rattle.psu_tree.specs.declared.unit_request.Request.{Request}
 use Rattle.psu_lex.specs.Message.{Part}
@@ -9,7 +9,8 @@ use Rattle.psu_messages.specs.Standing.{Standing, start}
 use Rattle.psu_messages.specs.Deeds.{Deed, Sent, IsTry, Runs, is_memory}
 use Rattle.psu_messages.specs.Units.{Source, Asks, IsBehind, EndsMessage, HasNone, IsUnit}
 
--- how far a transmission has come: which unit is next, the expansion that stands in a unit's place, and what is answered and not sent
+-- the progress of a transmission: which unit is next, the expansion that replaces a unit, and the responses that are
+-- not sent
 pub record Course : Type 0 where
   pub standing : Standing
   pub expansion : Option (List ℕ)
@@ -18,9 +19,10 @@ pub record Course : Type 0 where
 abbrev pub beginning : Course
 beginning = record { standing = start; expansion = None; text = nothing }
 
--- ---- what a try makes of it
+-- ---- the progress after a try
 
--- Parked: the unit was accepted, and waits; Held and Later: nothing was executed, and it is tried again; so is the end of a wait for which there was no memory
+-- Parked: the unit was accepted and waits. Held and Later: nothing was executed, and the unit is tried again. At the
+-- end of a wait for which an allocation failed, it is tried again too.
 abbrev pub standing_after : Standing → Reply → Standing
 standing_after s (Error error) = if s.parked && is_memory error then s else standing.passed s
 standing_after s Done = standing.passed s
@@ -45,11 +47,11 @@ tried c reply = record {
   text = text_after c.text reply;
 }
 
--- the expansion is done, and with it the unit that it stood for
+-- the expansion is done, and with it the unit that it replaced
 abbrev pub outside : Course → Course
 outside c = record { standing = standing.left c.standing; expansion = None; text = c.text }
 
--- what is gathered was sent, and its message goes on
+-- the response buffer was sent, and its message continues
 abbrev pub sent : Course → Course
 sent c = record { standing = c.standing; expansion = c.expansion; text = emptied c.text }
 
@@ -58,8 +60,8 @@ ended c = record { standing = c.standing; expansion = c.expansion; text = nothin
 
 -- ---- what may be done next
 
--- A unit of the expansion where one stands in a unit's place, and else one of the transmission. The first of a message comes once all that is
--- answered before it is sent.
+-- A unit of the expansion if one replaces a unit, otherwise a unit of the transmission. The first unit of a message
+-- comes once all responses before it are sent.
 abbrev pub NextAt : Source → Course → Option ℕ → Request → Type 0
 NextAt source c None request = (first : Bool) × Asks source c.standing.units request first × (first ≡ true → c.text.answered ≡ false)
 NextAt source c (Some place) request = (body : List ℕ) × (part : Part) × (c.expansion ≡ Some body) × IsUnit true body place part request
@@ -67,24 +69,25 @@ NextAt source c (Some place) request = (body : List ℕ) × (part : Part) × (c.
 abbrev pub IsNext : Source → Course → Request → Type 0
 IsNext source c request = NextAt source c c.standing.inside request
 
--- the expansion in a unit's place has no unit left
+-- the expansion that replaces a unit has no unit left
 abbrev pub IsExpanded : Course → Type 0
 IsExpanded c = (body : List ℕ) × (place : ℕ) × (c.expansion ≡ Some body) × (c.standing.inside ≡ Some place) × IsBehind body place
 
--- a message has ended, and has an answer
+-- a message has ended, and has a response
 pub record EndsAnswered (source : Source) (c : Course) : Type 0 where
   pub ends : EndsMessage source c.standing.units c.standing.inside
   pub answered : c.text.answered ≡ true
 
--- More is gathered than a message may have: a part of it leaves. So what one message may ask, the status byte among it, is answered before
--- any of it is sent, unless it is that long.
+-- The response buffer has more than a message may have: a part of it is sent. So all queries of one message, one of
+-- the status byte among them, are answered before any response is sent, unless the responses are that long.
 abbrev pub IsLong : Text → Type 0
 IsLong text = 65536 < length text.rest
 
--- ---- the course of a transmission
+-- ---- the execution of a transmission
 
--- These deeds, first to last, bring a transmission so far: units are tried in order, each until its end; an expansion is executed in its unit's
--- place; parts of a message's text are sent, and the last with NL behind its last unit.
+-- These effects, in order, lead a transmission to this point of its progress: units are tried in order, each until
+-- its end; an expansion is executed in its unit's place; parts of a response message are sent, and its last piece,
+-- with NL, after the last unit of the message.
 pub data Comes (source : Source) : List Deed → Course → Type 0 where
   Begins : Comes source [] beginning
   Tries : {deeds : List Deed} {c : Course} → Comes source deeds c → (request : Request) → IsNext source c request → (deed : Deed) (reply : Reply) → IsTry c.standing.parked request deed reply → Comes source (deeds ++ deed ∷ []) (tried c reply)
@@ -97,24 +100,27 @@ pub record IsOver (source : Source) (c : Course) : Type 0 where
   pub units : HasNone source c.standing.units
   pub sent : c.text.answered ≡ false
 
--- What was done between two moments brings a transmission from one place to the other, whatever was done before.
+-- The effects between two moments lead a transmission from one point of its progress to another, whatever its effects
+-- before.
 pub record Goes {X : Type 0} (does : X → Deed → X → Type 0) (source : Source) (at : X) (c : Course) (now : X) (new : Course) : Type 0 where
   pub added : List Deed
   pub runs : Runs does at added now
   pub comes : (before : List Deed) → Comes source before c → Comes source (before ++ added) new
 
--- something has begun that is to be ended: answers are to be sent, or a unit waits, or an expansion stands in its place
+-- something has begun that is to be ended: responses are to be sent, or a unit waits, or an expansion replaces it
 abbrev pub IsUnended : Course → Type 0
 IsUnended c = (c.text.answered ≡ true) ⊎ (c.standing.parked ≡ true) ⊎ (is_some c.standing.inside ≡ true)
 
--- Why it stopped for good at some place: the next unit was executed and not to its end; another deed was not done to its end, or memory was wanted; or the next
--- unit came to its end, and its answer could not be told.
+-- Why the execution stopped for good at some point: the next unit was executed, but not to its end; another effect
+-- was not completed, or an allocation failed; or the next unit ended, and its response could not be added to the
+-- response buffer.
 pub data Cut {X S : Type 0} (does : X → Deed → X → Type 0) (fails : X → Request → S → X → Type 0) (stops : X → S → X → Type 0) (source : Source) (mid : X) (c : Course) (stop : S) (now : X) : Type 0 where
   Failed : (request : Request) → IsNext source c request → c.standing.parked ≡ false → fails mid request stop now → Cut does fails stops source mid c stop now
   Stopped : IsUnended c → stops mid stop now → Cut does fails stops source mid c stop now
   Untold : (here : X) (request : Request) → IsNext source c request → (deed : Deed) (reply : Reply) → IsTry c.standing.parked request deed reply → does mid deed here → stops here stop now → Cut does fails stops source mid c stop now
 
--- What was done between two moments brings a transmission to some place, where it stopped. What was answered there and is not sent is left.
+-- The effects between two moments lead a transmission to some point of its progress, at which it stopped. The
+-- responses that are not sent at that point are left.
 pub record Stops {X S : Type 0} (does : X → Deed → X → Type 0) (fails : X → Request → S → X → Type 0) (stops : X → S → X → Type 0) (source : Source) (at : X) (c : Course) (stop : S) (now : X) (left : Text) : Type 0 where
   pub mid : X
   pub new : Course
@@ -122,30 +128,31 @@ pub record Stops {X S : Type 0} (does : X → Deed → X → Type 0) (fails : X 
   pub cut : Cut does fails stops source mid new stop now
   pub text : left ≡ new.text
 
--- It stopped for good: memory was wanted before anything was done, or at some place.
+-- The execution stopped for good: after an allocation failure before any effect, or at some point.
 abbrev pub Halts : {X S : Type 0} → (X → Deed → X → Type 0) → (X → Request → S → X → Type 0) → (X → S → X → Type 0) → Source → X → Course → S → X → Text → Type 0
 Halts does fails stops source at c stop now left = (stops at stop now × (left ≡ c.text)) ⊎ Stops does fails stops source at c stop now left
 
--- ---- of one try
+-- ---- one try
 
--- a unit was tried once, which was accepted or not
+-- a unit was tried once, whether it was accepted before or not
 pub record Trial {X : Type 0} (does : X → Deed → X → Type 0) (at : X) (parked : Bool) (request : Request) (now : X) (reply : Reply) : Type 0 where
   pub deed : Deed
   pub done : does at deed now
   pub is : IsTry parked request deed reply
 
--- what a reply tells is gathered, and sent as a part where that is long
+-- the response in a reply is added to the response buffer, which is sent as a part if it is long
 abbrev pub Tells : {X : Type 0} → (X → Deed → X → Type 0) → X → Text → Reply → X → Text → Type 0
 Tells does at text reply now new =
     ((now ≡ at) × (new ≡ text_after text reply))
     ⊎ (((text_after text reply).answered ≡ true) × IsLong (text_after text reply) × does at (Sent (text_after text reply).rest false) now × (new ≡ emptied (text_after text reply)))
 
--- the last of a text was sent, where it has an answer
+-- the last piece of a response message was sent, if there is a response
 abbrev pub Closes : {X : Type 0} → (X → Deed → X → Type 0) → X → Text → X → Text → Type 0
 Closes does at text now new =
     ((text.answered ≡ false) × (now ≡ at) × (new ≡ text))
     ⊎ ((text.answered ≡ true) × does at (Sent (text.rest ++ 10 ∷ []) true) now × (new ≡ nothing))
 
--- a unit of the transmission that is next, or whose expansion is: the first of a message comes once all that is answered before it is sent
+-- a unit of the transmission that is next, or whose expansion is; the first unit of a message comes once all
+-- responses before it are sent
 abbrev pub NextUnit : Source → Course → Request → Type 0
 NextUnit source c request = (first : Bool) × Asks source c.standing.units request first × (first ≡ true → c.standing.inside ≡ None → c.text.answered ≡ false)

@@ -1,4 +1,5 @@
--- The messages of a transmission, one after another. Source: IEEE 488.2, 8.4: the answers of a message's units are sent as one text.
+-- The messages of a transmission, one after another. Source: IEEE 488.2, 8.4: the responses of a message's units are
+-- sent as one text.
 use Rattle.std.specs.Prelude.{◌≡◌, ◌⊎◌, ℕ, ◌<◌, ◌==◌, false, List, [], ◌++◌}
 use Rattle.psu_tree.specs.declared.unit_request.Request.{Request}
 use Rattle.psu_answers.specs.Gathered.{Text}
@@ -9,28 +10,30 @@ use Rattle.psu_messages.specs.Courses.{Comes, Course, IsOver}
 use Rattle.psu_messages.specs.Answers.{IsAnswered, IsSilent, answers, ends_text, text_sent}
 use Rattle.psu_messages.specs.Turns.{UnitsDone, acts}
 
--- how a unit of the message that begins at a place reads: the one there is the first of a message, and no other is
+-- the reading of a unit of the message that begins at a place: the unit there is the first of a message, and no other
+-- is
 abbrev pub IsAskedIn : Source → ℕ → ℕ → Request → Type 0
 IsAskedIn source from place request = Asks source place request (place == from)
 
--- A message: its units, from the first up to the one at `to`, each to its end, once and in order; what they answered was sent whole as one text behind the last
--- of them, or they answered nothing, and nothing was sent.
+-- A message: its units, from the first up to the one at `to`, each executed to its end, once and in order. Their
+-- responses were sent whole as one text after the last of them, or they had no response and nothing was sent.
 pub record IsMessage (source : Source) (from to : ℕ) (deeds : List Deed) : Type 0 where
   pub some : from < to
   pub units : UnitsDone (IsAskedIn source from) from to (acts deeds)
   pub text : IsAnswered deeds ⊎ IsSilent deeds
 
--- messages, one after another, which have so many units together
+-- messages, one after another, which have this number of units together
 pub data AreMessages (source : Source) : ℕ → List Deed → Type 0 where
   NoMessage : AreMessages source 0 []
   OneMore : {from : ℕ} {deeds : List Deed} → AreMessages source from deeds → (to : ℕ) (message : List Deed) → IsMessage source from to message → AreMessages source to (deeds ++ message)
 
--- Once nothing is left to do, what was done are the messages of the transmission: each text that was sent are the answers of the units of one message.
+-- Once nothing is left to do, the effects are those of the transmission's messages: each text that was sent consists
+-- of the responses of the units of one message.
 abbrev pub OverIsMessages : Type 0
 OverIsMessages = (source : Source) (deeds : List Deed) (c : Course) → Comes source deeds c → IsOver source c → AreMessages source c.standing.units deeds
 
--- The first messages of a transmission, each whole, and perhaps a part of the next one: what was sent of that and what is gathered are the answers of its units so
--- far, and the last piece of its text was not sent.
+-- The first messages of a transmission, each whole, and perhaps a part of the next: what was sent of that, followed
+-- by the response buffer, is the responses of its units so far, and the last piece of its text was not sent.
 pub record AreSomeMessages (source : Source) (deeds : List Deed) (gathered : Text) : Type 0 where
   pub units : ℕ
   pub whole : List Deed
@@ -40,6 +43,6 @@ pub record AreSomeMessages (source : Source) (deeds : List Deed) (gathered : Tex
   pub unended : ends_text begun ≡ false
   pub text : text_sent begun ++ gathered.rest ≡ joined (answers begun)
 
--- However far a transmission has come, what was done are some of its messages.
+-- At any point of a transmission, its effects are those of some of its messages.
 abbrev pub SoFarIsMessages : Type 0
 SoFarIsMessages = (source : Source) (deeds : List Deed) (c : Course) → Comes source deeds c → AreSomeMessages source deeds c.text

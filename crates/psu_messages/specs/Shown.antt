@@ -17,7 +17,7 @@ use Rattle.psu_messages.specs.declared.expansion.Expansion.{Expansion}
 abbrev pub course : Standing → Option (List ℕ) → Text → courses.Course
 course standing expansion text = record { standing = standing; expansion = expansion; text = text }
 
--- how many units of the expansion are done, where one stands in the next unit's place
+-- how many units of the expansion are done, if one replaces the next unit
 abbrev pub inside_of : {A : Type 0} → Option (Expansion A) → Option ℕ
 inside_of None = None
 inside_of (Some expansion) = Some expansion.done
@@ -29,7 +29,7 @@ body_of (Some expansion) = Some expansion.body
 abbrev pub course_of : {A : Type 0} → Course A → courses.Course
 course_of c = course (record { units = c.units; inside = inside_of c.expansion; parked = c.parked }) (body_of c.expansion) c.gathered
 
--- a unit was tried once, and came to its end or waits
+-- a unit was tried once, and has ended or waits
 abbrev pub IsTried : {A X : Type 0} → (X → Deed → X → Type 0) → X → Bool → Request → X → Bool → Tried A → Type 0
 IsTried does at parked request now new (tried.Ended o) = Trial does at parked request now (outcome_of o) × (needs parked (outcome_of o) ≡ None) × (new ≡ false)
 IsTried does at parked request now new (tried.Waits need) = (reply : Reply) × Trial does at parked request now reply × (needs parked reply ≡ Some need) × (new ≡ parked_by need parked)

@@ -1,7 +1,8 @@
--- How far a transmission has come, and what its next unit makes of that.
+-- The position of a transmission, and how its next unit changes it.
 use Rattle.std.specs.Prelude.{ℕ, ◌+◌, Bool, true, false, Option, Some, None}
 
--- How many of its units are done; how many of the expansion in the next one's place, where there is one; whether the next was accepted and waits.
+-- How many of its units are done; how many of the expansion that replaces the next one, if there is one; whether the
+-- next one was accepted and waits.
 pub record Standing : Type 0 where
   pub units : ℕ
   pub inside : Option ℕ
@@ -10,14 +11,14 @@ pub record Standing : Type 0 where
 abbrev pub start : Standing
 start = record { units = 0; inside = None; parked = false }
 
--- the next unit is done, in the expansion where there is one
+-- the next unit is done, which is one of the expansion if there is one
 abbrev pub passed : Standing → Standing
 passed s = next s s.inside where
   next : Standing → Option ℕ → Standing
   next s None = record { units = s.units + 1; inside = None; parked = false }
   next s (Some n) = record { units = s.units; inside = Some (n + 1); parked = false }
 
--- an expansion stands in the next unit's place; inside one there is no other
+-- an expansion replaces the next unit; inside one there is no other
 abbrev pub expanded : Standing → Standing
 expanded s = next s s.inside where
   next : Standing → Option ℕ → Standing
@@ -28,6 +29,6 @@ expanded s = next s s.inside where
 abbrev pub accepted : Standing → Standing
 accepted s = record { units = s.units; inside = s.inside; parked = true }
 
--- the expansion is done, and with it the unit that it stood for
+-- the expansion is done, and with it the unit that it replaced
 abbrev pub left : Standing → Standing
 left s = record { units = s.units + 1; inside = None; parked = false }

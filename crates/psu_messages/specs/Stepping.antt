@@ -1,4 +1,4 @@
--- What a step leaves.
+-- The progress after a step.
 use Rattle.std.specs.Prelude.{◌≡◌, ◌⊎◌, ◌+◌, Bool, true, false, Option, Some, None, List, ℕ}
 use Rattle.psu_tree.specs.declared.unit_request.Request.{Request}
 use Rattle.psu_exec.specs.Device.{Reply}
@@ -7,11 +7,11 @@ use Rattle.psu_messages.specs.Courses.{Course, text_after}
 use Rattle.psu_messages.specs.declared.need.Need.{Need}
 use Rattle.psu_messages.specs.declared.need.Need.TheVariants.{Flush}
 
--- so many units are done, and no expansion stands in the next one's place
+-- this number of units is done, and no expansion replaces the next one
 abbrev pub plain : ℕ → Bool → Text → Course
 plain units parked text = record { standing = record { units = units; inside = None; parked = parked }; expansion = None; text = text }
 
--- so many are, and so many of the expansion in the next one's place
+-- this number of units is done, and this number of the expansion that replaces the next one
 abbrev pub within : ℕ → List ℕ → ℕ → Bool → Text → Course
 within units body done parked text = record { standing = record { units = units; inside = Some done; parked = parked }; expansion = Some body; text = text }
 
@@ -20,20 +20,21 @@ abbrev pub parked_by : Need → Bool → Bool
 parked_by Flush parked = true
 parked_by need parked = parked
 
--- so many units are done behind a step, which waits or is one more
+-- the number of units that are done after a step, in which a unit waits or one more is done
 abbrev pub done_by : Option Need → ℕ → ℕ
 done_by None done = done + 1
 done_by (Some need) done = done
 
--- where an expansion leaves a transmission, which waits or is done, and with it the unit that it stood for
+-- the progress after an expansion was executed: it waits, or it is done and with it the unit that it replaced
 abbrev pub expanded_by : Option Need → ℕ → List ℕ → ℕ → Bool → Text → Course
 expanded_by None units body done parked text = plain (units + 1) parked text
 expanded_by (Some need) units body done parked text = within units body done parked text
 
--- a unit that was not accepted yet was executed and not to its end; the wait of one that was accepted was not asked after to its end
+-- a unit that was not accepted yet was executed, but not to its end; or the settle of one that was accepted was not
+-- completed
 abbrev pub IsBrokenOff : {X S : Type 0} → (X → Request → S → X → Type 0) → (X → S → X → Type 0) → X → Bool → Request → S → X → Type 0
 IsBrokenOff fails stops at parked request stop now = ((parked ≡ false) × fails at request stop now) ⊎ ((parked ≡ true) × stops at stop now)
 
--- where it stops, an answer is gathered, or is not for want of memory
+-- after a stop, the response is in the response buffer, or is not since an allocation failed
 abbrev pub IsLeft : Text → Reply → Text → Type 0
 IsLeft text reply left = (left ≡ text) ⊎ ((left ≡ text_after text reply) × (left.answered ≡ true))

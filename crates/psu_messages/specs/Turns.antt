@@ -8,7 +8,7 @@ use Rattle.psu_messages.specs.Deeds.{Deed, Executed, Settled, Sent, IsTry, needs
 use Rattle.psu_messages.specs.Units.{Asks, IsBehind, IsUnit, Source}
 use Rattle.psu_messages.specs.Courses.{Comes, Course, IsOver}
 
--- what was done but for what was sent
+-- the effects other than what was sent
 abbrev pub acts : List Deed → List Deed
 acts [] = []
 acts (Executed request reply ∷ deeds) = Executed request reply ∷ acts deeds
@@ -20,7 +20,8 @@ abbrev pub accepts : Bool → Reply → Bool
 accepts parked Parked = true
 accepts parked reply = parked
 
--- Tries of one unit that have not ended it, and whether it was accepted: before that it is executed again, and after that only settled.
+-- Tries of one unit that have not ended it, and whether it was accepted: before that it is executed again, and after
+-- that only settled.
 pub data Tried (Is : Request → Type 0) : List Deed → Bool → Type 0 where
   Untried : Tried Is [] false
   Again : {deeds : List Deed} {parked : Bool} → Tried Is deeds parked → (request : Request) → Is request → (deed : Deed) (reply : Reply) (need : Need) → IsTry parked request deed reply → needs parked reply ≡ Some need → Tried Is (deeds ++ deed ∷ []) (accepts parked reply)
@@ -41,19 +42,19 @@ abbrev pub is_expansion : Reply → Bool
 is_expansion (Expand body) = true
 is_expansion reply = false
 
--- how the unit at a place reads, outside and in an expansion
+-- the reading of the unit at a place, outside an expansion and in one
 abbrev pub IsAsked : Source → ℕ → Request → Type 0
 IsAsked source place request = (first : Bool) × Asks source place request first
 
 abbrev pub IsInside : List ℕ → ℕ → Request → Type 0
 IsInside body place request = (part : Part) × IsUnit true body place part request
 
--- so many units of an expansion, each to its end
+-- a number of units of an expansion, each executed to its end
 pub data InsideDone (body : List ℕ) : ℕ → List Deed → Type 0 where
   NoneInside : InsideDone body 0 []
   OneInside : {place : ℕ} {deeds : List Deed} → InsideDone body place deeds → (unit : List Deed) (reply : Reply) → Ended (IsInside body place) unit reply → InsideDone body (place + 1) (deeds ++ unit)
 
--- so many units from a place on, each to its end, with the units of its expansion in its place
+-- a number of units from a place on, each executed to its end, with the units of its expansion in its place
 pub data UnitsDone (Asked : ℕ → Request → Type 0) (from : ℕ) : ℕ → List Deed → Type 0 where
   NoUnit : UnitsDone Asked from from []
   Plain : {place : ℕ} {deeds : List Deed} → UnitsDone Asked from place deeds → (unit : List Deed) (reply : Reply) → Ended (Asked place) unit reply → is_expansion reply ≡ false → UnitsDone Asked from (place + 1) (deeds ++ unit)

@@ -3,10 +3,10 @@
 use psu_lex::Bytes;
 use std::alloc::Allocator;
 
-/// An expansion that stands in a unit's place.
+/// An expansion that replaces a unit.
 #[derive(Drop)]
 pub struct Expansion<A: Allocator + Copy> {
-    /// What is executed.
+    /// The text that is executed.
     pub body: Bytes<A>,
     /// How many of its units are done.
     pub done: u64,

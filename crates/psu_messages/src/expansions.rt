@@ -13,14 +13,14 @@ use psu_lex::split;
 use psu_tree::Path;
 use std::alloc::Allocator;
 
-/// Where the next unit stands among so many, or their end where all are done.
+/// The place of the next unit among `count` units, or their end if all are done.
 pub(crate) fn place_of(done: u64, count: usize) -> usize
     ensures { result ≡ min done count }
 {
     count.min(done as usize)
 }
 
-/// Executes what is left of an expansion; what has to be waited for, where it isn't done then.
+/// Executes the rest of an expansion. Returns what has to be waited for, if the expansion isn't done then.
 pub(crate) fn expand<A: Allocator + Copy, F: Front<A>>(
     front: &mut F,
     alloc: A,

@@ -1,5 +1,5 @@
-//! Messages executed: the units of a transmission, one after another, each to its end, and what they answer. Nothing here waits, and what the
-//! units are executed on is known by what was asked of it alone.
+//! The engine of messages: executes the units of a transmission, one after another, each to its end, and sends their
+//! responses. Nothing here waits. The executor of the units is known only by what was asked of it.
 #![tactic(auto)]
 
 mod course;

@@ -1,4 +1,4 @@
-// A transmission, executed unit by unit and answered message by message.
+// The execution of a transmission, unit by unit, with a response message for each message that has responses.
 ghost use Rattle.std.specs.Prelude.{◌≡◌, ◌+◌, ◌<◌, ◌^◌, true, false, None, IfOk, IfErr, IfSome, OnOk, OnErr};
 ghost use Rattle.psu_lex.specs.Message.{part};
 ghost use Rattle.psu_tree.specs.declared.unit_request.Request.{Request as RequestData};
@@ -85,7 +85,7 @@ fn begin<A: Allocator + Copy, F: Front<A>>(
     }
 }
 
-// Executes a unit of a message, or goes on with the expansion in its place.
+// Executes a unit of a message, or continues the expansion in its place.
 #[inline(always)]
 fn perform<A: Allocator + Copy, F: Front<A>>(
     front: &mut F,
@@ -122,7 +122,7 @@ fn perform<A: Allocator + Copy, F: Front<A>>(
     }
 }
 
-// Sends what is left of a message's answers before the first unit of the next.
+// Sends the rest of a message's responses before the first unit of the next message.
 #[inline(always)]
 fn close_before<A: Allocator + Copy, F: Front<A>>(
     front: &mut F,
@@ -144,7 +144,7 @@ fn close_before<A: Allocator + Copy, F: Front<A>>(
     Ok(())
 }
 
-// Takes the turn of a unit.
+// Executes the next unit; before the first unit of a message, ends the message before it.
 #[inline(always)]
 fn take_turn<A: Allocator + Copy, F: Front<A>>(
     front: &mut F,
@@ -166,7 +166,7 @@ fn take_turn<A: Allocator + Copy, F: Front<A>>(
     Ok(need)
 }
 
-// Takes the turn of a unit, as it reads.
+// Reads the next unit at the path, and executes it.
 fn take_unit<'a, A: Allocator + Copy, F: Front<A>>(
     front: &mut F,
     alloc: A,
@@ -188,8 +188,10 @@ fn take_unit<'a, A: Allocator + Copy, F: Front<A>>(
     Ok(need)
 }
 
-/// Executes what is left of a text, up to a unit that has to wait: what that waits for, or none where the transmission is over. It is taken up by another call,
-/// here or elsewhere. Where the front stops, it stops for good; what is answered and not sent is gathered still, but for the answer of a unit that found no memory.
+/// Executes the rest of a text, up to a unit that has to wait. Returns what that unit waits for, or none if the
+/// transmission is over. Another call continues the transmission, here or elsewhere. If the executor stops, it stops
+/// for good; responses that are not sent are still in the response buffer, except the response of a unit for which an
+/// allocation failed.
 pub fn execute_text<A: Allocator + Copy, F: Front<A>>(
     front: &mut F,
     alloc: A,
@@ -219,7 +221,7 @@ pub fn execute_text<A: Allocator + Copy, F: Front<A>>(
     Ok(None)
 }
 
-/// Executes what reports an error in place of a text, as a text is executed.
+/// Executes the report of an error in place of a text, as a text is executed.
 #[inline(never)]
 pub fn execute_fault<A: Allocator + Copy, F: Front<A>>(
     front: &mut F,
@@ -249,7 +251,7 @@ pub fn execute_fault<A: Allocator + Copy, F: Front<A>>(
     Ok(None)
 }
 
-/// Executes what is left of a transmission, a text or what reports an error in place of one.
+/// Executes the rest of a transmission: a text, or the report of an error in place of one.
 pub fn proceed<A: Allocator + Copy, F: Front<A>>(
     front: &mut F,
     alloc: A,

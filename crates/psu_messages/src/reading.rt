@@ -1,4 +1,4 @@
-// Units as they read, one after another.
+// Reading of units, one after another.
 ghost use Rattle.std.specs.Prelude.{◌≡◌, []};
 ghost use Rattle.psu_lex.specs.Message.{part, parts};
 ghost use Rattle.psu_messages.specs.Units.{IsRequest, Leads, path_at};
@@ -6,7 +6,7 @@ ghost use Rattle.psu_messages.specs.Units.{IsRequest, Leads, path_at};
 use psu_lex::Unit;
 use psu_tree::{Path, Request, request};
 
-/// A unit as it reads at a path; the first of a message is read from the root.
+/// Reads a unit at a path, and moves the path; the first unit of a message is read from the root.
 pub(crate) fn request_at<'a>(path: &mut Path<'a>, unit: &Unit<'a>, inside: bool) -> Request<'a>
     ensures { IsRequest inside (path_at path.old (part unit.now)) (part unit.now) result path.new }
 {
@@ -16,7 +16,7 @@ pub(crate) fn request_at<'a>(path: &mut Path<'a>, unit: &Unit<'a>, inside: bool)
     request(path, unit, inside)
 }
 
-/// Moves a path from the root behind units that are not executed again.
+/// Moves a path from the root past units that are not executed again.
 pub(crate) fn pass_over<'a>(path: &mut Path<'a>, units: &[Unit<'a>], inside: bool)
     requires { path.old ≡ [] }
     ensures { Leads inside (parts units.now) path.new }

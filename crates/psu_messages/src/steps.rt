@@ -1,4 +1,4 @@
-// A unit of an expansion, tried and told.
+// A try of a unit of an expansion, and its response.
 ghost use Rattle.std.specs.Prelude.{◌≡◌, List, ℕ, IfOk, IfErr, IfSome};
 ghost use Rattle.psu_messages.specs.Courses.{Goes, Stops};
 ghost use Rattle.psu_messages.specs.Deeds.{Awaits};
@@ -13,8 +13,8 @@ use psu_answers::Gathered;
 use psu_exec::Request;
 use std::alloc::Allocator;
 
-/// Tries a unit of an expansion, and tells what it answers; what it waits for, where it isn't done then. An expansion in its place is left out: there is
-/// none in another.
+/// Tries a unit of an expansion, and adds its response to the response buffer. Returns what the unit waits for, if it
+/// isn't done then. An expansion in its place is left out: there is none inside another.
 #[inline(always)]
 pub(crate) fn take_step<A: Allocator + Copy, F: Front<A>>(
     front: &mut F,

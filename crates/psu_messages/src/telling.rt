@@ -1,4 +1,4 @@
-// What units answer, told and sent.
+// The responses of units: gathered in the response buffer, and sent.
 ghost use Rattle.std.specs.Prelude.{◌≡◌, true, IfErr, OnOk, OnErr};
 ghost use Rattle.psu_exec.specs.Shown.{outcome_of};
 ghost use Rattle.psu_messages.specs.Courses.{Closes, Tells};
@@ -9,7 +9,8 @@ use psu_answers::Gathered;
 use psu_exec::Outcome;
 use std::alloc::Allocator;
 
-/// Tells what a unit answers; a part of a long text is sent. Where it stops, what is not sent is gathered still, with the answer or without it.
+/// Adds the response of a unit to the response buffer; a long buffer is sent as a part. If the executor stops, what
+/// is not sent is still in the buffer, with the response or without it.
 #[inline(always)]
 pub(crate) fn tell<A: Allocator + Copy, F: Front<A>>(
     front: &mut F,
@@ -34,7 +35,8 @@ pub(crate) fn tell<A: Allocator + Copy, F: Front<A>>(
     Ok(())
 }
 
-/// Ends a message: the last of its text is sent, where it has one. Where it stops, that is gathered still.
+/// Ends a message: sends the last piece of its response message, if it has one. If the executor stops, that piece is
+/// still in the response buffer.
 #[inline(always)]
 pub(crate) fn close<A: Allocator + Copy, F: Front<A>>(
     front: &mut F,

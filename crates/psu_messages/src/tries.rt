@@ -9,16 +9,16 @@ use crate::{Front, Need};
 use psu_exec::{Outcome, Request, ScpiError};
 use std::alloc::Allocator;
 
-/// What a try of a unit comes to.
+/// The result of a try of a unit.
 #[derive(Drop)]
 pub(crate) enum Tried<A: Allocator + Copy> {
-    /// The unit has come to its end.
+    /// The unit has ended.
     Ended(Outcome<A>),
-    /// It is to be tried again once this has come.
+    /// The unit is to be tried again once this need is met.
     Waits(Need),
 }
 
-// What a unit waits for, accepted or not, where it is to be tried again.
+// What a unit, accepted or not, waits for if it is to be tried again.
 #[inline(always)]
 fn need_of<A: Allocator + Copy>(parked: bool, outcome: &Outcome<A>) -> Option<Need>
     ensures { result ≡ needs parked (outcome_of outcome.now) }
@@ -49,7 +49,7 @@ fn once<A: Allocator + Copy, F: Front<A>>(
     }
 }
 
-/// Tries a unit once, which was accepted or not.
+/// Tries a unit once, whether it was accepted before or not.
 #[inline(always)]
 pub(crate) fn attempt<A: Allocator + Copy, F: Front<A>>(
     front: &mut F,

@@ -16,7 +16,7 @@ impl<A: Allocator + Copy> Device<A> {
         !self.locks.may_command(session)
     }
 
-    /// A session that is open asks for a lock.
+    /// Requests a lock for an open session.
     pub(crate) fn lock(
         &mut self,
         session: Session,
@@ -30,7 +30,7 @@ impl<A: Allocator + Copy> Device<A> {
         self.locks.request(session, kind, now, timeout)
     }
 
-    /// A session that is open gives up a lock.
+    /// Releases a lock of an open session.
     pub(crate) fn release(&mut self, session: Session) -> Result<(Freed, Sessions), LockRefusal>
         requires { is_open self.old session ≡ true }
         ensures { Allows self.old (Released session result) self.new }
@@ -38,21 +38,21 @@ impl<A: Allocator + Copy> Device<A> {
         self.locks.release(session)
     }
 
-    /// Time goes on.
+    /// Advances the time, and fails the requests whose timeout has expired.
     pub(crate) fn tick(&mut self, now: u64) -> Sessions
         ensures { Allows self.old (Ticked now result) self.new }
     {
         self.locks.tick(now)
     }
 
-    /// What is told of the locks.
+    /// Returns whether the exclusive lock is held, and how many sessions hold a lock.
     pub(crate) fn info(&self) -> Info
         ensures { Allows self.now (Informed result) self.now }
     {
         self.locks.info()
     }
 
-    /// The moment at which a request that waits fails next.
+    /// The earliest time at which a waiting request fails.
     pub(crate) fn next_deadline(&self) -> Option<u128>
         ensures step { Allows self.now (Due result) self.now }
         ensures first { IfSome result (λ deadline. FailsFirst self.now.volatile.locks.waiting deadline) }

@@ -1,4 +1,4 @@
-// Sessions, and what they are told.
+// Sessions and their service states.
 ghost use Rattle.std.specs.Prelude.{◌≡◌, true, Some, None, IfOk, OnErr};
 ghost use Rattle.psu_exec.specs.Device.{is_open, mark_of};
 ghost use Rattle.psu_exec.specs.Calls.{Allows, has_work, unparked, with_answer, with_mark, with_session};
@@ -12,7 +12,7 @@ use crate::{Condition, Crowded, Device, Mark, Session, Sessions};
 use std::alloc::Allocator;
 
 impl<A: Allocator + Copy> Device<A> {
-    /// Opens the session of the least free number. It asks for service where an enabled bit is set.
+    /// Opens a session under the least free number. It requests service if an enabled bit is set.
     pub(crate) fn open_session(&mut self) -> Result<Session, Crowded>
         ensures opened { IfOk result (λ session. Allows self.old (Opened (Some session)) self.new) }
         ensures crowded { OnErr result (Allows self.old (Opened None) self.new) }
@@ -27,8 +27,8 @@ impl<A: Allocator + Copy> Device<A> {
         }
     }
 
-    /// Closes a session that is open: its wait, its marks, its locks and its request are dropped. Answers the sessions whose requests
-    /// for a lock were then granted, in order of arrival.
+    /// Closes an open session: drops its wait, its service state, its locks and its lock request. Returns the
+    /// sessions whose lock requests were then granted, in order of arrival.
     pub(crate) fn close_session(&mut self, session: Session) -> Sessions
         requires { is_open self.old session ≡ true }
         ensures { Allows self.old (Closed session result) self.new }
@@ -38,7 +38,7 @@ impl<A: Allocator + Copy> Device<A> {
         granted
     }
 
-    /// Drops the wait of a session that is open.
+    /// Drops the wait of an open session.
     pub(crate) fn clear(&mut self, session: Session)
         requires { is_open self.old session ≡ true }
         ensures { Allows self.old (Cleared session) self.new }
@@ -46,14 +46,14 @@ impl<A: Allocator + Copy> Device<A> {
         self.unpark(session);
     }
 
-    // The mark of a session that opens.
+    // The service state of a session that opens.
     fn opened_mark(&self) -> Mark
         ensures { result ≡ opened_mark self.now.volatile.instrument.status }
     {
         latched(0, self.instrument.enabled(false), no_mark())
     }
 
-    // Whether a session is open from now on, and what it is told; its wait is dropped.
+    // Sets whether a session is open and its service state, and drops its wait.
     fn set_session(&mut self, session: Session, opens: bool, mark: Mark)
         ensures { self.new ≡ with_session self.old session opens mark }
     {
@@ -62,14 +62,14 @@ impl<A: Allocator + Copy> Device<A> {
         self.unpark(session);
     }
 
-    // The wait of a session is dropped.
+    // Drops the wait of a session.
     fn unpark(&mut self, session: Session)
         ensures { self.new ≡ record self.old { flush = unparked self.old.flush session } }
     {
         self.waits[session.place()] = None;
     }
 
-    /// An answer is sent to a session that is open.
+    /// Records that a response was sent to an open session.
     pub(crate) fn sent(&mut self, session: Session)
         requires { is_open self.old session ≡ true }
         ensures { Allows self.old (Sent session) self.new }
@@ -77,7 +77,7 @@ impl<A: Allocator + Copy> Device<A> {
         self.set_available(session, true);
     }
 
-    /// What was sent to a session that is open is delivered.
+    /// Records that what was sent to an open session is delivered.
     pub(crate) fn delivered(&mut self, session: Session)
         requires { is_open self.old session ≡ true }
         ensures { Allows self.old (Delivered session) self.new }
@@ -85,7 +85,7 @@ impl<A: Allocator + Copy> Device<A> {
         self.set_available(session, false);
     }
 
-    // Whether an answer was sent to a session that it has not read; its latch follows.
+    // Sets whether a response was sent to a session that it has not read (MAV), and updates its RQS.
     fn set_available(&mut self, session: Session, available: bool)
         ensures { self.new ≡ with_answer self.old session available }
     {
@@ -93,7 +93,7 @@ impl<A: Allocator + Copy> Device<A> {
         self.set_mark(session, mark);
     }
 
-    // A session's mark, where from now on an answer was sent to it that it has not read, or none.
+    // The service state of a session, with MAV set to whether a response was sent to it that it has not read.
     fn changed(&self, mark: Mark, available: bool) -> Mark
         ensures { result ≡ latched (enabled self.now.volatile.instrument.status mark.available) (enabled self.now.volatile.instrument.status available) (with_available mark available) }
     {
@@ -102,7 +102,7 @@ impl<A: Allocator + Copy> Device<A> {
         latched(old, new, Mark { available, ..mark })
     }
 
-    // What a session is told.
+    // The service state of a session.
     fn mark(&self, session: Session) -> Mark
         ensures { result ≡ mark_of self.now session }
     {
@@ -115,7 +115,7 @@ impl<A: Allocator + Copy> Device<A> {
         self.marks[session.place()] = mark;
     }
 
-    /// The status byte of a session that is open, with its latch in bit 6, which is then cleared.
+    /// Returns the status byte of an open session with its RQS in bit 6, which is then cleared.
     pub(crate) fn status(&mut self, session: Session) -> u8
         requires { is_open self.old session ≡ true }
         ensures { Allows self.old (Queried session result) self.new }
@@ -132,7 +132,8 @@ impl<A: Allocator + Copy> Device<A> {
         byte
     }
 
-    /// The service request of a session that is open which is not fetched, if there is one: the status byte with bit 6 set.
+    /// Fetches the service request of an open session that is not fetched, if there is one: the status byte with bit
+    /// 6 set.
     pub(crate) fn requests(&mut self, session: Session) -> Option<u8>
         requires { is_open self.old session ≡ true }
         ensures { Allows self.old (Fetched session result) self.new }
@@ -153,7 +154,8 @@ impl<A: Allocator + Copy> Device<A> {
         byte
     }
 
-    /// The open sessions that asked for service since this was asked last, and whether a take would give a job.
+    /// Returns the open sessions that have requested service since the last call, and whether a take would return a
+    /// job.
     pub(crate) fn news(&mut self) -> (Sessions, bool)
         ensures { Allows self.old (Told result.0 result.1) self.new }
     {
@@ -162,7 +164,7 @@ impl<A: Allocator + Copy> Device<A> {
         (sessions, self.has_work())
     }
 
-    // Whether a take would give a job.
+    // Whether a take would return a job.
     fn has_work(&self) -> bool
         ensures { result ≡ has_work self.now.flush }
     {

@@ -2,7 +2,7 @@ use Rattle.std.proofs.Common.{rules, ◌≡◌, ◌∙◌, ◌≤◌, ◌<◌, �
 use Rattle.psu_nv.specs.Parts.{Register as KeptRegister}
 use Rattle.psu_exec.proofs.changed_parts.ChangedParts.has_key.Goals as goal
 
--- two bytes
+-- a key of two bytes, the first of which is 2
 two : (key : List ℕ) → 2 ≤ length key → length key < 3 → get_or key 0 0 ≡ 2 → key ≡ 2 ∷ get_or key 1 0 ∷ []
 two [] least below is = absurd (omega (arith, least))
 two (a ∷ []) least below is = absurd (omega (arith, least))
