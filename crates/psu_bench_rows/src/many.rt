@@ -74,7 +74,7 @@ fn sixteen_threads_make_100_000_calls(rt: HostRuntime) {
     assert!(rt; !is_open_at_close(&rt, bench, seat, Session::at(0)));
 }
 
-// Executes units of a session until the outcome of one is `Later`, or this many were answered.
+// Executes units of a session until the outcome of one is `Later`, or a million were answered.
 fn until_later<R: Wait>(
     rt: &R,
     bench: &Device,

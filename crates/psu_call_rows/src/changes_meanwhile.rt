@@ -77,7 +77,7 @@ fn change_both<D: Disk + Drop, A: Allocator + Copy>(
     beside(exec, second).expect(rt, "a job")
 }
 
-// Flushes two changes by two jobs, or by one where the second is refused, and returns whether it is done.
+// Flushes two changes by two jobs, or by one where the second is refused, and returns whether the second is refused.
 fn flush_both<D: Disk + Drop, A: Allocator + Copy>(
     rt: &impl Abort,
     exec: &mut Exec<D, A>,

@@ -7,7 +7,7 @@ use std::alloc::Global;
 /// A device on a disk in memory.
 pub type Power = Exec<MemDisk<Global>, Global>;
 
-// Returns a new image of this many pages; `None` where an image can't have that many, or out of memory.
+// Returns a new image of this many pages; `None` where an image can't have that many, or memory is refused.
 fn image(alloc: Global, pages: u16) -> Option<MemDisk<Global>> {
     if pages < 4 || pages > 480 {
         return None;

@@ -1,5 +1,5 @@
-// Each allocation of contents is refused in turn: a change fails with -225 and changes nothing, and the other steps
-// fail out of memory.
+// Each allocation of contents is refused in turn: a change fails with -225 and changes nothing, and each other step
+// fails because memory is refused.
 use crate::maps::map_of;
 use crate::told::holds;
 use bumpalo::Bump;

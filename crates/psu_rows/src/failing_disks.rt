@@ -201,7 +201,8 @@ fn confirmed_saves_outlast_a_stop(rt: HostRuntime) {
 
 const SAVE_AND_LOSS: &str = "VOLT 1;*SAV 1;*OPC?\n!POWER\n*RCL 1;VOLT?\n";
 
-// The outcome of a save and a power loss where one call failed: whether the run succeeded, its text, and the register.
+// The number of the outcome of a save and a power loss where one call failed, by whether the run succeeded, its text,
+// and the register.
 fn way_of(ended: bool, text: &[u8], volts: usize) -> Option<usize> {
     if volts == 0 {
         return (!ended && text.is_empty()).then_some(0);

@@ -166,7 +166,7 @@ fn an_image_that_is_none_is_not_opened(rt: HostRuntime) {
 
 const SAVES: &[u8] = b"*PSC 0;*OPC?\n*ESR?\n*OPC?\n!POWER\n*PSC?\n";
 
-// The outcome of a run of saves where one call failed: it succeeded, or an opening failed.
+// The number of the outcome of a run of saves where one call failed: it succeeded, or an opening failed.
 fn way_of(cause: Option<RunCause>, text: &[u8]) -> Option<usize> {
     if cause.is_none() {
         if text == b"1\n128\n1\n0\n".as_slice() {

@@ -89,7 +89,7 @@ fn tells(story: &str, text: &[u8], whole: bool) -> bool {
     }
 }
 
-// Whether what an image holds is exactly a line.
+// Whether the text that an image holds is exactly this line.
 fn is_held(line: &str, held: &[u8]) -> bool {
     match behind(held, line.as_bytes()) {
         Some(rest) => rest.is_empty(),

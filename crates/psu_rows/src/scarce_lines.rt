@@ -1,9 +1,9 @@
 // Memory is refused while one line is executed: each of its units that is not done has reported that, by -225 in the
 // error queue, and has had no other effect. The line after it queries that, with memory again.
 //
-// A case is a text: the lines before, which write one line at most (`before: `), the line with little memory (`line:
-// `), the one that queries the result (`then: `), and all that may be written, a row each (`- `), first what is written
-// where memory is ample. ` / ` separates two lines.
+// A case is a text: the lines before, which write one line at most (`before: `), the line with little memory
+// (`line: `), the one that queries the result (`then: `), and all that may be written, a row each (`- `), first what is
+// written where memory is ample. ` / ` separates two lines.
 use crate::images::least;
 use crate::memory::{End, arena, behind, leave};
 use crate::runs::{Ran, run_from};

@@ -12,7 +12,7 @@ fn add_often(alloc: Global, text: &mut Vec<u8>, part: &str) -> Option<()> {
     Some(())
 }
 
-/// Appends a line, with its end; `None` where a part of it has no count, or out of memory.
+/// Appends a line, with its end; `None` where a part of it has no count, or memory is refused.
 pub fn add_line(alloc: Global, text: &mut Vec<u8>, line: &str) -> Option<()> {
     for piece in line.split("{") {
         let mut rest = piece;

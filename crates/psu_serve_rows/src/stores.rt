@@ -21,7 +21,7 @@ fn is_kept(client: &mut Client) -> Result<(), Missed> {
 }
 
 // A disk that refuses writes is tried once a second and no more often, and the broken store is reported once. Once the
-// disk accepts writes again, the changes are kept without a further request, and that is reported.
+// disk accepts writes again, the save is kept without a client's request, and that is reported.
 #[test]
 fn a_full_disk_is_tried_each_second(rt: HostRuntime) -> Result<(), Fail> {
     let alloc = rt.alloc();

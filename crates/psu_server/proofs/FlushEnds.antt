@@ -84,7 +84,7 @@ stored_clean f taken new limit map whole out gave =
     committing : (f : Flush) → f.store ≡ Whole → job_out f ≡ record f { out = true; held = Some (record { count = f.unflushed; map = items_of f.contents }) }
     committing f w = rw w refl
 
--- the disk after a job
+-- the properties of the disk that a job keeps
 pub run_lasts : {D A : Type 0} {G : Ghosts D} (old taken new : Exec D A G) (j : AnyJob D A G) (short : Bool) → old.home ≡ Some (job_home j) → HasRun taken j new short → Lasts old new
 run_lasts {D} {A} {G} old taken new j short there run = record {
   extent = run.extent ∙ sym (size_at old j there);

@@ -27,7 +27,7 @@ use Rattle.psu_server.proofs.SessionOne.{cleared_calls, count_same, executed_cal
 
 -- ---- a device that continues and then stops
 
--- the calls until then
+-- the device continued by calls that executed these requests
 pub record HasExecuted {D A : Type 0} {G : Ghosts D} (old new : Exec D A G) (requests : List Request) : Type 0 where
   pub calls : Ghosts.honest G → (life : Life) → (next : Life) × Executes (world_of life old) requests (world_of next new) × Spans old new (world_of life old) (world_of next new)
   pub lasts : Lasts old new

@@ -67,7 +67,7 @@ within_at a b c P same w = subst (λ (n : ℕ). Within a n P) (rev same) w where
 pub within_itself : (a b : ℕ) (P : Mishaps → Type 0) (w : Within a b P) → P w.0
 within_itself a b P w = w.3 w.0 (covers_itself w.0)
 
--- a later end
+-- the end may be later
 pub within_later : (a b c : ℕ) (P : Mishaps → Type 0) → b ≤ c → Within a b P → Within a c P
 within_later a b c P later w = (w.0, omega (arith, w.1, later), (λ e. failed_on a b c later (w.2 e)), w.3)
 

@@ -28,6 +28,6 @@ IsDone old told (Sent text last) new now = (new ≡ old) × Says told now text
 abbrev pub IsFailed : {D A : Type 0} {G : Ghosts D} → Exec D A G → Telling → Request → RunCause → Exec D A G → Telling → Type 0
 IsFailed old told request cause new now = (now ≡ told) × Halts old new (request ∷ []) cause
 
--- a text is not output: the writer failed, or out of memory
+-- a text is not output: memory is refused, or the writer failed
 abbrev pub IsStopped : {D A : Type 0} {G : Ghosts D} → Exec D A G → Telling → RunCause → Exec D A G → Telling → Type 0
 IsStopped old told cause new now = (new ≡ old) × SaysUntil cause told now [] × ((cause ≡ Memory) ⊎ (cause ≡ Write))

@@ -66,7 +66,8 @@ pub record PowersOn (image : List ℕ) (new : World) : Type 0 where
   pub opens : Calls on (Opened (Some 1)) new
 
 -- A disk after the last call, or after a restart that failed after that call: each of its possible crash images is one
--- of the last world, or each possible crash image of both represents the same map, and the disks have the same size.
+-- of the last world, or each possible crash image of either disk represents one map, the same for both, and the disks
+-- have the same size.
 abbrev pub IsLeftBy : World → DiskState → Type 0
 IsLeftBy w disk = ((image : List ℕ) → Left disk image → Left w.disk image)
     ⊎ ((limit : ℕ) × (map : List Item) × EachStands w.disk limit map × EachStands disk limit map × (length disk.bytes ≡ length w.disk.bytes))

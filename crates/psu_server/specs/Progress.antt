@@ -43,7 +43,7 @@ pub record Spans {D A : Type 0} {G : Ghosts D} (old new : Exec D A G) (w v : Wor
   pub leads : Leads w v
   pub time : Ghosts.tells G → IsNow G → Reached w → Since G (disk_in old.home) (disk_in new.home) (IsBetween w v)
 
--- The device continued, in some later life, and P may have happened with what went wrong.
+-- The device continued within its life, and P may have happened with what went wrong.
 pub record GoesOn {D A : Type 0} {G : Ghosts D} (old new : Exec D A G) (P : Mishaps → World → World → Type 0) : Type 0 where
   pub runs : Ghosts.honest G → (life : Life) → (next : Life) × Within (failures_of old) (failures_of new) (λ can. P can (world_of life old) (world_of next new))
       × Spans old new (world_of life old) (world_of next new)
@@ -77,7 +77,7 @@ abbrev pub EachMoment : {D A : Type 0} {G : Ghosts D} → Life → Exec D A G �
 EachMoment {D} {A} {G} life old disk due =
     Ghosts.tells G → IsNow G → Reached (world_of life old) → Since G (disk_in old.home) disk (IsWhile (world_of life old) due)
 
--- The device continued, in its life or in later ones after it: these messages were executed and output this text.
+-- The device continued, within its life or in later ones after it: these messages were executed and output this text.
 pub record RunsOn {D A : Type 0} {G : Ghosts D} (old new : Exec D A G) (done : List Message) (text : List ℕ) : Type 0 where
   pub runs : Ghosts.honest G → (life : Life) → (next : Life) × Within (failures_of old) (failures_of new) (λ can. Runs can (world_of life old) done text (world_of next new))
       × EachMoment life old (disk_in new.home) done

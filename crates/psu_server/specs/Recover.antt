@@ -58,8 +58,9 @@ told file = entry_with file.name (file.kind, file.size)
 -- ---- reports
 
 -- The image represents these contents, and the report has their cost, the enables, the first service request that is
--- prescribed for them, the numbers of bytes of user data and of macros, and the files in byte order of their names; and
--- the version and the number of the current root; and whether the settings at power-on are those of register 0.
+-- prescribed for them, the number of bytes of user data, the number of macros, and the files in byte order of their
+-- names; and the version and the number of the current root; and whether the settings at power-on are those of register
+-- 0.
 pub record IsReported {A : Type 0} (image : List ℕ) (report : Report A) : Type 0 where
   pub contents : Contents
   pub sound : IsContents contents

@@ -8,9 +8,9 @@ use std::alloc::Allocator;
 /// The answers of the lines of a piece that are not yet written.
 #[derive(Drop)]
 pub struct Unwritten<A: Allocator + Copy> {
-    /// The text that is output and not yet written.
+    /// The output buffer: responses that are not yet written.
     pub told: Vec<u8, A>,
-    /// The answers of the line in progress that are not yet output.
+    /// The answers of the line in progress that are not yet in the output buffer.
     pub gathered: Gathered<A>,
 }
 

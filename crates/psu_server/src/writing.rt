@@ -1,4 +1,4 @@
-// The output buffer: text that is output and not yet written.
+// The output buffer, which is written when it has grown too long.
 ghost use Rattle.std.specs.Prelude.{◌≡◌, ◌⊎◌, [], OnOk, IfErr};
 ghost use Rattle.psu_server.specs.Output.{Says, SaysUntil, held};
 

@@ -69,8 +69,8 @@ fn reads(alloc: Global, message: &str, wanted: &str) -> Option<bool> {
     Some(are_read(units.as_slice(), wanted))
 }
 
-/// Checks that the messages of a table read as its rows say. A row is a line: a message, in which `\n` means NL, ` ->
-/// `, and the faults of its units. Other lines say what the rows below them are for.
+/// Checks that the messages of a table read as its rows say. A row is a line: a message, in which `\n` means NL,
+/// ` -> `, and the faults of its units. Other lines say what the rows below them are for.
 pub fn read_as_told(rt: &impl Abort, alloc: Global, table: &str) {
     let mut rows = 0u32;
     for line in table.lines() {
