@@ -253,8 +253,8 @@ fn completed(alloc: Global, call: u64) -> Option<Failure> {
     }
 }
 
-// A pending `*OPC` is not a wait: it survives the broken store, and its bit (1) is set once the save is flushed, with
-// DDE (8) of the wait that ended and PON (128).
+// A pending `*OPC` is not a wait: it survives the broken store, and its bit (1) is set once the save is flushed, in
+// addition to DDE (8) of the wait that ended and PON (128).
 #[test]
 fn a_pending_completion_outlasts_a_broken_store(rt: HostRuntime) {
     let mut broken = 0u32;

@@ -189,8 +189,9 @@ fn saved_on_failing(alloc: Global, call: u64) -> Option<usize> {
     way_of(ended.cause, &ended.text)
 }
 
-// A commit that fails answers its `*OPC?` with -320, which sets DDE (8) with PON (128); the store is reopened, and the
-// next `*OPC?` is answered: what it confirmed is there when power returns. An opening that fails ends the run.
+// A commit that fails answers its `*OPC?` with -320, which sets DDE (8) in addition to PON (128); the store is
+// reopened, and the next `*OPC?` is answered: what it confirmed is there when power returns. An opening that fails ends
+// the run.
 #[test]
 fn a_disk_that_fails_once_is_opened_again(rt: HostRuntime) {
     let mut seen = [0u32; 4];

@@ -223,7 +223,7 @@ fn goes_with_little_memory(rt: &impl Abort, alloc: Global, text: &str) {
     assert!(rt; refused > 200, "{refused} refused");
 }
 
-// With the enables kept an answer that is refused sets EXE (16) beside PON (128), and status byte bit 2 (4).
+// With the enables kept, an answer that is refused sets EXE (16) in addition to PON (128), and status byte bit 2 (4).
 const ENABLES: &str = "
 > *PSC 0;*SRE 32;*ESE 128;*OPC?
 > !POWER

@@ -178,7 +178,7 @@ fn go_with_little_memory(rt: &impl Abort, alloc: Global, cases: &str) {
     }
 }
 
-// An answer that is refused sets EXE (16) beside PON (128), and status byte bit 2 (4).
+// An answer that is refused sets EXE (16) in addition to PON (128), and status byte bit 2 (4).
 const ANSWERS: &str = "
 before: *PSC 0;*SRE 32;*ESE 128;*OPC? / !POWER
 told before: 1

@@ -197,7 +197,7 @@ waiting_halted old mid new reply t there clean final parked =
     ⊎_elim (λ failed. inl (subst (λ (n : ℕ). HasFailed (failures_of old) n) (sym (count_same mid new there)) failed))
     (λ rest. ⊎_elim (λ worn. inr (kept.0 ∙ worn, omega (arith, some, left))) (λ none. absurd (omega (arith, some, none))) rest) clean
 
--- the session waits no more
+-- the session no longer waits
 pub halts_cleared : {D A : Type 0} {G : Ghosts D} (old mid new : Exec D A G) (cause : RunCause) → Halts old mid [] cause → Allows mid.device (Cleared 1) new.device → new.home ≡ mid.home
     → Halts old new [] cause
 halts_cleared old mid new cause s t there =
