@@ -5,7 +5,7 @@ use std::thread;
 
 const LOOKS: u32 = 1_000_000;
 
-/// A gate at which the first thread to come to this point waits until an answer was given, for at most a number of
+/// A gate at which the first thread to reach this point waits until an answer was given, for at most a number of
 /// checks.
 #[derive(Drop)]
 pub struct Hold {

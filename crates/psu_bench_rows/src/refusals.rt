@@ -7,7 +7,7 @@ use psu_exec::{Exec, Session};
 use psu_items::Store;
 use std::alloc::Global;
 
-// Allocates all that is left of an arena, and prevents it from growing.
+// Allocates the rest of an arena, and prevents it from growing.
 fn fill(arena: &Bump) -> Option<()> {
     arena.set_allocation_limit(Some(arena.allocated_bytes()));
     let left = arena.chunk_capacity();
