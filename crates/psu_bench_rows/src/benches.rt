@@ -12,7 +12,7 @@ use std::alloc::Global;
 use std::process::Abort;
 use std::sync::Wait;
 
-/// A formatted image of 256 pages.
+/// Returns a formatted image of 256 pages.
 pub fn formatted(rt: &impl Abort, alloc: Global) -> MemDisk<Global> {
     let disk = match MemDisk::new(alloc, 263_168) {
         Ok(disk) => disk,
@@ -27,7 +27,7 @@ pub fn formatted(rt: &impl Abort, alloc: Global) -> MemDisk<Global> {
     }
 }
 
-/// A device that is powered on with what a disk holds.
+/// Returns a device that is powered on with the contents of a disk.
 pub fn powered_on<D: Disk + Drop>(rt: &impl Abort, alloc: Global, disk: D) -> Exec<D, Global> {
     let store = match Store::open(alloc, disk) {
         Ok(store) => store,
@@ -39,7 +39,7 @@ pub fn powered_on<D: Disk + Drop>(rt: &impl Abort, alloc: Global, disk: D) -> Ex
     }
 }
 
-/// A bench over a device that is powered on with what a disk holds, and its first seat.
+/// Returns a bench over a device that is powered on with the contents of a disk, and its first seat.
 pub fn bench_on<D: Disk + Drop>(
     rt: &impl Abort,
     alloc: Global,
@@ -53,7 +53,7 @@ pub fn bench_on<D: Disk + Drop>(
     }
 }
 
-/// Closes a bench. Whether all is flushed then.
+/// Closes a bench, and returns whether all is flushed then.
 pub fn is_flushed_at_close<D: Disk + Drop, R: Wait>(
     rt: &R,
     bench: Bench<D, Global>,
@@ -64,7 +64,7 @@ pub fn is_flushed_at_close<D: Disk + Drop, R: Wait>(
     bench.close(rt, seat).is_flushed()
 }
 
-/// The same of a session: whether it is open.
+/// Closes a bench, and returns whether a session is open then.
 pub fn is_open_at_close<D: Disk + Drop, R: Wait>(
     rt: &R,
     bench: Bench<D, Global>,
@@ -91,7 +91,7 @@ pub fn opened<D: Disk, R: Wait + Abort>(
     }
 }
 
-/// The request of a unit without strings and blocks.
+/// Reads the request of a unit without strings and blocks.
 pub fn read(text: &[u8]) -> Request<'_> {
     let unit = Unit {
         text,
@@ -123,7 +123,7 @@ pub fn is_answer(outcome: &Outcome<Global>, want: &[u8]) -> bool {
     }
 }
 
-/// Executes a unit. Whether it is done.
+/// Executes a unit, and returns whether it is done.
 pub fn is_done<D: Disk, R: Wait>(
     rt: &R,
     bench: &Bench<D, Global>,

@@ -1,4 +1,4 @@
-// Sessions that others close, and the counted turn by hand.
+// Sessions that others close, and the counted turn, used directly.
 ghost use Rattle.psu_turn.specs.Seats.{IsOf};
 
 use crate::benches::{
@@ -13,7 +13,7 @@ use std::thread::{Threads, join};
 
 type Device = Bench<MemDisk<Global>, Global>;
 
-// Whether a unit comes later and a status query finds nothing.
+// Whether a unit's outcome is `Later` and a status query finds nothing.
 fn comes_later<R: Wait>(rt: &R, bench: &Device, seat: &mut Seat<Global>, one: Session) -> bool
     requires { IsOf bench.now seat.old }
     ensures { IsOf bench.now seat.new }
@@ -34,7 +34,7 @@ fn holds_nothing<R: Wait>(rt: &R, bench: &Device, seat: &mut Seat<Global>, one: 
         && bench.close_session(rt, seat, one).is_empty()
 }
 
-// The rest of its calls. Whether nobody holds a lock or waits for one then.
+// Makes the other calls of a session, and returns whether no session holds a lock or waits for one then.
 fn leaves_nothing<R: Wait>(rt: &R, bench: &Device, seat: &mut Seat<Global>, one: Session) -> bool
     requires { IsOf bench.now seat.old }
     ensures { IsOf bench.now seat.new }
@@ -46,7 +46,7 @@ fn leaves_nothing<R: Wait>(rt: &R, bench: &Device, seat: &mut Seat<Global>, one:
     !info.exclusive && info.holders == 0 && bench.next_deadline(rt, seat).is_none()
 }
 
-// Whether each of its twelve calls comes to nothing.
+// Whether none of its twelve calls has an effect.
 fn acts_on_nothing<R: Wait>(rt: &R, bench: &Device, seat: &mut Seat<Global>, one: Session) -> bool
     requires { IsOf bench.now seat.old }
     ensures { IsOf bench.now seat.new }
@@ -57,7 +57,8 @@ fn acts_on_nothing<R: Wait>(rt: &R, bench: &Device, seat: &mut Seat<Global>, one
         && bench.progress(seat) == 12
 }
 
-// A session that isn't open: a unit comes later, no lock is granted or held, and the rest is nothing.
+// A session that isn't open: the outcome of a unit is `Later`, no lock is granted or held, and all other results are
+// empty.
 #[test]
 fn a_session_that_is_not_open_acts_on_nothing(rt: HostRuntime) {
     let (bench, mut seat) = bench_on(&rt, rt.alloc(), formatted(&rt, rt.alloc()));
@@ -65,7 +66,7 @@ fn a_session_that_is_not_open_acts_on_nothing(rt: HostRuntime) {
     assert!(rt; is_flushed_at_close(&rt, bench, seat));
 }
 
-// Whether the service request enable register is told as 4.
+// Whether the service request enable register reads as 4.
 fn is_told<R: Wait>(rt: &R, bench: &Device, seat: &mut Seat<Global>, session: Session) -> bool
     requires { IsOf bench.now seat.old }
     ensures { IsOf bench.now seat.new }
@@ -86,7 +87,7 @@ fn asked<R: Wait>(
     (is_told, seat)
 }
 
-// Whether it is told so in another thread.
+// Whether it reads so in another thread.
 fn asked_elsewhere<R: Threads + Wait + Sync>(
     rt: &R,
     bench: &Device,
@@ -107,7 +108,8 @@ fn asked_elsewhere<R: Threads + Wait + Sync>(
     asked
 }
 
-// Whether it is, with a seat that is split off for it, and the number of calls that is seen grows by that one.
+// Whether it reads so in another thread, with a seat that is split off for it, and the number of calls that is seen
+// grows by that one.
 fn is_told_elsewhere<R: Threads + Wait + Sync>(
     rt: &R,
     bench: &Device,
@@ -125,7 +127,7 @@ fn is_told_elsewhere<R: Threads + Wait + Sync>(
     is_told && is_one_more
 }
 
-// Whether what one thread sets another reads, and then the one again.
+// Whether another thread reads what one thread sets, and then the one again.
 fn is_read_elsewhere<R: Threads + Wait + Sync>(
     rt: &R,
     bench: &Device,
@@ -140,7 +142,8 @@ fn is_read_elsewhere<R: Threads + Wait + Sync>(
         && is_told(rt, bench, seat, session)
 }
 
-// What one thread set another reads; the number of calls that a seat sees grows by that one call, and what is closed holds it.
+// Another thread reads what one thread set; the number of calls that a seat sees grows by that one call, and the
+// session is open at the close.
 #[test]
 fn another_thread_reads_what_was_set(rt: HostRuntime) {
     let (bench, mut seat) = bench_on(&rt, rt.alloc(), formatted(&rt, rt.alloc()));

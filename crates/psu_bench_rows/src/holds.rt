@@ -1,11 +1,12 @@
-// A gate that holds the flusher up until a session was answered.
+// A gate that blocks the flusher until a session was answered.
 use psu_bench::{Gate, Point};
 use std::sync::atomic::{AtomicBool, AtomicU64, Ordering};
 use std::thread;
 
 const LOOKS: u32 = 1_000_000;
 
-/// At this point the first to come waits until an answer was given, for so many looks at most.
+/// A gate at which the first thread to reach this point waits until an answer was given, for at most a number of
+/// checks.
 #[derive(Drop)]
 pub struct Hold {
     point: Point,
@@ -26,7 +27,7 @@ impl Hold {
         }
     }
 
-    /// Waits until the flusher is held, and tells whether it is.
+    /// Waits until the flusher is held, and returns whether it is.
     pub fn is_held(&self) -> bool {
         came_true(&self.held)
     }
@@ -36,7 +37,7 @@ impl Hold {
         self.overlapped.load(Ordering::SeqCst)
     }
 
-    /// How many pages were to be written.
+    /// The number of pages that were to be written.
     pub fn writes(&self) -> u64 {
         self.writes.load(Ordering::SeqCst)
     }

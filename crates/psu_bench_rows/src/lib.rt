@@ -1,4 +1,5 @@
-//! Tests of the bench: threads that share one device. Expected values are worked by hand from the rules of the instrument.
+//! Tests of the bench: threads that share one device. Expected values are worked by hand from the rules of the
+//! instrument.
 #![tactic(auto)]
 
 #[cfg(test)]

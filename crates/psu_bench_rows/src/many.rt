@@ -14,7 +14,7 @@ const UNITS: u64 = 6_248;
 
 type Device = Bench<MemDisk<Global>, Global>;
 
-// A session of its own: it opens, is answered each time, and closes.
+// Opens a session, executes units that are each answered, and closes it; returns the number of answers.
 fn one_thread<R: Wait>(rt: &R, bench: &Device, mut seat: Seat<Global>) -> (u64, Seat<Global>)
     requires { IsOf bench.now seat }
     ensures { IsOf bench.now result.1 }
@@ -33,7 +33,8 @@ fn one_thread<R: Wait>(rt: &R, bench: &Device, mut seat: Seat<Global>) -> (u64, 
     (answers, seat)
 }
 
-// Two to the power of `doublings` threads, each with a seat that is split from this one; what they were answered in all.
+// Starts two to the power of `doublings` threads, each with a seat that is split from this one, and returns the number
+// of answers in all.
 fn threads<R: Threads + Wait + Sync>(
     rt: &R,
     bench: &Device,
@@ -63,7 +64,7 @@ fn threads<R: Threads + Wait + Sync>(
     (some.saturating_add(more), seat)
 }
 
-// Sixteen threads make 6,250 calls each. Each unit is answered, and the one history has all the calls.
+// Sixteen threads make 6,250 calls each. Each unit is answered, and the single history has all the calls.
 #[test]
 fn sixteen_threads_make_100_000_calls(rt: HostRuntime) {
     let (bench, seat) = bench_on(&rt, rt.alloc(), formatted(&rt, rt.alloc()));
@@ -73,7 +74,7 @@ fn sixteen_threads_make_100_000_calls(rt: HostRuntime) {
     assert!(rt; !is_open_at_close(&rt, bench, seat, Session::at(0)));
 }
 
-// Units of a session until one comes later, or so many were answered.
+// Executes units of a session until the outcome of one is `Later`, or a million were answered.
 fn until_later<R: Wait>(
     rt: &R,
     bench: &Device,
@@ -102,7 +103,7 @@ fn closed<R: Wait>(rt: &R, bench: &Device, mut seat: Seat<Global>, session: Sess
     seat
 }
 
-// One thread goes on with a session, and another closes it. Tells whether the first was told to come later.
+// One thread continues with a session, and another closes it. Returns whether the outcome of the first was `Later`.
 fn closed_beside<R: Threads + Wait + Sync>(
     rt: &R,
     bench: &Device,
@@ -130,7 +131,7 @@ fn closed_beside<R: Threads + Wait + Sync>(
     later
 }
 
-// It is told to come later, and nobody is harmed.
+// Its outcome is `Later`, and no other thread is affected.
 #[test]
 fn a_session_is_closed_under_anothers_feet(rt: HostRuntime) {
     let (bench, mut seat) = bench_on(&rt, rt.alloc(), formatted(&rt, rt.alloc()));

@@ -14,7 +14,7 @@ use std::process::Abort;
 use std::sync::Wait;
 use std::thread::{Threads, join};
 
-// What a unit is to come to: this answer, or a storage fault.
+// Whether the outcome of a unit is this answer, or a storage fault.
 fn is_told(outcome: &Outcome<Global>, wanted: &[u8]) -> bool {
     match outcome {
         Outcome::Error(ScpiError::StorageFault) => wanted == b"storage fault".as_slice(),
@@ -22,7 +22,8 @@ fn is_told(outcome: &Outcome<Global>, wanted: &[u8]) -> bool {
     }
 }
 
-// Whether two units come to what they are to while the flusher is held up, the second to the name; its outcome lets the flusher go on.
+// Whether the outcomes of two units are these while the flusher is blocked, that of the second being the name; that
+// outcome releases the flusher.
 fn are_told<D: Disk, R: Wait>(
     rt: &R,
     bench: &Bench<D, Global>,
@@ -58,7 +59,8 @@ fn answered<D: Disk, R: Wait>(
     (are_told, seat)
 }
 
-// One thread flushes in one round, while another executes two units. Whether these come to what they are to, while the flusher is held.
+// One thread flushes in one round, while another executes two units. Returns whether their outcomes are these, while
+// the flusher is held.
 fn are_told_beside<D: Disk + Drop + Send, R: Threads + Wait + Sync>(
     rt: &R,
     bench: &Bench<D, Global>,
@@ -88,7 +90,7 @@ fn are_told_beside<D: Disk + Drop + Send, R: Threads + Wait + Sync>(
     are_told && hold.overlapped()
 }
 
-// A round of the flusher that nobody holds up.
+// Makes a round of the flusher that is not blocked.
 fn flush<D: Disk + Drop, R: Wait>(rt: &R, bench: &Bench<D, Global>, seat: &mut Seat<Global>)
     requires { IsOf bench.now seat.old }
     ensures { IsOf bench.now seat.new }
@@ -98,7 +100,7 @@ fn flush<D: Disk + Drop, R: Wait>(rt: &R, bench: &Bench<D, Global>, seat: &mut S
     bench.join(seat, flushing);
 }
 
-// Whether a save begins, for whose end a session waits.
+// Whether a save begins, and a session waits for its end.
 fn waits<D: Disk, R: Wait>(
     rt: &R,
     bench: &Bench<D, Global>,
@@ -113,7 +115,7 @@ fn waits<D: Disk, R: Wait>(
         && matches!(unit(rt, bench, seat, one, b"*OPC?"), Outcome::Parked)
 }
 
-// Whether another is answered while the flusher is held up, and then the one that waits.
+// Whether another session is answered while the flusher is blocked, and then the one that waits.
 fn is_answered_beside<D: Disk + Drop + Send, R: Threads + Wait + Sync + Abort>(
     rt: &R,
     bench: &Bench<D, Global>,
@@ -132,7 +134,8 @@ fn is_answered_beside<D: Disk + Drop + Send, R: Threads + Wait + Sync + Abort>(
     waits && are_told && are_seen && is_told
 }
 
-// The flusher stands before its first page while a session is answered; the save it commits is then confirmed. It writes five times.
+// The flusher is blocked before its first page while a session is answered; the save it commits is then confirmed. It
+// writes five times.
 #[test]
 fn a_session_is_answered_before_a_page_is_written(rt: HostRuntime) {
     let hold = Hold::new(Point::BeforeWrite);
@@ -143,7 +146,7 @@ fn a_session_is_answered_before_a_page_is_written(rt: HostRuntime) {
     assert!(rt; is_flushed_at_close(&rt, bench, seat));
 }
 
-// Whether a save is refused while the flusher is held up behind a commit that failed, and is done after it.
+// Whether a save is refused while the flusher is blocked after a commit that failed, and is done after it.
 fn is_refused_beside<D: Disk + Drop + Send, R: Threads + Wait + Sync + Abort>(
     rt: &R,
     bench: &Bench<D, Global>,
@@ -161,7 +164,8 @@ fn is_refused_beside<D: Disk + Drop + Send, R: Threads + Wait + Sync + Abort>(
         && is_done(rt, bench, seat, one, b"*SAV 2")
 }
 
-// A commit fails at its first call, so the store is broken; while it is opened again a save is refused, and a query answered.
+// A commit fails at its first call, so the store is broken; while it is reopened a save is refused, and a query
+// answered.
 #[test]
 fn a_session_is_answered_while_a_store_is_reopened(rt: HostRuntime) {
     let hold = Hold::new(Point::BeforeRun);

@@ -7,7 +7,7 @@ use psu_exec::{Exec, Session};
 use psu_items::Store;
 use std::alloc::Global;
 
-// An arena that has nothing left of what it holds.
+// Allocates the rest of an arena, and prevents it from growing.
 fn fill(arena: &Bump) -> Option<()> {
     arena.set_allocation_limit(Some(arena.allocated_bytes()));
     let left = arena.chunk_capacity();
@@ -17,13 +17,13 @@ fn fill(arena: &Bump) -> Option<()> {
 
 type Device<'a> = Exec<MemDisk<Global>, &'a Bump>;
 
-// A device whose memory is an arena's.
+// Returns a device whose memory is an arena's.
 fn powered_on<'a>(arena: &'a Bump, disk: MemDisk<Global>) -> Option<Device<'a>> {
     let store = Store::open(arena, disk).ok()?;
     Exec::power_on(arena, store).ok()
 }
 
-// Opens a session, and leaves nothing of the arena.
+// Opens a session, and leaves no memory in the arena.
 fn opens<'a>(arena: &'a Bump, exec: &mut Device<'a>) -> Option<Session> {
     let session = exec.open_session().ok()?;
     fill(arena)?;
@@ -38,7 +38,7 @@ fn is_as_before<'a>(exec: &Device<'a>, session: Option<Session>) -> bool {
     }
 }
 
-// Whether a device comes back as it was, where there is no bench for it.
+// Whether a device is given back unchanged where no bench is made for it.
 fn is_given_back<'a>(arena: &'a Bump, exec: Device<'a>, session: Option<Session>) -> bool {
     match Bench::new(arena, exec) {
         Ok(_) => false,
@@ -56,7 +56,7 @@ fn goes_on(alloc: Global, disk: MemDisk<Global>) -> Option<bool> {
     Some(comes_back(&arena, powered_on(&arena, disk)?))
 }
 
-// The device comes back as it was, and goes on.
+// The device is given back unchanged, and continues.
 #[test]
 fn a_device_comes_back_where_there_is_no_bench(rt: HostRuntime) {
     let disk = formatted(&rt, rt.alloc());

@@ -1,4 +1,4 @@
-// The turns of a bench are not soon used up.
+// The turns of a bench are not used up soon.
 ghost use Rattle.std.specs.Prelude.{◌≡◌};
 ghost use Rattle.psu_turn.specs.Seats.{IsOf};
 
@@ -12,7 +12,7 @@ use std::sync::Wait;
 // One more than 2^20.
 const CALLS: u64 = 1_048_577;
 
-// So many calls, which change nothing.
+// Makes this many calls, which change nothing.
 fn calls<R: Wait>(
     rt: &R,
     bench: &Bench<MemDisk<Global>, Global>,

@@ -1,4 +1,5 @@
-// Changes while a job is out, which may break the store: none is forgotten. After the last job the store holds what the device has.
+// Changes while a job is out, which may break the store: none is lost. After the last job the store holds what the
+// device has.
 use crate::holds::holds;
 use crate::plays::{device_with, image_of, plays, whole};
 use crate::stores::opened;
@@ -9,7 +10,7 @@ use psu_items::{Items, Store};
 use std::alloc::Allocator;
 use std::process::Abort;
 
-// What is there before the changes, so that each of them is accepted: the enables, a register, two macros and three files.
+// The state before the changes, in which each of them is accepted: the enables, a register, two macros and three files.
 const BEFORE: &str = r#"open 1
 1 does *PSC 0
 1 does VOLT 2;*SAV 3
@@ -19,11 +20,11 @@ const BEFORE: &str = r#"open 1
 1 does MMEM:STOR:MACR "A","M"
 flush"#;
 
-// How often the disk is called for that: three times to open it while it is empty, and in the commit for the head and the value of each of
-// six items, for a root and its gates, and for three syncs.
+// The number of disk calls for that: three to open it while it is empty, and in the commit those for the head and the
+// value of each of six items, for a root and its gates, and for three syncs.
 const BEGUN: u64 = 21;
 
-// Each change of what is kept, with the units that it needs before it.
+// Each change of nonvolatile state, with the units that it needs before it.
 const CHANGES: &str = r#"1 does *PSC 0;*SRE 5
 1 does *PSC 0;*ESE 6
 1 does *PSC 1;*SRE 0;*ESE 0
@@ -43,7 +44,8 @@ const CHANGES: &str = r#"1 does *PSC 0;*SRE 5
 1 does MMEM:LOAD:MACR "C","M"
 1 does OUTP:PON:STAT RCL0"#;
 
-// A change of a part that none of the others changes: it is refused while the store is broken, and made once it is opened again.
+// A change of a part that none of the others changes: it is refused while the store is broken, and made once it is
+// reopened.
 const LAST: &str = "1: VOLT 3 -> done
 1: *SAV 9 -> error
 flush
@@ -51,7 +53,8 @@ flush
 flush
 flushed";
 
-// A device on a disk that fails once: after so many calls of the job that comes after what is there before.
+// Returns a device on a disk that fails once: after this many calls of the job that follows the state before the
+// changes.
 fn failing_after<A: Allocator + Copy>(
     rt: &impl Abort,
     alloc: A,
@@ -61,7 +64,8 @@ fn failing_after<A: Allocator + Copy>(
     device_with(rt, alloc, disk)
 }
 
-// What is there before, a change, and a second one while its job is out. Whether the second is done.
+// Makes the state before the changes, a change, and a second one while its job is out, and returns whether the second
+// is done.
 fn change_both<D: Disk + Drop, A: Allocator + Copy>(
     rt: &impl Abort,
     exec: &mut Exec<D, A>,
@@ -73,7 +77,7 @@ fn change_both<D: Disk + Drop, A: Allocator + Copy>(
     beside(exec, second).expect(rt, "a job")
 }
 
-// Flushes two changes by two jobs, or by one where the second is refused. Whether it is.
+// Flushes two changes by two jobs, or by one where the second is refused, and returns whether the second is refused.
 fn flush_both<D: Disk + Drop, A: Allocator + Copy>(
     rt: &impl Abort,
     exec: &mut Exec<D, A>,
@@ -86,7 +90,8 @@ fn flush_both<D: Disk + Drop, A: Allocator + Copy>(
     !done
 }
 
-// Two changes, the first of which may break the store. Whether it does; then a third is refused, and made once the store is opened again.
+// Makes two changes, the first of which may break the store, and returns whether it does; then a third is refused, and
+// made once the store is reopened.
 fn go_on<D: Disk + Drop, A: Allocator + Copy>(
     rt: &impl Abort,
     exec: &mut Exec<D, A>,
@@ -101,7 +106,7 @@ fn go_on<D: Disk + Drop, A: Allocator + Copy>(
     true
 }
 
-// The items that a device keeps.
+// Returns the items that a device keeps.
 fn kept<D: Disk, A: Allocator + Copy>(rt: &impl Abort, alloc: A, exec: &Exec<D, A>) -> Items<A> {
     exec.contents()
         .encode_items(alloc)
@@ -133,7 +138,7 @@ fn has<D: Disk + Drop, A: Allocator + Copy>(
     keeps(rt, alloc, exec, items) && held
 }
 
-// What a loss of power leaves of a disk: what was synced.
+// Returns the disk after a power loss: with the bytes that were synced.
 fn lost<A: Allocator + Copy>(disk: FailingDisk<MemDisk<A>>) -> MemDisk<A> {
     let mut disk = disk.into_inner();
     disk.lose(Choice::Old);
@@ -164,7 +169,7 @@ fn is_second_refused<A: Allocator + Copy>(
     refused
 }
 
-// How many second changes are refused after a first.
+// Returns how many second changes are refused after a first.
 fn refusals<A: Allocator + Copy>(rt: &impl Abort, alloc: A, first: &str) -> u32 {
     let mut refused = 0u32;
     for second in CHANGES.lines() {
@@ -175,7 +180,8 @@ fn refusals<A: Allocator + Copy>(rt: &impl Abort, alloc: A, first: &str) -> u32 
     refused
 }
 
-// Refused are: F after its deletion or its move, three each; H after a copy, two; A after each removal, two; B and C a second time.
+// The refused changes are: F after its deletion or its move, three each; H after a copy, two; A after each removal,
+// two; B and C a second time.
 #[test]
 fn each_change_while_the_job_of_each_is_out(rt: HostRuntime) {
     let mut refused = 0u32;
@@ -185,7 +191,7 @@ fn each_change_while_the_job_of_each_is_out(rt: HostRuntime) {
     holds(&rt, refused == 14, &refused);
 }
 
-// Whether the job is broken by its call after so many; a restart then finds all.
+// Whether the job is broken by its call after this many; a restart then finds everything.
 fn is_broken<A: Allocator + Copy>(
     rt: &impl Abort,
     alloc: A,
@@ -202,7 +208,8 @@ fn is_broken<A: Allocator + Copy>(
     true
 }
 
-// How often a change's job breaks, each time with another second change while it is out, and at another call of the first eight.
+// Returns how often a change's job breaks, each time with another second change while it is out, and at another call of
+// the first eight.
 fn breaks<A: Allocator + Copy>(rt: &impl Abort, alloc: A, first: &str) -> u32 {
     let mut breaks = 0u32;
     let mut calls = 0u64;
@@ -215,7 +222,8 @@ fn breaks<A: Allocator + Copy>(rt: &impl Abort, alloc: A, first: &str) -> u32 {
     breaks
 }
 
-// A commit that writes an item makes eight calls. That of the three changes that only remove makes six: twice each the last two fail in no job.
+// A commit that writes an item makes eight calls. That of the three changes that only remove makes six: twice each the
+// last two fail in no job.
 #[test]
 fn each_change_while_a_store_breaks(rt: HostRuntime) {
     let mut all = 0u32;

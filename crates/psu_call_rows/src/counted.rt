@@ -13,7 +13,7 @@ pub struct Counted<D: Disk> {
 }
 
 impl<D: Disk> Counted<D> {
-    /// A disk of which nothing is counted yet.
+    /// Returns a disk of which nothing is counted yet.
     pub fn new(inner: D) -> Counted<D> {
         Counted {
             inner,

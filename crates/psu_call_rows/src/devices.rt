@@ -1,4 +1,4 @@
-// Devices whose disks fail: stores that break, losses of power in a job, and a store that does not power on.
+// Devices whose disks fail: stores that break, power losses in a job, and a store that does not power on.
 use crate::holds::holds;
 use crate::plays::{LEAST, device_with, disk_after, image_of, played, whole};
 use crate::stores::{assign, opened, stored};
@@ -20,7 +20,8 @@ flush
 flush
 flushed";
 
-// A session waits for a job that the disk fails: -320 for the wait and for what would change what is kept, until the store is opened again.
+// A session waits for a job that the disk fails: -320 for the wait and for each change of nonvolatile state, until the
+// store is reopened.
 const BROKEN: &str = "open 1
 1: *PSC 0 -> done
 1: *OPC? -> parked
@@ -35,19 +36,20 @@ flush
 flush
 flushed";
 
-// The disk of a device with all flushed, though it failed after so many calls: of a commit, or after it.
+// Returns the disk of a device with everything flushed, though it failed after this many calls: of a commit, or after
+// it.
 fn flushed<A: Allocator + Copy>(rt: &impl Abort, alloc: A, passes: u64) -> MemDisk<A> {
     let disk = FailingDisk::once(image_of(rt, alloc, LEAST), passes);
     let script = if passes < 11 { BROKEN } else { FLUSHED };
     disk_after(rt, alloc, disk, script).into_inner()
 }
 
-// A restart finds what was flushed.
+// Checks that a restart finds what was flushed.
 fn is_flushed_after<A: Allocator + Copy>(rt: &impl Abort, alloc: A, passes: u64) {
     disk_after(rt, alloc, flushed(rt, alloc, passes), "keeps 0 0");
 }
 
-// Each call of a commit that fails breaks the store, until it is opened again.
+// Each call of a commit that fails breaks the store, until it is reopened.
 #[test]
 fn a_broken_store_is_opened_again(rt: HostRuntime) {
     for passes in 3..12u64 {
@@ -55,7 +57,7 @@ fn a_broken_store_is_opened_again(rt: HostRuntime) {
     }
 }
 
-// A store whose enables' item has one byte in place of two.
+// Returns a store in which the item of the enables has one byte instead of two.
 fn bad_items(rt: &impl Abort, alloc: Global) -> Store<MemDisk<Global>, Global> {
     let mut batch = Batch::new(alloc);
     assign(rt, alloc, &mut batch, &[1], &[36]);
@@ -63,7 +65,7 @@ fn bad_items(rt: &impl Abort, alloc: Global) -> Store<MemDisk<Global>, Global> {
     opened(rt, alloc, stored(rt, alloc, store, batch))
 }
 
-// Why a device is not powered on with a store.
+// Returns why a device is not powered on with a store.
 fn refusal<D: Disk + Drop, A: Allocator + Copy>(
     rt: &impl Abort,
     alloc: A,
@@ -85,13 +87,13 @@ fn bad_items_do_not_power_on(rt: HostRuntime) {
     assert!(rt; cause == PowerCause::BadItems);
 }
 
-// The change of one job.
+// The steps of one change and its job.
 const ONE_CHANGE: &str = "open 1
 1: *PSC 0 -> done
 unflushed
 flush";
 
-// The disk of a device that ends with no job out.
+// Returns the disk of a device that ends with no job out.
 fn disk_of<D: Disk + Drop, A: Allocator + Copy>(rt: &impl Abort, exec: Exec<D, A>) -> D {
     match exec.end() {
         Ended::Whole(store) => store.into_disk(),
@@ -100,7 +102,8 @@ fn disk_of<D: Disk + Drop, A: Allocator + Copy>(rt: &impl Abort, exec: Exec<D, A
     }
 }
 
-// What is left of a disk that stops after so many calls, the first of which open it, and that then loses power with these bytes.
+// Returns the disk after it stopped after this many calls, the first of which open it, and then lost power with these
+// bytes.
 fn left_after<A: Allocator + Copy>(
     rt: &impl Abort,
     alloc: A,
@@ -122,7 +125,7 @@ fn has_either<D: Disk, A: Allocator + Copy>(exec: &Exec<D, A>) -> bool {
     }
 }
 
-// Whether a restart finds either, where power is lost after so many calls with these bytes.
+// Whether a restart finds either, where power is lost after this many calls with these bytes.
 fn leaves_either<A: Allocator + Copy>(
     rt: &impl Abort,
     alloc: A,
@@ -135,8 +138,8 @@ fn leaves_either<A: Allocator + Copy>(
     is_so
 }
 
-// Power is lost after each disk call of a job, with the bytes of the last sync, those written, or any: a restart finds the contents
-// before the job or its target.
+// Power is lost after each disk call of a job, with the bytes of the last sync, those written, or any: a restart finds
+// the contents before the job or its target.
 #[test]
 fn a_loss_in_a_job_leaves_before_or_target(rt: HostRuntime) {
     let choices = [

@@ -2,7 +2,7 @@
 use std::fmt::Debug;
 use std::process::Abort;
 
-/// What a row says is so; else the row is shown.
+/// Asserts that a claim on a row holds; otherwise the row is shown.
 pub fn holds(rt: &impl Abort, is_so: bool, row: &impl Debug) {
     assert!(rt; is_so, "at {row:?}");
 }

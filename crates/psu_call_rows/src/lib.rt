@@ -1,5 +1,6 @@
-//! Tests of the calls on the execution, below the run, that need code: disks that fail, memory that is refused, counts of disk calls. What is a
-//! script of steps lies in `psu_call_scripts`. Expected values are worked by hand from the rules of the instrument.
+//! Tests of the calls on the execution, below the run, that need code: disks that fail, memory that is refused, counts
+//! of disk calls. Scripts of steps are in `psu_call_scripts`. Expected values are worked by hand from the rules of the
+//! instrument.
 #![tactic(auto)]
 
 #[cfg(test)]

@@ -6,15 +6,15 @@ use psu_exec::{Ended, Exec, Job};
 use std::alloc::Allocator;
 use std::process::Abort;
 
-/// The limit of an image of the least size.
+/// The limit of an image of the smallest size.
 pub const LEAST: u16 = 4;
 
-/// A formatted image of this limit.
+/// Returns a formatted image of this limit.
 pub fn image_of<A: Allocator + Copy>(rt: &impl Abort, alloc: A, limit: u16) -> MemDisk<A> {
     image(alloc, limit).expect(rt, "an image")
 }
 
-/// A device that is powered on with what a disk holds.
+/// Returns a device that is powered on with the contents of a disk.
 pub fn device_with<D: Disk + Drop, A: Allocator + Copy>(
     rt: &impl Abort,
     alloc: A,
@@ -35,7 +35,7 @@ pub fn plays<D: Disk + Drop, A: Allocator + Copy>(
     }
 }
 
-/// A device with what a disk holds, once it has played a script.
+/// Returns a device with the contents of a disk, after it has played a script.
 pub fn played<D: Disk + Drop, A: Allocator + Copy>(
     rt: &impl Abort,
     alloc: A,
@@ -47,7 +47,7 @@ pub fn played<D: Disk + Drop, A: Allocator + Copy>(
     exec
 }
 
-/// The disk of a device with a whole store.
+/// Returns the disk of a device with a whole store.
 pub fn whole<D: Disk + Drop, A: Allocator + Copy>(rt: &impl Abort, exec: Exec<D, A>) -> D {
     match exec.end() {
         Ended::Whole(store) => store.into_disk(),
@@ -55,7 +55,7 @@ pub fn whole<D: Disk + Drop, A: Allocator + Copy>(rt: &impl Abort, exec: Exec<D,
     }
 }
 
-/// The disk of such a device, once it has played a script.
+/// Returns the disk of such a device, after it has played a script.
 pub fn disk_after<D: Disk + Drop, A: Allocator + Copy>(
     rt: &impl Abort,
     alloc: A,
@@ -65,7 +65,7 @@ pub fn disk_after<D: Disk + Drop, A: Allocator + Copy>(
     whole(rt, played(rt, alloc, disk, script))
 }
 
-/// The job that there is.
+/// Takes the job that there is.
 pub fn taken<D: Disk + Drop, A: Allocator + Copy>(
     rt: &impl Abort,
     exec: &mut Exec<D, A>,
@@ -73,7 +73,7 @@ pub fn taken<D: Disk + Drop, A: Allocator + Copy>(
     exec.take().ok().expect(rt, "a job")
 }
 
-/// Runs a job, by whose end the waits of these sessions are over.
+/// Runs a job, whose end ends the waits of these sessions.
 pub fn ends<D: Disk + Drop, A: Allocator + Copy>(
     rt: &impl Abort,
     exec: &mut Exec<D, A>,

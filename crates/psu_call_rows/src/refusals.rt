@@ -1,4 +1,4 @@
-// Each allocation of a take and of a settle refused: nothing has changed, and with memory both continue.
+// Each allocation of a take and of a settle is refused: nothing has changed, and with memory both continue.
 ghost use Rattle.std.specs.Prelude.{◌≡◌, true};
 ghost use Rattle.psu_exec.specs.Device.{is_open};
 
@@ -10,12 +10,12 @@ use psu_exec::{Exec, Job, NoJob, Outcome, ScpiError, Session};
 use std::alloc::Allocator;
 use std::process::Abort;
 
-// A session with a change and a wait for it.
+// The steps of a session with a change and a wait for it.
 const WAITING: &str = "open 1
 1: *PSC 0 -> done
 1: *OPC? -> parked";
 
-// What holds where memory was refused for a job: nothing has changed.
+// The steps that hold where memory was refused for a job: nothing has changed.
 const AS_BEFORE: &str = "whole
 unflushed
 1 settles parked";
@@ -34,7 +34,7 @@ fn arena<A: Allocator>(rt: &impl Abort, alloc: A) -> Bump<A> {
         .expect(rt, "an arena")
 }
 
-// Takes the arena's memory but so many bytes.
+// Allocates the arena's memory except for this many bytes.
 fn leave<A: Allocator>(rt: &impl Abort, arena: &Bump<A>, left: usize) {
     arena.set_allocation_limit(Some(arena.allocated_bytes()));
     let spare = arena
@@ -45,7 +45,7 @@ fn leave<A: Allocator>(rt: &impl Abort, arena: &Bump<A>, left: usize) {
     assert!(rt; filled);
 }
 
-// The job's end answers the wait, once there is memory again.
+// Gives back the job, whose end answers the wait once there is memory again.
 fn answers<D: Disk + Drop, B: Allocator + Copy, A: Allocator>(
     rt: &impl Abort,
     arena: &Bump<A>,
@@ -57,7 +57,7 @@ fn answers<D: Disk + Drop, B: Allocator + Copy, A: Allocator>(
     plays(rt, exec, "1 settles 1");
 }
 
-// Whether a job is taken, whose end then answers the wait; else memory was refused for it.
+// Whether a job is taken, whose end then answers the wait; otherwise memory was refused for it.
 fn is_taken<D: Disk + Drop, B: Allocator + Copy, A: Allocator>(
     rt: &impl Abort,
     arena: &Bump<A>,
@@ -75,7 +75,7 @@ fn is_taken<D: Disk + Drop, B: Allocator + Copy, A: Allocator>(
     }
 }
 
-// Whether a take with so much of the device's memory is refused; then another is not.
+// Whether a take with this much of the device's memory is refused; then another is not.
 fn is_refused_of<D: Disk + Drop, B: Allocator + Copy, A: Allocator>(
     rt: &impl Abort,
     arena: &Bump<A>,
@@ -92,7 +92,7 @@ fn is_refused_of<D: Disk + Drop, B: Allocator + Copy, A: Allocator>(
     true
 }
 
-// The same of a device, which then ends.
+// Whether a take is refused of a device, which then ends.
 fn is_refused_with<D: Disk + Drop, B: Allocator + Copy, A: Allocator>(
     rt: &impl Abort,
     arena: &Bump<A>,
@@ -104,7 +104,7 @@ fn is_refused_with<D: Disk + Drop, B: Allocator + Copy, A: Allocator>(
     refused
 }
 
-// The same on a device of its own, whose memory is the arena's.
+// Whether a take is refused on a device of its own, whose memory is the arena's.
 fn is_refused_in<A: Allocator + Copy>(
     rt: &impl Abort,
     alloc: A,
@@ -115,7 +115,7 @@ fn is_refused_in<A: Allocator + Copy>(
     is_refused_with(rt, arena, exec, left)
 }
 
-// The same in an arena of its own.
+// Whether a take is refused in an arena of its own.
 fn is_refused<A: Allocator + Copy>(rt: &impl Abort, alloc: A, left: usize) -> bool {
     is_refused_in(rt, alloc, &arena(rt, alloc), left)
 }
@@ -138,7 +138,7 @@ fn is_unanswered<D: Disk, B: Allocator + Copy>(exec: &mut Exec<D, B>, session: S
     matches!(exec.settle(session), Outcome::Error(ScpiError::OutOfMemory))
 }
 
-// The same of the session of a number.
+// Whether memory is refused for the answer of the session with a number, whose wait is over.
 fn settle_is_refused<D: Disk, B: Allocator + Copy>(exec: &mut Exec<D, B>, number: u8) -> bool {
     let Some(session) = Session::new(number) else {
         return false;
@@ -149,7 +149,7 @@ fn settle_is_refused<D: Disk, B: Allocator + Copy>(exec: &mut Exec<D, B>, number
     is_unanswered(exec, session)
 }
 
-// Two refusals, by which the wait stays over; with memory it is answered.
+// Checks that a wait stays over through two refusals, and is answered with memory.
 fn stays_over<D: Disk + Drop, B: Allocator + Copy, A: Allocator>(
     rt: &impl Abort,
     arena: &Bump<A>,
@@ -164,7 +164,7 @@ fn stays_over<D: Disk + Drop, B: Allocator + Copy, A: Allocator>(
     plays(rt, exec, ANSWERED);
 }
 
-// The same of a device, which then ends.
+// Checks that a wait stays over on a device, which then ends.
 fn stays_over_with<D: Disk + Drop, B: Allocator + Copy, A: Allocator>(
     rt: &impl Abort,
     arena: &Bump<A>,
@@ -174,13 +174,13 @@ fn stays_over_with<D: Disk + Drop, B: Allocator + Copy, A: Allocator>(
     whole(rt, exec);
 }
 
-// The same on a device of its own, whose memory is the arena's.
+// Checks that a wait stays over on a device of its own, whose memory is the arena's.
 fn stays_over_in<A: Allocator + Copy>(rt: &impl Abort, alloc: A, arena: &Bump<A>) {
     let exec = played(rt, arena, image_of(rt, alloc, LEAST), WAITING);
     stays_over_with(rt, arena, exec);
 }
 
-// A wait that is over stays so while there is no memory for its answer.
+// A wait that is over stays over while there is no memory for its answer.
 #[test]
 fn the_allocation_of_a_settle_refused(rt: HostRuntime) {
     stays_over_in(&rt, rt.alloc(), &arena(&rt, rt.alloc()));

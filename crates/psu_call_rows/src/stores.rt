@@ -1,4 +1,4 @@
-// Stores for an execution: one that an opening gives, and one with items of a row.
+// Stores for an execution: the store of an opened disk, and one with given items.
 ghost use Rattle.std.specs.Prelude.{IsTrue};
 ghost use Rattle.psu_map.specs.Batch.{changed};
 ghost use Rattle.psu_map.specs.Capacity.{CanHold, Fits};
@@ -8,7 +8,7 @@ use psu_items::{Batch, Commit, Items, Pair, Store, Value};
 use std::alloc::{Allocator, Global};
 use std::process::Abort;
 
-/// The store that an opening gives.
+/// Returns the store of a disk that is opened.
 pub fn opened<D: Disk + Drop, A: Allocator + Copy>(
     rt: &impl Abort,
     alloc: A,
@@ -44,7 +44,7 @@ fn takes<D: Disk>(alloc: Global, store: &Store<D, Global>, batch: &Batch<Global>
     }
 }
 
-/// The disk of a store after a commit that nothing hinders.
+/// Returns the disk of a store after a commit, which has to succeed.
 pub fn stored<D: Disk + Drop>(
     rt: &impl Abort,
     alloc: Global,
@@ -60,12 +60,12 @@ pub fn stored<D: Disk + Drop>(
     }
 }
 
-// Bytes of their own.
+// Copies bytes to memory of their own.
 fn owned<A: Allocator + Copy>(rt: &impl Abort, alloc: A, bytes: &[u8]) -> Vec<u8, A> {
     bytes.to_vec(alloc).ok().expect(rt, "memory")
 }
 
-/// Adds the edit by which an item has this value.
+/// Adds the edit that assigns this value to an item.
 pub fn assign<A: Allocator + Copy>(
     rt: &impl Abort,
     alloc: A,
@@ -80,7 +80,7 @@ pub fn assign<A: Allocator + Copy>(
     assert!(rt; assigned);
 }
 
-/// Adds the edit by which there is no such item.
+/// Adds the edit that removes an item.
 pub fn remove<A: Allocator + Copy>(rt: &impl Abort, alloc: A, batch: &mut Batch<A>, key: &[u8]) {
     let removed = batch.remove(owned(rt, alloc, key)).is_ok();
     assert!(rt; removed);

@@ -6,18 +6,18 @@ use psu_exec::{Exec, Finished, Stranger};
 use std::alloc::Allocator;
 use std::process::Abort;
 
-// One change, of a device with nothing to flush before it.
+// The steps of one change, on a device with nothing to flush before it.
 const ONE: &str = "idle
 open 1
 1: *PSC 0 -> done";
 
-// One unit more.
+// The steps of one more unit.
 const TWO: &str = "idle
 open 1
 1: *PSC 0 -> done
 1: *ESE 1 -> done";
 
-// What a device that expects another end hands back.
+// Returns the end of a job that a device hands back because it expects another one.
 fn refused<D: Disk + Drop, A: Allocator + Copy>(
     rt: &impl Abort,
     exec: &mut Exec<D, A>,
@@ -29,7 +29,7 @@ fn refused<D: Disk + Drop, A: Allocator + Copy>(
     }
 }
 
-// What a device hands back whose own job is out, the end of which it then takes.
+// Returns the end of a job that a device hands back whose own job is out; that job's end it then takes.
 fn handed_back<D: Disk + Drop, A: Allocator + Copy>(
     rt: &impl Abort,
     exec: &mut Exec<D, A>,
@@ -41,7 +41,7 @@ fn handed_back<D: Disk + Drop, A: Allocator + Copy>(
     finished
 }
 
-// The end of another device's job, which this one hands back and the other takes.
+// Checks that the end of another device's job is handed back by this one and taken by the other.
 fn are_strangers<D: Disk + Drop, A: Allocator + Copy>(
     rt: &impl Abort,
     exec: &mut Exec<D, A>,
@@ -53,7 +53,7 @@ fn are_strangers<D: Disk + Drop, A: Allocator + Copy>(
     assert!(rt; exec.is_flushed() && other.is_flushed());
 }
 
-// The same of two devices.
+// Checks that of two devices, which then end.
 fn both_are_strangers<D: Disk + Drop, A: Allocator + Copy>(
     rt: &impl Abort,
     mut exec: Exec<D, A>,
@@ -64,7 +64,8 @@ fn both_are_strangers<D: Disk + Drop, A: Allocator + Copy>(
     whole(rt, other);
 }
 
-// The same of a device on an image of this limit with one change, and another on an image of the least size that has played a script.
+// Checks that of a device on an image of this limit with one change, and another on an image of the smallest size that
+// has played a script.
 fn are_so<A: Allocator + Copy>(rt: &impl Abort, alloc: A, limit: u16, script: &str) {
     let exec = played(rt, alloc, image_of(rt, alloc, limit), ONE);
     let other = played(rt, alloc, image_of(rt, alloc, LEAST), script);
@@ -77,7 +78,7 @@ fn jobs_of_others_are_strangers(rt: HostRuntime) {
     are_so(&rt, rt.alloc(), LEAST, TWO);
 }
 
-// An end that differs in the limit alone is of another device.
+// An end that differs only in the limit is that of another device.
 #[test]
 fn a_job_of_another_limit_is_a_stranger(rt: HostRuntime) {
     are_so(&rt, rt.alloc(), 256, ONE);

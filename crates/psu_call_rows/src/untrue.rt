@@ -1,4 +1,4 @@
-// Steps that do not hold, and lines that are no steps: the player refuses each.
+// Steps that do not hold, and lines that are not steps: the player refuses each.
 use crate::holds::holds;
 use crate::plays::{image_of, played, whole};
 use psu_call_steps::step_holds;
@@ -13,7 +13,7 @@ const BEGUN: &str = "open 1
 1 locks granted at 0 for 0
 1: *PSC 0 -> done";
 
-// What is not so of it, one after another.
+// Steps that do not hold on it, one after another.
 const UNTRUE: &str = "1: *PSC? -> 1
 1: *PSC? -> 0; costs 0
 1: *SRE? -> done

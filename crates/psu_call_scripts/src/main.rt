@@ -1,8 +1,8 @@
-//! Plays the scripts of its folder: what sessions do with a device, and what comes of it. The head of each file says what its scripts are
-//! about; `psu_call_steps` has the table of their steps.
+//! Plays the scripts of its folder: what sessions do with a device, and the results. The head of each file says what
+//! its scripts are about; `psu_call_steps` has the table of their steps.
 //!
-//! A script begins with a line `== ` and its title, and each begins on a device that is powered on with a fresh image. What is before the
-//! first script, empty lines and lines that begin with `#` are not played.
+//! A script begins with a line `== ` and its title, and each begins on a device that is powered on with a fresh image.
+//! What is before the first script, empty lines and lines that begin with `#` are not played.
 #![tactic(auto)]
 
 mod scripts;
@@ -14,16 +14,16 @@ use std::io::{Eprint, Print};
 use std::process::ExitCode;
 use std::rt::Files;
 
-// The files whose scripts begin on an image of ordinary size, in the folder that the program is run in.
+// The files whose scripts begin on an image of ordinary size, in the program's working directory.
 const FILES: [&str; 4] = ["sessions.txt", "locks.txt", "status.txt", "jobs.txt"];
 
-// How many pages the contents of such an image may cost.
+// The number of pages that the contents of such an image may cost.
 const LIMIT: u16 = 256;
 
-// The file whose scripts begin on an image of the least size.
+// The file whose scripts begin on an image of the smallest size.
 const LEAST_FILE: &str = "pages.txt";
 
-// How many pages the contents of such an image may cost.
+// The number of pages that the contents of such an image may cost.
 const LEAST_LIMIT: u16 = 4;
 
 fn main(rt: HostRuntime) -> ExitCode {
@@ -38,7 +38,7 @@ fn main(rt: HostRuntime) -> ExitCode {
     ExitCode::SUCCESS
 }
 
-// Plays the scripts of a file, and prints how many there are. Whether all of them hold.
+// Plays the scripts of a file, prints how many there are, and returns whether all of them hold.
 fn is_held<R: Files + Alloc + Print + Eprint>(rt: &R, name: &str, limit: u16) -> bool
 where
     R::A: Copy,
@@ -52,7 +52,7 @@ where
     }
 }
 
-// Prints what came of a file. Whether all of its scripts hold.
+// Prints the result of a file, and returns whether all of its scripts hold.
 fn is_reported(
     rt: &(impl Print + Eprint),
     name: &str,

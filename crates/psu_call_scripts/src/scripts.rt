@@ -2,7 +2,7 @@
 use psu_call_steps::{StepFault, play_anew};
 use std::alloc::Allocator;
 
-/// How many scripts a file has, and how many steps these have.
+/// The number of scripts of a file, and of their steps.
 #[derive(Clone, Copy)]
 pub struct Count {
     pub scripts: u32,
@@ -10,7 +10,7 @@ pub struct Count {
 }
 
 impl Count {
-    // With one more script, which has so many steps.
+    // Returns the count with one more script, which has this many steps.
     fn with_script(self, steps: u32) -> Count {
         Count {
             scripts: self.scripts.saturating_add(1),
@@ -19,7 +19,7 @@ impl Count {
     }
 }
 
-// How many lines a part of a file has.
+// Returns the number of lines of a part of a file.
 fn lines_of(part: &str) -> u32 {
     let mut lines = 0u32;
     for _ in part.split("\n") {
@@ -28,8 +28,8 @@ fn lines_of(part: &str) -> u32 {
     lines
 }
 
-// Plays a script, which begins with its title, in this line of its file. How many steps it has. Its title is what does not hold where there is no
-// step, or no device.
+// Plays a script, which begins with its title, in this line of its file, and returns the number of its steps. The title
+// is the step that does not hold where there is no step, or no device.
 fn play_script<A: Allocator + Copy>(
     alloc: A,
     limit: u16,
@@ -47,8 +47,8 @@ fn play_script<A: Allocator + Copy>(
     }
 }
 
-/// Plays the scripts of a file, up to a step that does not hold, which is given with its line. Each begins on a device with a fresh image, whose
-/// contents may cost so many pages.
+/// Plays the scripts of a file, up to a step that does not hold, which is returned with its line. Each begins on a
+/// device with a fresh image, whose contents may cost this many pages.
 pub fn play_scripts<A: Allocator + Copy>(
     alloc: A,
     limit: u16,

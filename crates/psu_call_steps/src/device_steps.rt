@@ -1,11 +1,11 @@
-// What a device does, by the word of its step: sessions that open, jobs, news and moments.
+// The steps of a device, by their words: sessions that open, jobs, notifications and moments.
 use crate::job_steps::{beside, flushes, takes_none};
 use crate::words::are;
 use psu_disk::Disk;
 use psu_exec::{Exec, NoJob};
 use std::alloc::Allocator;
 
-/// What a device does.
+/// A step of a device.
 #[derive(Clone, Copy)]
 pub enum Doing {
     Opens,
@@ -18,7 +18,7 @@ pub enum Doing {
     Rest,
 }
 
-/// What a word stands for.
+/// Returns the step of a word.
 pub fn doing_of(word: &str) -> Option<Doing> {
     match word {
         "open" => Some(Doing::Opens),
@@ -33,7 +33,7 @@ pub fn doing_of(word: &str) -> Option<Doing> {
     }
 }
 
-// Whether a session opens that has this number.
+// Whether a session opens with this number.
 fn opens<D: Disk, A: Allocator + Copy>(exec: &mut Exec<D, A>, wanted: &str) -> bool {
     match exec.open_session() {
         Ok(session) => wanted.parse() == Ok(session.number()),
@@ -41,7 +41,7 @@ fn opens<D: Disk, A: Allocator + Copy>(exec: &mut Exec<D, A>, wanted: &str) -> b
     }
 }
 
-// Whether these sessions asked for service since, and there is something to flush or not.
+// Whether these sessions have requested service since, and whether there is something to flush.
 fn has_news<D: Disk, A: Allocator + Copy>(
     exec: &mut Exec<D, A>,
     wanted: &str,
@@ -51,7 +51,7 @@ fn has_news<D: Disk, A: Allocator + Copy>(
     are(&asking, wanted) && more == has_work
 }
 
-// A moment: `20 fails 2`.
+// Whether these lock requests fail at a moment: `20 fails 2`.
 fn ticks<D: Disk, A: Allocator + Copy>(exec: &mut Exec<D, A>, wanted: &str) -> bool {
     let (now, failed) = wanted.split_once(" fails").unwrap_or((wanted, ""));
     match now.parse() {
@@ -60,7 +60,7 @@ fn ticks<D: Disk, A: Allocator + Copy>(exec: &mut Exec<D, A>, wanted: &str) -> b
     }
 }
 
-/// Whether what a device does comes to what its step says.
+/// Whether the result of a device's step is the one that it states.
 pub fn is_done<D: Disk + Drop, A: Allocator + Copy>(
     exec: &mut Exec<D, A>,
     doing: Doing,

@@ -4,7 +4,8 @@ use psu_exec::Exec;
 use psu_items::Store;
 use std::alloc::Allocator;
 
-/// A formatted image in memory, whose contents may cost so many pages; none where no image has this limit, or memory is refused.
+/// Returns a formatted image in memory, whose contents may cost this many pages; `None` where an image can't have this
+/// limit, or memory is refused.
 pub fn image<A: Allocator + Copy>(alloc: A, limit: u16) -> Option<MemDisk<A>> {
     if limit < 4 || limit > 480 {
         return None;
@@ -13,7 +14,7 @@ pub fn image<A: Allocator + Copy>(alloc: A, limit: u16) -> Option<MemDisk<A>> {
     Some(Store::format(alloc, disk, limit).ok()?.into_disk())
 }
 
-/// A device that is powered on with what a disk holds; none where it does not power on with that.
+/// Returns a device that is powered on with the contents of a disk; `None` where it does not power on with them.
 pub fn powered_on<D: Disk + Drop, A: Allocator + Copy>(alloc: A, disk: D) -> Option<Exec<D, A>> {
     let store = Store::open(alloc, disk).ok()?;
     Exec::power_on(alloc, store).ok()

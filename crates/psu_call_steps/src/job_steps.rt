@@ -1,11 +1,11 @@
-// Jobs, from their take to their end, and what sessions do meanwhile.
+// Jobs, from their take to their end, and the steps of sessions meanwhile.
 use crate::session_steps::session_step;
 use crate::words::are;
 use psu_disk::Disk;
 use psu_exec::{Exec, Finished, NoJob};
 use std::alloc::Allocator;
 
-// Whether the waits of these sessions are over by the end of a job. None where the device does not expect it.
+// Whether the end of a job ends the waits of these sessions; `None` where the device does not expect it.
 fn given_back<D: Disk + Drop, A: Allocator + Copy>(
     exec: &mut Exec<D, A>,
     finished: Finished<D, A>,
@@ -14,7 +14,7 @@ fn given_back<D: Disk + Drop, A: Allocator + Copy>(
     Some(are(&exec.give_back(finished).ok()?, wanted))
 }
 
-/// Whether a device expects the end of a job, by which the waits of these sessions are over.
+/// Whether a device expects the end of a job, and it ends the waits of these sessions.
 pub fn is_over<D: Disk + Drop, A: Allocator + Copy>(
     exec: &mut Exec<D, A>,
     finished: Finished<D, A>,
@@ -23,7 +23,7 @@ pub fn is_over<D: Disk + Drop, A: Allocator + Copy>(
     given_back(exec, finished, wanted) == Some(true)
 }
 
-/// Whether the waits of these sessions are over by one job, or there is nothing to do and none is written.
+/// Whether one job ends the waits of these sessions, or there is nothing to do and no session is given.
 pub fn flushes<D: Disk + Drop, A: Allocator + Copy>(exec: &mut Exec<D, A>, wanted: &str) -> bool {
     match exec.take() {
         Ok(job) => is_over(exec, job.run(), wanted),
@@ -45,7 +45,7 @@ pub fn takes_none<D: Disk + Drop, A: Allocator + Copy>(
     }
 }
 
-// Whether these steps of sessions hold while a job is out, and no other is taken.
+// Whether these steps of sessions hold while a job is out, and no other job can be taken.
 fn are_beside<D: Disk + Drop, A: Allocator + Copy>(exec: &mut Exec<D, A>, steps: &str) -> bool {
     for step in steps.split("; ") {
         if !session_step(exec, step) {
@@ -55,8 +55,8 @@ fn are_beside<D: Disk + Drop, A: Allocator + Copy>(exec: &mut Exec<D, A>, steps:
     takes_none(exec, NoJob::Out)
 }
 
-/// Whether these steps of sessions hold while one job is out: `1: *SRE 4 -> done; 1: *OPC? -> parked`. None where there is no job, or its
-/// end is not as it should be: the device expects it, and no wait is over by it.
+/// Whether these steps of sessions hold while one job is out: `1: *SRE 4 -> done; 1: *OPC? -> parked`. `None` where
+/// there is no job, or its end is not as it should be: the device expects it, and it ends no wait.
 pub fn beside<D: Disk + Drop, A: Allocator + Copy>(
     exec: &mut Exec<D, A>,
     steps: &str,

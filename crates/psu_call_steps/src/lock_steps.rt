@@ -1,4 +1,4 @@
-// What a session that is open does with locks, and its end, by the word of its step.
+// The steps of an open session on locks, and its end, by their words.
 ghost use Rattle.std.specs.Prelude.{◌≡◌, true};
 ghost use Rattle.psu_exec.specs.Device.{is_open};
 
@@ -7,7 +7,7 @@ use psu_disk::Disk;
 use psu_exec::{Exec, Freed, Grant, Kind, LockRefusal, LockString, Session};
 use std::alloc::Allocator;
 
-/// What a session does with locks.
+/// A step of a session on locks.
 #[derive(Clone, Copy)]
 pub enum LockDeed {
     Shares,
@@ -16,7 +16,7 @@ pub enum LockDeed {
     Closes,
 }
 
-/// What a word stands for.
+/// Returns the step of a word.
 pub fn lock_deed_of(word: &str) -> Option<LockDeed> {
     match word {
         "shares" => Some(LockDeed::Shares),
@@ -27,7 +27,7 @@ pub fn lock_deed_of(word: &str) -> Option<LockDeed> {
     }
 }
 
-// What comes of a request for a lock, as it is called.
+// Returns the word for the result of a lock request.
 fn called(granted: Result<Grant, LockRefusal>) -> &'static str {
     match granted {
         Ok(Grant::Granted) => "granted",
@@ -39,7 +39,7 @@ fn called(granted: Result<Grant, LockRefusal>) -> &'static str {
     }
 }
 
-// A lock that is given up, as it is called.
+// Returns the word for a lock that is released.
 fn freed_as(freed: Freed) -> &'static str {
     match freed {
         Freed::Exclusive => "exclusive",
@@ -47,13 +47,13 @@ fn freed_as(freed: Freed) -> &'static str {
     }
 }
 
-// A moment and how long a request waits: `at 0 for 10`.
+// Reads a moment and the timeout of a request: `at 0 for 10`.
 fn moment_and_wait(asked: &str) -> Option<(u64, u32)> {
     let (now, wait) = asked.strip_prefix("at ")?.split_once(" for ")?;
     Some((now.parse().ok()?, wait.parse().ok()?))
 }
 
-// The exclusive lock, asked for at a moment: `queued at 0 for 10`.
+// Whether this is the result of a request of the exclusive lock at a moment: `queued at 0 for 10`.
 fn locks<D: Disk, A: Allocator + Copy>(exec: &mut Exec<D, A>, session: Session, doing: &str) -> bool
     requires { is_open exec.old.device session ≡ true }
 {
@@ -64,7 +64,7 @@ fn locks<D: Disk, A: Allocator + Copy>(exec: &mut Exec<D, A>, session: Session, 
     }
 }
 
-// The shared lock under `k`.
+// Whether the shared lock `k` is granted.
 fn shares<D: Disk, A: Allocator + Copy>(exec: &mut Exec<D, A>, session: Session) -> bool
     requires { is_open exec.old.device session ≡ true }
 {
@@ -74,7 +74,7 @@ fn shares<D: Disk, A: Allocator + Copy>(exec: &mut Exec<D, A>, session: Session)
     }
 }
 
-// A lock that is given up: `exclusive 3`, or `nothing`.
+// Whether this is the lock that is released, and these sessions are then granted it: `exclusive 3`, or `nothing`.
 fn releases<D: Disk, A: Allocator + Copy>(
     exec: &mut Exec<D, A>,
     session: Session,
@@ -89,7 +89,7 @@ fn releases<D: Disk, A: Allocator + Copy>(
     }
 }
 
-// The end of a session, by which these are granted a lock.
+// Whether these sessions are granted a lock by the end of a session.
 fn closes<D: Disk, A: Allocator + Copy>(
     exec: &mut Exec<D, A>,
     session: Session,
@@ -100,7 +100,7 @@ fn closes<D: Disk, A: Allocator + Copy>(
     are(&exec.close_session(session), granted)
 }
 
-/// Whether what a session that is open does with locks comes to what its step says.
+/// Whether the result of an open session's step on locks is the one that it states.
 pub fn is_locked<D: Disk, A: Allocator + Copy>(
     exec: &mut Exec<D, A>,
     session: Session,

@@ -1,8 +1,8 @@
-// What an outcome is called in a step.
+// The words for outcomes in a step.
 use psu_exec::{Outcome, ScpiError};
 use std::alloc::Allocator;
 
-// What an error is called.
+// Returns the word for an error.
 fn refused_as(error: ScpiError) -> &'static [u8] {
     if error == ScpiError::MediaFull {
         return b"media full".as_slice();
@@ -10,7 +10,7 @@ fn refused_as(error: ScpiError) -> &'static [u8] {
     b"error".as_slice()
 }
 
-/// The answer of an outcome, or what it is called.
+/// Returns the answer of an outcome, or the word for it.
 pub fn said<A: Allocator + Copy>(outcome: &Outcome<A>) -> &[u8] {
     match outcome {
         Outcome::Done => b"done".as_slice(),

@@ -15,7 +15,7 @@ pub struct StepFault<'s> {
     pub step: &'s str,
 }
 
-// Whether what the device does holds, or what a session does.
+// Whether a step of the device or of a session holds.
 fn changing_step<D: Disk + Drop, A: Allocator + Copy>(exec: &mut Exec<D, A>, step: &str) -> bool {
     let (word, rest) = parted(step);
     match doing_of(word) {
@@ -38,7 +38,7 @@ fn is_played(line: &str) -> bool {
     !line.is_empty() && !line.starts_with("#")
 }
 
-/// Plays a script on a device, up to a step that does not hold. How many steps it has.
+/// Plays a script on a device, up to a step that does not hold, and returns the number of its steps.
 pub fn play<'s, D: Disk + Drop, A: Allocator + Copy>(
     exec: &mut Exec<D, A>,
     script: &'s str,
@@ -67,13 +67,13 @@ fn play_to_end<D: Disk + Drop, A: Allocator + Copy>(
     played
 }
 
-// A device that is powered on with a fresh image.
+// Returns a device that is powered on with a fresh image.
 fn new_device<A: Allocator + Copy>(alloc: A, limit: u16) -> Option<Exec<MemDisk<A>, A>> {
     powered_on(alloc, image(alloc, limit)?)
 }
 
-/// Plays a script on a device of its own, which is powered on with a fresh image in memory, whose contents may cost so many pages. How many
-/// steps it has; 0 where no image has this limit, or memory is refused.
+/// Plays a script on a device of its own, which is powered on with a fresh image in memory, whose contents may cost
+/// this many pages. Returns the number of its steps; 0 where an image can't have this limit, or memory is refused.
 pub fn play_anew<A: Allocator + Copy>(
     alloc: A,
     limit: u16,

@@ -1,4 +1,4 @@
-// What a session that is open does with its units, its wait and its service, by the word of its step.
+// The steps of an open session on its units, its wait and its service, by their words.
 ghost use Rattle.std.specs.Prelude.{◌≡◌, true};
 ghost use Rattle.psu_exec.specs.Device.{is_open};
 
@@ -7,7 +7,7 @@ use psu_disk::Disk;
 use psu_exec::{Exec, Session};
 use std::alloc::Allocator;
 
-/// What a session does.
+/// A step of a session.
 #[derive(Clone, Copy)]
 pub enum Deed {
     Does,
@@ -20,7 +20,7 @@ pub enum Deed {
     Clears,
 }
 
-/// What a word stands for.
+/// Returns the step of a word.
 pub fn deed_of(word: &str) -> Option<Deed> {
     match word {
         "does" => Some(Deed::Does),
@@ -35,7 +35,7 @@ pub fn deed_of(word: &str) -> Option<Deed> {
     }
 }
 
-// Whether this is the request for service that goes out now: a status byte, or `nothing`.
+// Whether this is the service request that is sent now: a status byte, or `nothing`.
 fn asks<D: Disk, A: Allocator + Copy>(exec: &mut Exec<D, A>, session: Session, wanted: &str) -> bool
     requires { is_open exec.old.device session ≡ true }
 {
@@ -56,7 +56,7 @@ fn polls<D: Disk, A: Allocator + Copy>(
     wanted.parse() == Ok(exec.status(session))
 }
 
-/// Whether what a session that is open does comes to what its step says.
+/// Whether the result of an open session's step is the one that it states.
 pub fn is_served<D: Disk, A: Allocator + Copy>(
     exec: &mut Exec<D, A>,
     session: Session,

@@ -1,4 +1,4 @@
-// What a session does: a unit, or another step.
+// The steps of a session: a unit, or another step.
 use crate::lock_steps::{is_locked, lock_deed_of};
 use crate::service_steps::{deed_of, is_served};
 use crate::unit_steps::executes;
@@ -7,7 +7,8 @@ use psu_disk::Disk;
 use psu_exec::{Exec, Session};
 use std::alloc::Allocator;
 
-// Whether what a session does holds, but for a single unit. Not where it is no step, or the session is not open.
+// Whether a step of a session other than a single unit holds. `false` where it is not a step, or the session is not
+// open.
 fn does<D: Disk, A: Allocator + Copy>(
     exec: &mut Exec<D, A>,
     session: Session,
@@ -26,7 +27,7 @@ fn does<D: Disk, A: Allocator + Copy>(
     }
 }
 
-// The session of a step, which ends in a colon where the step is a unit.
+// Reads the session of a step, which ends in a colon where the step is a unit.
 fn session_of(word: &str) -> Option<Session> {
     session(word.strip_suffix(":").unwrap_or(word))
 }

@@ -1,10 +1,10 @@
-// What is seen of a device, by the word of its step: what it keeps, its store, who holds locks, and their deadlines.
+// The observations of a device, by their words: what it keeps, its store, the holders of locks, and their deadlines.
 use crate::words::parted;
 use psu_disk::Disk;
 use psu_exec::{Condition, Exec, Info};
 use std::alloc::Allocator;
 
-/// What is seen of a device.
+/// An observation of a device.
 #[derive(Clone, Copy)]
 pub enum Sight {
     Flushed,
@@ -16,7 +16,7 @@ pub enum Sight {
     Next,
 }
 
-/// What a word stands for.
+/// Returns the observation of a word.
 pub fn sight_of(word: &str) -> Option<Sight> {
     match word {
         "flushed" => Some(Sight::Flushed),
@@ -39,13 +39,13 @@ fn are_kept(kept: Option<(u8, u8)>, wanted: &str) -> bool {
     }
 }
 
-// Whether locks are held so: `exclusive 2`.
+// Whether locks are held this way: `exclusive 2`.
 fn are_locked(info: Info, wanted: &str) -> bool {
     let (how, holders) = parted(wanted);
     info.exclusive == (how == "exclusive") && holders.parse() == Ok(info.holders)
 }
 
-// Whether this is the deadline that is next, or `none`.
+// Whether this is the next deadline, or `none`.
 fn is_due(deadline: Option<u128>, wanted: &str) -> bool {
     match deadline {
         Some(deadline) => wanted.parse() == Ok(deadline),
@@ -53,7 +53,7 @@ fn is_due(deadline: Option<u128>, wanted: &str) -> bool {
     }
 }
 
-/// Whether a device is as its step says.
+/// Whether a device is in the state that its step states.
 pub fn is_seen<D: Disk, A: Allocator + Copy>(exec: &Exec<D, A>, sight: Sight, rest: &str) -> bool {
     match sight {
         Sight::Flushed => exec.is_flushed(),

@@ -9,10 +9,10 @@ use psu_lex::Unit;
 use psu_tree::{Path, request};
 use std::alloc::Allocator;
 
-// How often a unit is executed that fills: so many changes may be unflushed.
+// How often `fills` executes a unit: the number of changes that may be unflushed.
 const FILLING: u32 = 1_024;
 
-// The request of a text that is one unit.
+// Reads the request of a text that is one unit.
 fn read(text: &str) -> Request<'_> {
     let unit = Unit {
         text: text.as_bytes(),
@@ -22,7 +22,7 @@ fn read(text: &str) -> Request<'_> {
     request(&mut Path::root(), &unit, false)
 }
 
-// Whether this comes of a unit of a session that is open.
+// Whether this is the outcome of a unit of an open session.
 fn comes<D: Disk, A: Allocator + Copy>(
     exec: &mut Exec<D, A>,
     session: Session,
@@ -34,7 +34,7 @@ fn comes<D: Disk, A: Allocator + Copy>(
     said(&exec.execute(session, &read(text))) == want.as_bytes()
 }
 
-// Whether the session is open, and this comes of its unit.
+// Whether the session is open, and this is the outcome of its unit.
 fn is_executed<D: Disk, A: Allocator + Copy>(
     exec: &mut Exec<D, A>,
     session: Session,
@@ -47,12 +47,12 @@ fn is_executed<D: Disk, A: Allocator + Copy>(
     comes(exec, session, text, want)
 }
 
-// Whether the contents cost so many pages.
+// Whether the contents cost this many pages.
 fn costs<D: Disk, A: Allocator + Copy>(exec: &Exec<D, A>, cost: &str) -> bool {
     cost.parse() == Ok(exec.contents().cost())
 }
 
-// Whether a unit comes to this, and the contents then cost so much: `done; costs 2`.
+// Whether this is the outcome of a unit, and the contents then cost this much: `done; costs 2`.
 fn is_met<D: Disk, A: Allocator + Copy>(
     exec: &mut Exec<D, A>,
     session: Session,
@@ -65,7 +65,7 @@ fn is_met<D: Disk, A: Allocator + Copy>(
     }
 }
 
-/// Whether a unit comes to what is written after it: `*SRE 4 -> done`, `*SAV 0 -> done; costs 2`.
+/// Whether the outcome of a unit is the one that is written after it: `*SRE 4 -> done`, `*SAV 0 -> done; costs 2`.
 pub fn executes<D: Disk, A: Allocator + Copy>(
     exec: &mut Exec<D, A>,
     session: Session,
@@ -91,7 +91,7 @@ pub fn are_done<D: Disk, A: Allocator + Copy>(
     true
 }
 
-/// Whether a unit is done each time that it is executed, until no change more may be unflushed.
+/// Whether a unit is done each time that it is executed, until no more changes may be unflushed.
 pub fn fills<D: Disk, A: Allocator + Copy>(
     exec: &mut Exec<D, A>,
     session: Session,
@@ -105,7 +105,7 @@ pub fn fills<D: Disk, A: Allocator + Copy>(
     true
 }
 
-/// Whether this comes of the wait of a session that is open.
+/// Whether this is the outcome of the wait of an open session.
 pub fn settles<D: Disk, A: Allocator + Copy>(
     exec: &mut Exec<D, A>,
     session: Session,

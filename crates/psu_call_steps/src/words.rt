@@ -1,12 +1,12 @@
-// What is written in a step: its first word, and sessions by their numbers.
+// The words of a step: its first word, and sessions by their numbers.
 use psu_exec::{Session, Sessions};
 
-/// The first word of a step, and the rest.
+/// Returns the first word of a step, and the rest.
 pub fn parted(step: &str) -> (&str, &str) {
     step.split_once(" ").unwrap_or((step, ""))
 }
 
-/// The session of a number.
+/// Returns the session with a number.
 pub fn session(word: &str) -> Option<Session> {
     match word.parse() {
         Ok(number) => Session::new(number),
@@ -14,7 +14,7 @@ pub fn session(word: &str) -> Option<Session> {
     }
 }
 
-// Whether there is a session, of this number.
+// Whether there is a session, and it has this number.
 fn is_numbered(session: Option<&Session>, number: &str) -> bool {
     match session {
         Some(session) => number.parse() == Ok(session.number()),
@@ -22,7 +22,7 @@ fn is_numbered(session: Option<&Session>, number: &str) -> bool {
     }
 }
 
-/// Whether sessions are those of these numbers, in this order.
+/// Whether the sessions are those with these numbers, in this order.
 pub fn are(sessions: &Sessions, wanted: &str) -> bool {
     let mut sessions = sessions.as_slice().iter();
     for number in wanted.split_whitespace() {

@@ -3,10 +3,10 @@ use crate::missed::{Missed, holds};
 use crate::wire::{bare, comes, header, is_silent, length, next, send, skip, text_comes};
 use std::net::TcpStream;
 
-/// The MessageID of what a client sends.
+/// The MessageID of the messages that a client sends.
 const MESSAGE: u32 = 0xffff_ff00;
 
-/// The number that stands for the last message of a client that has sent none.
+/// The MessageID that means that a client has sent no message yet.
 pub const NO_MESSAGE: u32 = 0xffff_fefe;
 
 /// A client with a session.
@@ -25,38 +25,38 @@ impl Client {
         self.say_as(MESSAGE, text)
     }
 
-    /// Sends a transmission of a MessageID.
+    /// Sends a transmission with this MessageID.
     pub fn say_as(&mut self, number: u32, text: &[u8]) -> Result<(), Missed> {
         self.last = number;
         send(&mut self.sync, &header(7, 0, number, text.len() as u64))?;
         send(&mut self.sync, text)
     }
 
-    /// Sends a transmission, and tells that what came before is delivered.
+    /// Sends a transmission, and reports that the responses before it were delivered.
     pub fn say_on(&mut self, text: &[u8]) -> Result<(), Missed> {
         self.last = MESSAGE;
         send(&mut self.sync, &header(7, 1, MESSAGE, text.len() as u64))?;
         send(&mut self.sync, text)
     }
 
-    /// An answer comes in one DataEnd.
+    /// Reads this response, in one DataEnd.
     pub fn hear(&mut self, text: &[u8]) -> Result<(), Missed> {
         comes(&mut self.sync, header(7, 0, MESSAGE, text.len() as u64))?;
         text_comes(&mut self.sync, text)
     }
 
-    /// Asks and is answered.
+    /// Sends a query and reads this response.
     pub fn ask(&mut self, question: &[u8], answer: &[u8]) -> Result<(), Missed> {
         self.say(question)?;
         self.hear(answer)
     }
 
-    /// The device tells its name.
+    /// Queries the device's name and reads it.
     pub fn is_served(&mut self) -> Result<(), Missed> {
         self.ask(b"*IDN?\n", b"EXAMPLE,PSU4,0,1.0\n")
     }
 
-    /// It does so again and again.
+    /// Queries the device's name a hundred times.
     pub fn works(&mut self) -> Result<(), Missed> {
         for _ in 0..100u32 {
             self.is_served()?;
@@ -64,7 +64,7 @@ impl Client {
         Ok(())
     }
 
-    /// Saves as often as may be unflushed; the flusher is held meanwhile.
+    /// Saves as often as changes may be unflushed; the flusher is held meanwhile.
     pub fn fill(&mut self) -> Result<(), Missed> {
         for _ in 0..1_024u32 {
             self.ask(b"*SAV 2;*SRE?", b"0\n")?;
@@ -72,69 +72,70 @@ impl Client {
         Ok(())
     }
 
-    /// A frame on the asynchronous connection is answered by another.
+    /// Sends a frame on the asynchronous connection and reads this answer.
     pub fn exchange(&mut self, question: [u8; 16], answer: [u8; 16]) -> Result<(), Missed> {
         send(&mut self.other, &question)?;
         comes(&mut self.other, answer)
     }
 
-    /// The status byte is this; `control` tells whether what was sent is delivered.
+    /// Queries the status byte, which must be this; `control` reports whether the responses that were sent are
+    /// delivered.
     pub fn status(&mut self, control: u8, byte: u8) -> Result<(), Missed> {
         self.exchange(bare(21, control), bare(22, byte))
     }
 
-    /// A service request comes.
+    /// Reads a service request with this status byte.
     pub fn is_requested(&mut self, byte: u8) -> Result<(), Missed> {
         comes(&mut self.other, bare(20, byte))
     }
 
-    /// Asks for the exclusive lock, to be had within so many milliseconds.
+    /// Requests the exclusive lock, with a timeout in milliseconds.
     pub fn want_lock(&mut self, timeout: u32) -> Result<(), Missed> {
         send(&mut self.other, &header(4, 1, timeout, 0))
     }
 
-    /// A request for a lock is answered, or a release.
+    /// Reads the answer to a lock request or to a release.
     pub fn is_told_of_lock(&mut self, control: u8) -> Result<(), Missed> {
         comes(&mut self.other, bare(5, control))
     }
 
-    /// Waits for the exclusive lock, which another has.
+    /// Requests the exclusive lock, which another client has; no answer comes.
     pub fn wait_for_lock(&mut self) -> Result<(), Missed> {
         self.want_lock(60_000)?;
         is_silent(&mut self.other)
     }
 
-    /// Shares a lock by the name `k`.
+    /// Takes the shared lock by the name `k`.
     pub fn share(&mut self) -> Result<(), Missed> {
         send(&mut self.other, &header(4, 1, 0, 1))?;
         send(&mut self.other, b"k")?;
         self.is_told_of_lock(1)
     }
 
-    /// A question is held back.
+    /// Sends a query that a lock holds back; no answer comes.
     pub fn is_denied(&mut self) -> Result<(), Missed> {
         self.say(b"*IDN?\n")?;
         is_silent(&mut self.sync)
     }
 
-    /// Takes the exclusive lock, which nobody has.
+    /// Takes the exclusive lock, which no client has.
     pub fn lock(&mut self) -> Result<(), Missed> {
         self.want_lock(0)?;
         self.is_told_of_lock(1)
     }
 
-    /// Asks to give up a lock, behind the message of this number.
+    /// Requests the release of a lock, after the message of this number.
     pub fn let_lock_go(&mut self, number: u32) -> Result<(), Missed> {
         send(&mut self.other, &header(4, 0, number, 0))
     }
 
-    /// Gives up a lock: 1 exclusive, 2 shared, 3 none was held.
+    /// Releases a lock; the answer is 1 for the exclusive one, 2 for the shared one, 3 where none was held.
     pub fn release(&mut self, control: u8) -> Result<(), Missed> {
         self.let_lock_go(self.last)?;
         self.is_told_of_lock(control)
     }
 
-    /// What is told of the locks: whether exclusive is held, and how many hold one.
+    /// Queries the locks: whether the exclusive lock is held, and how many clients hold one.
     pub fn locks_are(&mut self, exclusive: u8, holders: u32) -> Result<(), Missed> {
         self.exchange(bare(24, 0), header(25, exclusive, holders, 0))
     }
@@ -144,13 +145,13 @@ impl Client {
         self.exchange(bare(19, 0), bare(23, 0))
     }
 
-    /// Ends a device clear: nothing comes before it is acknowledged.
+    /// Ends a device clear: nothing is received before it is acknowledged.
     pub fn end_clear(&mut self) -> Result<(), Missed> {
         send(&mut self.sync, &bare(8, 0))?;
         comes(&mut self.sync, bare(9, 0))
     }
 
-    /// Ends a device clear: an answer of before it may be on its way.
+    /// Ends a device clear: a response from before it may be on its way.
     pub fn end_late(&mut self) -> Result<(), Missed> {
         send(&mut self.sync, &bare(8, 0))?;
         let got = next(&mut self.sync)?;
@@ -162,13 +163,13 @@ impl Client {
         comes(&mut self.sync, bare(9, 0))
     }
 
-    /// Clears the device, as far as this session goes.
+    /// Clears the device for this session.
     pub fn clear(&mut self) -> Result<(), Missed> {
         self.begin_clear()?;
         self.end_clear()
     }
 
-    /// Asks for the status byte until a message is available, a million times at most.
+    /// Queries the status byte until a message is available, at most a million times.
     pub fn await_message(&mut self) -> Result<(), Missed> {
         for _ in 0..1_000_000u32 {
             send(&mut self.other, &bare(21, 0))?;

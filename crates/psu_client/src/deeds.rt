@@ -1,4 +1,4 @@
-// What those who play a script do, each step by its word and what is written behind it.
+// The steps of a script, each by its word and the text after it.
 use crate::client::Client;
 use crate::long_answer::{ask_much, is_drained, repeated};
 use crate::missed::{Missed, holds};
@@ -8,25 +8,25 @@ use std::alloc::Global;
 use std::net::TcpStream;
 use std::time::{Clock, Duration, Instant};
 
-/// What is told of a line that is no step.
+/// The fault of a line that is not a step.
 pub const UNREAD: Missed = Missed::Ground("a step");
 
-/// A number that is written in a step.
+/// Reads a number in a step.
 pub fn number(word: &str) -> Option<u32> {
     word.parse().ok()
 }
 
-// A byte that is written in a step, by its two digits.
+// Reads a byte in a step, as two hexadecimal digits.
 fn byte(word: &str) -> Option<u8> {
     u8::from_str_radix(word, 16).ok()
 }
 
-/// The first word of a step, and the rest.
+/// Returns the first word of a step, and the rest.
 pub fn parted(step: &str) -> (&str, &str) {
     step.split_once(" ").unwrap_or((step, ""))
 }
 
-// Bytes are sent as they are spelled.
+// Sends bytes, as they are spelled.
 fn sends(stream: &mut TcpStream, alloc: Global, cell: &str) -> Result<(), Missed> {
     match bytes(alloc, cell) {
         Some(bytes) => send(stream, bytes.as_slice()),
@@ -34,7 +34,7 @@ fn sends(stream: &mut TcpStream, alloc: Global, cell: &str) -> Result<(), Missed
     }
 }
 
-// Bytes come as they are spelled.
+// Receives bytes, as they are spelled.
 fn gets(stream: &mut TcpStream, alloc: Global, cell: &str) -> Result<(), Missed> {
     match bytes(alloc, cell) {
         Some(bytes) => text_comes(stream, bytes.as_slice()),
@@ -42,7 +42,7 @@ fn gets(stream: &mut TcpStream, alloc: Global, cell: &str) -> Result<(), Missed>
     }
 }
 
-// Bytes as they are spelled, so many times over, are sent again and again, until they are not taken.
+// Sends bytes, repeated this many times, again and again until they are no longer accepted.
 fn floods(stream: &mut TcpStream, alloc: Global, rest: &str) -> Result<(), Missed> {
     let (count, cell) = parted(rest);
     let (Some(count), Some(bytes)) = (number(count), bytes(alloc, cell)) else {
@@ -54,7 +54,7 @@ fn floods(stream: &mut TcpStream, alloc: Global, rest: &str) -> Result<(), Misse
     }
 }
 
-/// What a connection does by itself.
+/// Makes a step of a connection.
 pub fn stream_does(
     stream: &mut TcpStream,
     alloc: Global,
@@ -103,7 +103,7 @@ fn asks(client: &mut Client, alloc: Global, row: &str) -> Result<(), Missed> {
     hears(client, alloc, answer)
 }
 
-// What a client says and hears. None where it is another step.
+// Makes a step in which a client sends and receives messages; `None` for any other step.
 fn talks(client: &mut Client, alloc: Global, word: &str, rest: &str) -> Option<Result<(), Missed>> {
     match word {
         "says" => Some(says(client, alloc, rest)),
@@ -118,7 +118,7 @@ fn talks(client: &mut Client, alloc: Global, word: &str, rest: &str) -> Option<R
     }
 }
 
-// What a client waits for. None where it is another step.
+// Makes a step in which a client waits; `None` for any other step.
 fn listens(client: &mut Client, word: &str) -> Option<Result<(), Missed>> {
     match word {
         "denied" => Some(client.is_denied()),
@@ -170,7 +170,7 @@ fn counts(client: &mut Client, rest: &str) -> Result<(), Missed> {
     }
 }
 
-// What a client does with locks, and what it is told of them. None where it is another step.
+// Makes a step on locks; `None` for any other step.
 fn locks(client: &mut Client, word: &str, rest: &str) -> Option<Result<(), Missed>> {
     match word {
         "shares" => Some(client.share()),
@@ -194,7 +194,7 @@ fn ends(client: &mut Client) -> Result<(), Missed> {
     is_ended(&mut client.other)
 }
 
-// What a client does with its status and its connections.
+// Makes a step on a client's status or connections.
 fn exchanges(client: &mut Client, alloc: Global, word: &str, rest: &str) -> Result<(), Missed> {
     match word {
         "status" => status(client, rest),
@@ -208,7 +208,7 @@ fn exchanges(client: &mut Client, alloc: Global, word: &str, rest: &str) -> Resu
     }
 }
 
-/// What a client does by itself.
+/// Makes a step of a client.
 pub fn client_does(
     client: &mut Client,
     alloc: Global,
@@ -227,7 +227,7 @@ pub fn client_does(
     }
 }
 
-/// The exclusive lock is asked for and not had, and that is told after this time and not before.
+/// Requests the exclusive lock, which is refused when this time is over and not before.
 pub fn fails<R: Clock>(rt: &R, client: &mut Client, timeout: u32) -> Result<(), Missed> {
     let Ok(start) = Instant::now(rt) else {
         return Err(Missed::Ground("a clock"));

@@ -1,4 +1,4 @@
-// How clients come by their sessions.
+// How clients open their sessions.
 use crate::client::{Client, NO_MESSAGE};
 use crate::missed::Missed;
 use crate::wire::{bare, comes, header, next, send, wait};
@@ -6,7 +6,7 @@ use std::net::{Net, TcpStream};
 use std::thread;
 use std::time::{Clock, Duration};
 
-/// A connection to a server that may be about to begin.
+/// Connects to a server that may still be starting.
 pub fn connected<R: Net<Stream = TcpStream> + Clock>(
     rt: &R,
     port: u16,
@@ -22,7 +22,7 @@ pub fn connected<R: Net<Stream = TcpStream> + Clock>(
     Err(Missed::Ground("a connection"))
 }
 
-/// A session over its first connection, with its number.
+/// Opens a session on its first connection, and returns it with its number.
 pub fn begun<R: Net<Stream = TcpStream> + Clock>(
     rt: &R,
     port: u16,
@@ -39,7 +39,7 @@ pub fn begun<R: Net<Stream = TcpStream> + Clock>(
     }
 }
 
-/// A session of any number, with both connections.
+/// Opens a session of any number, with both connections.
 pub fn joined<R: Net<Stream = TcpStream> + Clock>(rt: &R, port: u16) -> Result<Client, Missed> {
     let (number, sync) = begun(rt, port)?;
     let mut other = connected(rt, port)?;
@@ -53,7 +53,7 @@ pub fn joined<R: Net<Stream = TcpStream> + Clock>(rt: &R, port: u16) -> Result<C
     })
 }
 
-/// A session of this number, which is the least that is free.
+/// Opens a session of this number, which is the least that is free.
 pub fn joined_as<R: Net<Stream = TcpStream> + Clock>(
     rt: &R,
     port: u16,
@@ -67,7 +67,7 @@ pub fn joined_as<R: Net<Stream = TcpStream> + Clock>(
     }
 }
 
-/// A session of this number, once that is free. A number is given back after all else of its session has ended.
+/// Opens a session of this number, once that is free. A number becomes free after all else of its session has ended.
 pub fn joined_again<R: Net<Stream = TcpStream> + Clock>(
     rt: &R,
     port: u16,
@@ -82,7 +82,7 @@ pub fn joined_again<R: Net<Stream = TcpStream> + Clock>(
     Err(Missed::Ground("a number that is given back"))
 }
 
-/// A session of any number, once there is a free one.
+/// Opens a session of any number, once one is free.
 pub fn joined_soon<R: Net<Stream = TcpStream> + Clock>(
     rt: &R,
     port: u16,
@@ -96,7 +96,7 @@ pub fn joined_soon<R: Net<Stream = TcpStream> + Clock>(
     Err(Missed::Ground("a free number"))
 }
 
-/// Waits until what is under way has come to a stand.
+/// Waits until the effects of the steps so far have settled.
 pub fn settle<R: Clock>(rt: &R) {
     thread::sleep(rt, Duration::from_millis(300));
 }

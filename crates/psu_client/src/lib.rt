@@ -1,5 +1,5 @@
-//! A client of the server, as tests over sockets play it: frames that it sends and waits for, sessions that it begins, and what did not come as it
-//! should. It knows nothing of how the server is made.
+//! A client of the server, for tests over sockets: frames that it sends and waits for, sessions that it opens, and
+//! faults where something else is received than expected. It knows nothing of how the server is made.
 #![tactic(auto)]
 
 mod client;

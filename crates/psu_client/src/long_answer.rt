@@ -1,10 +1,10 @@
-// An answer that is longer than what connections hold.
+// A response that is longer than the buffers of the connections.
 use crate::client::Client;
 use crate::missed::{Missed, holds};
 use crate::wire::{bare, length, next, send, skip};
 use std::alloc::{AllocError, Global};
 
-/// The bytes of a text, so many times.
+/// Returns the bytes of a text, repeated this many times.
 pub fn repeated(alloc: Global, text: &[u8], count: u32) -> Result<Vec<u8>, AllocError> {
     let mut all = Vec::new(alloc);
     for _ in 0..count {
@@ -13,14 +13,14 @@ pub fn repeated(alloc: Global, text: &[u8], count: u32) -> Result<Vec<u8>, Alloc
     Ok(all)
 }
 
-// A file of 32,768 bytes.
+// Returns the message that makes a file of 32,768 bytes.
 fn file(alloc: Global) -> Result<Vec<u8>, AllocError> {
     let mut text = b"MMEM:DATA \"A\",#532768".to_vec(alloc)?;
     text.resize(32_789, 120)?;
     Ok(text)
 }
 
-/// Makes a file of 32,768 bytes and asks for it 4,096 times in one message: 134 million bytes.
+/// Makes a file of 32,768 bytes and queries it 4,096 times in one message: 134 million bytes.
 pub fn ask_much(client: &mut Client, alloc: Global) -> Result<(), Missed> {
     let Ok(file) = file(alloc) else {
         return Err(Missed::Ground("memory"));
@@ -32,7 +32,8 @@ pub fn ask_much(client: &mut Client, alloc: Global) -> Result<(), Missed> {
     client.say(question.as_slice())
 }
 
-// Whether a frame acknowledges the end of a clear; else it is a part of an answer that is not its last, and is read.
+// Whether a frame acknowledges the end of a clear; otherwise it is a part of a response that is not its last, and is
+// read.
 fn is_acknowledged(client: &mut Client, got: [u8; 16]) -> Result<bool, Missed> {
     if got == bare(9, 0) {
         return Ok(true);
@@ -42,7 +43,7 @@ fn is_acknowledged(client: &mut Client, got: [u8; 16]) -> Result<bool, Missed> {
     Ok(false)
 }
 
-/// A clear ends behind parts of an answer that were on their way, half of it at most.
+/// Ends a clear; at most half of the response comes before the acknowledgement, in parts that were on their way.
 pub fn is_drained(client: &mut Client) -> Result<(), Missed> {
     send(&mut client.sync, &bare(8, 0))?;
     for _ in 0..1_024u32 {

@@ -1,23 +1,23 @@
-// What did not come as it should.
+// Why a step failed.
 
-/// What did not come as it should.
+/// Why a step failed: what a client expected and did not receive.
 #[derive(Clone, Copy, Debug, PartialEq, Eq)]
 pub enum Missed {
-    /// What the test stands on: an image, a server, a connection.
+    /// A precondition of the test failed: an image, a server, a connection.
     Ground(&'static str),
     /// Bytes could not be sent.
     Sending,
-    /// Nothing came for long, or the connection ended.
+    /// Nothing was received in time, or the connection ended.
     Silence,
-    /// Another frame came: the header that was to come, and the one that did.
+    /// Another frame was received: the expected header, and the received one.
     Frame([u8; 16], [u8; 16]),
-    /// An answer has another byte at this place.
+    /// A response has another byte at this place.
     Text(usize),
-    /// What is said here does not hold.
+    /// This claim does not hold.
     Claim(&'static str),
 }
 
-/// Nothing, where a claim holds.
+/// Fails where a claim does not hold.
 pub fn holds(claim: bool, said: &'static str) -> Result<(), Missed> {
     if claim {
         Ok(())

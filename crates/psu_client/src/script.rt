@@ -1,35 +1,35 @@
-// Scripts of what clients do with a server and what comes of it: a step a line. A text costs a proof far less than a call a step, and reads as a
-// course of events.
+// Scripts of what clients do with a server, and of the results: one step a line. A text costs a proof far less than one
+// call a step, and reads as a sequence of events.
 //
 // | step | means |
 // |---|---|
-// | `1 joins`, `1 rejoins` | a client begins session 1, at once or once the number is given back |
+// | `1 joins`, `1 rejoins` | a client opens session 1, at once or once the number is free |
 // | `1 leaves` | it ends both of its connections |
-// | `1 says *SRE?`, `1 hears 0` | it sends a transmission, is answered; `\n` stands for NL, and an answer's last is not written |
-// | `1 continues *SRE?` | the same, and tells that what came before is delivered |
-// | `1 asks *SRE? -> 0` | it says and hears |
-// | `1 named`, `1 works` | it asks for the device's name and is told it, once or a hundred times |
-// | `1 fills` | it saves as often as may be unflushed |
-// | `1 denied` | it asks for the name, and nothing comes |
-// | `1 silent`, `1 quiet` | nothing comes on its synchronous connection, on its asynchronous one |
-// | `1 status 0 60`, `1 status 1 00` | its status byte; what was sent is delivered where the first is 1 |
-// | `1 called 60` | it is asked to serve the device |
-// | `1 awaits` | it asks for its status until a message is available |
-// | `1 shares`, `1 locks` | it asks for the shared lock, for the exclusive one, and is granted it |
-// | `1 wants 300`, `1 told 1` | it asks for the exclusive lock within so many milliseconds; what it is told of a lock |
-// | `1 waits` | it asks for the exclusive lock, and nothing comes |
-// | `1 fails 300` | it asks for it, and is told that it failed, not before that time |
-// | `1 drops`, `1 releases 1` | it asks to give up a lock, and then is told of it |
-// | `1 counts 1 2` | whether exclusive is held, and how many hold a lock |
+// | `1 says *SRE?`, `1 hears 0` | it sends a transmission, reads a response; `\n` is NL, omitted at a response's end |
+// | `1 continues *SRE?` | it sends a transmission that reports the responses before it as delivered |
+// | `1 asks *SRE? -> 0` | it sends a query and reads the response |
+// | `1 named`, `1 works` | it queries the device's name and reads it, once or a hundred times |
+// | `1 fills` | it saves as often as changes may be unflushed |
+// | `1 denied` | it queries the name, and nothing is received |
+// | `1 silent`, `1 quiet` | nothing is received on its synchronous connection, on its asynchronous one |
+// | `1 status 0 60`, `1 status 1 00` | its status byte; the responses sent are delivered where the first is 1 |
+// | `1 called 60` | it receives a service request |
+// | `1 awaits` | it queries its status until a message is available |
+// | `1 shares`, `1 locks` | it requests the shared lock, the exclusive one, and is granted it |
+// | `1 wants 300`, `1 told 1` | it requests the exclusive lock with a timeout in milliseconds; the answer |
+// | `1 waits` | it requests the exclusive lock, and nothing is received |
+// | `1 fails 300` | it requests the exclusive lock, which is refused, and not before that time |
+// | `1 drops`, `1 releases 1` | it requests the release of a lock, without and with the answer |
+// | `1 counts 1 2` | whether the exclusive lock is held, and how many clients hold a lock |
 // | `1 clears`, `1 clearing`, `1 cleared` | a device clear: the whole, its beginning, its end |
-// | `1 much`, `1 drained` | it asks for 134 million bytes; a clear ends behind some of them |
+// | `1 much`, `1 drained` | it queries 134 million bytes; a clear ends after some of them |
 // | `1 sends 48 53 'HS`, `1 gets 07*2` | bytes on its synchronous connection, as tables spell them |
-// | `1 puts 48 53`, `1 takes 48 53` | the same on its asynchronous one |
-// | `1 floods 2 48 53`, `1 swamps 2 48 53` | such bytes twice over, again and again on the one connection or the other, until they are not taken |
+// | `1 puts 48 53`, `1 takes 48 53` | bytes on its asynchronous connection |
+// | `1 floods 2 48 53`, `1 swamps 2 48 53` | bytes, twice each time, on either connection until no more are accepted |
 // | `1 ends` | both of its connections are ended |
-// | `a connects`, `a begins` | a connection, to begin with or of a session that is not joined |
-// | `a sends 48 53`, `a gets 48 53`, `a silent`, `a ends` | the same of it |
-// | `pause`, `rest 700` | what is under way comes to a stand; so many milliseconds go by |
+// | `a connects`, `a begins` | a connection, plain or of a session that is not joined |
+// | `a sends 48 53`, `a gets 48 53`, `a silent`, `a ends` | these steps on that connection |
+// | `pause`, `rest 700` | wait until the effects so far have settled; wait this many milliseconds |
 use crate::client::Client;
 use crate::deeds::{UNREAD, client_does, fails, number, parted, stream_does};
 use crate::joining::{begun, connected, joined_again, joined_as, settle};
@@ -39,14 +39,14 @@ use std::net::{Net, TcpStream};
 use std::thread;
 use std::time::{Clock, Duration};
 
-/// A connection by its letter.
+/// A connection with its letter.
 #[derive(Drop)]
 struct Named {
     name: String,
     stream: TcpStream,
 }
 
-/// Those who play a script with a server: clients by the numbers of their sessions, and connections by letters.
+/// The parties of a script: clients by the numbers of their sessions, and connections by letters, with their server.
 #[derive(Drop)]
 pub struct Cast<R: Drop> {
     rt: R,
@@ -56,7 +56,7 @@ pub struct Cast<R: Drop> {
     streams: Vec<Named>,
 }
 
-// So many milliseconds go by.
+// Waits this many milliseconds.
 fn rests<R: Clock>(rt: &R, milliseconds: &str) -> Result<(), Missed> {
     match number(milliseconds) {
         Some(count) => {
@@ -68,7 +68,7 @@ fn rests<R: Clock>(rt: &R, milliseconds: &str) -> Result<(), Missed> {
 }
 
 impl<R: Net<Stream = TcpStream> + Clock + Copy> Cast<R> {
-    /// Nobody yet, with the server at a port.
+    /// Returns a cast with no client and no connection yet, with the server at a port.
     pub fn new(rt: R, alloc: Global, port: u16) -> Cast<R> {
         Cast {
             rt,
@@ -79,7 +79,7 @@ impl<R: Net<Stream = TcpStream> + Clock + Copy> Cast<R> {
         }
     }
 
-    // Where the client of a number stands.
+    // Returns the place of the client with this number.
     fn place(&self, number: u8) -> Option<usize> {
         for (at, client) in self.clients.iter().enumerate() {
             if client.number == number {
@@ -89,7 +89,7 @@ impl<R: Net<Stream = TcpStream> + Clock + Copy> Cast<R> {
         None
     }
 
-    // Where the connection of a letter stands.
+    // Returns the place of the connection with this letter.
     fn place_of_stream(&self, name: &str) -> Option<usize> {
         for (at, named) in self.streams.iter().enumerate() {
             if named.name.as_str() == name {
@@ -136,7 +136,7 @@ impl<R: Net<Stream = TcpStream> + Clock + Copy> Cast<R> {
         }
     }
 
-    // What the client of a number does by itself.
+    // Makes a step of the client with this number.
     fn acts(&mut self, number: u8, word: &str, rest: &str) -> Result<(), Missed> {
         let Some(at) = self.place(number) else {
             return Err(UNREAD);
@@ -177,7 +177,7 @@ impl<R: Net<Stream = TcpStream> + Clock + Copy> Cast<R> {
         self.add_stream(name, stream)
     }
 
-    // What the connection of a letter does by itself.
+    // Makes a step of the connection with this letter.
     fn carries(&mut self, name: &str, word: &str, rest: &str) -> Result<(), Missed> {
         let Some(at) = self.place_of_stream(name) else {
             return Err(UNREAD);
@@ -196,7 +196,7 @@ impl<R: Net<Stream = TcpStream> + Clock + Copy> Cast<R> {
         }
     }
 
-    /// Does what a step says; what did not come of it as it should.
+    /// Makes a step; returns why it failed.
     pub fn step(&mut self, step: &str) -> Result<(), Missed> {
         if step == "pause" {
             settle(&self.rt);

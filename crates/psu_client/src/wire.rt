@@ -4,10 +4,10 @@ use std::io::{self, ErrorKind, Read, Write};
 use std::net::TcpStream;
 use std::time::Duration;
 
-/// How long a client waits for what is to come, in milliseconds.
+/// How long a client waits for a read, in milliseconds.
 const PATIENCE: u64 = 10_000;
 
-/// The header of a frame: its type, control code, parameter, and the length of its payload.
+/// Returns the header of a frame: its type, control code, parameter, and the length of its payload.
 pub fn header(kind: u8, control: u8, parameter: u32, length: u64) -> [u8; 16] {
     let [p, q, r, s] = parameter.to_be_bytes();
     let [a, b, c, d, e, f, g, h] = length.to_be_bytes();
@@ -16,25 +16,25 @@ pub fn header(kind: u8, control: u8, parameter: u32, length: u64) -> [u8; 16] {
     ]
 }
 
-/// A frame that is a type and a control code.
+/// Returns a frame that has only a type and a control code.
 pub fn bare(kind: u8, control: u8) -> [u8; 16] {
     header(kind, control, 0, 0)
 }
 
-/// The length of the payload behind a header.
+/// Returns the length of the payload after a header.
 pub fn length(header: &[u8; 16]) -> u64 {
     let [_, _, _, _, _, _, _, _, a, b, c, d, e, f, g, h] = *header;
     u64::from_be_bytes([a, b, c, d, e, f, g, h])
 }
 
-/// Waits so many milliseconds at most for each read from now on.
+/// Limits each read from now on to this many milliseconds.
 pub fn wait_at_most(stream: &TcpStream, milliseconds: u64) -> Result<(), Missed> {
     stream
         .set_read_timeout(Some(Duration::from_millis(milliseconds)))
         .map_err(|_| Missed::Ground("a limit for reads"))
 }
 
-/// Waits for what is to come as long as a client does.
+/// Limits each read to the time that a client waits.
 pub fn wait(stream: &TcpStream) -> Result<(), Missed> {
     wait_at_most(stream, PATIENCE)
 }
@@ -44,7 +44,7 @@ pub fn send(stream: &mut TcpStream, bytes: &[u8]) -> Result<(), Missed> {
     stream.write_all(bytes).map_err(|_| Missed::Sending)
 }
 
-/// The sixteen bytes that come next.
+/// Reads the next sixteen bytes.
 pub fn next(stream: &mut TcpStream) -> Result<[u8; 16], Missed> {
     let mut got = [0u8; 16];
     match stream.read_exact(&mut got) {
@@ -53,7 +53,7 @@ pub fn next(stream: &mut TcpStream) -> Result<[u8; 16], Missed> {
     }
 }
 
-/// This header comes next.
+/// Reads a header, which must be this one.
 pub fn comes(stream: &mut TcpStream, want: [u8; 16]) -> Result<(), Missed> {
     let got = next(stream)?;
     if got == want {
@@ -63,7 +63,7 @@ pub fn comes(stream: &mut TcpStream, want: [u8; 16]) -> Result<(), Missed> {
     }
 }
 
-/// These bytes come next.
+/// Reads bytes, which must be these.
 pub fn text_comes(stream: &mut TcpStream, want: &[u8]) -> Result<(), Missed> {
     let mut got = [0u8; 1];
     for (at, byte) in want.iter().enumerate() {
@@ -77,7 +77,7 @@ pub fn text_comes(stream: &mut TcpStream, want: &[u8]) -> Result<(), Missed> {
     Ok(())
 }
 
-/// Reads so many bytes, whatever they are.
+/// Reads this many bytes, whatever they are.
 pub fn skip(stream: &mut TcpStream, count: u64) -> Result<(), Missed> {
     let skipped = io::copy(&mut stream.take(count), &mut io::sink());
     match skipped {
@@ -86,12 +86,12 @@ pub fn skip(stream: &mut TcpStream, count: u64) -> Result<(), Missed> {
     }
 }
 
-// Whether a call that failed only took long.
+// Whether a call failed only because it took too long.
 fn is_late(error: &io::Error) -> bool {
     matches!(error.kind(), ErrorKind::WouldBlock | ErrorKind::TimedOut)
 }
 
-/// Sends bytes again and again: at last they are not taken, while the connection goes on.
+/// Sends bytes again and again until they are no longer accepted, while the connection stays open.
 pub fn is_held_back(stream: &mut TcpStream, bytes: &[u8]) -> Result<(), Missed> {
     let limit = Some(Duration::from_millis(500));
     if stream.set_write_timeout(limit).is_err() {
@@ -105,7 +105,7 @@ pub fn is_held_back(stream: &mut TcpStream, bytes: &[u8]) -> Result<(), Missed> 
     Err(Missed::Claim("a flood is held back"))
 }
 
-/// Nothing comes for a fifth of a second.
+/// Expects that nothing is received for a fifth of a second.
 pub fn is_silent(stream: &mut TcpStream) -> Result<(), Missed> {
     wait_at_most(stream, 200)?;
     let mut got = [0u8; 1];
@@ -115,7 +115,7 @@ pub fn is_silent(stream: &mut TcpStream) -> Result<(), Missed> {
     }
 }
 
-/// The connection ends, and nothing comes before.
+/// Expects the end of the connection, with nothing received before it.
 pub fn is_ended(stream: &mut TcpStream) -> Result<(), Missed> {
     let mut got = [0u8; 1];
     match stream.read(&mut got) {

@@ -1,4 +1,4 @@
--- What a line of an example does to the examples to come.
+-- The effect of a line on the examples that are still to be read.
 use Rattle.std.proofs.Common.{◌≡◌, ℕ, ◌+◌, true, false, List, [], ◌∷◌, ◌++◌, refl, sym, ap, ◌∙◌, append_assoc}
 use Rattle.std.proofs.lemmas.List.{append-nil}
 use Rattle.psu_examples.specs.Examples.{Shown, Where, answered_by, answered_in, examples, is_end, sent_by, sent_in}
@@ -10,7 +10,7 @@ use Rattle.psu_examples.specs.declared.place.Place.TheVariants.{Text, Block, Ins
 abbrev made : ℕ → List ℕ → List ℕ → Shown
 made line sent answered = record { line = line; sent = sent; answered = answered }
 
--- a line that goes on with an example
+-- a line that continues an example
 pub goes_on : {A : Type 0} (old new : Example A) (number : ℕ) (line : List ℕ) (lines : List (List ℕ)) → is_end line ≡ false
     → new.line ≡ old.line → new.sent.items ≡ old.sent.items ++ sent_by line → new.answered.items ≡ old.answered.items ++ answered_by line
     → coming (Inside new) (number + 1) lines ≡ coming (Inside old) number (line ∷ lines)
@@ -22,7 +22,7 @@ goes_on old new number line lines more at sent answered =
     ∙ ap (λ (x : List ℕ). made old.line x (new.answered.items ++ answered_in lines) ∷ rest) s
     ∙ ap (λ (x : List ℕ). made old.line (old.sent.items ++ (sent_by line ++ sent_in lines)) x ∷ rest) a)
 
--- an example of which no line is left
+-- an example that has no further line
 pub done : {A : Type 0} (e : Example A) → made e.line (e.sent.items ++ []) (e.answered.items ++ []) ≡ shown e
 done e =
     ap (λ (x : List ℕ). made e.line x (e.answered.items ++ [])) (append-nil e.sent.items)
@@ -43,7 +43,7 @@ closes old new before after number line lines over block grown text =
     ∙ append_assoc before (begun old) (examples Where.Text (number + 1) lines)
     ∙ ap (λ (x : List Shown). before ++ x) (ends old number line lines over block)
 
--- the guide ends
+-- the end of the guide
 pub last : {A : Type 0} (place : Place A) (number : ℕ) → begun place ≡ coming place number []
 last Text number = refl
 last Block number = refl

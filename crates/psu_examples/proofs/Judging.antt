@@ -9,12 +9,12 @@ use Rattle.psu_examples.specs.Shown.{shown}
 use Rattle.psu_examples.specs.declared.example.Example.{Example}
 use Rattle.psu_examples.specs.declared.guide_fault.GuideFault.{GuideFault}
 
--- a fault that is passed on
+-- a fault that is propagated
 pub passed : {A E : Type 0} (r : Result A E) (e : E) (P : E → Type 0) → IsErrAnd r (λ told. told ≡ e) → P e → IfErr r P
 passed (Ok x) e P is p = tt
 passed (Err told) e P is p = subst P (sym is) p
 
--- the examples before one, it, and those behind it
+-- the examples before one, it, and those after it
 around : {A : Type 0} (xs : List (Example A)) (i : ℕ) (x : Example A) → i < length xs → x ≡ get_or xs i x
     → map shown xs ≡ map shown (take i xs) ++ shown x ∷ map shown (drop (suc i) xs)
 around xs i x within is =
@@ -48,7 +48,7 @@ one_more plays xs i x within is held here =
     ∙ map-append shown (take i xs) (x ∷ [])))
     (All-append (Agrees plays) (map shown (take i xs)) (shown x ∷ []) held (one plays (shown x) here))
 
--- all that were looked at, which are all
+-- all examples that were checked, where these are all
 pub each_one : {A : Type 0} (plays : Answering) (xs : List (Example A)) (i : ℕ) → length xs ≤ i → All (Agrees plays) (map shown (take i xs))
     → All (Agrees plays) (map shown xs)
 each_one plays xs i most held = subst (λ (ys : List (Example _)). All (Agrees plays) (map shown ys)) (take_all i xs most) held

@@ -32,7 +32,7 @@ unended x (y ∷ p) h = elim (cases_Bool (x == 10)) [
   | inr f ↦ rw f (ap (first_onto x) (unended y p (lacks_tail x (y ∷ p) h)))
 ]
 
--- up to the first line feed stands the first line
+-- the text up to the first line feed is the first line
 first_line : (s : List ℕ) (at : ℕ) → IsFirstByte (is_byte 10) s (Some at) → lines_of s ≡ take at s ∷ lines_of (drop (at + 1) s)
 first_line s at h =
     let within : at < length s = h.0.high in
@@ -48,12 +48,12 @@ first_line s at h =
 whole_tail : (s : List ℕ) (n : ℕ) → take (length s - n) (drop n s) ≡ drop n s
 whole_tail s n = grind (arith, common_steps)
 
--- the same, with what stands behind it as a range of the text
+-- the first line, with the rest as a range of the text
 pub next : (s : List ℕ) (at : ℕ) → IsFirstByte (is_byte 10) s (Some at)
     → lines_of s ≡ take at s ∷ lines_of (take (length s - (at + 1)) (drop (at + 1) s))
 next s at h = first_line s at h ∙ ap (λ (r : List ℕ). take at s ∷ lines_of r) (sym (whole_tail s (at + 1)))
 
--- without one all is one line
+-- without a line feed the whole text is one line
 pub last_line : (s : List ℕ) → IsFirstByte (is_byte 10) s None → 0 < length s → lines_of s ≡ s ∷ []
 last_line [] h some = absurd (omega (arith, some))
 last_line (x ∷ s) h some = unended x s (λ j below. h j (omega arith) below)

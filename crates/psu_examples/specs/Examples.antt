@@ -2,13 +2,13 @@
 use Rattle.std.specs.Prelude.{ℕ, ◌+◌, ◌==◌, ◌&&◌, Bool, false, List, [], ◌∷◌, ◌++◌, if◌then◌else◌, codes}
 use Rattle.std.specs.Str.{bytes_eq}
 
--- An example: the line at which it begins, the text that is sent, and the text that is answered.
+-- An example: the line at which it begins, the text that is sent, and the response.
 pub record Shown : Type 0 where
   pub line : ℕ
   pub sent : List ℕ
   pub answered : List ℕ
 
--- a byte goes onto the first line of the rest
+-- the lines with a byte prepended to the first of them
 abbrev pub first_onto : ℕ → List (List ℕ) → List (List ℕ)
 first_onto x [] = (x ∷ []) ∷ []
 first_onto x (line ∷ lines) = (x ∷ line) ∷ lines
@@ -31,12 +31,12 @@ abbrev pub begins_block : List ℕ → Bool
 begins_block (a ∷ b ∷ c ∷ rest) = (a == 96) && (b == 96) && (c == 96)
 begins_block line = false
 
--- what a line of an example sends: what stands behind `> `
+-- what a line of an example sends: the text after `> `
 abbrev pub sent_by : List ℕ → List ℕ
 sent_by (a ∷ b ∷ line) = if (a == 62) && (b == 32) then line ++ 10 ∷ [] else []
 sent_by line = []
 
--- what a line of an example answers: itself, where it does not begin with `> `
+-- what a line of an example contributes to the response: itself, where it does not begin with `> `
 abbrev pub answered_by : List ℕ → List ℕ
 answered_by (a ∷ b ∷ line) = if (a == 62) && (b == 32) then [] else (a ∷ b ∷ line) ++ 10 ∷ []
 answered_by line = line ++ 10 ∷ []
@@ -46,12 +46,12 @@ abbrev pub sent_in : List (List ℕ) → List ℕ
 sent_in [] = []
 sent_in (line ∷ lines) = if is_end line then [] else sent_by line ++ sent_in lines
 
--- what the lines of an example answer, up to its end
+-- the response in the lines of an example, up to its end
 abbrev pub answered_in : List (List ℕ) → List ℕ
 answered_in [] = []
 answered_in (line ∷ lines) = if is_end line then [] else answered_by line ++ answered_in lines
 
--- where a line stands: in the text, in a block that is no example, or in an example
+-- the place of a line: in the text, in a block that is not an example, or in an example
 pub data Where : Type 0 where
   Text : Where
   Block : Where

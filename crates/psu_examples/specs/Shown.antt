@@ -1,4 +1,4 @@
--- What was read of a guide, as its examples.
+-- The examples of what was read of a guide.
 use Rattle.std.specs.Prelude.{ℕ, List, [], ◌∷◌, ◌++◌}
 use Rattle.psu_examples.specs.Examples.{Shown, Where, answered_in, examples, sent_in}
 use Rattle.psu_examples.specs.declared.example.Example.{Example}
@@ -13,7 +13,7 @@ abbrev pub begun : {A : Type 0} → Place A → List Shown
 begun (Inside e) = shown e ∷ []
 begun place = []
 
--- the examples to come in these lines, with the one that has begun
+-- the examples to come in these lines, including the one that has begun
 abbrev pub coming : {A : Type 0} → Place A → ℕ → List (List ℕ) → List Shown
 coming Text number lines = examples Where.Text number lines
 coming Block number lines = examples Where.Block number lines

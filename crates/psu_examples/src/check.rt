@@ -9,7 +9,8 @@ use crate::player::Player;
 use crate::reading::examples_of;
 use std::alloc::Allocator;
 
-/// How many examples a guide has, where the player answers each of them as it says. A guide without examples is refused.
+/// Returns the number of examples of a guide, where the player answers each of them as it states. A guide without
+/// examples is refused.
 pub fn examples_held<A: Allocator + Copy, P: Player<A>>(
     alloc: A,
     player: &P,
@@ -26,7 +27,8 @@ pub fn examples_held<A: Allocator + Copy, P: Player<A>>(
     Ok(examples.len())
 }
 
-// Whether the player answers as each of these examples says, and else the first of them that it does not answer so.
+// Checks that the player answers each of these examples as it states; otherwise returns the fault of the first that it
+// does not.
 fn check_each<A: Allocator + Copy, P: Player<A>>(
     alloc: A,
     player: &P,
@@ -41,7 +43,7 @@ fn check_each<A: Allocator + Copy, P: Player<A>>(
     Ok(())
 }
 
-// Whether the player answers as an example says.
+// Checks that the player answers an example as it states.
 fn check_example<A: Allocator + Copy, P: Player<A>>(
     alloc: A,
     player: &P,

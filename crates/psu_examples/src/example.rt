@@ -4,19 +4,19 @@ ghost use Rattle.psu_examples.specs.Examples.{answered_by, sent_by};
 
 use std::alloc::{AllocError, Allocator};
 
-/// An example of the guide: what is sent, and what is answered to it.
+/// An example of the guide: the text that is sent, and the response to it.
 #[derive(Drop)]
 pub struct Example<A: Allocator + Copy> {
     /// The line of the guide at which the example begins, the first being 1.
     pub line: usize,
     /// The lines that are sent, in their order, each with its line feed.
     pub sent: Vec<u8, A>,
-    /// The lines that are answered, in their order, each with its line feed.
+    /// The lines of the response, in their order, each with its line feed.
     pub answered: Vec<u8, A>,
 }
 
 impl<A: Allocator + Copy> Example<A> {
-    /// An example that begins at a line, with nothing in it yet.
+    /// Returns an example that begins at a line, with nothing in it yet.
     pub fn new(alloc: A, line: usize) -> Example<A>
         ensures line { result.line ≡ line }
         ensures sent { result.sent.items ≡ [] }
@@ -29,7 +29,7 @@ impl<A: Allocator + Copy> Example<A> {
         }
     }
 
-    /// Takes a line of the example, which is sent where it begins with `> `, and answered else.
+    /// Adds a line of the example, which is sent where it begins with `> `, and otherwise part of the response.
     pub fn put(&mut self, line: &[u8]) -> Result<(), AllocError>
         ensures line { OnOk result (self.new.line ≡ self.old.line) }
         ensures sent { OnOk result (self.new.sent.items ≡ self.old.sent.items ++ sent_by line.now) }
@@ -42,7 +42,7 @@ impl<A: Allocator + Copy> Example<A> {
     }
 }
 
-// Puts a line with its line feed behind others.
+// Appends a line with its line feed.
 fn put_line<A: Allocator + Copy>(text: &mut Vec<u8, A>, line: &[u8]) -> Result<(), AllocError>
     ensures { OnOk result (text.new.items ≡ text.old.items ++ (line.now ++ 10 ∷ [])) }
 {

@@ -7,13 +7,13 @@ use std::alloc::{AllocError, Allocator};
 /// Why a guide is refused.
 #[derive(Drop)]
 pub enum GuideFault<A: Allocator + Copy, F> {
-    /// No example stands in it.
+    /// It has no example.
     Empty,
-    /// The example that begins at this line is answered with this text, and not as it says.
+    /// The example that begins at this line is answered with this text, not with the one that it states.
     Differs(usize, Vec<u8, A>),
-    /// At the example that begins at this line the player gave up.
+    /// The player stopped at the example that begins at this line.
     Ended(usize, F),
-    /// Memory was refused where the guide was read.
+    /// Memory was refused while the guide was read.
     Memory,
 }
 

@@ -1,4 +1,5 @@
-//! The examples of a guide: how they are read, and whether each is answered as it says. Who answers them is known by what it may answer alone.
+//! The examples of a guide: how they are read, and whether each is answered as it states. The player that answers them
+//! is known only by what it may answer.
 #![tactic(auto)]
 
 mod check;

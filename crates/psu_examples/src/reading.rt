@@ -1,4 +1,4 @@
-//! The examples of a guide.
+//! Reading the examples of a guide.
 ghost use Rattle.std.specs.Prelude.{◌≡◌, ◌<◌, ◌+◌, ◌++◌, ◌∷◌, [], List, ℕ, OnOk, IfOk, IfSome, IfNone, length, map};
 ghost use Rattle.psu_examples.specs.Examples.{Where, examples, examples_in, is_end, lines_of};
 ghost use Rattle.psu_examples.specs.Shown.{begun, coming, shown};
@@ -10,10 +10,10 @@ use memchr::memchr;
 use std::alloc::{AllocError, Allocator};
 use std::mem;
 
-// What a block of the guide begins with, and ends with.
+// The text that a block of the guide begins with, and ends with.
 const FENCE: &[u8] = b"```";
 
-// What an example begins with.
+// The line that begins an example.
 const EXAMPLE: &[u8] = b"```scpi";
 
 /// What was read of a guide: the examples that have ended, and the one that has begun.
@@ -25,7 +25,7 @@ pub struct Reading<A: Allocator + Copy> {
 }
 
 impl<A: Allocator + Copy> Reading<A> {
-    /// Nothing was read yet.
+    /// Returns a reading before the first line.
     fn new(alloc: A) -> Reading<A>
         ensures ended { result.ended.items ≡ [] }
         ensures place { result.place ≡ Text }
@@ -37,7 +37,7 @@ impl<A: Allocator + Copy> Reading<A> {
         }
     }
 
-    // Takes the line of this number.
+    // Reads the line with this number.
     #[tactic(auto, using(crate::proofs::Coming::closes, crate::proofs::Coming::goes_on))]
     fn take(&mut self, number: usize, line: &[u8]) -> Result<(), AllocError>
         ensures { OnOk result ((lines : List (List ℕ)) → map shown self.new.ended.items ++ coming self.new.place (number + 1) lines
@@ -54,7 +54,7 @@ impl<A: Allocator + Copy> Reading<A> {
         }
     }
 
-    // Takes the last line, of this number, where there is one.
+    // Reads the last line, with this number, if there is one, and returns the examples.
     #[tactic(auto, using(crate::proofs::Coming::last))]
     fn finish(mut self, number: usize, rest: &[u8]) -> Result<Vec<Example<A>, A>, AllocError>
         requires { 0 < length rest.now → lines_of rest.now ≡ rest.now ∷ [] }
@@ -67,7 +67,7 @@ impl<A: Allocator + Copy> Reading<A> {
         Ok(self.ended)
     }
 
-    // The block that has begun ends.
+    // Ends the block that has begun.
     fn close(&mut self) -> Result<(), AllocError>
         ensures ended { OnOk result (map shown self.new.ended.items ≡ map shown self.old.ended.items ++ begun self.old.place) }
         ensures place { OnOk result (self.new.place ≡ Text) }
@@ -86,7 +86,7 @@ fn is_end(line: &[u8]) -> bool
     line == FENCE
 }
 
-// Where the line of the text of this number leads.
+// Returns the place after a line of the text with this number.
 fn opened<A: Allocator + Copy>(alloc: A, number: usize, line: &[u8]) -> Place<A>
     ensures { (lines : List (List ℕ)) → coming result (number + 1) lines ≡ examples Where.Text number (line.now ∷ lines) }
 {
@@ -99,7 +99,7 @@ fn opened<A: Allocator + Copy>(alloc: A, number: usize, line: &[u8]) -> Place<A>
     }
 }
 
-// The first line, where a line feed ends it, and what stands behind it.
+// Returns the first line, where a line feed ends it, and the rest after that.
 #[tactic(auto, using(crate::proofs::Lines::next, crate::proofs::Lines::last_line))]
 fn next_line(text: &[u8]) -> Option<(&[u8], &[u8])>
     ensures line { IfSome result (λ pair. lines_of text.now ≡ pair.0.now ∷ lines_of pair.1.now) }
@@ -110,7 +110,7 @@ fn next_line(text: &[u8]) -> Option<(&[u8], &[u8])>
     Some((&text[..at], &text[at + 1..]))
 }
 
-/// The examples of a guide, in their order.
+/// Returns the examples of a guide, in their order.
 pub fn examples_of<A: Allocator + Copy>(
     alloc: A,
     guide: &[u8],

@@ -8,7 +8,8 @@ use crate::play_fault::PlayFault;
 use psu_examples::{GuideFault, examples_held};
 use std::alloc::Allocator;
 
-/// How many examples a guide has, where a new instrument answers each of them as it says. A guide without examples is refused.
+/// Returns the number of examples of a guide, where a new instrument answers each of them as it states. A guide without
+/// examples is refused.
 pub fn guide_held<A: Allocator + Copy>(
     alloc: A,
     guide: &[u8],

@@ -1,4 +1,4 @@
-//! Runs the examples of the programmer's guide and the worked rows beside it on the instrument, each on a fresh image.
+//! Runs the examples of the programmer's guide and the worked rows with it on the instrument, each on a fresh image.
 #![tactic(auto)]
 
 mod guide;
@@ -13,7 +13,7 @@ use std::io::Eprint;
 use std::process::ExitCode;
 use std::{fs, str};
 
-// The documents, in the folder that the program is run in.
+// The documents, in the program's working directory.
 const DOCUMENTS: [&str; 2] = ["COMMANDS.md", "ROWS.md"];
 
 fn main(rt: HostRuntime) -> ExitCode {

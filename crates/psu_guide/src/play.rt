@@ -1,4 +1,4 @@
-//! What the instrument answers.
+//! The responses of the instrument.
 ghost use Rattle.std.specs.Prelude.{IfErr, IfOk, IfSome, List, None, Some, [], ℕ};
 ghost use Rattle.psu_server.specs.Input.{IsTooLong};
 ghost use Rattle.psu_server.specs.Reasons.{EndsFor};
@@ -12,13 +12,13 @@ use psu_items::Store;
 use psu_server::{RunCause, run};
 use std::alloc::Allocator;
 
-// How many pages the contents of a new image may cost.
+// The number of pages that the contents of a new image may cost.
 const LIMIT: u16 = 256;
 
 // The bytes of such an image: two roots and twice the limit, in pages of 512 bytes.
 const SIZE: u64 = 263_168;
 
-// A new image in memory; none where memory is wanted.
+// Returns a new image in memory; `None` where memory is refused.
 fn new_image<A: Allocator + Copy>(alloc: A) -> Option<MemDisk<A>>
     ensures { IfSome result (λ disk. IsNew (⟦<MemDisk<A> as Disk>⟧.state disk)) }
 {
@@ -31,7 +31,7 @@ fn new_image<A: Allocator + Copy>(alloc: A) -> Option<MemDisk<A>>
     Some(store.into_disk())
 }
 
-// What a run of these lines on a disk writes, or why it ends early.
+// Returns what a run of these lines on a disk writes, or why it ends early.
 fn written<D: Disk + Drop, A: Allocator + Copy>(
     alloc: A,
     sent: &[u8],

@@ -1,7 +1,7 @@
-//! Why a new instrument gives up.
+//! Why a new instrument does not answer an example.
 use psu_server::RunCause;
 
-/// Why a new instrument gives up.
+/// Why a new instrument does not answer an example.
 #[derive(Drop)]
 pub enum PlayFault {
     /// Memory was refused for its image.

@@ -1,4 +1,4 @@
-// A gate that holds the flusher up until a client lets it go.
+// A gate that blocks the flusher until a client releases it.
 use psu_client::{Missed, holds};
 use psu_serve::{Gate, Point};
 use std::alloc::{AllocError, Global};
@@ -7,7 +7,7 @@ use std::sync::atomic::{AtomicBool, Ordering};
 use std::thread;
 use std::time::{Clock, Duration};
 
-/// How often it is looked whether something has come true, a millisecond each.
+/// How often a flag is checked, once a millisecond.
 const LOOKS: u32 = 8_000;
 
 #[derive(Drop)]
@@ -17,7 +17,7 @@ struct State {
     is_over: AtomicBool,
 }
 
-/// At this point, where there is one, whoever comes waits until it is let go, for so many looks at most.
+/// A gate that blocks a thread at this point, if there is one, until it is released, for at most this many checks.
 #[derive(Drop)]
 pub struct Hold<R: Drop> {
     rt: R,
@@ -25,7 +25,7 @@ pub struct Hold<R: Drop> {
     state: Arc<State>,
 }
 
-// Whether a flag is set within the looks.
+// Whether a flag is set within the checks.
 fn came_true<R: Clock>(rt: &R, flag: &AtomicBool) -> bool {
     for _ in 0..LOOKS {
         if flag.load(Ordering::SeqCst) {
@@ -47,7 +47,7 @@ impl<R: Clock + Copy> Hold<R> {
         Ok(Hold { rt, point, state })
     }
 
-    /// The same gate, for the server.
+    /// Returns another handle to this gate, for the server.
     pub fn another(&self) -> Result<Hold<R>, AllocError> {
         Ok(Hold {
             rt: self.rt,
@@ -56,13 +56,13 @@ impl<R: Clock + Copy> Hold<R> {
         })
     }
 
-    /// The flusher is held.
+    /// Waits until the flusher is held.
     pub fn is_held(&self) -> Result<(), Missed> {
         let is_held = came_true(&self.rt, &self.state.is_held);
         holds(is_held, "the flusher is held")
     }
 
-    /// Lets the flusher go, which was held till now.
+    /// Releases the flusher, which was held until now.
     pub fn let_go(&self) -> Result<(), Missed> {
         let is_over = self.state.is_over.load(Ordering::SeqCst);
         self.state.is_let_go.store(true, Ordering::SeqCst);

@@ -1,4 +1,4 @@
-//! Servers that tests over sockets begin, in a thread each, with their images; and a gate that holds a server up.
+//! Servers that tests over sockets start, in a thread each, with their images; and a gate that blocks a server.
 #![tactic(auto)]
 
 mod hold;

@@ -1,15 +1,15 @@
 // Scripts that are played with servers, one after another.
 //
-// A script begins with a heading: `== shared_lock 48851` has the server's image and port, and `== late_wait 48889 run` the point too at which its
-// flusher is held, before a job runs (`run`) or before a page is written (`write`). Its steps are those of `psu_client::Cast`, and two of the
-// flusher's:
+// A script begins with a heading: `== shared_lock 48851` has the server's image and port, and `== late_wait 48889 run`
+// also has the point at which its flusher is held, before a job runs (`run`) or before a page is written (`write`). Its
+// steps are those of `psu_client::Cast`, and two of the flusher:
 //
 // | step | means |
 // |---|---|
 // | `flusher held` | it is held |
-// | `flusher goes` | it was held till now, and is let go |
+// | `flusher goes` | it was held until now, and is released |
 //
-// An empty line, and one that begins with `#`, say nothing.
+// An empty line, and one that begins with `#`, has no effect.
 use crate::hold::Hold;
 use crate::server::new_served;
 use psu_client::{Cast, Missed};
@@ -22,21 +22,21 @@ use std::rt::{Clock, Files};
 use std::sync::Wait;
 use std::thread::Threads;
 
-/// A line of a script that is not so, and what was missed.
+/// A line of a script whose step failed, and why.
 #[derive(Clone, Copy, Debug)]
 pub struct Untrue {
     pub line: &'static str,
     pub missed: Missed,
 }
 
-/// A server with those who play with it.
+/// A server with the parties of its script.
 #[derive(Drop)]
 struct Stage<R: Drop> {
     cast: Cast<R>,
     hold: Hold<R>,
 }
 
-// What a heading says: the image, the port, and where the flusher is held.
+// Reads a heading: the image, the port, and where the flusher is held.
 fn heading(line: &str) -> Option<(&str, u16, Option<Point>)> {
     let (image, rest) = line.strip_prefix("== ")?.split_once(" ")?;
     let (port, point) = rest.split_once(" ").unwrap_or((rest, ""));
@@ -49,7 +49,7 @@ fn heading(line: &str) -> Option<(&str, u16, Option<Point>)> {
     }
 }
 
-// A new image is served, and nobody plays yet.
+// Serves a new image, with no client yet.
 fn begun<R>(rt: R, alloc: Global, line: &'static str) -> Result<Stage<R>, Missed>
 where
     R: Net<Listener = TcpListener, Stream = TcpStream>
@@ -91,7 +91,7 @@ impl<R: Net<Stream = TcpStream> + Clock + Copy> Stage<R> {
     }
 }
 
-// Takes a line: a server begins, or a step is made.
+// Plays a line: starts a server, or makes a step.
 fn take<R>(
     stage: &mut Option<Stage<R>>,
     rt: R,
@@ -122,7 +122,7 @@ where
     }
 }
 
-/// Plays scripts; the line whose step did not come to what it says, and what was missed then.
+/// Plays scripts; returns the line whose step failed, and why.
 pub fn plays<R>(rt: R, alloc: Global, scripts: &'static str) -> Result<(), Untrue>
 where
     R: Net<Listener = TcpListener, Stream = TcpStream>

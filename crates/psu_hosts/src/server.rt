@@ -14,7 +14,7 @@ use std::thread::{self, Threads};
 /// The size of an image of 256 pages.
 const SIZE: u64 = 263_168;
 
-/// The first port from this on that nobody listens at, in steps that leave others theirs.
+/// Returns the first port from this one on at which no process listens, in steps that leave other tests their ports.
 fn free_port<R: Net>(rt: &R, first: u16) -> Result<u16, Missed> {
     for step in 0..50u16 {
         let port = first.saturating_add(100 * step);
@@ -25,7 +25,7 @@ fn free_port<R: Net>(rt: &R, first: u16) -> Result<u16, Missed> {
     Err(Missed::Ground("a port"))
 }
 
-/// Serves the image of a name, at this port or where it is taken at another; at which.
+/// Serves the image of this name, at this port or, where that is taken, at another, and returns the port.
 pub fn served<R, G>(
     rt: R,
     alloc: Global,
@@ -59,8 +59,8 @@ where
     }
 }
 
-/// Serves a new image, at this port or where it is taken at another; at which. The file stays: a store whose file has no
-/// name any more is broken.
+/// Serves a new image, at this port or, where that is taken, at another, and returns the port. The file stays: a store
+/// whose file has no name any more is broken.
 pub fn new_served<R, G>(
     rt: R,
     alloc: Global,
@@ -89,7 +89,7 @@ where
     Ok(port)
 }
 
-/// A formatted disk in memory.
+/// Returns a formatted disk in memory.
 pub fn new_disk(alloc: Global) -> Result<MemDisk<Global>, Missed> {
     let Ok(disk) = MemDisk::new(alloc, SIZE) else {
         return Err(Missed::Ground("memory"));
@@ -100,7 +100,7 @@ pub fn new_disk(alloc: Global) -> Result<MemDisk<Global>, Missed> {
     }
 }
 
-/// Serves a disk, at this port or where it is taken at another; at which.
+/// Serves a disk, at this port or, where that is taken, at another, and returns the port.
 pub fn served_disk<R, D, E>(
     rt: R,
     alloc: Global,
@@ -132,12 +132,12 @@ where
     }
 }
 
-/// An image has no file any more.
+/// Removes the file of an image.
 pub fn removed<R: Files>(rt: &R, image: &str) {
     let _ = fs::remove_file(rt, image);
 }
 
-/// A new image.
+/// Formats a new image.
 pub fn formatted<R: Files<File = File>>(rt: &R, alloc: Global, image: &str) -> Result<(), Missed> {
     removed(rt, image);
     let Ok(disk) = FileDisk::make(&mut OsFiles { files: rt }, alloc, image, SIZE) else {

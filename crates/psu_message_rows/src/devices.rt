@@ -7,7 +7,7 @@ use std::alloc::Global;
 /// A device on a disk in memory.
 pub type Power = Exec<MemDisk<Global>, Global>;
 
-// A new image of so many pages; none where no image has so many, or memory is wanted.
+// Returns a new image of this many pages; `None` where an image can't have that many, or memory is refused.
 fn image(alloc: Global, pages: u16) -> Option<MemDisk<Global>> {
     if pages < 4 || pages > 480 {
         return None;
@@ -16,23 +16,23 @@ fn image(alloc: Global, pages: u16) -> Option<MemDisk<Global>> {
     Some(Store::format(alloc, disk, pages).ok()?.into_disk())
 }
 
-/// A device that is powered on with a new image of so many pages.
+/// Returns a device that is powered on with a new image of this many pages.
 pub fn powered_on(alloc: Global, pages: u16) -> Option<Power> {
     let store = Store::open(alloc, image(alloc, pages)?).ok()?;
     Exec::power_on(alloc, store).ok()
 }
 
-/// Its session.
+/// Opens its session.
 pub fn opened(exec: &mut Power) -> Option<Session> {
     exec.open_session().ok()
 }
 
-// Whether the end of a job is taken.
+// Whether the end of a job is accepted.
 fn is_given_back(exec: &mut Power, finished: Finished<MemDisk<Global>, Global>) -> bool {
     exec.give_back(finished).is_ok()
 }
 
-/// Whether one job goes well from its take to its end, or there is nothing to do.
+/// Whether one job succeeds from its take to its end, or there is nothing to do.
 pub fn is_flushed(exec: &mut Power) -> bool {
     match exec.take() {
         Ok(job) => is_given_back(exec, job.run()),

@@ -1,4 +1,5 @@
-//! Tests of the engine of messages over a front in memory. Expected texts are worked by hand from the rules of messages.
+//! Tests of the engine of messages over an executor in memory. Expected texts are worked by hand from the rules of
+//! messages.
 #![tactic(auto)]
 
 #[cfg(test)]

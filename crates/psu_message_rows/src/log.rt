@@ -1,35 +1,35 @@
-// What is asked of a front, and what was sent: where it breaks off, and how.
+// The calls of an executor and the texts that were sent: where it breaks off, and how.
 use psu_messages::Need;
 use std::alloc::Global;
 
-/// What a front does at the call that it breaks off at.
+/// What an executor does at the call at which it breaks off.
 #[derive(Clone, Copy, PartialEq)]
 pub enum Turn {
-    /// It does what is asked.
+    /// It does what it is called for.
     Goes,
-    /// It stops for good, and has done nothing.
+    /// It stops permanently, and has had no effect.
     Stops,
-    /// A unit is held off, or its wait lasts.
+    /// A unit is held, or its wait continues.
     Held,
-    /// A unit comes too early, or there is no memory for the end of its wait.
+    /// A unit comes too early, or memory is refused at the end of its wait.
     Later,
 }
 
-/// What was asked of the fronts of a play, and what they sent.
+/// The calls of the executors of a play, and the texts that they sent.
 #[derive(Drop)]
 pub struct Log {
-    /// The texts, each with `|` behind it where it is the last of its message, and else with `~`.
+    /// The texts, each followed by `|` where it is the last of its message, and otherwise by `~`.
     sent: Vec<u8, Global>,
-    /// How many calls there were.
+    /// The number of calls.
     pub calls: u32,
-    /// What the unit of the last call waits for, where it waits.
+    /// What the unit of the last call waits for, if it waits.
     pub need: Need,
     at: u32,
     turn: Turn,
 }
 
 impl Log {
-    /// Nothing was asked. At the call of this number a front does this.
+    /// Returns a log without calls. At the call with number `at` an executor does this.
     pub fn new(alloc: Global, at: u32, turn: Turn) -> Log {
         Log {
             sent: Vec::new(alloc),
@@ -40,7 +40,7 @@ impl Log {
         }
     }
 
-    /// What the front does at this call.
+    /// Counts a call, and returns what the executor does at it.
     pub fn turn(&mut self) -> Turn {
         self.calls = self.calls.saturating_add(1);
         self.need = Need::Flush;
@@ -51,19 +51,19 @@ impl Log {
         }
     }
 
-    /// Notes a text that is sent. None where memory is wanted.
+    /// Records a text that is sent; `None` where memory is refused.
     pub fn send(&mut self, text: &[u8], is_last: bool) -> Option<()> {
         let mark = if is_last { b'|' } else { b'~' };
         self.sent.extend_from_slice(text).ok()?;
         self.sent.push(mark).ok()
     }
 
-    /// Whether these texts were sent, and no others.
+    /// Whether exactly these texts were sent.
     pub fn has_sent(&self, wanted: &[u8]) -> bool {
         self.sent.as_slice() == wanted
     }
 
-    /// Whether some first ones of these texts were sent, each whole and once, and no others.
+    /// Whether a prefix of these texts was sent, each whole and once, and no others.
     pub fn has_sent_first(&self, wanted: &[u8]) -> bool {
         let ends_whole = match self.sent.last() {
             Some(mark) => matches!(*mark, b'|' | b'~'),

@@ -1,4 +1,4 @@
-// Rows of transmissions, played on a new device: without a break, and with one at each call of its fronts.
+// Rows of transmissions, played on a new device: without a break, and with one at each call of its executors.
 use crate::devices::{Power, is_flushed, opened, powered_on};
 use crate::holds::holds;
 use crate::log::{Log, Turn};
@@ -14,7 +14,7 @@ use std::process::Abort;
 // More waits than a transmission of a row has.
 const WAITS: u32 = 16;
 
-// What a front makes of a transmission, up to a unit that has to wait.
+// Executes a transmission by one executor, up to a unit that has to wait.
 fn goes(
     alloc: Global,
     exec: &mut Power,
@@ -27,12 +27,13 @@ fn goes(
     proceed(&mut probe, alloc, input, course)
 }
 
-// Whether a unit waits for what it is to wait for, and that comes: where it is a flush, it goes well.
+// Whether a unit waits for what it is to wait for, and that occurs: a flush has to succeed.
 fn comes(exec: &mut Power, log: &Log, need: Need) -> bool {
     need == log.need && (need != Need::Flush || is_flushed(exec))
 }
 
-// Executes a transmission, each time by another front: whether it is over. It is not where a front stopped for good.
+// Executes a transmission, each time by another executor, and returns whether it is over. It is not where an executor
+// stopped permanently.
 fn is_over(
     alloc: Global,
     exec: &mut Power,
@@ -51,7 +52,7 @@ fn is_over(
     false
 }
 
-// Executes the transmissions of a row on a device: whether all of them are over.
+// Executes the transmissions of a row on a device, and returns whether all of them are over.
 fn are_over(alloc: Global, exec: &mut Power, log: &mut Log, given: &str) -> Option<bool> {
     let session = opened(exec)?;
     for cell in given.split(" & ") {
@@ -63,31 +64,32 @@ fn are_over(alloc: Global, exec: &mut Power, log: &mut Log, given: &str) -> Opti
     Some(true)
 }
 
-// Transmissions, and what is sent for them.
+// Transmissions, and the texts that are sent for them.
 #[derive(Drop)]
 struct Row<'r> {
     alloc: Global,
-    // How many pages the image of their device has.
+    // The number of pages of their device's image.
     pages: u16,
     given: &'r str,
     wanted: Vec<u8, Global>,
 }
 
 impl<'r> Row<'r> {
-    // Executes them on a device of their own: whether all of them are over.
+    // Executes them on a device of their own, and returns whether all of them are over.
     fn is_played(&self, log: &mut Log) -> Option<bool> {
         let mut exec = powered_on(self.alloc, self.pages)?;
         are_over(self.alloc, &mut exec, log, self.given)
     }
 
-    // How many calls of their fronts they take where one of them breaks off so; none where other texts are sent.
+    // Returns the number of calls of their executors where one of them breaks off this way; `None` where other texts
+    // are sent.
     fn calls(&self, at: u32, turn: Turn) -> Option<u32> {
         let mut log = Log::new(self.alloc, at, turn);
         let is_over = self.is_played(&mut log)?;
         (is_over && log.has_sent(self.wanted.as_slice())).then_some(log.calls)
     }
 
-    // Whether another front that takes up what one left at a call sends what is left, and executes nothing again.
+    // Whether another executor that continues where one broke off sends the rest, and executes nothing again.
     fn is_taken_up(&self, at: u32, turn: Turn, most: u32) -> bool {
         match self.calls(at, turn) {
             Some(calls) => calls <= most,
@@ -95,14 +97,15 @@ impl<'r> Row<'r> {
         }
     }
 
-    // Whether nothing is asked behind a call at which a front stops for good, and what was sent before it are the first texts.
+    // Whether no call follows the one at which an executor stops permanently, and the texts that were sent before it
+    // are the first ones.
     fn is_cut(&self, at: u32) -> Option<bool> {
         let mut log = Log::new(self.alloc, at, Turn::Stops);
         let is_over = self.is_played(&mut log)?;
         Some(!is_over && log.calls == at && log.has_sent_first(self.wanted.as_slice()))
     }
 
-    // Whether all of this holds where a front breaks off at this call of so many.
+    // Whether all of this holds where an executor breaks off at this call of that many.
     fn is_so_at(&self, at: u32, calls: u32) -> bool {
         let most = calls.saturating_add(1);
         self.is_taken_up(at, Turn::Held, most)
@@ -122,8 +125,9 @@ fn play_row(rt: &impl Abort, row: &Row<'_>) {
     }
 }
 
-/// Plays rows, each a line: transmissions with ` & ` between them, and what is sent for them. Each text has `|` behind it where it is the last of
-/// its message, and else `~`. Their devices' images have so many pages.
+/// Plays rows, each a line: transmissions with ` & ` between them, and the texts that are sent for them. Each text is
+/// followed by `|` where it is the last of its message, and otherwise by `~`. The images of their devices have this
+/// many pages.
 pub fn play(rt: &impl Abort, alloc: Global, pages: u16, rows: &str) {
     for line in rows.lines() {
         if let Some((given, wanted)) = row(line) {

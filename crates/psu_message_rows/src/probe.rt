@@ -1,15 +1,15 @@
-// What the units of the rows are executed on.
+// The executor of the rows.
 use crate::devices::Power;
 use crate::log::{Log, Turn};
 use psu_exec::{Outcome, Request, ScpiError, Session};
 use psu_messages::{Front, Need};
 use std::alloc::Global;
 
-/// It has stopped for good.
+/// The executor has stopped permanently.
 #[derive(Drop)]
 pub struct Stopped;
 
-/// A device with its session, and what is noted of what was asked.
+/// A device with its session, and a log of the calls.
 #[derive(Drop)]
 pub struct Probe<'a> {
     pub exec: &'a mut Power,
@@ -57,7 +57,7 @@ impl<'a> Front<Global> for Probe<'a> {
 }
 
 impl<'a> Probe<'a> {
-    // The unit is put off, and has to wait for this.
+    // Puts the unit off, which has to wait for this.
     fn put_off(
         &mut self,
         need: Need,
@@ -67,7 +67,7 @@ impl<'a> Probe<'a> {
         Ok(outcome)
     }
 
-    // What the device does with a unit.
+    // Executes a unit on the device.
     fn executed(&mut self, request: &Request<'_>) -> Result<Outcome<Global>, Stopped> {
         if self.exec.is_open(self.session) {
             Ok(self.exec.execute(self.session, request))
@@ -76,7 +76,7 @@ impl<'a> Probe<'a> {
         }
     }
 
-    // What it says of a wait.
+    // Settles the wait of the session on the device.
     fn settled(&mut self) -> Result<Outcome<Global>, Stopped> {
         if self.exec.is_open(self.session) {
             Ok(self.exec.settle(self.session))

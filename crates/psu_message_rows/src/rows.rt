@@ -1,4 +1,4 @@
-// Transmissions, and what is sent for them.
+// Transmissions, and the texts that are sent for them.
 use crate::plays::play;
 
 const UNITS: &str = r#"

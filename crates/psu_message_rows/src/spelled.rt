@@ -1,10 +1,10 @@
-// Texts as they are spelled in a row: `\n` is NL, `{a*64}` is 64 a, and `nothing` is none.
+// Texts as they are spelled in a row: `\n` is NL, `{a*64}` is 64 a, and `nothing` is the empty text.
 use psu_exec::ScpiError;
 use psu_sessions::Input;
 use psu_tables::written;
 use std::alloc::Global;
 
-// Adds a part as often as it says.
+// Appends a part as often as it says.
 fn add_often(text: &mut Vec<u8, Global>, part: &str) -> Option<()> {
     let (once, times) = part.rsplit_once("*")?;
     for _ in 0..times.parse::<u32>().ok()? {
@@ -13,7 +13,7 @@ fn add_often(text: &mut Vec<u8, Global>, part: &str) -> Option<()> {
     Some(())
 }
 
-// Adds a piece that begins behind a `{`, or is the first one.
+// Appends a piece that follows a `{`, or is the first one.
 fn add_piece(alloc: Global, text: &mut Vec<u8, Global>, piece: &str) -> Option<()> {
     let mut rest = piece;
     if let Some((often, behind)) = piece.split_once("}") {
@@ -24,7 +24,7 @@ fn add_piece(alloc: Global, text: &mut Vec<u8, Global>, piece: &str) -> Option<(
         .ok()
 }
 
-/// The bytes of a cell. None where it isn't spelled well, or memory is wanted.
+/// Returns the bytes of a cell; `None` where it isn't well-formed, or memory is refused.
 pub fn spelled(alloc: Global, cell: &str) -> Option<Vec<u8, Global>> {
     let mut text = Vec::new(alloc);
     if cell == "nothing" {
@@ -36,7 +36,7 @@ pub fn spelled(alloc: Global, cell: &str) -> Option<Vec<u8, Global>> {
     Some(text)
 }
 
-/// What is to be executed: a text, or a fault in place of one.
+/// Returns what is to be executed: a text, or a fault in place of one.
 pub fn input(alloc: Global, cell: &str) -> Option<Input<Global>> {
     match cell {
         "!too long" => Some(Input::Fault(ScpiError::TooMuchData)),

@@ -1,4 +1,4 @@
-// Contents: what they are kept as, what they cost, and what is refused.
+// Contents: the items that they are kept as, their cost, and which changes are refused.
 use crate::told::holds;
 use psu_lex::ScpiError;
 use psu_map::{Batch, Items};
@@ -8,7 +8,7 @@ use psu_tables::{bytes, row};
 use std::alloc::Global;
 use std::process::Abort;
 
-// The reset settings with a voltage at output 1, in millivolts, where it is in range.
+// Returns the reset settings with a voltage at output 1, in millivolts, where it is in range.
 fn volts(millivolts: u32) -> Settings {
     let mut settings = Settings::reset();
     let _ = settings.set(Output::First, Setting::Voltage(Millivolts(millivolts)));
@@ -17,7 +17,7 @@ fn volts(millivolts: u32) -> Settings {
 
 type Answer = Result<(), ScpiError>;
 
-// `*SAV` of a register with a voltage at output 1.
+// Makes the change of `*SAV` of a register with a voltage at output 1.
 fn save(contents: &mut Contents<Global>, limit: u16, number: u8, millivolts: u32) -> Answer {
     match Register::of(number) {
         Some(register) => contents.change(limit, &NvCommand::Save(register, volts(millivolts))),
@@ -25,7 +25,7 @@ fn save(contents: &mut Contents<Global>, limit: u16, number: u8, millivolts: u32
     }
 }
 
-// `MMEMory:DATA` of a name.
+// Makes the change of `MMEMory:DATA` with a name.
 fn write(contents: &mut Contents<Global>, name: &[u8], bytes: &[u8]) -> Answer {
     match FileBytes::of(bytes) {
         Some(file) => contents.change(256, &NvCommand::StoreBytes(name, file)),
@@ -44,7 +44,7 @@ fn is_saved(alloc: Global, value: &[u8]) -> bool {
     }
 }
 
-// Whether the items are register 3 with these bytes alone.
+// Whether the items are only register 3 with these bytes.
 fn are_register_3(alloc: Global, items: &Items<Global>) -> bool {
     match items.pairs() {
         [pair] => pair.key() == [2, 3].as_slice() && is_saved(alloc, pair.value()),
@@ -52,7 +52,7 @@ fn are_register_3(alloc: Global, items: &Items<Global>) -> bool {
     }
 }
 
-// Whether that alone is encoded, whole and by its part.
+// Whether only that is encoded, as a whole and by its part.
 fn is_encoded(alloc: Global, contents: &Contents<Global>) -> Option<bool> {
     let whole = are_register_3(alloc, &contents.encode_items(alloc).ok()?);
     let part = Part::Register(Register::of(3)?);
@@ -61,7 +61,7 @@ fn is_encoded(alloc: Global, contents: &Contents<Global>) -> Option<bool> {
     Some(whole && is_saved(alloc, &value) && user.is_none())
 }
 
-// Whether fresh contents have no item, and then those of the register.
+// Whether fresh contents have no item, and then those of the saved register.
 fn is_kept(alloc: Global, contents: &mut Contents<Global>) -> Option<bool> {
     let empty = contents.encode_items(alloc).ok()?.pairs().is_empty();
     let saved = save(contents, 256, 3, 5_250) == Ok(());
@@ -74,7 +74,7 @@ fn a_register_is_28_bytes_under_its_number(rt: HostRuntime) {
     assert!(rt; kept == Some(true));
 }
 
-// Whether a batch gives register 0 its 28 bytes, and drops the file A.
+// Whether a batch assigns register 0 its 28 bytes, and drops the file A.
 fn are_two_edits(batch: &Batch<Global>) -> bool {
     match batch.edits() {
         [one, two] => one.key() == [2, 0].as_slice()
@@ -85,7 +85,7 @@ fn are_two_edits(batch: &Batch<Global>) -> bool {
     }
 }
 
-// The edits of register 0, which is there, and of a file that isn't.
+// Returns the edits of register 0, which is there, and of a file that isn't.
 fn edits(alloc: Global, contents: &Contents<Global>) -> Option<Batch<Global>> {
     let mut batch = Batch::new(alloc);
     let register = Part::Register(Register::of(0)?);
@@ -107,7 +107,7 @@ fn a_batch_has_the_parts_that_changed(rt: HostRuntime) {
 
 const FULL: Result<(), ScpiError> = Err(ScpiError::MediaFull);
 
-// How an answer is called: `full`, `ok`, or another.
+// Returns the word for an answer: `full`, `ok`, or another.
 fn called(answer: Result<(), ScpiError>) -> &'static str {
     match answer {
         Ok(()) => "ok",
@@ -116,14 +116,14 @@ fn called(answer: Result<(), ScpiError>) -> &'static str {
     }
 }
 
-// Whether an answer is the one of a cell, and the contents then cost what stands behind it.
+// Whether an answer is the one of a cell, and the contents then cost the pages after it.
 fn is_wanted(answer: Result<(), ScpiError>, cost: u128, cell: &str) -> Option<bool> {
     let (word, pages) = cell.split_once(" ")?;
     Some(called(answer) == word && pages.parse() == Ok(cost))
 }
 
-// Files with their lengths, and the pages that the contents then have. A file of 32,768 bytes has 32,769 in its item, so 65 pages and one
-// for the item; one of 29,183 bytes has 57 and one.
+// Files with their lengths, and the pages that the contents then have. A file of 32,768 bytes has 32,769 in its item,
+// so 65 pages and one for the item; one of 29,183 bytes has 57 and one.
 const FILES: &str = "
 file A 32768 -> ok 66
 file B 32768 -> ok 132
@@ -136,7 +136,7 @@ file D 28159 -> ok 254
 file E 0 -> ok 256
 ";
 
-// `MMEMory:DATA` of so many zeros.
+// Makes the change of `MMEMory:DATA` with this many zeros.
 fn write_zeros(contents: &mut Contents<Global>, name: &str, length: usize) -> Answer {
     let zeros = [0; 32_768];
     if length > 32_768 {
@@ -145,7 +145,7 @@ fn write_zeros(contents: &mut Contents<Global>, name: &str, length: usize) -> An
     write(contents, name.as_bytes(), &zeros[..length])
 }
 
-// What comes of a file of so many bytes, or of a register with so many millivolts, of four pages.
+// Makes the change of a file of this many bytes, or of a register with this many millivolts with a limit of four pages.
 fn change(contents: &mut Contents<Global>, what: &str, count: u32) -> Option<Answer> {
     let (kind, name) = what.split_once(" ")?;
     match kind {
@@ -155,7 +155,7 @@ fn change(contents: &mut Contents<Global>, what: &str, count: u32) -> Option<Ans
     }
 }
 
-// Whether a change comes to what its row says.
+// Whether the result of a change is the one of its row.
 fn comes_to(contents: &mut Contents<Global>, line: &str) -> Option<bool> {
     let (changed, wanted) = row(line)?;
     let (what, count) = changed.rsplit_once(" ")?;
@@ -206,12 +206,12 @@ fn four_pages_hold_two_registers(rt: HostRuntime) {
     assert!(rt; has(&contents, 2, 1_000));
 }
 
-// Whether a command is done.
+// Whether a command is accepted.
 fn does(contents: &mut Contents<Global>, command: NvCommand<'_>) -> bool {
     contents.change(256, &command) == Ok(())
 }
 
-// Whether it is refused so.
+// Whether a command is refused with this error.
 fn refuses(contents: &mut Contents<Global>, command: NvCommand<'_>, error: ScpiError) -> bool {
     contents.change(256, &command) == Err(error)
 }
@@ -261,7 +261,7 @@ fn the_33rd_macro_does_not_fit(rt: HostRuntime) {
     assert!(rt; fit);
 }
 
-// Whether the items are the files R and T, and T has the type byte of a state and 28 bytes behind it.
+// Whether the items are the files R and T, and T has the type byte of a state and 28 bytes after it.
 fn are_two_states(items: &Items<Global>) -> bool {
     match items.pairs() {
         [one, two] => one.key() == [5, b'R'].as_slice()
@@ -289,7 +289,7 @@ fn is_moved(contents: &mut Contents<Global>, register: Register) -> bool {
         )
 }
 
-// Whether contents are encoded to those two.
+// Whether contents are encoded to those two items.
 fn is_encoded_twice(alloc: Global, contents: &Contents<Global>) -> Option<bool> {
     let items = contents.encode_items(alloc).ok()?;
     Some(are_two_states(&items) && items.cost() == contents.cost())

@@ -1,4 +1,4 @@
-// Contents from a map: each of its rows good, and each way in which one is bad.
+// Contents from a map: each of its items valid, and each way in which one is invalid.
 use crate::maps::{bytes_of, map_of};
 use crate::told::holds;
 use psu_map::{Items, Value};
@@ -7,7 +7,7 @@ use psu_tables::row;
 use std::alloc::Global;
 use std::process::Abort;
 
-// How a fault is called.
+// Returns the word for a fault.
 fn called(fault: DecodeFault) -> &'static str {
     match fault {
         DecodeFault::BadKey => "bad key",
@@ -30,7 +30,7 @@ fn are_encoded(
     }
 }
 
-// Why a map of a key and a value is refused, or `good` for one that is encoded to itself again.
+// Returns why a map of a key and a value is refused, or `good` for one that is encoded to itself again.
 fn told(alloc: Global, items: &Items<Global>, key: &[u8], value: &[u8]) -> Option<&'static str> {
     match Contents::decode_items(alloc, items) {
         Ok(contents) => are_encoded(alloc, &contents, key, value)?.then_some("good"),
@@ -38,7 +38,7 @@ fn told(alloc: Global, items: &Items<Global>, key: &[u8], value: &[u8]) -> Optio
     }
 }
 
-// The map of a key and a value.
+// Returns the map of a key and a value.
 fn one(alloc: Global, key: &[u8], value: &[u8]) -> Option<Items<Global>> {
     let mut items = Items::new(alloc);
     let key = key.to_vec(alloc).ok()?;
@@ -47,19 +47,19 @@ fn one(alloc: Global, key: &[u8], value: &[u8]) -> Option<Items<Global>> {
     Some(items)
 }
 
-// Whether what is told of a map of a key and a value is what is wanted.
+// Whether the result for a map of a key and a value is the wanted one.
 fn is(alloc: Global, key: &[u8], value: &[u8], wanted: &str) -> Option<bool> {
     Some(told(alloc, &one(alloc, key, value)?, key, value)? == wanted)
 }
 
-// The same of an item.
+// Whether the result for an item is the wanted one.
 fn is_told(alloc: Global, item: &str, wanted: &str) -> Option<bool> {
     let (key, value) = item.split_once("|")?;
     let key = bytes_of(alloc, key)?;
     is(alloc, &key, &bytes_of(alloc, value)?, wanted)
 }
 
-// Looks at maps of a key and a value, and at why each is refused: a row a line, as `key | value -> fault`.
+// Checks maps of a key and a value, and why each is refused: a row a line, as `key | value -> fault`.
 fn look(rt: &impl Abort, alloc: Global, table: &str) {
     for line in table.lines() {
         if let Some((item, wanted)) = row(line) {
@@ -90,7 +90,7 @@ fn keys_that_no_contents_have(rt: HostRuntime) {
     look(&rt, rt.alloc(), KEYS);
 }
 
-// The choice of the settings at power-on is there for register 0 alone.
+// The choice of the settings at power-on is kept only for register 0.
 const ENABLES_AND_CHOICE: &str = "
 01 | 20 80 -> good
 01 | -> bad value
@@ -169,7 +169,7 @@ fn macros(rt: HostRuntime) {
     look(&rt, rt.alloc(), MACROS);
 }
 
-// The value of 32 macros without bodies, each named by a letter and a digit.
+// Returns the value of 32 macros without bodies, each named by a letter and a digit.
 fn macros_32(alloc: Global) -> Option<Vec<u8>> {
     let mut value = Vec::new(alloc);
     for high in [b'A', b'B', b'C', b'D'] {
@@ -180,7 +180,7 @@ fn macros_32(alloc: Global) -> Option<Vec<u8>> {
     Some(value)
 }
 
-// Whether they are good, and are refused with one more.
+// Whether they are valid, and are refused with one more.
 fn are_most(alloc: Global, value: &mut Vec<u8>) -> Option<bool> {
     let fit = is(alloc, &[4], value, "good")?;
     value.extend_from_slice(&[1, b'E', 0, 0]).ok()?;
@@ -196,7 +196,7 @@ fn as_many_macros_as_there_may_be(rt: HostRuntime) {
     assert!(rt; most_are_32(rt.alloc()) == Some(true));
 }
 
-// A map with a bad value and, behind it, a bad key.
+// A map with a bad value and, after it, a bad key.
 const TWICE_BAD: &str = "
 01 | 60 00
 07 | 00
@@ -261,7 +261,7 @@ fn give(alloc: Global, contents: &Contents<Global>, items: &Items<Global>) -> Op
     Some(are_same(&contents.encode_items(alloc).ok()?, items))
 }
 
-// The same of a copy of theirs.
+// Whether a copy of contents is encoded to a map.
 fn copy_gives(alloc: Global, contents: &Contents<Global>, items: &Items<Global>) -> Option<bool> {
     give(alloc, &contents.copy(alloc).ok()?, items)
 }

@@ -1,5 +1,5 @@
-//! Tests of what the instrument keeps: its contents, their changes, and what is read of a map. Expected values are worked by hand
-//! from the rules of the instrument.
+//! Tests of the nonvolatile contents of the instrument, of their changes, and of reading them from a map. Expected
+//! values are worked by hand from the rules of the instrument.
 #![tactic(auto)]
 
 #[cfg(test)]

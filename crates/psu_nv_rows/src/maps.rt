@@ -8,7 +8,7 @@ const RESET: &[u8] = &[
     0, 0, 0, 0, 0xea, 0x60, 0, 0, 0, 0, 0, 0xea, 0x60, 0, 0, 0, 0, 0, 0xea, 0x60, 0,
 ];
 
-/// The bytes of a cell, which may end with those of outputs 2 to 4 at `*RST`.
+/// Returns the bytes of a cell, which may end with those of outputs 2 to 4 at `*RST`.
 pub fn bytes_of<A: Allocator>(alloc: A, cell: &str) -> Option<Vec<u8, A>> {
     match cell.strip_suffix(" reset") {
         Some(first) => {
@@ -20,7 +20,7 @@ pub fn bytes_of<A: Allocator>(alloc: A, cell: &str) -> Option<Vec<u8, A>> {
     }
 }
 
-// Puts the item of a line; nothing for a line that is none.
+// Inserts the item of a line; nothing for an empty line.
 fn put<A: Allocator + Copy>(alloc: A, items: &mut Items<A>, line: &str) -> Option<()> {
     if line.is_empty() {
         return Some(());
@@ -32,7 +32,7 @@ fn put<A: Allocator + Copy>(alloc: A, items: &mut Items<A>, line: &str) -> Optio
     Some(())
 }
 
-/// The map of these items.
+/// Returns the map of these items.
 pub fn map_of<A: Allocator + Copy>(alloc: A, table: &str) -> Option<Items<A>> {
     let mut items = Items::new(alloc);
     for line in table.lines() {

@@ -1,4 +1,5 @@
-// Each allocation of contents refused in turn: a change is -225 and changes nothing, and the others want memory.
+// Each allocation of contents is refused in turn: a change fails with -225 and changes nothing, and each other step
+// fails because memory is refused.
 use crate::maps::map_of;
 use crate::told::holds;
 use bumpalo::Bump;
@@ -7,7 +8,7 @@ use psu_map::Items;
 use psu_nv::{Contents, DecodeFault, FileBytes, NvCommand};
 use std::alloc::Global;
 
-// Leaves so many bytes of an arena.
+// Leaves this many bytes of an arena free.
 fn leave(arena: &Bump, left: usize) -> Option<()> {
     let spare = arena.chunk_capacity();
     if spare < left {
@@ -17,7 +18,7 @@ fn leave(arena: &Bump, left: usize) -> Option<()> {
     Some(())
 }
 
-// Fills the first chunk of an arena, and lets it have one more.
+// Fills the first chunk of an arena, and makes it allocate one more.
 fn fill(arena: &Bump) -> Option<()> {
     if arena
         .try_alloc_slice_fill_clone(arena.chunk_capacity(), 0u8)
@@ -31,7 +32,7 @@ fn fill(arena: &Bump) -> Option<()> {
     Some(())
 }
 
-// An arena with so many bytes left.
+// Returns an arena with this many bytes free.
 fn arena_with(alloc: Global, left: usize) -> Option<Bump> {
     let arena = Bump::try_with_capacity(alloc, 4_000).ok()?;
     fill(&arena)?;
@@ -47,7 +48,8 @@ enum End {
     Wrong,
 }
 
-// What is made of an answer, where a refusal and one that was met are to leave this.
+// Returns how a step ended, given its answer and whether the contents are as they must be after a change and after a
+// refusal.
 fn end_of(answer: Result<(), ScpiError>, done: bool, untouched: bool) -> End {
     match answer {
         Ok(()) if done => End::Done,
@@ -56,14 +58,14 @@ fn end_of(answer: Result<(), ScpiError>, done: bool, untouched: bool) -> End {
     }
 }
 
-// A macro.
+// Defines a macro.
 fn defined<'a>(contents: &mut Contents<&'a Bump>) -> End {
     let answer = contents.change(256, &NvCommand::DefineMacro(b"AB", b"*CLS;*RST"));
     let count = contents.labels().len();
     end_of(answer, count == 1, count == 0 && contents.cost() == 0)
 }
 
-// `MMEMory:DATA` of a name.
+// Makes the change of `MMEMory:DATA` with a name.
 fn write<'a>(contents: &mut Contents<&'a Bump>, name: &[u8], text: &[u8]) -> Result<(), ScpiError> {
     match FileBytes::of(text) {
         Some(file) => contents.change(256, &NvCommand::StoreBytes(name, file)),
@@ -71,14 +73,14 @@ fn write<'a>(contents: &mut Contents<&'a Bump>, name: &[u8], text: &[u8]) -> Res
     }
 }
 
-// A macro of a file's bytes, which are there.
+// Loads a macro from a file, which is there.
 fn loaded<'a>(contents: &mut Contents<&'a Bump>) -> End {
     let answer = contents.change(256, &NvCommand::LoadMacro(b"AB", b"F"));
     let count = contents.labels().len();
     end_of(answer, count == 1, count == 0 && contents.cost() == 2)
 }
 
-// The same, with little memory for the file too.
+// Stores a file and loads a macro from it, both with little memory.
 fn written_and_loaded<'a>(contents: &mut Contents<&'a Bump>) -> End {
     match write(contents, b"F", b"*CLS;*RST") {
         Ok(()) => loaded(contents),
@@ -86,7 +88,7 @@ fn written_and_loaded<'a>(contents: &mut Contents<&'a Bump>) -> End {
     }
 }
 
-// A file.
+// Stores a file.
 fn stored<'a>(contents: &mut Contents<&'a Bump>) -> End {
     let answer = write(
         contents,
@@ -106,12 +108,12 @@ const WHOLE: &str = "
 05 'G | 02 'xyz
 ";
 
-// What is made of something that has come of it, where it is to be this.
+// Returns the end of a step that has a result, which must be right.
 fn is_done(is: bool) -> End {
     if is { End::Done } else { End::Wrong }
 }
 
-// A decoding.
+// Decodes a map.
 fn decoded<'a>(little: &'a Bump, items: &Items<&'a Bump>) -> End {
     match Contents::decode_items(little, items) {
         Ok(contents) => is_done(contents.cost() == items.cost()),
@@ -120,7 +122,7 @@ fn decoded<'a>(little: &'a Bump, items: &Items<&'a Bump>) -> End {
     }
 }
 
-// An encoding.
+// Encodes contents.
 fn encoded<'a>(little: &'a Bump, contents: &Contents<&'a Bump>) -> End {
     match contents.encode_items(little) {
         Ok(again) => is_done(again.cost() == contents.cost()),
@@ -128,7 +130,7 @@ fn encoded<'a>(little: &'a Bump, contents: &Contents<&'a Bump>) -> End {
     }
 }
 
-// A copy.
+// Copies contents.
 fn copied<'a>(little: &'a Bump, contents: &Contents<&'a Bump>) -> End {
     match contents.copy(little) {
         Ok(copy) => is_done(copy.cost() == contents.cost()),
@@ -136,7 +138,7 @@ fn copied<'a>(little: &'a Bump, contents: &Contents<&'a Bump>) -> End {
     }
 }
 
-// What is done of contents that are to cost so much.
+// Makes a step on contents that must have this cost.
 fn told<'a>(
     step: &str,
     little: &'a Bump,
@@ -153,7 +155,7 @@ fn told<'a>(
     }
 }
 
-// What is done of a map, with ample memory for what stands before it.
+// Makes a step on a map, with ample memory for the steps before it.
 fn read<'a>(step: &str, ample: &'a Bump, little: &'a Bump, items: &Items<&'a Bump>) -> Option<End> {
     if step == "decoding" {
         return Some(decoded(little, items));
@@ -162,7 +164,7 @@ fn read<'a>(step: &str, ample: &'a Bump, little: &'a Bump, items: &Items<&'a Bum
     told(step, little, &contents, items.cost())
 }
 
-// A step on fresh contents.
+// Makes a step on fresh contents.
 fn changed<'a>(step: &str, contents: &mut Contents<&'a Bump>) -> End {
     match step {
         "macro" => defined(contents),
@@ -171,7 +173,7 @@ fn changed<'a>(step: &str, contents: &mut Contents<&'a Bump>) -> End {
     }
 }
 
-// A step on contents with so little memory, or on the whole map.
+// Makes a step on contents with this little memory, or on the whole map.
 fn ends_with<'a>(step: &str, ample: &'a Bump, little: &'a Bump) -> Option<End> {
     if step == "macro" || step == "file's macro" || step == "file" {
         return Some(changed(step, &mut Contents::fresh(little)));
@@ -179,13 +181,14 @@ fn ends_with<'a>(step: &str, ample: &'a Bump, little: &'a Bump) -> Option<End> {
     read(step, ample, little, &map_of(ample, WHOLE)?)
 }
 
-// A step with so many bytes of memory left.
+// Makes a step with this many bytes of memory free.
 fn ends(alloc: Global, step: &str, left: usize) -> Option<End> {
     let little = arena_with(alloc, left)?;
     ends_with(step, &arena_with(alloc, 3_000)?, &little)
 }
 
-// How often a step was done and how often refused, with 0, 8 and more bytes of memory; none where it was wrong.
+// Returns how often a step succeeded and how often it was refused, with 0, 8 and more bytes of memory; `None` where its
+// result was wrong.
 fn tally(alloc: Global, step: &str) -> Option<(u32, u32)> {
     let mut done = 0u32;
     let mut refused = 0u32;

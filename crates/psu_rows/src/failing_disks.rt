@@ -9,19 +9,19 @@ use std::alloc::Global;
 
 type Failed = Ran<FailingDisk<MemDisk<Global>>>;
 
-// A run on a disk that stops after so many calls.
+// Runs on a disk that stops after this many calls.
 fn run_on_stopping(alloc: Global, input: &str, calls: u64) -> Option<Failed> {
     let disk = FailingDisk::from_then_on(least(alloc)?, calls);
     Some(run_on(alloc, input.as_bytes(), disk))
 }
 
-// A run on a disk of which one call fails.
+// Runs on a disk of which one call fails.
 fn run_on_failing(alloc: Global, input: &str, call: u64) -> Option<Failed> {
     let disk = FailingDisk::once(least(alloc)?, call);
     Some(run_on(alloc, input.as_bytes(), disk))
 }
 
-// The five ways in which a loss may leave what was not synced.
+// The five ways in which a power loss may leave bytes that were not synced.
 const CHOICES: [Choice; 5] = [
     Choice::Old,
     Choice::New,
@@ -32,7 +32,7 @@ const CHOICES: [Choice; 5] = [
 
 const FILE: &str = "MMEM:DATA \"A\",#13xyz;*OPC?\n";
 
-// Whether the image that a loss leaves has the file; it has that or nothing.
+// Whether the crash image has the file; otherwise it has nothing.
 fn has_file(alloc: Global, mut disk: MemDisk<Global>, choice: Choice) -> Option<bool> {
     disk.lose(choice);
     let held = written_on(alloc, disk, b"MMEM:CAT?;:MMEM:DATA? \"A\"\n")?;
@@ -42,14 +42,15 @@ fn has_file(alloc: Global, mut disk: MemDisk<Global>, choice: Choice) -> Option<
     )
 }
 
-// A stop outside the commit, before the device was powered on or once the file was confirmed; in the commit, with no file; and with it.
+// Places of a stop: outside the commit, before the device was powered on or once the file was confirmed; in the commit,
+// without the file; in it, with the file.
 const OUTSIDE: usize = 0;
 
 const WITHOUT: usize = 1;
 
 const WITH: usize = 2;
 
-// Where the disk stopped, where the text and the file are as they must be then.
+// Where the disk stopped; `None` where the text or the file is not as it must be then.
 fn stop_of(text: &[u8], cause: Option<RunCause>, has: bool) -> Option<usize> {
     if cause.is_none() {
         return (has && text == b"1\n".as_slice()).then_some(OUTSIDE);
@@ -61,14 +62,15 @@ fn stop_of(text: &[u8], cause: Option<RunCause>, has: bool) -> Option<usize> {
     in_commit.then_some(if has { WITH } else { WITHOUT })
 }
 
-// A disk that stops after so many calls, with a loss of power then.
+// Where a disk stopped that stops after this many calls, followed by a power loss.
 fn stopped(alloc: Global, calls: u64, choice: Choice) -> Option<usize> {
     let ran = run_on_stopping(alloc, FILE, calls)?;
     let has = has_file(alloc, ran.disk.into_inner(), choice)?;
     stop_of(&ran.text, ran.cause, has)
 }
 
-// The disk stops after each number of calls, and power is lost: the file is there or not, and it is where that was confirmed.
+// The disk stops after each number of calls, and power is lost: the file is there or not, and it is where it was
+// confirmed.
 #[test]
 fn a_disk_that_stops_leaves_the_file_or_none(rt: HostRuntime) {
     let mut seen = [0u32; 3];
@@ -77,7 +79,7 @@ fn a_disk_that_stops_leaves_the_file_or_none(rt: HostRuntime) {
             count(&rt, &mut seen, stopped(rt.alloc(), calls, choice), &calls);
         }
     }
-    // Two writes and three syncs at least, each with five losses; after the last write it may be there.
+    // At least two writes and three syncs, each with five losses; after the last write the file may be there.
     holds(&rt, seen[WITHOUT].saturating_add(seen[WITH]) >= 25, &seen);
     holds(&rt, seen[WITHOUT] > 0 && seen[WITH] > 0, &seen);
 }
@@ -88,24 +90,25 @@ const SAVED: [u8; 28] = [
     0xea, 0x60, 0,
 ];
 
-// Whether the image has register 1 as saved; none where it does not open.
+// Whether the image has register 1 as saved; `None` where it does not open.
 fn has_register(alloc: Global, disk: MemDisk<Global>) -> Option<bool> {
     let store = Store::open(alloc, disk).ok()?;
     Some(store.items().get(&[2, 1]) == Some(SAVED.as_slice()))
 }
 
-/// What a call that failed came to.
+/// The effect of a call that failed.
 #[derive(Clone, Copy, PartialEq, Eq)]
 enum Failure {
     /// The opening failed, and nothing is saved.
     Opening,
-    /// The commit failed, and was made again.
+    /// The commit failed, and was repeated.
     Commit,
     /// None: the save was confirmed at once.
     None,
 }
 
-// Whether a call comes to this behind so many that failed in the commit, and so many that did not fail: those of the opening come first.
+// Whether this effect of a call may follow `broken` calls that failed in the commit and `whole` calls that did not
+// fail: those of the opening come first.
 fn follows(failure: Option<Failure>, broken: u32, whole: u32) -> bool {
     match failure {
         Some(Failure::Opening) => broken == 0,
@@ -117,7 +120,7 @@ fn follows(failure: Option<Failure>, broken: u32, whole: u32) -> bool {
 
 const SAVE: &str = "VOLT 1;*SAV 1;*OPC?\nSYST:ERR?\n*OPC?\n";
 
-// What it came to, where the text and the register are as they must be then.
+// The effect; `None` where the text or the register is not as it must be then.
 fn failure_of(text: &[u8], cause: Option<RunCause>, has: bool) -> Option<Failure> {
     if !has {
         return (text.is_empty() && cause == Some(NOT_OPENED)).then_some(Failure::Opening);
@@ -131,14 +134,14 @@ fn failure_of(text: &[u8], cause: Option<RunCause>, has: bool) -> Option<Failure
     }
 }
 
-// A save on a disk of which this call fails.
+// Saves on a disk of which this call fails.
 fn saved_on_failing(alloc: Global, call: u64) -> Option<Failure> {
     let ran = run_on_failing(alloc, SAVE, call)?;
     let has = has_register(alloc, ran.disk.into_inner())?;
     failure_of(&ran.text, ran.cause, has)
 }
 
-// Each call of the first commit fails once: the wait ends with -320, the store is opened again, and the save is flushed.
+// Each call of the first commit fails once: the wait ends with -320, the store is reopened, and the save is flushed.
 #[test]
 fn a_commit_that_fails_once_is_made_again(rt: HostRuntime) {
     let mut broken = 0u32;
@@ -149,11 +152,11 @@ fn a_commit_that_fails_once_is_made_again(rt: HostRuntime) {
         broken = broken.saturating_add(u32::from(failure == Some(Failure::Commit)));
         whole = whole.saturating_add(u32::from(failure == Some(Failure::None)));
     }
-    // Two writes and three syncs at least.
+    // At least two writes and three syncs.
     holds(&rt, broken >= 5 && whole > 0, &(broken, whole));
 }
 
-// What register 1 holds once power is back, in volts.
+// What register 1 holds after power has returned, in volts.
 fn volts_of(alloc: Global, disk: MemDisk<Global>) -> Option<usize> {
     let held = written_on(alloc, disk, b"*RCL 1;VOLT?\n")?;
     if held.len() != 6 || !held.ends_with(b".000\n") {
@@ -164,14 +167,14 @@ fn volts_of(alloc: Global, disk: MemDisk<Global>) -> Option<usize> {
 
 const THREE_SAVES: &str = "VOLT 1;*SAV 1;*OPC?\nVOLT 2;*SAV 1;*OPC?\nVOLT 3;*SAV 1;*OPC?\n";
 
-// How many saves are confirmed, where they are answered as they must be.
+// The number of confirmed saves; `None` where the responses are not as they must be.
 fn confirmed_of(text: &[u8], cause: Option<RunCause>) -> Option<usize> {
     let is_right = b"1\n1\n1\n".starts_with(text) && cause.is_none() == (text.len() == 6);
     is_right.then_some(text.len() / 2)
 }
 
-// Whether the register holds one save more than the confirmed ones, on a disk that stops after so many calls, after a loss; it holds the
-// last of those, or that.
+// Whether the register holds one save more than the confirmed ones, on a disk that stops after this many calls, after a
+// power loss; otherwise it holds the last confirmed one.
 fn is_ahead(alloc: Global, calls: u64, choice: Choice) -> Option<bool> {
     let ran = run_on_stopping(alloc, THREE_SAVES, calls)?;
     let confirmed = confirmed_of(&ran.text, ran.cause)?;
@@ -181,7 +184,8 @@ fn is_ahead(alloc: Global, calls: u64, choice: Choice) -> Option<bool> {
     either(volts == confirmed, volts == confirmed.saturating_add(1))
 }
 
-// Three saves one after another, each confirmed: of those before a stop none is lost, and at most one more is there.
+// Three saves one after another, each confirmed: of those confirmed before a stop none is lost, and at most one more is
+// there.
 #[test]
 fn confirmed_saves_outlast_a_stop(rt: HostRuntime) {
     let mut ahead = 0u32;
@@ -197,7 +201,8 @@ fn confirmed_saves_outlast_a_stop(rt: HostRuntime) {
 
 const SAVE_AND_LOSS: &str = "VOLT 1;*SAV 1;*OPC?\n!POWER\n*RCL 1;VOLT?\n";
 
-// The way in which a save and a loss of power came out, where one call failed: whether the run ended well, its text, and the register.
+// The number of the outcome of a save and a power loss where one call failed, by whether the run succeeded, its text,
+// and the register.
 fn way_of(ended: bool, text: &[u8], volts: usize) -> Option<usize> {
     if volts == 0 {
         return (!ended && text.is_empty()).then_some(0);
@@ -213,7 +218,7 @@ fn way_of(ended: bool, text: &[u8], volts: usize) -> Option<usize> {
     }
 }
 
-// A save and a loss of power on a disk of which this call fails: the run ends well, or is not opened.
+// Saves and loses power on a disk of which this call fails: the run succeeds, or is not opened.
 fn lost_on_failing(alloc: Global, call: u64) -> Option<usize> {
     let ran = run_on_failing(alloc, SAVE_AND_LOSS, call)?;
     let ended = either(ran.cause == Some(NOT_OPENED), ran.cause.is_none())?;
@@ -221,8 +226,8 @@ fn lost_on_failing(alloc: Global, call: u64) -> Option<usize> {
     way_of(ended, &ran.text, volts)
 }
 
-// A call that fails at any time round a loss of power: the flush goes on behind a commit that failed, so the register is there once
-// a unit told of its end, by `1` or by -320.
+// A call that fails at any time around a power loss: the flush continues after a commit that failed, so the register is
+// there once a unit has reported its end, by `1` or by -320.
 #[test]
 fn a_loss_after_a_call_that_failed(rt: HostRuntime) {
     let mut seen = [0u32; 4];
@@ -235,7 +240,7 @@ fn a_loss_after_a_call_that_failed(rt: HostRuntime) {
 
 const PENDING: &str = "*SAV 1;*OPC;*OPC?\n*ESR?;:SYST:ERR?\n";
 
-// What a pending completion came to where this call fails.
+// The effect on a pending completion where this call fails.
 fn completed(alloc: Global, call: u64) -> Option<Failure> {
     let ran = run_on_failing(alloc, PENDING, call)?;
     let text = ran.text.as_slice();
@@ -248,8 +253,8 @@ fn completed(alloc: Global, call: u64) -> Option<Failure> {
     }
 }
 
-// A pending `*OPC` is no wait: it outlasts the broken store, and its bit (1) is set once the save is flushed, beside DDE (8) of the
-// wait that ended and PON (128).
+// A pending `*OPC` is not a wait: it survives the broken store, and its bit (1) is set once the save is flushed, in
+// addition to DDE (8) of the wait that ended and PON (128).
 #[test]
 fn a_pending_completion_outlasts_a_broken_store(rt: HostRuntime) {
     let mut broken = 0u32;
@@ -270,7 +275,8 @@ const TOLD_WHILE_BROKEN: &str = "-320,\"Storage fault\"\n4;4\n\
 -203,\"Command protected\";-256,\"File name not found\";-320,\"Storage fault\"\n\
 1.000;-222,\"Data out of range\";1024,1024\n";
 
-// Whether the store broke in the first commit, where the disk stops after so many calls; then the text is what it must be.
+// Whether the store broke in the first commit, where the disk stops after this many calls; `None` where the text is not
+// what it must be then.
 fn breaks(alloc: Global, calls: u64) -> Option<bool> {
     let ran = run_on_stopping(alloc, WHILE_BROKEN, calls)?;
     if ran.cause != Some(RunCause::Device) || ran.text.starts_with(b"1\n") {
@@ -279,8 +285,8 @@ fn breaks(alloc: Global, calls: u64) -> Option<bool> {
     (ran.text.as_slice() == TOLD_WHILE_BROKEN.as_bytes()).then_some(true)
 }
 
-// While the store is broken, what would change it and what would wait for it is -320, behind what the unit itself is refused for; the
-// rest goes on, with what was accepted before.
+// While the store is broken, a unit that would change it or would wait for it fails with -320, unless the unit itself
+// is refused for another reason first; the rest continues, with the changes accepted before.
 #[test]
 fn a_broken_store_refuses_changes(rt: HostRuntime) {
     let mut broken = 0u32;

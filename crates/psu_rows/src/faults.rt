@@ -8,7 +8,7 @@ use psu_server::{RunCause, StartCause};
 use std::alloc::Global;
 use std::io::{self, ErrorKind, Read, Write};
 
-/// A reader that gives at most some bytes at a call, and fails after some calls.
+/// A reader that returns at most some bytes a call, and fails after some calls.
 #[derive(Drop)]
 struct Halting<'a> {
     rest: &'a [u8],
@@ -29,7 +29,7 @@ impl Read for Halting<'_> {
     }
 }
 
-/// A reader that gives so many bytes of one kind, a few at a call.
+/// A reader that returns this many copies of one byte, a few a call.
 #[derive(Drop)]
 struct Flood {
     byte: u8,
@@ -46,7 +46,7 @@ impl Read for Flood {
     }
 }
 
-/// A writer that takes some bytes and then fails.
+/// A writer that accepts some bytes and then fails.
 #[derive(Drop)]
 struct Filling {
     bytes: Vec<u8>,
@@ -73,7 +73,8 @@ const INPUT: &[u8] = b"*IDN?\n*PSC 0;*SRE 4;*OPC?\n!POWER\n*SRE?";
 
 const OUTPUT: &[u8] = b"EXAMPLE,PSU4,0,1.0\n1\n4\n";
 
-// Whether a run of so many calls of a reader, which gives this much at each, writes a front of the output, and all of it where it ends well.
+// Whether a run with this many calls of a reader, which returns this much at each, writes a prefix of the output, and
+// all of it where it succeeds.
 fn read_by(alloc: Global, piece: usize, calls: u32) -> Option<bool> {
     let mut reader = Halting {
         rest: INPUT,
@@ -101,7 +102,8 @@ fn a_reader_that_fails_leaves_what_was_written(rt: HostRuntime) {
     }
 }
 
-// Whether a run whose writer takes so many bytes ends well where that is all of the output, and else writes as much.
+// Whether a run whose writer accepts this many bytes succeeds where that is all of the output, and otherwise writes
+// that many.
 fn written_into(alloc: Global, room: usize) -> Option<bool> {
     let mut reader: &[u8] = INPUT;
     let mut output = Filling {
@@ -122,7 +124,7 @@ fn a_writer_that_fails_is_a_fault(rt: HostRuntime) {
     }
 }
 
-// Whether a run of so many bytes, a few at a call, is too long or ends well, as it has to. It writes nothing.
+// Whether a run of this many bytes, a few a call, is too long or succeeds, as it has to. It writes nothing.
 fn floods(alloc: Global, left: usize, piece: usize, is_too_long: bool) -> Option<bool> {
     let mut reader = Flood {
         byte: b'x',
@@ -139,15 +141,15 @@ fn floods(alloc: Global, left: usize, piece: usize, is_too_long: bool) -> Option
 
 #[test]
 fn input_is_bounded(rt: HostRuntime) {
-    // So many reads of a byte and one more that finds the end; then a read too many.
+    // This many reads of one byte and one more that finds the end; then one read too many.
     assert!(rt; floods(rt.alloc(), 1_048_575, 1, false) == Some(true));
     assert!(rt; floods(rt.alloc(), 1_048_576, 1, true) == Some(true));
-    // So many bytes; then a byte too many.
+    // This many bytes; then one byte too many.
     assert!(rt; floods(rt.alloc(), 16_777_216, 65_536, false) == Some(true));
     assert!(rt; floods(rt.alloc(), 16_777_217, 65_536, true) == Some(true));
 }
 
-// Whether a run on a disk of so many bytes without a root reads and writes nothing.
+// Whether a run on a disk of this many bytes without a root reads and writes nothing.
 fn is_not_opened(alloc: Global, size: u64) -> Option<bool> {
     let mut reader: &[u8] = INPUT;
     let ended = run_from(alloc, alloc, &mut reader, MemDisk::new(alloc, size).ok()?);
@@ -164,7 +166,7 @@ fn an_image_that_is_none_is_not_opened(rt: HostRuntime) {
 
 const SAVES: &[u8] = b"*PSC 0;*OPC?\n*ESR?\n*OPC?\n!POWER\n*PSC?\n";
 
-// The way in which a run of saves came out, where one call failed: it ended well, or an opening failed.
+// The number of the outcome of a run of saves where one call failed: it succeeded, or an opening failed.
 fn way_of(cause: Option<RunCause>, text: &[u8]) -> Option<usize> {
     if cause.is_none() {
         if text == b"1\n128\n1\n0\n".as_slice() {
@@ -181,14 +183,15 @@ fn way_of(cause: Option<RunCause>, text: &[u8]) -> Option<usize> {
     }
 }
 
-// A run of saves on a disk of which this call fails.
+// Runs saves on a disk of which this call fails.
 fn saved_on_failing(alloc: Global, call: u64) -> Option<usize> {
     let ended = run_on(alloc, SAVES, FailingDisk::once(formatted(alloc)?, call));
     way_of(ended.cause, &ended.text)
 }
 
-// A commit that fails answers its `*OPC?` with -320, which sets DDE (8) beside PON (128); the store is opened again, and the next
-// `*OPC?` is answered: what it confirmed is there when power returns. An opening that fails ends the run.
+// A commit that fails answers its `*OPC?` with -320, which sets DDE (8) in addition to PON (128); the store is
+// reopened, and the next `*OPC?` is answered: what it confirmed is there when power returns. An opening that fails ends
+// the run.
 #[test]
 fn a_disk_that_fails_once_is_opened_again(rt: HostRuntime) {
     let mut seen = [0u32; 4];
@@ -199,7 +202,8 @@ fn a_disk_that_fails_once_is_opened_again(rt: HostRuntime) {
     holds(&rt, all, &seen);
 }
 
-// Whether two calls that fail leave what was answered where power comes back, and no more was written where an opening failed.
+// Whether two calls that fail leave what was confirmed when power returns, and no more was written where an opening
+// failed.
 fn fails_twice(alloc: Global, first: u64, second: u64) -> Option<bool> {
     let disk = FailingDisk::once(formatted(alloc)?, first.saturating_add(second));
     let input = b"*PSC 0;*OPC?\n*OPC?\n!POWER\n*PSC?\n";
@@ -211,7 +215,7 @@ fn fails_twice(alloc: Global, first: u64, second: u64) -> Option<bool> {
     })
 }
 
-// One of the commit, and one of the reopening after it.
+// One call of the commit fails, and one of the reopening after it.
 #[test]
 fn a_reopening_that_fails_is_tried_again(rt: HostRuntime) {
     for first in 3..11u64 {
@@ -225,7 +229,7 @@ fn a_reopening_that_fails_is_tried_again(rt: HostRuntime) {
     }
 }
 
-// Whether a formatted image whose root has the last number that there is takes no commit.
+// Whether a formatted image whose root has the last number accepts no commit.
 fn last_takes_no_commit(alloc: Global) -> Option<bool> {
     let disk = spoiled(alloc, formatted(alloc)?, "8: ff*8")?;
     let input = b"*PSC 0;*OPC?;*ESR?\n!POWER\n*PSC?;*SRE 1;*PSC 0\n";
@@ -257,7 +261,8 @@ impl Write for Counting {
     }
 }
 
-// Whether the lines are answered in two writes: the whole lines of the piece, and the last line that lacks its end.
+// Whether the lines are answered in two writes: for the complete lines of the piece, and for the last line, which has
+// no line feed.
 fn answers_in_two_writes(alloc: Global) -> Option<bool> {
     let mut reader: &[u8] = INPUT;
     let mut output = Counting {

@@ -2,17 +2,17 @@
 use std::fmt::Debug;
 use std::process::Abort;
 
-/// What is said of a row is so; else the row is told.
+/// Asserts that a claim on a row holds; otherwise the row is reported.
 pub fn holds(rt: &impl Abort, is_so: bool, row: &impl Debug) {
     assert!(rt; is_so, "at {row:?}");
 }
 
-/// Whether the second of two is so, where just one of them is.
+/// Whether the second of two claims holds, where exactly one of them does.
 pub fn either(one: bool, other: bool) -> Option<bool> {
     (one != other).then_some(other)
 }
 
-/// Counts the way in which a row came out, of as many ways as there are places.
+/// Counts the outcome of a row, one of as many outcomes as there are places.
 pub fn count(rt: &impl Abort, seen: &mut [u32], way: Option<usize>, row: &impl Debug) {
     match way {
         Some(way) if way < seen.len() => seen[way] = seen[way].saturating_add(1),

@@ -1,4 +1,4 @@
-// Images that are refused, each for its cause, and one whose number is the last that there is.
+// Images that are refused, each for its cause, and one whose root number is the last.
 use crate::holds::holds;
 use crate::images::formatted;
 use crate::runs::run_on;
@@ -8,7 +8,7 @@ use psu_tables::row;
 use std::alloc::Global;
 use std::process::Abort;
 
-// Whether a cause is the one of these words.
+// Whether a cause is the one with this text.
 fn is_cause(fault: RecoverFault, wanted: &str) -> bool {
     match fault {
         RecoverFault::NoRoot => wanted == "no root",
@@ -19,7 +19,7 @@ fn is_cause(fault: RecoverFault, wanted: &str) -> bool {
     }
 }
 
-// Whether a formatted image with these parts put over it is refused for its cause, which tells itself in the same words.
+// Whether a formatted image with these parts written over it is refused for its cause, which has the same text.
 fn is_refused(alloc: Global, parts: &str, wanted: &str) -> Option<bool> {
     let disk = spoiled(alloc, formatted(alloc)?, parts)?;
     let fault = recover(alloc, disk).err()?;
@@ -27,7 +27,7 @@ fn is_refused(alloc: Global, parts: &str, wanted: &str) -> Option<bool> {
     Some(is_cause(fault, wanted) && told.as_str() == wanted)
 }
 
-// Each image of a table is refused for its cause.
+// Checks that each image of a table is refused for its cause.
 fn are_refused(rt: &impl Abort, alloc: Global, table: &str) {
     let mut rows = 0u32;
     for line in table.lines() {
@@ -39,7 +39,7 @@ fn are_refused(rt: &impl Abort, alloc: Global, table: &str) {
     holds(rt, rows > 0, &table);
 }
 
-// The first root of a formatted image is of the number 1, and its gate is open.
+// The first root of a formatted image has the number 1, and its gate is open.
 const ROOTS: &str = "
 0: 00 -> no root
 0: a4 -> no root
@@ -56,7 +56,8 @@ fn spoiled_roots_are_refused(rt: HostRuntime) {
     are_refused(&rt, rt.alloc(), ROOTS);
 }
 
-// A head on page 2 with the key 7 and a value of one byte on page 3. The root's count of items is at 16, and the pool ends at page 513.
+// A head on page 2 with the key 7 and a value of one byte on page 3. The root's count of items is at 16, and the pool
+// ends at page 513.
 const HEADS: &str = "
 1024: 01 07 00*3 01 00 01 00 03; 16: 00 01 00 02 -> bad items
 16: 00 01 00 01 -> bad root
@@ -73,7 +74,7 @@ fn spoiled_heads_are_refused(rt: HostRuntime) {
     are_refused(&rt, rt.alloc(), HEADS);
 }
 
-// Whether an image of the last number ends a run with changes that are not flushed.
+// Whether an image with the last number ends a run with changes that are not flushed.
 fn last_takes_no_save(alloc: Global) -> Option<bool> {
     let disk = spoiled(alloc, formatted(alloc)?, "8: ff*8")?;
     let ended = run_on(alloc, b"*SAV 1;*OPC?\nSYST:ERR?\n", disk);
@@ -81,7 +82,8 @@ fn last_takes_no_save(alloc: Global) -> Option<bool> {
     Some(ended.cause == Some(RunCause::Device) && is_told)
 }
 
-// No commit can be made of such an image: the save is refused its end, and the run ends with changes that are not flushed.
+// No commit can be made to such an image: the save is not confirmed, and the run ends with changes that are not
+// flushed.
 #[test]
 fn the_last_number_takes_no_save(rt: HostRuntime) {
     assert!(rt; last_takes_no_save(rt.alloc()) == Some(true));

@@ -18,7 +18,7 @@ fn leaves(alloc: Global, line: &str, wanted: &str) -> Option<bool> {
     Some(got.strip_suffix(b"\n0\n".as_slice())? == wanted.as_bytes())
 }
 
-// Each line of a table leaves its error.
+// Checks that each line of a table leaves its error.
 fn leave(rt: &impl Abort, alloc: Global, table: &str) {
     let mut rows = 0u32;
     for line in table.lines() {
@@ -30,8 +30,8 @@ fn leave(rt: &impl Abort, alloc: Global, table: &str) {
     holds(rt, rows > 0, &table);
 }
 
-// A line of 65,537 bytes is one -223, whatever is in it, and the next line is executed: `;`, `x`, `:`, `"`, `#`, `*`, a space, and a byte
-// that is no character.
+// A line of 65,537 bytes is one -223, whatever is in it, and the next line is executed: `;`, `x`, `:`, `"`, `#`, `*`, a
+// space, and a byte that is no character.
 const TOO_LONG: &str = r#"
 3b*65537 -> -223,"Too much data"
 78*65537 -> -223,"Too much data"
@@ -73,7 +73,7 @@ fn lines_of_the_greatest_length(rt: HostRuntime) {
     leave(&rt, rt.alloc(), OF_THE_GREATEST_LENGTH);
 }
 
-/// A reader that gives a byte at each call, of a text first and then without end, and counts the calls.
+/// A reader that returns one byte a call, of a text first and then without end, and counts the calls.
 #[derive(Drop)]
 struct Dripping<'a> {
     rest: &'a [u8],
@@ -95,7 +95,8 @@ impl Read for Dripping<'_> {
     }
 }
 
-// Whether 1,048,576 reads are made of a reader that never ends, the whole lines before are answered, and nothing is flushed.
+// Whether 1,048,576 reads are made of a reader that never ends, the complete lines before are answered, and nothing is
+// flushed.
 fn is_ended(alloc: Global) -> Option<bool> {
     let mut reader = Dripping {
         rest: b"VOLT 1;*SAV 1;VOLT?\n*IDN?\n*IDN?",

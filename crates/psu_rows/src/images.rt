@@ -1,4 +1,4 @@
-// Images in memory, what a run on one writes and leaves, and the report on it.
+// Images in memory, the output and the disk of a run on one, and the report on it.
 use crate::runs::run_between;
 use psu_disk::MemDisk;
 use psu_items::Store;
@@ -8,17 +8,17 @@ use std::alloc::Global;
 /// The size of an image of 256 pages.
 pub const SIZE: u64 = 263_168;
 
-/// A formatted image of 256 pages, where memory suffices.
+/// Returns a formatted image of 256 pages, where memory suffices.
 pub fn formatted(alloc: Global) -> Option<MemDisk<Global>> {
     image(alloc, 256)
 }
 
-/// A formatted image of 4 pages, the least there is.
+/// Returns a formatted image of 4 pages, the smallest.
 pub fn least(alloc: Global) -> Option<MemDisk<Global>> {
     image(alloc, 4)
 }
 
-/// A formatted image of so many pages; none where they are fewer or more than an image can have.
+/// Returns a formatted image of this many pages; `None` where an image can't have that many.
 pub fn image(alloc: Global, pages: u16) -> Option<MemDisk<Global>> {
     if pages < 4 || pages > 480 {
         return None;
@@ -27,12 +27,12 @@ pub fn image(alloc: Global, pages: u16) -> Option<MemDisk<Global>> {
     Some(Store::format(alloc, disk, pages).ok()?.into_disk())
 }
 
-/// What a run on a formatted image writes, where it ends without a fault.
+/// Returns what a run on a formatted image writes, where it succeeds.
 pub fn written(alloc: Global, input: &[u8]) -> Option<Vec<u8>> {
     written_on(alloc, formatted(alloc)?, input)
 }
 
-/// What a run on this disk writes, where it ends without a fault.
+/// Returns what a run on this disk writes, where it succeeds.
 pub fn written_on(alloc: Global, disk: MemDisk<Global>, input: &[u8]) -> Option<Vec<u8>> {
     let mut reader = input;
     let mut text = Vec::new(alloc);
@@ -40,14 +40,14 @@ pub fn written_on(alloc: Global, disk: MemDisk<Global>, input: &[u8]) -> Option<
     Some(text)
 }
 
-/// What a run on this disk leaves of it, where it ends without a fault.
+/// Returns the disk after a run on it, where that succeeds.
 pub fn left_by(alloc: Global, disk: MemDisk<Global>, input: &[u8]) -> Option<MemDisk<Global>> {
     let mut reader = input;
     let mut text = Vec::new(alloc);
     run_between(alloc, &mut reader, &mut text, disk).ok()
 }
 
-/// The text of the report on a disk.
+/// Returns the text of the report on a disk.
 pub fn reported(alloc: Global, disk: MemDisk<Global>) -> Option<Vec<u8>> {
     let report = recover(alloc, disk).ok()?;
     report_text(alloc, &report).ok()

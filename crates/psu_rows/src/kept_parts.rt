@@ -1,11 +1,11 @@
-// What commits keep: each change of what is kept, confirmed alone and then behind each other one. What is asked after a loss of power is answered
-// as it was before it, whatever the commit before had kept already.
+// What commits keep: each change of nonvolatile state, confirmed alone and then after each other one. Queries after a
+// power loss are answered as before it, whatever the previous commit had already kept.
 use crate::holds::holds;
 use crate::images::{image, written_on};
 use crate::texts::add_line;
 use std::alloc::Global;
 
-// What is there before the changes, so that each of them is accepted.
+// The state before the changes, in which each of them is accepted.
 const BEFORE: &str = r#"*PSC 0;:DIAG:PUD:PROT OFF;:VOLT 2;*SAV 3;*DMC "A",#14*RST
 MMEM:DATA "F",#13abc;:MMEM:STOR:STAT 3,"S";:MMEM:STOR:MACR "A","M"
 *OPC?"#;
@@ -29,7 +29,7 @@ MMEM:STOR:MACR "A","N"
 MMEM:LOAD:MACR "C","M"
 OUTP:PON:STAT RCL0"#;
 
-// All that is kept; a query of what is not there is not answered.
+// Queries of all nonvolatile state; a query of what is not there is not answered.
 const QUERIES: &str = r#"*PSC?;*SRE?;*ESE?;*PUD?;:OUTP:PON:STAT?;*LMC?;:MMEM:CAT?
 *GMC? "A"
 *GMC? "B"
@@ -43,7 +43,7 @@ MMEM:DATA? "S"
 MMEM:DATA? "T"
 *RCL 0;:VOLT?;*RCL 3;:VOLT?;*RCL 4;:VOLT?"#;
 
-// The lines of a run: two changes, each confirmed, and what is asked before a loss of power and after it.
+// Returns the lines of a run: two changes, each confirmed, and queries before a power loss and after it.
 fn lines_of(alloc: Global, first: &str, second: &str) -> Option<Vec<u8>> {
     let mut lines = Vec::new(alloc);
     for part in [
@@ -54,18 +54,18 @@ fn lines_of(alloc: Global, first: &str, second: &str) -> Option<Vec<u8>> {
     Some(lines)
 }
 
-// What is answered behind the three `*OPC?`.
+// Returns the responses after those to the three `*OPC?`.
 fn behind_confirmed(text: &[u8]) -> Option<&[u8]> {
     text.strip_prefix(b"1\n1\n1\n")
 }
 
-// Whether a text is something, twice.
+// Whether a text is some text, twice.
 fn is_twice(text: &[u8]) -> bool {
     let half = text.len() / 2;
     half > 0 && text[..half] == text[half..]
 }
 
-// Whether all is kept of two changes.
+// Whether two changes are kept entirely.
 fn is_kept(alloc: Global, first: &str, second: &str) -> Option<bool> {
     let text = written_on(alloc, image(alloc, 64)?, &lines_of(alloc, first, second)?)?;
     Some(is_twice(behind_confirmed(&text)?))

@@ -1,4 +1,5 @@
-//! The worked rows: what runs, reports and images come to. Expected values are worked by hand from the rules of the instrument.
+//! The worked rows: the results of runs, reports and images. Expected values are worked by hand from the rules of the
+//! instrument.
 #![tactic(auto)]
 
 #[cfg(test)]

@@ -1,4 +1,4 @@
-// Lines that ask for more than a piece holds: their answers are written whole and in order.
+// Lines with queries whose responses exceed a piece: they are written whole and in order.
 use crate::holds::holds;
 use crate::images::{formatted, written};
 use crate::runs::run_between;
@@ -7,7 +7,7 @@ use std::io::{self, Write};
 
 const LENGTH: usize = 32_768;
 
-// The bytes of the file: each at its place another than those beside it, and no line feed.
+// Returns the bytes of the file: each differs from its neighbours, and none is a line feed.
 fn file(alloc: Global) -> Result<Vec<u8>, AllocError> {
     let mut bytes = Vec::new(alloc);
     for place in 0..LENGTH {
@@ -19,7 +19,8 @@ fn file(alloc: Global) -> Result<Vec<u8>, AllocError> {
     Ok(bytes)
 }
 
-// A line that stores the file, one that asks for it so many times, each time behind another query, and one more.
+// Returns a line that stores the file, one that queries it this many times, each time after another query, and one more
+// line.
 fn asking(alloc: Global, file: &[u8], times: usize) -> Option<Vec<u8>> {
     let mut input = b"MMEM:DATA \"F\",#532768".to_vec(alloc).ok()?;
     input.extend_from_slice(file).ok()?;
@@ -31,7 +32,7 @@ fn asking(alloc: Global, file: &[u8], times: usize) -> Option<Vec<u8>> {
     Some(input)
 }
 
-// What those lines write.
+// Returns what those lines write.
 fn answers(alloc: Global, file: &[u8], times: usize) -> Option<Vec<u8>> {
     let mut answers = b"0;#532768".to_vec(alloc).ok()?;
     answers.extend_from_slice(file).ok()?;
@@ -64,7 +65,7 @@ fn four_hundred_files_in_one_line(rt: HostRuntime) {
     assert!(rt; is_right(rt.alloc(), 400) == Some(true));
 }
 
-/// A writer that knows how much it was given, and the most at once.
+/// A writer that counts the bytes it was given, and the most at once.
 #[derive(Drop)]
 struct Measuring {
     all: usize,
@@ -83,7 +84,7 @@ impl Write for Measuring {
     }
 }
 
-// How much a run for four hundred files writes, and the most at once.
+// Returns how much a run for four hundred files writes, and the most at once.
 fn measured(alloc: Global) -> Option<Measuring> {
     let input = asking(alloc, &file(alloc).ok()?, 400)?;
     let mut reader = input.as_slice();
@@ -99,7 +100,7 @@ fn is_in_parts(alloc: Global) -> Option<bool> {
     Some(writer.all == all && writer.most <= 65_536 + 32_768 + 16)
 }
 
-// What a run gathers is 64 KiB and one answer at most, also in the midst of a line.
+// A run buffers 64 KiB and one answer at most, also before the end of a line.
 #[test]
 fn a_long_line_is_written_in_parts(rt: HostRuntime) {
     assert!(rt; is_in_parts(rt.alloc()) == Some(true));

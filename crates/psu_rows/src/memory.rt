@@ -1,10 +1,10 @@
-// Each allocation of five rows refused in turn: each unit gives its answer or -225, or the run ends for want of memory. What the disk
-// then holds is what a front of the accepted changes made, all of them where `*OPC?` was answered.
+// Each allocation of five rows fails in turn: each unit gives its answer or -225, or the run ends out of memory. The
+// disk then holds the result of a prefix of the accepted changes, of all of them where `*OPC?` was answered.
 //
-// A row is a text, in parts with an empty line between two. The first has the lines of a run (`> `), what they write where memory is ample (`< `),
-// and the lines that ask the image afterwards what it holds (`? `). Each other one is a story, of what may come of it where some units are refused
-// memory: the lines (`| `), each with its alternatives, `nothing` for a line that is not written; and what the changes that were accepted make of
-// the image, one after another (`= `).
+// A row is a text, in parts with an empty line between two. The first part has the lines of a run (`> `), what they
+// write where memory is ample (`< `), and the lines that query afterwards what the image holds (`? `). Each other part
+// is a possible outcome where some units are refused memory: the lines (`| `), each with its alternatives, `nothing`
+// for a line that is not written; and the results of the accepted changes in the image, one after another (`= `).
 use crate::images::{least, written_on};
 use crate::runs::{Ran, run_from};
 use crate::transcripts::lines_behind;
@@ -26,15 +26,15 @@ struct Row<'a> {
 /// How a run ended.
 #[derive(Clone, Copy, PartialEq, Eq)]
 pub enum End {
-    /// As where memory is ample.
+    /// The run wrote what it writes where memory is ample.
     Whole,
-    /// Well, with units that were refused memory.
+    /// The run succeeded, with units that were refused memory.
     Partly,
-    /// For want of memory.
+    /// The run ended out of memory.
     Refused,
 }
 
-/// What stands behind a line and its end.
+/// Returns the rest of a text after a line and its end.
 pub fn behind<'a>(text: &'a [u8], line: &[u8]) -> Option<&'a [u8]> {
     let length = line.len();
     if length == 0 || text.len() <= length || !text.starts_with(line) || text[length] != b'\n' {
@@ -43,7 +43,7 @@ pub fn behind<'a>(text: &'a [u8], line: &[u8]) -> Option<&'a [u8]> {
     Some(&text[length + 1..])
 }
 
-// What stands behind the one of a line's alternatives that a text begins with.
+// Returns the rest of a text after the one of a line's alternatives that it begins with.
 fn behind_one<'a>(text: &'a [u8], line: &str) -> Option<&'a [u8]> {
     for one in line.split(" or ") {
         let rest = behind(text, one.as_bytes());
@@ -54,7 +54,7 @@ fn behind_one<'a>(text: &'a [u8], line: &str) -> Option<&'a [u8]> {
     None
 }
 
-// Whether a text is a front of one of a line's alternatives.
+// Whether a text is a prefix of one of a line's alternatives.
 fn is_front_of_one(text: &[u8], line: &str) -> bool {
     for one in line.split(" or ") {
         if one.as_bytes().starts_with(text) {
@@ -64,7 +64,8 @@ fn is_front_of_one(text: &[u8], line: &str) -> bool {
     false
 }
 
-// What of a text stands behind the lines of a story; of a run that ended early nothing, where the text ends before the end of the story.
+// Returns the rest of a text after the lines of an outcome; the empty text where the run ended early and the text ends
+// before the end of the outcome.
 fn behind_story<'a>(story: &str, text: &'a [u8], whole: bool) -> Option<&'a [u8]> {
     let mut rest = text;
     for row in story.lines() {
@@ -80,7 +81,7 @@ fn behind_story<'a>(story: &str, text: &'a [u8], whole: bool) -> Option<&'a [u8]
     Some(rest)
 }
 
-// Whether a text is what a story tells; of a run that ended early, a front of that.
+// Whether a text is the one of an outcome; of a run that ended early, a prefix of it.
 fn tells(story: &str, text: &[u8], whole: bool) -> bool {
     match behind_story(story, text, whole) {
         Some(rest) => rest.is_empty(),
@@ -88,7 +89,7 @@ fn tells(story: &str, text: &[u8], whole: bool) -> bool {
     }
 }
 
-// Whether an image that holds this has just what a line says.
+// Whether the text that an image holds is exactly this line.
 fn is_held(line: &str, held: &[u8]) -> bool {
     match behind(held, line.as_bytes()) {
         Some(rest) => rest.is_empty(),
@@ -96,7 +97,7 @@ fn is_held(line: &str, held: &[u8]) -> bool {
     }
 }
 
-// Whether a story leaves an image that holds this: with all changes where the run ended well or `*OPC?` was answered.
+// Whether an outcome leaves an image that holds this: with all changes where the run succeeded or `*OPC?` was answered.
 fn leaves(story: &str, held: &[u8], all: bool) -> bool {
     let mut some = false;
     let mut last = false;
@@ -109,14 +110,14 @@ fn leaves(story: &str, held: &[u8], all: bool) -> bool {
     if all { last } else { some }
 }
 
-// Takes so many bytes of an arena, most of them in blocks.
+// Allocates this many bytes of an arena, most of them in blocks.
 fn take(arena: &Bump<Global>, count: usize) -> Result<(), AllocError> {
     arena.try_alloc_slice_fill_clone(count % 1_024, 0u8)?;
     arena.try_alloc_slice_fill_clone(count / 1_024, [0u64; 128])?;
     Ok(())
 }
 
-/// An arena that takes nothing back: it has a second chunk, with room for a run.
+/// Returns an arena that never frees: it has a second chunk, with room for a run.
 pub fn arena(alloc: Global) -> Result<Bump<Global>, AllocError> {
     let arena = Bump::try_with_capacity(alloc, 55_000)?;
     take(&arena, arena.chunk_capacity())?;
@@ -125,14 +126,14 @@ pub fn arena(alloc: Global) -> Result<Bump<Global>, AllocError> {
     Ok(arena)
 }
 
-/// Leaves so many bytes of an arena, and no more to come.
+/// Leaves this many bytes of an arena free, and prevents it from growing.
 pub fn leave(arena: &Bump<Global>, left: usize) -> Result<(), AllocError> {
     arena.set_allocation_limit(Some(arena.allocated_bytes()));
     take(arena, arena.chunk_capacity().saturating_sub(left))
 }
 
 impl Row<'_> {
-    // A row of a text.
+    // Reads a row from its text.
     fn of(alloc: Global, text: &str) -> Option<Row<'_>> {
         let (first, stories) = text.split_once("\n\n").unwrap_or((text, ""));
         Some(Row {
@@ -143,7 +144,7 @@ impl Row<'_> {
         })
     }
 
-    // Whether one of the stories tells this text and leaves an image that holds this.
+    // Whether one of the outcomes has this text and leaves an image that holds this.
     fn allows(&self, text: &[u8], held: &[u8], whole: bool) -> bool {
         let all = whole || text.starts_with(b"1\n");
         for story in self.stories.split("\n\n") {
@@ -154,7 +155,7 @@ impl Row<'_> {
         false
     }
 
-    // A run of the row with so many bytes of memory.
+    // Runs the row with this many bytes of memory.
     fn ran_with(&self, rt: &impl Abort, alloc: Global, left: usize) -> Ran<MemDisk<Global>> {
         let arena = arena(alloc).expect(rt, "an arena");
         leave(&arena, left).expect(rt, "room");
@@ -164,7 +165,7 @@ impl Row<'_> {
         run_from(alloc, &arena, &mut reader, image)
     }
 
-    // How the row ends, where it may end so.
+    // How the row ends; `None` where it may not end this way.
     fn end_of(&self, text: &[u8], held: &[u8], cause: Option<RunCause>) -> Option<End> {
         let end = match cause {
             None if text == self.output.as_slice() => End::Whole,
@@ -179,7 +180,7 @@ impl Row<'_> {
         }
     }
 
-    // How the row ends with so many bytes of memory.
+    // How the row ends with this many bytes of memory.
     fn run_with(&self, rt: &impl Abort, alloc: Global, left: usize) -> End {
         let Ran { text, cause, disk } = self.ran_with(rt, alloc, left);
         let held = written_on(alloc, disk, self.question.as_slice()).expect(rt, "the image opens");
@@ -189,15 +190,15 @@ impl Row<'_> {
         }
     }
 
-    // With less memory than a device takes the run ends. The buffer of a piece has 65,536 bytes, and the device, which is there before it,
-    // more than 4,800.
+    // Checks that the run ends with less memory than a device takes. The buffer of a piece has 65,536 bytes, and the
+    // device, which is made before it, takes more than 4,800.
     fn run_with_too_little(&self, rt: &impl Abort, alloc: Global) {
         for left in (0..8_000usize).step_by(16) {
             assert!(rt; self.run_with(rt, alloc, left) == End::Refused);
         }
     }
 
-    // Less and less of its memory refused, until all of it is there: how often the run ended for want of it.
+    // Refuses less and less of its memory, until all of it is there, and returns how often the run ended out of memory.
     fn refusals(&self, rt: &impl Abort, alloc: Global) -> Option<u32> {
         let mut refused = 0u32;
         for left in (70_336..98_336usize).step_by(8) {
@@ -211,7 +212,8 @@ impl Row<'_> {
     }
 }
 
-// A row goes as it says with little memory, and as a whole once there is enough.
+// Checks that a row ends in one of its outcomes with little memory, and as it does with ample memory once there is
+// enough.
 fn goes_with_little_memory(rt: &impl Abort, alloc: Global, text: &str) {
     let row = Row::of(alloc, text).expect(rt, "memory");
     row.run_with_too_little(rt, alloc);
@@ -221,7 +223,7 @@ fn goes_with_little_memory(rt: &impl Abort, alloc: Global, text: &str) {
     assert!(rt; refused > 200, "{refused} refused");
 }
 
-// With the enables kept an answer that is refused sets EXE (16) beside PON (128), and status byte bit 2 (4).
+// With the enables kept, an answer that is refused sets EXE (16) in addition to PON (128), and status byte bit 2 (4).
 const ENABLES: &str = "
 > *PSC 0;*SRE 32;*ESE 128;*OPC?
 > !POWER
@@ -262,7 +264,7 @@ fn a_register_with_little_memory(rt: HostRuntime) {
     goes_with_little_memory(&rt, rt.alloc(), A_REGISTER);
 }
 
-// The definition, its call, and the answers may each be refused; the error queue tells the first of it.
+// The definition, its call, and the answers may each be refused; the error queue reports the first of them.
 const A_MACRO: &str = r#"
 > *DMC "SETA",#17VOLT $1;*EMC 1;SETA 3;VOLT?
 > *DMC "seta",#10;*LMC?;SYST:ERR?

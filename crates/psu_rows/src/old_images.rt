@@ -1,23 +1,24 @@
-// An image of version 1, as an instrument of that version left it: it is read as it stands, and the next commit makes it version 2.
+// An image of version 1, as an instrument of that version wrote it: it is read unchanged, and the next commit makes it
+// version 2.
 use crate::images::{SIZE, left_by, reported, written_on};
 use crate::spelled::spoiled;
 use psu_disk::MemDisk;
 use std::alloc::Global;
 
-// Root 1 of the number 2 is open and names one head, on page 2: that of the item of register 3, of 28 bytes on page 3. They are the
-// settings of `*RST` but for 5.25 V on output 1.
+// Root 1 has the number 2, is open and names one head, on page 2: that of the item of register 3, of 28 bytes on page
+// 3. They are the settings of `*RST` except for 5.25 V on output 1.
 const VERSION_1: &str = "
  512: a5 'PSU 00 01 01 00 00*7 02 00 01 00 02;
 1024: 02 02 03 00 00 00 1c 00 01 00 03;
 1536: 14 82 00 00 ea 60 00*5 ea 60 00*5 ea 60 00*5 ea 60 00
 ";
 
-// The image, byte for byte.
+// Returns the image, byte for byte.
 fn old_image(alloc: Global) -> Option<MemDisk<Global>> {
     spoiled(alloc, MemDisk::new(alloc, SIZE).ok()?, VERSION_1)
 }
 
-// Whether the report on a disk begins so.
+// Whether the report on a disk begins with this text.
 fn begins(alloc: Global, disk: MemDisk<Global>, report: &str) -> Option<bool> {
     Some(reported(alloc, disk)?.starts_with(report.as_bytes()))
 }
@@ -38,7 +39,7 @@ fn is_left(alloc: Global) -> Option<bool> {
     begins(alloc, disk, AS_IT_STANDS)
 }
 
-// To read it writes nothing: it stays version 1.
+// Reading it writes nothing: it stays version 1.
 #[test]
 fn a_run_without_a_commit_leaves_version_1(rt: HostRuntime) {
     assert!(rt; is_left(rt.alloc()) == Some(true));

@@ -1,4 +1,4 @@
-// The settings at power-on: their command, what a restart finds, and losses of power in the commit of a choice.
+// The settings at power-on: their command, what a restart finds, and power losses in the commit of a choice.
 use crate::holds::{count, either, holds};
 use crate::images::{least, left_by, written_on};
 use crate::runs::run_on;
@@ -6,16 +6,16 @@ use psu_disk::{Choice, FailingDisk, MemDisk};
 use std::alloc::Global;
 use std::process::Abort;
 
-// Three ways in which a loss may leave what was not synced.
+// Three ways in which a power loss may leave bytes that were not synced.
 const CHOICES: [Choice; 3] = [Choice::Old, Choice::New, Choice::Fill(0xa5)];
 
-// An image with 1 volt in register 0, and the settings at power-on that this line chooses.
+// Returns an image with 1 volt in register 0, and the settings at power-on that this line chooses.
 fn chosen(alloc: Global, line: &[u8]) -> Option<MemDisk<Global>> {
     let saved = left_by(alloc, least(alloc)?, b"VOLT 1;*SAV 0;*OPC?\n")?;
     left_by(alloc, saved, line)
 }
 
-// Whether a restart after the loss recalls register 0; it does or does not, as its choice says.
+// Whether a restart after the power loss recalls register 0; it does or does not, as the query of its choice reports.
 fn recalls(alloc: Global, mut disk: MemDisk<Global>, choice: Choice) -> Option<bool> {
     disk.lose(choice);
     let held = written_on(alloc, disk, b"VOLT?;:OUTP:PON:STAT?\n")?;
@@ -30,15 +30,15 @@ const RECALL: &[u8] = b"OUTP:PON:STAT RCL0;*OPC?\n";
 
 const RESET: &[u8] = b"OUTP:PON:STAT RST;*OPC?\n";
 
-// A restart finds the old choice, the new one before it was confirmed, and the new one as confirmed.
+// Outcomes: a restart finds the old choice, the new one before it was confirmed, or the new one as confirmed.
 const OLD: usize = 0;
 
 const NEW: usize = 1;
 
 const CONFIRMED: usize = 2;
 
-// What a restart finds of a line's choice on a disk that stops after so many calls of its commit; none where the old choice stands behind
-// one that was confirmed.
+// What a restart finds of a line's choice on a disk that stops after this many calls of its commit; `None` where the
+// old choice is found after the new one was confirmed.
 fn found(alloc: Global, before: &[u8], line: &[u8], calls: u64, choice: Choice) -> Option<usize> {
     let ran = run_on(
         alloc,
@@ -57,8 +57,8 @@ fn found(alloc: Global, before: &[u8], line: &[u8], calls: u64, choice: Choice) 
     }
 }
 
-// The disk stops after each number of calls of the commit of a choice, and power is lost: the old choice is found or the new one, and
-// the new one where it was confirmed. Each is found after some stop in the commit.
+// The disk stops after each number of calls of the commit of a choice, and power is lost: the old choice is found or
+// the new one, and the new one where it was confirmed. Each is found after some stop in the commit.
 fn losses(rt: &impl Abort, alloc: Global, before: &[u8], line: &[u8]) {
     let mut seen = [0u32; 3];
     for calls in 0..24u64 {

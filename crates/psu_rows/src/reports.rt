@@ -1,4 +1,4 @@
-// What `recover` tells of images.
+// What `recover` reports of images.
 use crate::holds::holds;
 use crate::images::{SIZE, formatted, image, left_by, reported, written_on};
 use crate::texts::add_line;
@@ -8,15 +8,15 @@ use psu_server::{RecoverFault, recover};
 use std::alloc::Global;
 use std::process::Abort;
 
-// Whether the report on the image that a run leaves is what a row says: the lines that are sent are behind `> `, and those of the report
-// behind `= `.
+// Whether the report on the image after a run is the one of a row: the lines that are sent follow `> `, and those of
+// the report follow `= `.
 fn is_reported(alloc: Global, row: &str) -> Option<bool> {
     let input = lines_behind(alloc, row, "> ")?;
     let disk = left_by(alloc, formatted(alloc)?, &input)?;
     Some(reported(alloc, disk)? == lines_behind(alloc, row, "= ")?)
 }
 
-// The reports of some rows, with an empty line between two.
+// Checks the reports of some rows, with an empty line between two.
 fn are_reported(rt: &impl Abort, alloc: Global, rows: &str) {
     for row in rows.split("\n\n") {
         holds(rt, is_reported(alloc, row) == Some(true), &row);
@@ -85,8 +85,8 @@ fn images_that_rows_leave(rt: HostRuntime) {
     are_reported(&rt, rt.alloc(), IMAGES_THAT_ROWS_LEAVE);
 }
 
-// Three files of the greatest length, and a fourth. A file takes a page for each 512 bytes begun of its type and its bytes, and one more:
-// 66 three times, and 58, 57 or 56.
+// Three files of the greatest length, and a fourth. A file takes a page for each 512 bytes begun of its type and its
+// bytes, and one more: 66 three times, and 58, 57 or 56.
 const IMAGES_THAT_FILES_FILL: &str = r#"
 > MMEM:DATA "A",#532768{x*32768}
 > MMEM:DATA "B",#532768{x*32768}
@@ -142,7 +142,7 @@ fn images_that_files_fill(rt: HostRuntime) {
 const OF_A_FRESH_IMAGE: &str =
     "image version 2 root 1\npages 0 of 256\nenables none\nrequest none\nuser 0\nmacros 0\n";
 
-// Whether a disk of so many bytes 00 is no image.
+// Whether a disk of this many bytes 00 is not an image.
 fn is_none(alloc: Global, size: u64) -> Option<bool> {
     let disk = MemDisk::new(alloc, size).ok()?;
     Some(recover(alloc, disk).err()? == RecoverFault::NoRoot)
@@ -158,7 +158,8 @@ fn images_that_are_none(rt: HostRuntime) {
     }
 }
 
-// The lines that fill an image of 480 pages with 240 items of two pages each: a hundred registers, and files of one byte.
+// Returns the lines that fill an image of 480 pages with 240 items of two pages each: a hundred registers, and files of
+// one byte.
 fn filling_lines(alloc: Global) -> Option<Vec<u8>> {
     let mut lines = b"VOLT 1\n".to_vec(alloc).ok()?;
     for register in 0..100u8 {
@@ -179,7 +180,7 @@ fn filling_lines(alloc: Global) -> Option<Vec<u8>> {
     Some(lines)
 }
 
-// The report on an image so filled.
+// Returns the report on an image filled by them.
 fn report_of_filled(alloc: Global) -> Option<Vec<u8>> {
     let head =
         b"image version 2 root 2\npages 480 of 480\nenables none\nrequest none\nuser 0\nmacros 0\n";
@@ -194,7 +195,7 @@ fn report_of_filled(alloc: Global) -> Option<Vec<u8>> {
     Some(report)
 }
 
-// Whether the greatest image is reported as it is, and a change more does not fit.
+// Whether the largest image is reported correctly, and one more change does not fit.
 fn is_filled(alloc: Global) -> Option<bool> {
     let disk = left_by(alloc, image(alloc, 480)?, &filling_lines(alloc)?)?;
     let is_reported = reported(alloc, disk)? == report_of_filled(alloc)?;

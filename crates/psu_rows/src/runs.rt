@@ -1,13 +1,13 @@
-// A run, and what it came to.
+// A run, and its result.
 use psu_disk::Disk;
 use psu_server::{RunCause, RunFault, StartCause, run};
 use std::alloc::{Allocator, Global};
 use std::io::{Read, Write};
 
-/// Why a run ends whose disk fails as it is opened.
+/// The cause of a run whose disk fails when it is opened.
 pub const NOT_OPENED: RunCause = RunCause::Open(StartCause::Device);
 
-/// What a run came to: its text, why it ended early, and the disk.
+/// The result of a run: its text, why it ended early, and the disk.
 #[derive(Drop)]
 pub struct Ran<D: Disk> {
     pub text: Vec<u8>,
@@ -15,7 +15,7 @@ pub struct Ran<D: Disk> {
     pub disk: D,
 }
 
-/// The run itself, which all rows make here, so that its promises are read in one proof alone.
+/// Runs; all rows run through this function, so its contract is read in one proof only.
 pub fn run_between<R: Read, W: Write, D: Disk, A: Allocator + Copy>(
     memory: A,
     reader: &mut R,
@@ -25,13 +25,13 @@ pub fn run_between<R: Read, W: Write, D: Disk, A: Allocator + Copy>(
     run(memory, reader, writer, disk)
 }
 
-/// A run of this input on a disk.
+/// Runs this input on a disk.
 pub fn run_on<D: Disk>(alloc: Global, input: &[u8], disk: D) -> Ran<D> {
     let mut reader = input;
     run_from(alloc, alloc, &mut reader, disk)
 }
 
-/// A run of what a reader gives, with memory of its own.
+/// Runs the input of a reader, with memory of its own.
 pub fn run_from<R: Read, D: Disk, A: Allocator + Copy>(
     alloc: Global,
     memory: A,

@@ -1,8 +1,9 @@
-// Memory refused while one line is executed: each of its units that is not done has told of it, by -225 in the error queue, and
-// done nothing else. The line behind it asks for that, with memory again.
+// Memory is refused while one line is executed: each of its units that is not done has reported that, by -225 in the
+// error queue, and has had no other effect. The line after it queries that, with memory again.
 //
-// A case is a text: the lines before, which write one line at most (`before: `), the line with little memory (`line: `), the one that asks what came
-// of it (`then: `), and all that may be written, a row each (`- `), first what is where memory is ample. ` / ` stands between two lines.
+// A case is a text: the lines before, which write one line at most (`before: `), the line with little memory
+// (`line: `), the one that queries the result (`then: `), and all that may be written, a row each (`- `), first what is
+// written where memory is ample. ` / ` separates two lines.
 use crate::images::least;
 use crate::memory::{End, arena, behind, leave};
 use crate::runs::{Ran, run_from};
@@ -13,7 +14,7 @@ use std::alloc::{AllocError, Global};
 use std::io::{self, ErrorKind, Read};
 use std::process::Abort;
 
-/// A reader that gives a line at each call, and leaves so many bytes of memory for one of them.
+/// A reader that returns one line a call, and leaves this many bytes of memory for one of them.
 #[derive(Drop)]
 struct Rationing<'a, 'b> {
     arena: &'a Bump<Global>,
@@ -49,7 +50,7 @@ struct Case<'a> {
     rows: &'a str,
 }
 
-// The lines of a cell, each with its end.
+// Returns the lines of a cell, each with its end.
 fn lines_of(alloc: Global, cell: &str) -> Result<Vec<u8>, AllocError> {
     let mut lines = Vec::new(alloc);
     for line in cell.split(" / ") {
@@ -59,7 +60,7 @@ fn lines_of(alloc: Global, cell: &str) -> Result<Vec<u8>, AllocError> {
     Ok(lines)
 }
 
-// What stands behind a mark at the front of a line of a case.
+// Returns the text after a mark at the start of a line of a case.
 fn cell<'a>(case: &'a str, mark: &str) -> &'a str {
     for line in case.lines() {
         if let Some(cell) = line.strip_prefix(mark) {
@@ -69,7 +70,7 @@ fn cell<'a>(case: &'a str, mark: &str) -> &'a str {
     ""
 }
 
-// Whether a text is what a row says; of a run that ended early, a front of that.
+// Whether a text is the one of a row; of a run that ended early, a prefix of it.
 fn is_written(row: &str, text: &[u8], whole: bool) -> bool {
     let mut rest = text;
     for line in row.split(" / ") {
@@ -82,7 +83,7 @@ fn is_written(row: &str, text: &[u8], whole: bool) -> bool {
 }
 
 impl Case<'_> {
-    // A case of a text.
+    // Reads a case from its text.
     fn of(alloc: Global, text: &str) -> Result<Case<'_>, AllocError> {
         let told = cell(text, "told before: ");
         let told_before = if told.is_empty() {
@@ -99,7 +100,7 @@ impl Case<'_> {
         })
     }
 
-    // Whether a text is what one of the rows says; of a run that ended early, a front of that.
+    // Whether a text is the one of some row; of a run that ended early, a prefix of it.
     fn allows(&self, text: &[u8], whole: bool) -> bool {
         for line in self.rows.lines() {
             if let Some(row) = line.strip_prefix("- ") {
@@ -111,7 +112,7 @@ impl Case<'_> {
         false
     }
 
-    // A run of the lines with so many bytes for one of them.
+    // Runs the lines with this many bytes for one of them.
     fn ran_with(&self, rt: &impl Abort, alloc: Global, left: usize) -> Ran<MemDisk<Global>> {
         let arena = arena(alloc).expect(rt, "an arena");
         let image = least(alloc).expect(rt, "an image");
@@ -124,7 +125,8 @@ impl Case<'_> {
         run_from(alloc, &arena, &mut reader, image)
     }
 
-    // How the run ends, where it may end so: early only with all that stands before the line.
+    // How the run ends; `None` where it may not end this way: it ends early only with all that is written before the
+    // line.
     fn end_of(&self, text: &[u8], cause: Option<RunCause>) -> Option<End> {
         match cause {
             None if is_written(cell(self.rows, "- "), text, true) => Some(End::Whole),
@@ -137,7 +139,7 @@ impl Case<'_> {
         }
     }
 
-    // How the run ends with so many bytes for the line.
+    // How the run ends with this many bytes for the line.
     fn run_with(&self, rt: &impl Abort, alloc: Global, left: usize) -> End {
         let Ran {
             text,
@@ -150,7 +152,8 @@ impl Case<'_> {
         }
     }
 
-    // Less and less of the line's memory refused, until all of it is there: how often something was refused.
+    // Refuses less and less of the line's memory, until all of it is there, and returns how often something was
+    // refused.
     fn refusals(&self, rt: &impl Abort, alloc: Global) -> Option<u32> {
         let mut refused = 0u32;
         for left in (0..6_000usize).step_by(8) {
@@ -163,7 +166,8 @@ impl Case<'_> {
     }
 }
 
-// Cases, with an empty line between two, go as they say with little memory, and as a whole once there is enough.
+// Checks that cases, with an empty line between two, end in one of their rows with little memory, and in the first once
+// there is enough.
 fn go_with_little_memory(rt: &impl Abort, alloc: Global, cases: &str) {
     for text in cases.split("\n\n") {
         let case = Case::of(alloc, text).expect(rt, "memory");
@@ -174,7 +178,7 @@ fn go_with_little_memory(rt: &impl Abort, alloc: Global, cases: &str) {
     }
 }
 
-// An answer that is refused sets EXE (16) beside PON (128), and status byte bit 2 (4).
+// An answer that is refused sets EXE (16) in addition to PON (128), and status byte bit 2 (4).
 const ANSWERS: &str = "
 before: *PSC 0;*SRE 32;*ESE 128;*OPC? / !POWER
 told before: 1

@@ -1,8 +1,8 @@
-// Texts with parts that stand in them often: `{x*64}` is 64 x, and `{FOO\n*17}` 17 lines.
+// Texts with repeated parts: `{x*64}` is 64 x, and `{FOO\n*17}` 17 lines.
 use psu_tables::written;
 use std::alloc::Global;
 
-// Adds a part as often as it says.
+// Appends a part as often as it says.
 fn add_often(alloc: Global, text: &mut Vec<u8>, part: &str) -> Option<()> {
     let (once, times) = part.rsplit_once("*")?;
     let once = written(alloc, once)?;
@@ -12,7 +12,7 @@ fn add_often(alloc: Global, text: &mut Vec<u8>, part: &str) -> Option<()> {
     Some(())
 }
 
-/// Adds a line, with its end; none where a part of it has no count, or memory is wanted.
+/// Appends a line, with its end; `None` where a part of it has no count, or memory is refused.
 pub fn add_line(alloc: Global, text: &mut Vec<u8>, line: &str) -> Option<()> {
     for piece in line.split("{") {
         let mut rest = piece;

@@ -1,12 +1,12 @@
-// Transcripts of runs as texts: what is sent, and what is written. A text costs a proof far less than an array of rows, and reads as what one
-// types.
+// Transcripts of runs as texts: what is sent, and what is written. A text costs a proof far less than an array of rows,
+// and reads like a session at a terminal.
 use crate::holds::holds;
 use crate::images::{image, written_on};
 use crate::texts::add_line;
 use std::alloc::Global;
 use std::process::Abort;
 
-/// The lines of a transcript behind this mark, each with its end.
+/// Returns the lines of a transcript after this mark, each with its end.
 pub fn lines_behind(alloc: Global, transcript: &str, mark: &str) -> Option<Vec<u8>> {
     let mut lines = Vec::new(alloc);
     for row in transcript.split('\n') {
@@ -17,14 +17,15 @@ pub fn lines_behind(alloc: Global, transcript: &str, mark: &str) -> Option<Vec<u
     Some(lines)
 }
 
-// What a transcript writes on a fresh image of so many pages.
+// Returns what a transcript writes on a fresh image of this many pages.
 fn written_by(alloc: Global, pages: u16, transcript: &str) -> Option<Vec<u8>> {
     let input = lines_behind(alloc, transcript, "> ")?;
     written_on(alloc, image(alloc, pages)?, &input)
 }
 
-/// Plays transcripts, each on a fresh image of so many pages, with an empty line between two. The lines that begin with `> ` are sent, and
-/// those that begin with `< ` are all that is to be written; `{x*64}` in one stands for 64 x. Other lines tell what a transcript is for.
+/// Plays transcripts, each on a fresh image of this many pages, with an empty line between two. The lines that begin
+/// with `> ` are sent, and those that begin with `< ` are all that is to be written; `{x*64}` in one means 64 x. Other
+/// lines say what a transcript is for.
 pub fn play_on(rt: &impl Abort, alloc: Global, pages: u16, transcripts: &str) {
     let mut written_lines = 0usize;
     for transcript in transcripts.split("\n\n") {
@@ -36,7 +37,7 @@ pub fn play_on(rt: &impl Abort, alloc: Global, pages: u16, transcripts: &str) {
     holds(rt, written_lines > 0, &transcripts);
 }
 
-/// The same on images of 256 pages.
+/// Plays transcripts, each on a fresh image of 256 pages.
 pub fn play(rt: &impl Abort, alloc: Global, transcripts: &str) {
     play_on(rt, alloc, 256, transcripts);
 }

@@ -42,7 +42,7 @@ impl<D: Disk + Drop + Send + 'static, G: Gate + Drop + Send + Sync + 'static> Ac
         }
     }
 
-    // A connection over a stream, which counts as silent until its first message.
+    // Returns a connection over a stream, which counts as silent until its first message.
     fn connection<R: Wait>(&mut self, rt: &R, stream: TcpStream) -> io::Result<Connection<D, G>> {
         stream.set_nodelay(true)?;
         let link = Arc::new(self.server.alloc, Link::new(stream))?;
@@ -73,7 +73,7 @@ impl<D: Disk + Drop + Send + 'static, G: Gate + Drop + Send + Sync + 'static> Ac
         Ok(())
     }
 
-    // The flusher, in a thread of its own.
+    // Starts the flusher, in a thread of its own.
     fn start_flusher<R, E>(&mut self, rt: R, errors: E) -> io::Result<()>
     where
         R: Threads + Wait + Clock + Copy + Send + 'static,
@@ -94,7 +94,8 @@ impl<D: Disk + Drop + Send + 'static, G: Gate + Drop + Send + Sync + 'static> Ac
     }
 }
 
-/// Serves the image at a path over 127.0.0.1, at a port, for as long as the process lives. It answers only where no server stands: why.
+/// Serves the image at a path over 127.0.0.1, at a port, for as long as the process lives. It returns only where it
+/// can't serve, with the reason.
 pub fn serve<R, G>(rt: R, alloc: Global, image: &str, port: u16, gate: G) -> ServeFault
 where
     R: Net<Listener = TcpListener, Stream = TcpStream>
@@ -115,7 +116,8 @@ where
     }
 }
 
-/// Serves what a disk holds, as `serve` does an image; what an operator is told of the store goes to `errors`, a line each.
+/// Serves the contents of a disk, as `serve` does those of an image; messages on the store for an operator go to
+/// `errors`, one line each.
 pub fn serve_disk<R, D, G, E>(
     rt: R,
     alloc: Global,
@@ -150,7 +152,7 @@ where
     }
 }
 
-// What accepts the connections of a server that has begun.
+// Returns the acceptor of a server that has started.
 fn acceptor_of<R: Clock, D: Disk + Drop, G: Gate + Drop>(
     rt: &R,
     alloc: Global,
@@ -189,7 +191,7 @@ where
     let listener = TcpListener::bind(&rt, ("127.0.0.1", port))?;
     let mut acceptor = acceptor_of(&rt, alloc, caller)?;
     acceptor.start_flusher(rt, errors)?;
-    // Who started the server without an output to read is served all the same.
+    // A server is served to its clients also where no one can read its output.
     let _ = println!(rt; "listening on 127.0.0.1:{port}");
     for _ in rt.forever() {
         acceptor.accept_next(rt, &listener);

@@ -1,11 +1,11 @@
-// Why no server stands.
+// Why a server does not start.
 use psu_disk::OpenFault;
 use psu_exec::{PowerCause, StartCause};
 use psu_items::OpenCause;
 use std::alloc::AllocError;
 use thiserror::Error;
 
-/// Why no server stands.
+/// Why a server does not start.
 #[derive(Clone, Copy, Debug, PartialEq, Eq, Error)]
 pub enum ServeFault {
     /// The file of the image is not opened.
@@ -17,7 +17,7 @@ pub enum ServeFault {
     /// The port is taken, or the network or the clock fails.
     #[error("network fault")]
     Network,
-    /// Memory is refused.
+    /// An allocation failed.
     #[error("out of memory")]
     Memory,
 }

@@ -1,4 +1,4 @@
-// How a served device begins.
+// The power-on of a served device.
 ghost use Rattle.std.specs.Prelude.{IfOk};
 ghost use Rattle.psu_serve.specs.PowerOn.{BeginsWith};
 
@@ -14,8 +14,9 @@ use std::sync::Arc;
 /// The disk of the server, with a gate before each write.
 pub type Served<D, G> = Gated<D, SharedGate<G>>;
 
-/// Powers a device on with the contents of a disk, and returns the first way to it. It begins in the state at power-on that these contents
-/// prescribe, with no session and no lock (IEEE 488.2, 5.12), and no call is in its history.
+/// Powers a device on with the contents of a disk, and returns the first caller of it. The device begins in the state
+/// at power-on that these contents prescribe, with no session and no lock (IEEE 488.2, 5.12), and its history has no
+/// call.
 pub fn power_on<D: Disk + Drop, G: Gate + Drop>(
     alloc: Global,
     disk: D,

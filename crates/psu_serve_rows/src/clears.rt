@@ -1,4 +1,4 @@
-// Device clears: what they drop, and that nothing of before comes after.
+// Device clears: what they discard, and that nothing from before a clear follows it.
 use psu_client::{Client, Missed, joined_as};
 use psu_hosts::{Untrue, new_served, plays};
 use psu_serve::Open;
@@ -105,7 +105,7 @@ fn many_clears(client: &mut Client) -> Result<(), Missed> {
     client.is_served()
 }
 
-// An answer of before a clear may be on its way.
+// A response from before a clear may be on its way.
 #[test]
 fn clears_follow_questions(rt: HostRuntime) -> Result<(), Missed> {
     let port = new_served(rt, rt.alloc(), "many_clears.image", 48_949, Open)?;

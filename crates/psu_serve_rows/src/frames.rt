@@ -1,4 +1,4 @@
-// Frames that are not as they should be, and first messages.
+// Invalid frames, and first messages.
 use psu_hosts::{Untrue, plays};
 
 const ERRORS: &str = "

@@ -1,4 +1,4 @@
-// What lies in an image: lines that are executed on it, and items that it keeps.
+// The contents of an image: lines that are executed on it, and items that it keeps.
 use psu_client::Missed;
 use psu_disk::{Disk, FileDisk, MemDisk, OsFiles};
 use psu_items::Store;
@@ -10,7 +10,7 @@ use std::rt::Files;
 /// The size of an image of 256 pages.
 const SIZE: u64 = 263_168;
 
-/// Lines are executed on an image, which then lies at rest.
+/// Executes lines on an image, which is then at rest.
 pub fn executed<R: Files<File = File>>(
     rt: &R,
     alloc: Global,
@@ -28,7 +28,7 @@ pub fn executed<R: Files<File = File>>(
     }
 }
 
-// The bytes of a file on a disk in memory.
+// Copies an image to a disk in memory.
 fn copied<R: Files<File = File> + Alloc<A = Global>>(
     rt: &R,
     image: &str,
@@ -46,7 +46,7 @@ fn copied<R: Files<File = File> + Alloc<A = Global>>(
     }
 }
 
-/// A copy of an image opens, and has this item.
+/// Checks that a copy of an image opens and has this item.
 pub fn is_kept<R: Files<File = File> + Alloc<A = Global>>(
     rt: &R,
     image: &str,

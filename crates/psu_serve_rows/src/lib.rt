@@ -1,7 +1,7 @@
-//! Tests over sockets, of what a session is answered: frames, transmissions, device clears, long answers, and stores that fail. Expected frames are
-//! worked by hand from the profile of the protocol.
+//! Tests over sockets of the responses to a session: frames, transmissions, device clears, long responses, and stores
+//! that fail. Expected frames are worked by hand from the profile of the protocol.
 //!
-//! Ports are odd: the system gives clients even ones, so none of theirs is in a server's way.
+//! Ports are odd: the system assigns even ones to clients, so no client's port conflicts with a server's.
 #![tactic(auto)]
 
 #[cfg(test)]

@@ -1,9 +1,10 @@
-// What a read of a connection comes to.
+// The results of a read on a connection.
 use psu_members::Heard;
 use std::io::{Error, ErrorKind};
 use std::test::Fail;
 
-// A read that was interrupted, as where the server is stopped and goes on, or that took its time is no end.
+// A read that was interrupted, as where the server is stopped and continued, or that timed out does not end the
+// connection.
 #[test]
 fn an_interrupted_read_is_no_end(rt: HostRuntime) -> Result<(), Fail> {
     for kind in [

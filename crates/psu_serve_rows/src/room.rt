@@ -1,4 +1,4 @@
-// Two units that wait for room, of which there is some for one; the other finds the last that is made.
+// Two units wait for room while there is room for one; the other takes the last room that is made.
 use psu_client::{Client, Missed, holds, is_silent, joined_as};
 use psu_hosts::new_served;
 use psu_serve::{Gate, Point};
@@ -9,7 +9,7 @@ use std::test::Fail;
 use std::thread;
 use std::time::{Clock, Duration};
 
-/// How often it is looked whether something has come true, a millisecond each.
+/// How often a flag is checked, once a millisecond.
 const LOOKS: u32 = 8_000;
 
 #[derive(Drop)]
@@ -19,8 +19,8 @@ struct State {
     tries: AtomicUsize,
 }
 
-/// The first job waits until it is let go; the second until two units were tried after that. From then on a unit that was tried is held up for as
-/// long as all jobs take.
+/// A gate at which the first job waits until it is released; the second until two units were tried after that. From
+/// then on a unit that was tried is blocked for as long as all jobs take.
 #[derive(Drop)]
 struct Rush<R: Drop> {
     rt: R,
@@ -53,7 +53,7 @@ impl<R: Clock + Copy> Rush<R> {
         self.state.is_let_go.load(Ordering::SeqCst)
     }
 
-    // The first job is held.
+    // Waits until the first job is held.
     fn is_held(&self) -> Result<(), Missed> {
         for _ in 0..LOOKS {
             if self.runs() > 0 {
@@ -70,7 +70,7 @@ impl<R: Clock + Copy> Rush<R> {
         holds(was_held, "the flusher was held till now")
     }
 
-    // Whether a job that has come may run.
+    // Whether a job may run, by the number of jobs before it.
     fn may_run(&self, before: usize) -> bool {
         match before {
             0 => self.is_let_go(),
@@ -123,7 +123,7 @@ fn comes_late(client: &mut Client) -> Result<(), Missed> {
     is_silent(&mut client.sync)
 }
 
-// Both are executed, though no wake comes after the last room was made.
+// Both are executed, though no wakeup follows the last room that was made.
 #[test]
 fn two_saves_wait_for_one_room(rt: HostRuntime) -> Result<(), Fail> {
     let rush = Rush::new(rt, rt.alloc())?;

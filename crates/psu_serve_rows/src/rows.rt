@@ -1,4 +1,4 @@
-// What sessions are answered, frame by frame.
+// The responses to sessions, frame by frame.
 use crate::images::{executed, is_kept};
 use psu_client::{Client, Missed, joined_as, send, text_comes};
 use psu_hosts::{Untrue, formatted, plays, removed, served};
@@ -48,10 +48,10 @@ fn sessions_are_answered(rt: HostRuntime) -> Result<(), Untrue> {
 /// A status query.
 const QUERY: &[u8] = b"HS\x15\x00\xff\xff\xff\x00\x00\x00\x00\x00\x00\x00\x00\x00";
 
-/// Lines that leave an image whose first request for service is prescribed.
+/// Lines that leave an image for which a first service request is prescribed.
 const LINES: &[u8] = b"*PSC 0;*SRE 32;*ESE 128;*OPC?\n!POWER\n*STB?;*ESR?;*STB?\n";
 
-/// The request; the status byte with it, and after it.
+/// The service request; the status byte with it, and after it.
 const REQUEST: &[u8] = b"HS\x14\x60\x00\x00\x00\x00\x00\x00\x00\x00\x00\x00\x00\x00";
 
 const REQUESTED: &[u8] = b"HS\x16\x60\x00\x00\x00\x00\x00\x00\x00\x00\x00\x00\x00\x00";
@@ -66,7 +66,7 @@ fn request_stands(client: &mut Client) -> Result<(), Missed> {
     text_comes(&mut client.other, FETCHED)
 }
 
-// The enables that were kept prescribe it: power came on, and that is enabled.
+// The enables that were kept prescribe the request: power came on, and that event is enabled.
 #[test]
 fn a_first_request_is_prescribed(rt: HostRuntime) -> Result<(), Missed> {
     let image = "first_request.image";
@@ -89,7 +89,7 @@ fn save_is_confirmed(client: &mut Client) -> Result<(), Missed> {
     client.hear(b"1\n")
 }
 
-// What was confirmed lies in the image.
+// A confirmed save is in the image.
 #[test]
 fn a_confirmed_save_is_kept(rt: HostRuntime) -> Result<(), Missed> {
     let image = "confirmed_save.image";

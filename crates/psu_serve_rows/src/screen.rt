@@ -21,7 +21,7 @@ impl<R: Wait + Clock + Copy> Screen<R> {
         Ok(Screen { rt, alloc, text })
     }
 
-    /// The same, for the server.
+    /// Returns another handle to the text, for the server.
     pub fn another(&self) -> Result<Screen<R>, AllocError> {
         Ok(Screen {
             rt: self.rt,
@@ -34,12 +34,12 @@ impl<R: Wait + Clock + Copy> Screen<R> {
         self.text.lock(&self.rt).as_str() == lines
     }
 
-    /// It shows these lines.
+    /// Checks that these lines were written.
     pub fn shows(&self, lines: &str) -> Result<(), Missed> {
         holds(self.is(lines), "these lines on standard error")
     }
 
-    /// It shows these lines within five seconds.
+    /// Waits for at most five seconds until these lines were written.
     pub fn comes_to_show(&self, lines: &str) -> Result<(), Missed> {
         for _ in 0..500u32 {
             if self.is(lines) {

@@ -1,4 +1,4 @@
-// A disk that takes nothing for a time, as one without room.
+// A disk that refuses writes for a time, like one without room.
 ghost use Rattle.std.specs.Prelude.{◌≡◌, ◌≤◌};
 ghost use Rattle.psu_disk.specs.Disk.{HasFailed};
 
@@ -13,14 +13,14 @@ struct State {
     refused: AtomicUsize,
 }
 
-/// How a disk is, as a test says.
+/// The state of a disk, as a test sets it.
 #[derive(Drop)]
 pub struct Health {
     state: Arc<State>,
 }
 
 impl Health {
-    /// Well.
+    /// Returns the state of a disk that accepts writes.
     pub fn new(alloc: Global) -> Result<Health, AllocError> {
         let state = State {
             is_sick: AtomicBool::new(false),
@@ -31,19 +31,19 @@ impl Health {
         })
     }
 
-    /// The same, for the disk.
+    /// Returns another handle to the state, for the disk.
     pub fn another(&self) -> Result<Health, AllocError> {
         Ok(Health {
             state: Arc::try_clone(&self.state)?,
         })
     }
 
-    /// The disk refuses each write from now on, or takes each.
+    /// Makes the disk refuse each write from now on, or accept each.
     pub fn be_sick(&self, is_sick: bool) {
         self.state.is_sick.store(is_sick, Ordering::SeqCst);
     }
 
-    /// How many writes were refused.
+    /// The number of writes that were refused.
     pub fn refused(&self) -> usize {
         self.state.refused.load(Ordering::SeqCst)
     }
@@ -58,7 +58,7 @@ impl Health {
     }
 }
 
-/// A disk that refuses writes while it is sick; it reads and syncs all the same.
+/// A disk that refuses writes while it is sick; it still reads and syncs.
 #[derive(Drop)]
 pub struct SickDisk<D: Disk> {
     inner: D,

@@ -1,4 +1,4 @@
-// Stores that break, are opened again, or are worn: how often the disk is tried, and what is told on standard error.
+// Stores that break, are reopened, or are worn: how often the disk is tried, and what is reported on standard error.
 use crate::screen::Screen;
 use crate::sick_disk::{Health, SickDisk};
 use psu_client::{Client, Missed, holds, joined_as};
@@ -8,7 +8,7 @@ use std::test::Fail;
 use std::thread;
 use std::time::Duration;
 
-// Where the number of the first root stands in an image.
+// The place of the first root's number in an image.
 const NUMBER: u64 = 8;
 
 fn saves(client: &mut Client) -> Result<(), Missed> {
@@ -20,8 +20,8 @@ fn is_kept(client: &mut Client) -> Result<(), Missed> {
     client.ask(b"*OPC?", b"1\n")
 }
 
-// A disk that takes nothing is tried once a second and no more, and that it broke is told once. Once it takes something again that is kept, with
-// nobody asking for it, and told.
+// A disk that refuses writes is tried once a second and no more often, and the broken store is reported once. Once the
+// disk accepts writes again, the save is kept without a client's request, and that is reported.
 #[test]
 fn a_full_disk_is_tried_each_second(rt: HostRuntime) -> Result<(), Fail> {
     let alloc = rt.alloc();
@@ -42,7 +42,7 @@ fn a_full_disk_is_tried_each_second(rt: HostRuntime) -> Result<(), Fail> {
     Ok(())
 }
 
-// The numbers of a store are used up: that is told once.
+// A store whose root numbers are used up is reported once.
 #[test]
 fn a_worn_store_is_told_of_once(rt: HostRuntime) -> Result<(), Fail> {
     let alloc = rt.alloc();

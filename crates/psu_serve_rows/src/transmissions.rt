@@ -1,4 +1,4 @@
-// Transmissions: how they are put together, what is executed of them, and what of them waits.
+// Transmissions: how they are assembled, what of them is executed, and what of them waits.
 use psu_hosts::{Untrue, plays};
 
 const WHOLE: &str = "

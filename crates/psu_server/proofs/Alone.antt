@@ -21,8 +21,8 @@ use Rattle.psu_server.proofs.JobEnds.{no_wait_after}
 use Rattle.psu_server.proofs.Scripts.{Holds}
 use Rattle.psu_server.proofs.SessionOne.{over_free}
 
--- A device at rest, as the script and as the world have it: the store is whole and holds these contents' map, which each image of the
--- disk stands for.
+-- A device at rest, in the script and in the world: the store is whole and holds the map of these contents, which each
+-- possible crash image of the disk represents.
 pub record Still (r : Rest) (w : World) : Type 0 where
   pub state : w.state ≡ r.state
   pub whole : r.state.flush.store ≡ Whole
@@ -47,7 +47,7 @@ committing f w = rw w refl
 target_of : State → List Item
 target_of s = target s.flush
 
--- what a job that is stored leaves
+-- the state after a job that is stored
 stored_is : (r : Rest) (w taken new : World) (job : JobData) (limit : ℕ) (map : List Item) (over : List ℕ) → Still r w → Calls w (Took (Job job)) taken → Calls taken (GaveBack (Stored limit map) (Some over)) new
     → Still (committed r) new
 unfolding target_of
@@ -94,7 +94,7 @@ job_alone r w new q j = (some (subst (λ (s : State). HasWork s.flush) q.state j
 nothing_left : (n : ℕ) → n - n ≡ 0
 nothing_left n = omega arith
 
--- no job or one
+-- there is no job, or one
 jobs_two : (n : ℕ) (r : Rest) (w new : World) → Still r w → Jobs n none w new → ((n ≡ 0) × Still r new) ⊎ ((n ≡ 1) × (1 ≤ r.state.flush.unflushed) × Still (committed r) new)
 jobs_two zero r w new q j = inl (refl, subst (λ (z : World). Still r z) (sym j) q)
 jobs_two (suc n) r w new q j = elim (jobs_two n r w j.0 q j.1) [
@@ -136,12 +136,12 @@ wait_by false r whole e =
 
 -- ---- units
 
--- what goes on from a unit is what was seen
+-- the script's result of a unit agrees with its reply and the world after it
 pub record Same (went : Went) (o : Reply) (new : World) : Type 0 where
   pub reply : went.reply ≡ o
   pub quiet : Quiet went.rest new
 
--- where no memory is refused a call gives the expansion of its body, or the error in its place
+-- where no memory is refused, a call returns the expansion of its body, or the error in its place
 calm_given : (inside : Bool) (body : List ℕ) (args : List (List ℕ)) (o : Reply) (given : Result (List ℕ) ScpiError) → o ≡ answer_call given → CallGives inside body args given → IsMeant none o
     → ExpandsAt inside body args given
 calm_given inside body args o (Ok text) is g m = g
@@ -172,14 +172,14 @@ calm_beside s c o holds false h free m = calm_now s c o holds (comes_later s 1 c
 calm_reply : (r : Rest) (s : State) (c : Request) (o : Reply) → s ≡ r.state → Holds c → MayAnswer s 1 c o → o ≢ Held → IsMeant none o → Replies r.state c o
 calm_reply r s c o same holds h free m = subst (λ (z : State). Replies z c o) same (calm_beside s c o holds (is_denied s 1) h free m)
 
--- a call that leaves the disk, told of the script's state
+-- a call that leaves the disk unchanged, stated on the script's state
 abbrev Answers : World → Request → Reply → World → Type 0
 Answers w c o new = Calls w (Executed 1 c o) new
 
 after_call : (r : Rest) (w new : World) (c : Request) (o : Reply) → w.state ≡ r.state → Answers w c o new → new.state ≡ after_unit r.state 1 c o
 after_call r w new c o same call = ap (λ (z : World). z.state) call.1.4 ∙ call.1.2.1.is ∙ ap (λ (s : State). after_unit s 1 c o) same
 
--- what is kept after a unit may be kept
+-- the contents after a unit are valid
 sound_call : (r : Rest) (w new : World) (c : Request) (o : Reply) → w.state ≡ r.state → Answers w c o new → IsContents (after_unit r.state 1 c o).flush.contents
 sound_call r w new c o same call =
     subst (λ (s : State). IsContents s.flush.contents) (sym (ap (λ (z : World). z.state) call.1.4) ∙ after_call r w new c o same call) call.1.2.1.sound
@@ -197,7 +197,7 @@ still_on r w new c o q call = record {
   disk = subst (λ (d : DiskState). EachStands d r.state.flush.limit (items_of r.stored)) (sym (disk_call w new c o call)) q.disk;
 }
 
--- a unit that comes later leaves all as it is
+-- a unit whose reply is `Later` leaves everything unchanged
 still_late : (r : Rest) (w new : World) (c : Request) → Still r w → Answers w c Later new → Still r new
 still_late r w new c q call = record {
   state = ap (λ (z : World). z.state) call.1.4 ∙ later_leaves w.state call.1.0 1 c Later call.1.2.1 refl ∙ q.state;
@@ -255,7 +255,7 @@ settle_at r w new o q call final long =
       };
     }
 
--- what a unit came to that is done with, in the script's words
+-- the result of a finished unit, in the script's terms
 pub record ActsAs (r : Rest) (c : Request) (o : Reply) (new : World) : Type 0 where
   pub first : Reply
   pub replies : Replies r.state c first
@@ -298,7 +298,7 @@ goes_now r c Parked h = refl
 goes_now r c Held h = refl
 goes_now r c Later h = cc
 
--- a unit goes on as the script says
+-- the result of a unit is the script's
 pub unit_alone : (r : Rest) (w new : World) (c : Request) (o : Reply) → Quiet r w → Holds c → UnitRuns none w c o new → (went : Went) × Goes r c went × Same went o new
 unit_alone r w new c o q holds (inl acts) =
     let a = acts_alone r w new c o q holds acts in (after_reply r c a.first, (a.first, a.replies, goes_now r c a.first a.now), a.same)

@@ -16,7 +16,7 @@ use Rattle.psu_server.proofs.Scripts.{Ones, some_requests}
 
 -- ---- units that are read one after another
 
--- the requests of units, read from a path, and where the path stands behind them
+-- the requests of units, read from a path, and the path after them
 abbrev pub ReadsOn : Bool → List (List ℕ) → List Part → List Request → List (List ℕ) → Type 0
 ReadsOn inside path [] requests end = (requests ≡ []) × (end ≡ path)
 ReadsOn inside path (part ∷ parts) requests end =
@@ -42,7 +42,7 @@ leads_on inside parts path Root = ([], (refl, refl))
 leads_on inside parts path (Behind {parts = before} {path = from} l part request next is) =
     let a = leads_on inside before from l in (a.0 ++ request ∷ [], reads_more inside before [] a.0 from part request next a.1 is)
 
--- no two paths stand behind them
+-- the path after a unit is unique
 one_next : Ones → (inside : Bool) (from : List (List ℕ)) (part : Part) (request other : Request) (next late : List (List ℕ)) → IsRequest inside from part request next → IsRequest inside from part other late → next ≡ late
 one_next o inside from part request other next late a b =
     let same : other.reading ≡ request.reading = o.reading from part other.reading request.reading b.reading a.reading in
@@ -56,7 +56,7 @@ one_end o inside (p ∷ parts) path requests others end late (first, more, mid, 
 
 -- ---- the first units of some bytes
 
--- these are the requests of so many first units
+-- `done` are the requests of the first `count` units
 pub record FirstOf (inside : Bool) (bytes : List ℕ) (count : ℕ) (done : List Request) : Type 0 where
   pub list : List Part
   pub path : List (List ℕ)
@@ -100,7 +100,7 @@ abbrev pub FirstAsked : Source → ℕ → List Request → Type 0
 FirstAsked (units.Text bytes) count done = FirstOf false bytes count done
 FirstAsked (Fault error) count done = done ≡ take count (faulty error ∷ [])
 
--- all that it asks for
+-- all requests that it asks for
 abbrev pub AskedBy : Source → List Request → Type 0
 AskedBy (units.Text bytes) requests = AreAsked false bytes requests
 AskedBy (Fault error) requests = requests ≡ faulty error ∷ []

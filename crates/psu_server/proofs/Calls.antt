@@ -23,7 +23,7 @@ use Rattle.psu_server.specs.Runs.{Mishaps, JobDone, Jobs, Flushes, Acts, Begins,
 
 -- ---- one call of the code
 
--- a call that leaves the disk where it is
+-- a call that leaves the disk unchanged
 pub called : {D A : Type 0} {G : Ghosts D} (old new : Exec D A G) (life : Life) (entry : Entry) → Allows old.device entry new.device → new.home ≡ old.home
     → ((d : DiskState) → d ≡ disk_at old.home → DiskAfter (world_of life old) entry d) → Calls (world_of life old) entry (world_of (lived life old.device entry) new)
 called {D} {A} {G} old new life entry allows home stays = (disk_at new.home, (new.device, refl, allows, stays (disk_at new.home) (ap (λ (z : Option (Home D A G)). disk_at z) home), refl))
@@ -73,7 +73,7 @@ jobs_calls (suc n) can w new j = executes_join w j.0 new [] [] (jobs_calls n can
 pub flush_calls : (can : Mishaps) (w new : World) → Flushes can w new → Executes w [] new
 flush_calls can w new f = jobs_calls f.0 can w new f.1
 
--- a unit that is done with is executed
+-- a finished unit is executed
 final_unit : (request : Request) (reply : Reply) → is_final reply ≡ true → unit_in (Executed 1 request reply) ≡ request ∷ []
 final_unit request Done e = refl
 final_unit request (Answer text) e = refl
@@ -99,7 +99,7 @@ unit_calls can w new request reply (inr (late, over, c, f, a)) =
     executes_join w over new [] (request ∷ []) (executes_join w late over [] [] (executes_one w (Executed 1 request Later) late c) (flush_calls can late over f))
     (acts_calls can over new request reply a)
 
--- ---- calls, whatever they execute
+-- ---- calls of any kind
 
 made_none : (w new : World) → new ≡ w → Leads w new
 made_none w new same = ([], same)
@@ -167,7 +167,7 @@ next_begun [] can w new text n = begins_made [] w new n.0
 next_begun (m ∷ ms) can w new text (inl n) = begins_made [] w new n.0
 next_begun (m ∷ ms) can w new text (inr n) = line_begun n.0 can w new [] n.2 n.3
 
--- ---- some first requests
+-- ---- a prefix of the requests
 
 pub begins_all : (w new : World) (requests : List Request) → Executes w requests new → Begins w requests new
 begins_all w new requests e = (e.entries, e.calls, [], sym e.are ∙ sym (append-nil (units_in e.entries)))
@@ -184,7 +184,7 @@ begins_then w mid new done rest e b = (
       ∙ ap (λ (z : List Request). z ++ b.2) (ap (λ (z : List Request). z ++ units_in b.0) (sym e.are) ∙ sym (units_in-append e.entries b.0)),
 )
 
--- a call more that executes no unit
+-- one more call that executes no unit
 pub begins_idle : (w mid new : World) (entry : Entry) (requests : List Request) → Begins w requests mid → Calls mid entry new → unit_in entry ≡ [] → Begins w requests new
 begins_idle w mid new entry requests b c idle = (
   b.0 ++ entry ∷ [],
@@ -196,7 +196,7 @@ begins_idle w mid new entry requests b c idle = (
 pub begins_more : (w new : World) (some more : List Request) → Begins w some new → Begins w (some ++ more) new
 begins_more w new some more b = (b.0, b.1, b.2 ++ more, ap (λ (z : List Request). z ++ more) b.3 ∙ append_assoc (units_in b.0) b.2 more)
 
--- ---- what power loss may leave
+-- ---- possible crash images
 
 run_more : (events : List Event) (first w new : World) (event : Event) → Run first events w → Happens w event new → Run first (events ++ event ∷ []) new
 run_more [] first w new event r h = (new, subst (λ (z : World). Happens z event new) r h, refl)
@@ -218,7 +218,7 @@ reached_on image new p = reached_call p.on new (Opened (Some 1)) p.opens (record
 pub prefix_of_reached : (w : World) (image : List ℕ) → Reached w → Left w.disk image → StandsForPrefix w image
 prefix_of_reached w image r left = prefix_is_left r.first w r.events image r.start r.run left
 
--- while a job is out: an image that stands for the map before, or for the target
+-- while a job is out: an image that represents the map before, or the target
 pub prefix_of_either : (w : World) (image : List ℕ) → Reached w → w.mode ≡ Running → IsEither w.state.flush.limit w.state.flush.before (target w.state.flush) image → StandsForPrefix w image
 prefix_of_either w image r running either =
     let f = w.state.flush in
@@ -228,14 +228,14 @@ prefix_of_either w image r running either =
     let p = left_in_life (record w { disk = alone }) (other_disk w alone each l) image (reads_left alone) in
     (p.k, record { from = p.prefix.from; to = p.prefix.to }, p.kept, p.stands)
 
--- where each image stands for one map, and did so in a world that was reached
+-- where each possible crash image represents one map, and did so in a world that was reached
 same_prefix : (w : World) (disk : DiskState) (limit : ℕ) (map : List Item) → Reached w → EachStands w.disk limit map → EachStands disk limit map → LeavesPrefix w disk
 same_prefix w disk limit map r was is image left =
     let p = prefix_of_reached w w.disk.bytes r (reads_left w.disk) in
     let one = one_stands limit w.limit map (items_of (after w p.0)) w.disk.bytes (was w.disk.bytes (reads_left w.disk)) p.3 in
     (p.0, p.1, p.2, subst (λ (m : List Item). Stands image w.limit m) one.1 (subst (λ (n : ℕ). Stands image n map) one.0 (is image left)))
 
--- one image that stands for the map that each stood for
+-- one image that represents the map that each possible crash image represented
 pub prefix_of_map : (w : World) (limit : ℕ) (map : List Item) (image : List ℕ) → Reached w → EachStands w.disk limit map → Stands image limit map → StandsForPrefix w image
 prefix_of_map w limit map image r was is =
     same_prefix w (without_power image) limit map r was (λ x left. subst (λ (z : List ℕ). Stands z limit map) (sym (only_left image x left)) is) image (reads_left (without_power image))
@@ -244,7 +244,7 @@ pub leaves_prefix : (w : World) (disk : DiskState) → Reached w → IsLeftBy w 
 leaves_prefix w disk r (inl same) = λ image left. prefix_of_reached w image r (same image left)
 leaves_prefix w disk r (inr (limit, map, was, is, size)) = same_prefix w disk limit map r was is
 
--- ---- what is left once all is flushed
+-- ---- the disk once all is flushed
 
 pub call_running : (w new : World) (entry : Entry) → Calls w entry new → new.mode ≡ Running
 call_running w new entry c = ap (λ (z : World). z.mode) c.1.4 ∙ c.1.1

@@ -14,7 +14,7 @@ use Rattle.psu_server.specs.Reasons.{StopsFor, EndsFor}
 pub is_write : (long : Type 0) (before now : ℕ) (rest : List Message) (last : World) (left : List ℕ) (cause : RunCause) → cause ≡ Write → StopsFor long before now rest last left cause
 is_write long before now rest last left cause is = subst (StopsFor long before now rest last left) (sym is) tt
 
--- what is not too long has the same reasons
+-- an input that is not too long has the same reasons
 pub never_long : (long : Type 0) (before now : ℕ) (rest : List Message) (last : World) (left : List ℕ) (cause : RunCause) → StopsFor ⊥ before now rest last left cause → StopsFor long before now rest last left cause
 never_long long before now rest last left (Open start.Device) why = why
 never_long long before now rest last left (Open start.NoRoot) why = why

@@ -1,4 +1,4 @@
--- How far a line has come by the deeds that were done for it.
+-- The progress of a line, by the effects that were executed for it.
 use Rattle.std.proofs.Common.{◌≡◌, ◌⊎◌, ℕ, ◌+◌, ◌<◌, ◌≤◌, Bool, true, false, Option, Some, None, List, [], ◌∷◌, ◌++◌, length, drop, length-drop, zero, suc, refl, sym, ap, ◌∙◌, subst, inl, inr, arith, append_assoc, append-nil}
 use Rattle.psu_disk.specs.declared.disk.Disk.{Ghosts}
 use Rattle.psu_lex.specs.Message.{Part}
@@ -29,14 +29,14 @@ use Rattle.psu_server.proofs.Scripts.{Ones, SomeUnits}
 use Rattle.psu_server.proofs.Telling.{says_join, says_none}
 use Rattle.psu_server.proofs.UnitEnds.{goes_as, goes_then}
 
--- ---- how far it is
+-- ---- states of a line
 
--- units of a line, one that an expansion replaces, and units of that
+-- units of a line, one that an expansion replaces, and units of that expansion
 abbrev pub LineExpands : Mishaps → World → List Request → Request → List ℕ → List Request → List (List ℕ) → World → Type 0
 LineExpands can w done request body inner all v =
     (some : List (List ℕ)) × (mid : World) × (there : World) × LineRuns can w [] done some mid × UnitRuns can mid request (Expand body) there × UnitsRun can there some inner all v
 
--- These units of it are done, and what they answered is told or gathered.
+-- Outside of an expansion: these units of the line are done, and their answers are output or in the response buffer.
 pub record Outside {D A : Type 0} {G : Ghosts D} (source : Source) (old : Exec D A G) (told : Telling) (new : Exec D A G) (now : Telling) (place : ℕ) (text : Text) : Type 0 where
   pub done : List Request
   pub asked : FirstAsked source place done
@@ -48,7 +48,7 @@ pub record Outside {D A : Type 0} {G : Ghosts D} (source : Source) (old : Exec D
   pub joins : sent ++ text.rest ≡ joined all
   pub begun : text.answered ≡ are_some all
 
--- All of them are, and their answers are told with their end.
+-- All units of the line are done, and their answers are output with the end of the response.
 pub record Over {D A : Type 0} {G : Ghosts D} (source : Source) (old : Exec D A G) (told : Telling) (new : Exec D A G) (now : Telling) (place : ℕ) (text : Text) : Type 0 where
   pub done : List Request
   pub asked : FirstAsked source place done
@@ -58,7 +58,8 @@ pub record Over {D A : Type 0} {G : Ghosts D} (source : Source) (old : Exec D A 
   pub none : text ≡ nothing
   pub over : HasNone source place
 
--- These are done, and so many units of the expansion that stands in the next one's place.
+-- Inside an expansion: these units are done, and `next` units of the expansion that is executed in place of the next
+-- one.
 pub record Inside {D A : Type 0} {G : Ghosts D} (source : Source) (old : Exec D A G) (told : Telling) (new : Exec D A G) (now : Telling) (place : ℕ) (expansion : Option (List ℕ)) (next : ℕ) (text : Text) : Type 0 where
   pub done : List Request
   pub asked : FirstAsked source place done
@@ -80,7 +81,7 @@ abbrev pub At : {D A : Type 0} {G : Ghosts D} → Source → Exec D A G → Tell
 At source old told new now place expansion text None = Outside source old told new now place text ⊎ Over source old told new now place text
 At source old told new now place expansion text (Some next) = Inside source old told new now place expansion next text
 
--- what a unit answers is gathered
+-- the answer of a unit is in the response buffer
 replied : (sent : List ℕ) (text : Text) (all : List (List ℕ)) (reply : Reply) → sent ++ text.rest ≡ joined all → text.answered ≡ are_some all
     → (sent ++ (text_after text reply).rest ≡ joined (with_answer all reply)) × ((text_after text reply).answered ≡ are_some (with_answer all reply))
 replied sent text all (Answer answer) joins begun = (
@@ -112,14 +113,14 @@ at_start some source old told = record {
   begun = refl;
 }
 
--- a part of the text was told, or the last one with its end
+-- a part of the response was output, or its last part with the end
 grown : (sent rest : List ℕ) (all : List (List ℕ)) → sent ++ rest ≡ joined all → (sent ++ rest) ++ [] ≡ joined all
 grown sent rest all joins = append-nil (sent ++ rest) ∙ joins
 
 ended : (sent rest : List ℕ) (all : List (List ℕ)) → sent ++ rest ≡ joined all → true ≡ are_some all → sent ++ (rest ++ 10 ∷ []) ≡ response all
 ended sent rest all joins some = sym (append_assoc sent rest (10 ∷ [])) ∙ ap (λ (l : List ℕ). l ++ 10 ∷ []) joins ∙ ap (λ (b : Bool). joined all ++ end_of b) some
 
--- ---- a deed more
+-- ---- one more effect
 
 module _ {D A : Type 0} {G : Ghosts D} {source : Source} {old mid new : Exec D A G} {told now : Telling} where
   -- a unit that is not replaced
@@ -192,7 +193,7 @@ module _ {D A : Type 0} {G : Ghosts D} {source : Source} {old mid new : Exec D A
       }
 
 module _ {D A : Type 0} {G : Ghosts D} {source : Source} {old new : Exec D A G} {told now : Telling} where
-  -- the unit of the expansion that stands
+  -- the unit at a place of the expansion that is being executed
   pub same_unit : {place next : ℕ} {expansion : Option (List ℕ)} {text : Text} (i : Inside source old told new now place expansion next text) (body : List ℕ) (part : Part) (request : Request) → expansion ≡ Some body → IsUnit true body next part request
       → IsUnit true i.body next part request
   same_unit {place} {next} {expansion} {text} i body part request stands unit =
@@ -200,7 +201,7 @@ module _ {D A : Type 0} {G : Ghosts D} {source : Source} {old new : Exec D A G} 
       let same : body ≡ i.body = cc (both) in
       subst (λ (z : List ℕ). IsUnit true z next part request) same unit
 
-  -- its expansion is over
+  -- the end of its expansion
   pub leaves : Ones → {place next : ℕ} {expansion : Option (List ℕ)} {text : Text} (body : List ℕ) → Inside source old told new now place expansion next text → expansion ≡ Some body → IsBehind body next
       → Outside source old told new now (place + 1) text
   leaves ones {place} {next} {expansion} {text} body i stands over =
@@ -220,7 +221,7 @@ module _ {D A : Type 0} {G : Ghosts D} {source : Source} {old new : Exec D A G} 
         begun = i.begun;
       }
 
-  -- a part of the text is told
+  -- a part of the response is output
   pub sends : {place : ℕ} {text : Text} (later : Telling) → Outside source old told new now place text → Says now later text.rest → Outside source old told new later place (emptied text)
   sends {place} {text} later o says = record {
     done = o.done;
@@ -254,7 +255,7 @@ module _ {D A : Type 0} {G : Ghosts D} {source : Source} {old new : Exec D A G} 
     begun = i.begun;
   }
 
-  -- the last part is told with its end
+  -- the last part is output with its end
   pub ends : {place : ℕ} {text : Text} (later : Telling) → Outside source old told new now place text → HasNone source place → text.answered ≡ true → Says now later (text.rest ++ 10 ∷ []) → Over source old told new later place nothing
   ends {place} {text} later o over answered says = record {
     done = o.done;
@@ -294,7 +295,7 @@ ended_over (units.Text bytes) place inside line (list, are, between) some = by (
       let zero = line list are place p after e first.0 in absurd (omega (arith, some, zero))
 ended_over (Fault error) place inside line ends some = some
 
--- ---- the course of a line
+-- ---- the progress of a line
 
 not_final : (reply : Reply) → is_final reply ≡ false → is_final reply ≡ true → ⊥
 not_final reply e f = let bad = sym e ∙ f in cc
@@ -330,7 +331,7 @@ try_at ones some source old mid new told now place None false expansion text req
 try_at ones some source old mid new told now place None false expansion text request reply e (inr o) (first, asks, clear) final runs = absurd (no_ask ones.units source place request o.over (first, asks))
 try_at ones some source old mid new told now place (Some n) false expansion text request reply e i (body, part, stands, unit) final runs = try_inside ones some place n expansion text part request reply i (same_unit i body part request stands unit) final runs
 
--- a unit that is tried is executed
+-- trying a unit executes it
 pub executed : {D A : Type 0} {G : Ghosts D} (old new : Exec D A G) (told now : Telling) (parked : Bool) (request : Request) (deed : Deed) (reply : Reply) → parked ≡ false → IsTry parked request deed reply → IsDone old told deed new now
     → IsDone old told (Executed request reply) new now
 executed old new told now true request deed reply e try d = absurd (cc (e))
@@ -339,7 +340,7 @@ executed old new told now false request (Executed other answer) reply e (same, i
 executed old new told now false request (Settled answer) reply e none d = absurd none
 executed old new told now false request (Sent text last) reply e none d = absurd none
 
--- the deeds and one more
+-- a run of effects ends with its last effect
 runs_apart : {X : Type 0} (does : X → Deed → X → Type 0) (deeds : List Deed) (deed : Deed) (x y : X) → Runs does x (deeds ++ deed ∷ []) y → (mid : X) × Runs does x deeds mid × does mid deed y
 runs_apart does [] deed x y (mid, first, same) = (x, refl, subst (does x deed) (sym same) first)
 runs_apart does (d ∷ deeds) deed x y (mid, first, more) = let a = runs_apart does deeds deed mid y more in (a.0, (mid, first, a.1), a.2)
@@ -347,7 +348,7 @@ runs_apart does (d ∷ deeds) deed x y (mid, first, more) = let a = runs_apart d
 not_both : {b : Bool} → b ≡ false → b ≡ true → ⊥
 not_both e f = let bad = sym e ∙ f in cc
 
--- What a front does is done on a device, with what is told.
+-- The effects of an executor are effects on a device and its output.
 abbrev pub DoesOn : {D A : Type 0} {G : Ghosts D} {X : Type 0} → (X → Exec D A G) → (X → Telling) → (X → Deed → X → Type 0) → Type 0
 DoesOn {D} {A} {G} {X} exec told does = (x y : X) (deed : Deed) → does x deed y → IsDone (exec x) (told x) deed (exec y) (told y)
 

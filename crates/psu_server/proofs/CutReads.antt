@@ -29,13 +29,13 @@ cut_stop long mid n count buf s s1 fault from to next u v w le r p q =
     (λ input. subst (λ (l : List ℕ). EndsEarly long s1 fault (mid l) v w)
     (sym (append_assoc (take n buf) more input) ∙ ap (λ (l : List ℕ). l ++ input) (sym (cut_read n count buf le))) (q (more ++ input)))
 
--- and a fault in that
+-- a read of which only a part is taken, with a fault in that part
 pub ran_cut_front : {D A : Type 0} {G : Ghosts D} (long : Type 0) (mid : List ℕ → List Message) (n count : ℕ) (buf : List ℕ) (s s1 : Exec D A G) (fault : RunFault D) (from to next u v w : Option (List ℕ)) → n ≤ count
     → Ran mid s s1 from to u v → Consumes to next (take count buf) → ((input : List ℕ) → EndsEarly ⊥ s1 fault (mid (take n buf ++ input)) v w) → Early long s fault from u w
 ran_cut_front long mid n count buf s s1 fault from to next u v w le r p q =
     cut_stop long mid n count buf s s1 fault from to next u v w le r p (λ input. early_never_long long s1 fault (mid (take n buf ++ input)) v w (q input))
 
--- and a fault behind it
+-- a read of which only a part is taken, with a fault after that part
 pub ran_cut : {D A : Type 0} {G : Ghosts D} (long : Type 0) (mid after : List ℕ → List Message) (n count : ℕ) (buf : List ℕ) (s s1 s2 : Exec D A G) (fault : RunFault D) (from to next u v w : Option (List ℕ)) (cause : RunCause) → n ≤ count
     → Ran mid s s1 from to u v → Consumes to next (take count buf) → Answered mid (take n buf) after s1 s2 v w → FaultOf s2 fault cause → cause ≢ Write → Reason long s2 fault cause → Early long s fault from u w
 ran_cut long mid after n count buf s s1 s2 fault from to next u v w cause le r p q f other why =

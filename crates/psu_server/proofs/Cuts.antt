@@ -82,7 +82,7 @@ over (x ∷ p) input h long =
     let longer : 65536 < length l = grind (arith, common_steps, long) in
     ap (map message_of) (parts_begun 10 x p input h) ∙ ap (λ (m : Message). m ∷ messages (after_part 10 input)) (long_message l longer)
 
--- a line that is over the limit: whatever it is
+-- a line that exceeds the limit, whatever its bytes
 pub extend_over : (line part input : List ℕ) → has 10 line ≡ false → has 10 part ≡ false → 65536 < length line + length part
     → messages (line ++ (part ++ input)) ≡ coming true [] input
 extend_over line part input p q long =
@@ -100,7 +100,7 @@ pub coming_end : (over : Bool) (line input : List ℕ) → has 10 line ≡ false
 coming_end true line input h = refl
 coming_end false line input h = ap (map message_of) (parts_at 10 line input h)
 
--- the line that the input ends in
+-- the last line of the input, without a line feed
 pub coming_last : (over : Bool) (line : List ℕ) → is_none_begun over line ≡ false → has 10 line ≡ false → coming over line [] ≡ message_now over line ∷ []
 coming_last true line begun free = refl
 coming_last false [] begun free = cc

@@ -43,12 +43,12 @@ use Rattle.psu_server.proofs.Passing.{runs_one, idle_begins, while_begun, while_
 use Rattle.psu_server.proofs.Starting.{halted_stops, restart_stops}
 use Rattle.psu_server.proofs.Within.{within_as, within_at, within_any, within_here, within_later}
 
--- ---- what a message came to
+-- ---- the result of a message
 
 abbrev pub ToldLine : {D A : Type 0} {G : Ghosts D} → Message → Exec D A G → Exec D A G → Telling → Telling → Type 0
 ToldLine m old new told now = (text : List ℕ) × Says told now text × RunsOn old new (m ∷ []) text
 
--- its units told these answers
+-- the result of a message whose units gave these answers
 pub told_line : {D A : Type 0} {G : Ghosts D} (m : Message) (requests : List Request) (answers : List (List ℕ)) (old new : Exec D A G) (a b : Telling) → Asks m requests → is_power m ≡ false → GoesOn old new (λ can w v. LineRuns can w [] requests answers v)
     → Says a b (response answers) → ToldLine m old new a b
 told_line m requests answers old new a b asks plain runs says = (
@@ -65,7 +65,7 @@ told_line m requests answers old new a b asks plain runs says = (
 abbrev pub BrokenLine : {D A : Type 0} {G : Ghosts D} → Message → Exec D A G → Exec D A G → Telling → Telling → RunCause → Type 0
 BrokenLine m old new told now cause = (part : List ℕ) × SaysUntil cause told now part × Breaks old new (λ can w v. MessageBegins can w m part v) cause
 
--- a stop among its units
+-- a message that stops in one of its units
 pub broken_line : {D A : Type 0} {G : Ghosts D} (m : Message) (requests : List Request) (answers : List (List ℕ)) (old new : Exec D A G) (a b : Telling) (cause : RunCause) → Asks m requests
     → Breaks old new (λ can w v. LineBegins can w [] requests answers v) cause → SaysUntil cause a b (joined answers) → BrokenLine m old new a b cause
 broken_line m requests answers old new a b cause asks breaks until = (
@@ -100,7 +100,7 @@ reopens_calls : (can : Mishaps) (w v : World) → Reopens can w v → Executes w
 reopens_calls can w v (inl (shut, same)) = subst (λ (z : World). Executes w [] z) (sym same) (executes_none w)
 reopens_calls can w v (inr (broke, done, mended)) = job_calls can w v done
 
--- at each moment of a reopening, and of what follows it on the disk
+-- every moment of a reopening, and of what follows it on the disk
 restart_moments : {D A : Type 0} {G : Ghosts D} (old mid : Exec D A G) (disk : D) (to : Option D) (life next : Life) (rest : List Message) → Executes (world_of life old) [] (world_of next mid)
     → Spans old mid (world_of life old) (world_of next mid) → Ghosts.state G disk ≡ disk_at mid.home → ForSome mid.home (λ h. disk ≡ home_disk h)
     → EachStands (Ghosts.state G disk) mid.device.flush.limit mid.device.flush.before → Since G (Some disk) to (IsOldOrSame (Ghosts.state G disk))
@@ -144,7 +144,7 @@ restart_runs {D} {A} {G} old mid new disk r at same_disk was starts works same s
   };
 }
 
--- a restart that fails behind the device that was opened again
+-- a restart that fails after the device was reopened
 pub restart_stops_here : {D A : Type 0} {G : Ghosts D} (old mid : Exec D A G) (disk : D) (fault : RunFault D) (rest : List Message)
     → GoesOn old mid Reopens → Ghosts.state G disk ≡ disk_at mid.home → ForSome mid.home (λ h. disk ≡ home_disk h) → Ghosts.failures G disk ≡ failures_of mid → Ghosts.extent G disk ≡ extent_of mid
     → Ghosts.failures G disk ≤ Ghosts.failures G fault.disk → Ghosts.extent G fault.disk ≡ Ghosts.extent G disk
@@ -177,7 +177,7 @@ restart_stops_here {D} {A} {G} old mid disk fault rest r at same_disk same size 
 left_in : (disk : DiskState) (w : World) → disk ≡ w.disk → IsLeftBy w disk
 left_in disk w e = inl (λ image left. subst (λ (d : DiskState). Left d image) e left)
 
--- what is asked of a fault of the device: the disk that was at home, and the device's reason
+-- the requirements on a fault of the device: its disk is the one that was at home, and its cause is the device's
 pub record FaultOf {D A : Type 0} {G : Ghosts D} (exec : Exec D A G) (fault : RunFault D) (cause : RunCause) : Type 0 where
   pub told : fault.cause ≡ cause
   pub failures : Ghosts.failures G fault.disk ≡ failures_of exec
@@ -186,13 +186,13 @@ pub record FaultOf {D A : Type 0} {G : Ghosts D} (exec : Exec D A G) (fault : Ru
   pub disk : ForSome exec.home (λ h. fault.disk ≡ home_disk h)
   pub reason : Ghosts.honest G → IsWornAtLast exec → exec.device.flush.store ≡ Worn → IsWornOut (Ghosts.state G fault.disk).bytes
 
--- a line that isn't that of a power loss comes next
+-- the next message is not a power loss
 pub not_at_power : (m : Message) (rest : List Message) → is_power m ≡ false → IsAtPower (m ∷ rest) → ⊥
 not_at_power Message.Power rest plain at = cc
 not_at_power Message.Overlong rest plain at = absurd at
 not_at_power (Message.Units bytes) rest plain at = absurd at
 
--- in a message
+-- a stop in a message
 pub broken_stop : {D A : Type 0} {G : Ghosts D} (old new : Exec D A G) (fault : RunFault D) (m : Message) (rest : List Message) (part : List ℕ) (cause : RunCause)
     → Breaks old new (λ can w v. MessageBegins can w m part v) cause → FaultOf new fault cause → is_power m ≡ false → StopsHere ⊥ old fault (m ∷ rest) part
 broken_stop {D} {A} {G} old new fault m rest part cause s f plain = record {
@@ -210,7 +210,7 @@ broken_stop {D} {A} {G} old new fault m rest part cause s f plain = record {
   );
 }
 
--- with no unit begun
+-- a stop with no unit begun
 pub halts_idle : {D A : Type 0} {G : Ghosts D} (old new : Exec D A G) (fault : RunFault D) (rest : List Message) (cause : RunCause) → Halts old new [] cause → FaultOf new fault cause
     → (Ghosts.honest G → IsWornAtLast old → (life : Life) → StopsFor ⊥ (failures_of old) (Ghosts.failures G fault.disk) rest (world_of life new) (Ghosts.state G fault.disk).bytes fault.cause)
     → StopsHere ⊥ old fault rest []
@@ -227,7 +227,7 @@ halts_idle {D} {A} {G} old new fault rest cause s f why = record {
   );
 }
 
--- a store that can't be opened again
+-- a store that can't be reopened
 pub reopen_stops : {D A : Type 0} {G : Ghosts D} (old new : Exec D A G) (fault : RunFault D) (rest : List Message) (cause : RunCause) → Halts old new [] cause → FaultOf new fault cause
     → (Ghosts.honest G → cause ≡ Device → HasFailed (failures_of old) (failures_of new)) → StopsHere ⊥ old fault (Message.Power ∷ rest) []
 reopen_stops {D} {A} {G} old new fault rest cause s f failed =
@@ -273,7 +273,7 @@ stops_then long old mid fault done rest text part goes stop = record {
 pub fed_none : {D A : Type 0} {G : Ghosts D} (before : List ℕ → List Message) (exec : Exec D A G) (t : Telling) → Fed before [] before exec exec t t
 fed_none before exec t = ([], [], says_none t, (λ input. refl), runs_none exec)
 
--- a line more
+-- one more line
 fed_line : {D A : Type 0} {G : Ghosts D} (before mid : List ℕ → List Message) (front part : List ℕ) (over : Bool) (line : List ℕ) (s s1 s2 : Exec D A G) (t0 t1 t2 : Telling)
     → Fed before front mid s s1 t0 t1 → ((input : List ℕ) → mid (part ++ input) ≡ coming over line input) → has 10 line ≡ false
     → ToldLine (message_now over line) s1 s2 t1 t2 → Fed before (front ++ (part ++ 10 ∷ [])) (coming false []) s s2 t0 t2
@@ -287,7 +287,7 @@ fed_line before mid front part over line s s1 s2 t0 t1 t2 f moved free told = (
   runs_all s s1 s2 f.1 told.0 f.0 (message_now over line ∷ []) f.4 told.2,
 )
 
--- what was fed of a piece, of which this is the rest
+-- the state of a piece of which this is the rest
 abbrev pub FedSo : {D A : Type 0} {G : Ghosts D} → (List ℕ → List Message) → List ℕ → List ℕ → (List ℕ → List Message) → Exec D A G → Exec D A G → Telling → Telling → Type 0
 FedSo before piece rest mid s s1 t0 t1 = (front : List ℕ) × (piece ≡ front ++ rest) × Fed before front mid s s1 t0 t1
 
@@ -311,7 +311,7 @@ is_power_line Message.Power p = refl
 is_power_line Message.Overlong p = cc
 is_power_line (Message.Units bytes) p = cc
 
--- the line of a power loss tells nothing
+-- the line of a power loss outputs nothing
 pub told_power : {D A : Type 0} {G : Ghosts D} (m : Message) (old new : Exec D A G) (t : Telling) → is_power m ≡ true → RunsOn old new (Message.Power ∷ []) [] → ToldLine m old new t t
 told_power m old new t p goes = subst (λ (z : Message). ToldLine z old new t t) (sym (is_power_line m p)) ([], says_none t, goes)
 
@@ -339,7 +339,7 @@ feed_stops before mid piece rest s s1 fault t0 t1 t2 part f until stop =
       ),
     )
 
--- the line that has ended comes first of what is left
+-- the line that has ended comes first in the rest
 pub line_first : (mid : List ℕ → List Message) (rest : List ℕ) (at : ℕ) (over : Bool) (line : List ℕ) (input : List ℕ) → IsFirstByte (is_byte 10) rest (Some at)
     → ((more : List ℕ) → mid (take at rest ++ more) ≡ coming over line more) → has 10 line ≡ false
     → mid (rest ++ input) ≡ message_now over line ∷ coming false [] (drop (at + 1) rest ++ input)
@@ -353,7 +353,7 @@ flush_stops {D} {A} {G} old new fault cause s f =
     halts_idle old new fault [] cause s f
     (λ h worn life. halted_stops ⊥ old new (Ghosts.failures G fault.disk) [] life (Ghosts.state G fault.disk).bytes cause fault.cause f.told f.failures (λ at. at) (s.why h) (f.reason h (s.lasts.worn worn)))
 
--- at each moment of a flush
+-- every moment of a flush
 pub flush_moments : {D A : Type 0} {G : Ghosts D} (old new : Exec D A G) (due : List Message) → GoesOn old new Flushes → (h : Ghosts.honest G) (life : Life) → EachMoment life old (disk_in new.home) due
 flush_moments {D} {A} {G} old new due g h life t now r =
     let k = g.runs h life in

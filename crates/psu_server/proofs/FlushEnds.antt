@@ -1,4 +1,4 @@
--- A flush and a reopening: the jobs one after another, and what they leave unflushed.
+-- A flush and a reopening: the jobs one after another, and the changes that they leave unflushed.
 use Rattle.std.proofs.Common.{◌≡◌, ◌⊎◌, ℕ, suc, ◌+◌, ◌-◌, ◌≤◌, if◌then◌else◌, Bool, true, false, Option, Some, None, List, [], refl, sym, ap, ◌∙◌, subst, inl, inr, arith, ⊎_elim, add-one, map}
 use Rattle.psu_disk.specs.Disk.{HasFailed}
 use Rattle.psu_disk.specs.declared.disk.Disk.{Ghosts}
@@ -64,9 +64,9 @@ pub flush_full : {D A : Type 0} {G : Ghosts D} (first new : Exec D A G) (life : 
     → Within (failures_of first) (failures_of new) (λ can. Flushes can (world_of life first) (world_of life new))
 flush_full first new life i all w = within_as _ _ (λ can. Jobs i can (world_of life first) (world_of life new)) (λ can. Flushes can (world_of life first) (world_of life new)) w (λ can jobs. (i, jobs, inl all))
 
--- ---- what a flush leaves unflushed
+-- ---- the changes that a flush leaves unflushed
 
--- after so many jobs that did not fail, on a store that isn't worn
+-- the state after `i` jobs that did not fail, on a store that isn't worn
 abbrev pub IsClean : ℕ → Flush → Type 0
 IsClean i f = (i ≡ 0) ⊎ ((f.store ≡ Whole) × (2 ≤ i → f.unflushed ≡ 0))
 
@@ -84,7 +84,7 @@ stored_clean f taken new limit map whole out gave =
     committing : (f : Flush) → f.store ≡ Whole → job_out f ≡ record f { out = true; held = Some (record { count = f.unflushed; map = items_of f.contents }) }
     committing f w = rw w refl
 
--- what lasts of a job
+-- the properties of the disk that a job keeps
 pub run_lasts : {D A : Type 0} {G : Ghosts D} (old taken new : Exec D A G) (j : AnyJob D A G) (short : Bool) → old.home ≡ Some (job_home j) → HasRun taken j new short → Lasts old new
 run_lasts {D} {A} {G} old taken new j short there run = record {
   extent = run.extent ∙ sym (size_at old j there);
@@ -137,9 +137,9 @@ calm_after {D} {A} {G} first i old taken new j short h took there run long later
     kind_out : (f : Flush) → kind_for (job_out f).store ≡ kind_for f.store
     kind_out f = ap kind_for (store_if f (is_whole f.store))
 
--- ---- one turn of a flush, as its loop tells it
+-- ---- one iteration of a flush, with the facts that its loop has
 
--- the calls of a job, whatever it came to
+-- the calls of a job, however it ended
 pub job_executes : {D A : Type 0} {G : Ghosts D} (old taken new : Exec D A G) (j : AnyJob D A G) (life : Life) (short : Bool) → Ghosts.honest G
     → Allows old.device (Took (Job (job_data j))) taken.device → HasRun taken j new short → Executes (world_of life old) [] (world_of life new)
 job_executes old taken new j life short h took run =
@@ -148,7 +148,7 @@ job_executes old taken new j life short h took run =
     (executes_one (world_of life old) (Took (Job (job_data j))) mid (disk_at old.home, (taken.device, refl, took, refl, refl)))
     (executes_one mid (GaveBack run.finished (Some run.over)) (world_of life new) (disk_at new.home, (new.device, refl, run.give, run.stands h, refl)))
 
--- what a power loss at any moment of a job may leave
+-- the possible crash images at any moment of a job
 pub job_spans : {D A : Type 0} {G : Ghosts D} (old taken new : Exec D A G) (j : AnyJob D A G) (life : Life) (short : Bool) → Ghosts.honest G
     → Allows old.device (Took (Job (job_data j))) taken.device → old.home ≡ Some (job_home j) → HasRun taken j new short → Spans old new (world_of life old) (world_of life new)
 job_spans {D} {A} {G} old taken new j life short h took there run =
@@ -168,7 +168,7 @@ job_spans {D} {A} {G} old taken new j life short h took there run =
     disk_of_job (job.Commit planned) = refl
     disk_of_job (job.Reopen alloc broken) = refl
 
--- after these jobs
+-- the calls of these jobs
 pub jobs_execute : {D A : Type 0} {G : Ghosts D} (first old : Exec D A G) (life : Life) (i : ℕ) → Within (failures_of first) (failures_of old) (λ can. Jobs i can (world_of life first) (world_of life old))
     → Executes (world_of life first) [] (world_of life old)
 jobs_execute first old life i w = jobs_calls i w.0 (world_of life first) (world_of life old) (within_itself _ _ (λ can. Jobs i can (world_of life first) (world_of life old)) w)
@@ -181,7 +181,7 @@ same_world {D} {A} {G} old new life same there = ap (λ (d : State). record (wor
 pub still_spans : {D A : Type 0} {G : Ghosts D} (old new : Exec D A G) (life : Life) → new.device ≡ old.device → new.home ≡ old.home → Spans old new (world_of life old) (world_of life new)
 still_spans old new life same there = spans_same old new life (world_of life new) there ([], same_world old new life same there)
 
--- a halt for want of memory
+-- a stop out of memory
 pub halts_short : {D A : Type 0} {G : Ghosts D} (old new : Exec D A G) → (Ghosts.honest G → (life : Life) → Executes (world_of life old) [] (world_of life new) × Spans old new (world_of life old) (world_of life new))
     → Lasts old new → Halts old new [] RunMemory
 halts_short old new calls lasts = record {

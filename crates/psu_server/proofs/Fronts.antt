@@ -1,4 +1,4 @@
--- Fronts of a text that is written.
+-- Prefixes of a text that is written.
 use Rattle.std.proofs.Common.{◌≡◌, ℕ, ◌+◌, ◌≤◌, List, [], ◌++◌, length, take, drop, sym, ap, ◌∙◌, subst, arith, Option, ◌-◌, Result, Ok, Err, OnErr, IfErr, IsErrAnd}
 use Rattle.std.proofs.lemmas.Grind.{common_steps}
 use Rattle.std.proofs.lemmas.List.{append-nil}
@@ -13,11 +13,11 @@ pub starts_after : (t s rest : List ℕ) → StartsWith rest s → StartsWith (t
 starts_after t s rest h =
     ap (λ (n : ℕ). take n (t ++ rest)) (length-append t s) ∙ take-append-add t rest (length s) ∙ ap (λ (z : List ℕ). t ++ z) h
 
--- the text of all of it is a front
+-- the whole text is a prefix
 pub starts_whole : (text : List ℕ) → StartsWith text text
 starts_whole text = subst (λ (z : List ℕ). StartsWith z text) (append-nil text) (take-append_seam text [])
 
--- a write of what is left
+-- a write of the rest
 pub put_step : (all : List ℕ) (at n : ℕ) (u v w : Option (List ℕ)) → at ≤ length all → n ≤ length (take (length all - at) (drop at all))
     → Appends u v (take at all) → Appends v w (take n (take (length all - at) (drop at all)))
     → (at + n ≤ length all) × Appends u w (take (at + n) all)
@@ -38,7 +38,7 @@ pub if_err : {A E : Type 0} (r : Result A E) (P : E → Type 0) → ((e : E) →
 if_err (Ok x) P p = tt
 if_err (Err e) P p = p e
 
--- a fault that is passed on
+-- a fault that is propagated
 pub passed : {A E : Type 0} (r : Result A E) (e : E) (P : E → Type 0) → IsErrAnd r (λ told. told ≡ e) → P e → IfErr r P
 passed (Ok x) e P is p = tt
 passed (Err told) e P is p = subst P (sym is) p

@@ -1,4 +1,4 @@
--- What is read of an input, read by read.
+-- The reads of an input, one after another.
 use Rattle.std.proofs.Common.{◌≡◌, ℕ, ◌+◌, ◌≤◌, List, [], ◌++◌, length, take, refl, sym, subst, arith, Some, None, Option}
 use Rattle.std.proofs.KnownBytes.{Consumes-nil, Consumes-trans, Consumes-kept}
 use Rattle.std.proofs.lemmas.Grind.{common_steps}
@@ -31,12 +31,12 @@ counts_none (Some a) = (grew_none a.made, grew_none a.filled)
 
 -- ---- reads
 
--- before the first
+-- before the first read
 pub read_start : (made : ℕ) (from : Option (List ℕ)) (r : Option Reads) → made ≡ 0 → HasRead made made [] from from r r
 read_start made from r none =
     subst (λ (k : ℕ). HasRead k k [] from from r r) (sym none) (record { taken = Consumes-nil from; counted = counts_none r; each = omega arith })
 
--- one more, which gives bytes
+-- one more read, which returns bytes
 pub read_more : (made next n : ℕ) (seen buf : List ℕ) (from to left : Option (List ℕ)) (r s t : Option Reads) → HasRead made made seen from to r s
     → Consumes to left (take n buf) → (1 ≤ n → Counts 1 1 s t) → (n ≡ 0 → ⊥) → n ≤ length buf → next ≡ made + 1 → HasRead next next (seen ++ take n buf) from left r t
 read_more made next n seen buf from to left r s t has took counts some bound is =
@@ -47,7 +47,7 @@ read_more made next n seen buf from to left r s t has took counts some bound is 
       each = grind (arith, common_steps, has.each, least, bound);
     })
 
--- one more, which gives none
+-- one more read, which returns none
 pub read_none : (made : ℕ) (seen : List ℕ) (from to left : Option (List ℕ)) (r s t : Option Reads) → HasRead made made seen from to r s → Consumes to left [] → Counts 1 0 s t
     → HasRead (made + 1) made seen from left r t
 read_none made seen from to left r s t has took counts =
@@ -57,26 +57,26 @@ read_none made seen from to left r s t has took counts =
       each = has.each;
     }
 
--- one more, which fails
+-- one more read, which fails
 pub read_failed : (made : ℕ) (seen : List ℕ) (from to left : Option (List ℕ)) (r s t : Option Reads) → HasRead made made seen from to r s → Keeps to left → Counts 1 0 s t
     → HasRead (made + 1) made seen from left r t
 read_failed made seen from to left r s t has kept counts = read_none made seen from to left r s t has (Consumes-kept to to left [] (Consumes-nil to) kept) counts
 
 -- ---- how far a run reads
 
--- it reads nothing
+-- a run that reads nothing
 pub no_reads : (piece : ℕ) (from : Option (List ℕ)) (r : Option Reads) → ReadsNoFurther piece from from r r
 no_reads piece from r = (0, 0, [], read_start 0 from r refl, omega arith, omega arith)
 
 pub further_as : (piece most : ℕ) (from left : Option (List ℕ)) (r t : Option Reads) → piece ≤ most → ReadsNoFurther piece from left r t → ReadsNoFurther most from left r t
 further_as piece most from left r t le reads = (reads.0, reads.1, reads.2, reads.3, reads.4, omega (arith, le, reads.5))
 
--- its last read gives no bytes
+-- a run whose last read returns no bytes
 pub further_none : (piece made : ℕ) (seen : List ℕ) (from left : Option (List ℕ)) (r t : Option Reads) → HasRead (made + 1) made seen from left r t → made + 1 ≤ 1048576
     → length seen ≤ 16777216 → ReadsNoFurther piece from left r t
 further_none piece made seen from left r t has few short = (made + 1, made, seen, has, few, omega (arith, short))
 
--- its last read gives bytes
+-- a run whose last read returns bytes
 pub further_more : (piece made n : ℕ) (seen buf : List ℕ) (from left : Option (List ℕ)) (r t : Option Reads) → HasRead made made (seen ++ take n buf) from left r t → made ≤ 1048576
     → length seen ≤ 16777216 → n ≤ length buf → n ≤ piece → ReadsNoFurther piece from left r t
 further_more piece made n seen buf from left r t has few short bound fits =

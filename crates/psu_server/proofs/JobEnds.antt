@@ -1,4 +1,4 @@
--- A job that goes out, runs and is given back.
+-- A job that is taken, runs and is given back.
 use Rattle.std.proofs.Common.{◌≡◌, ◌≢◌, ℕ, ◌+◌, ◌≤◌, ◌^◌, Bool, true, false, Option, Some, None, List, [], ◌∷◌, refl, sym, ap, ◌∙◌, subst, inl, inr, ⊎_elim, map, slice_index_or, option_map}
 use Rattle.psu_disk.specs.Disk.{HasFailed, LeavesOnly}
 use Rattle.psu_disk.specs.Ranges.{reads_left}
@@ -30,9 +30,9 @@ use Rattle.psu_server.specs.Moments.{Since, disk_in}
 use Rattle.psu_server.specs.Runs.{Mishaps, none, is_short, IsSound, EndsJob, JobDone}
 use Rattle.psu_server.specs.Within.{Covers, Within}
 
--- ---- what a job's end leaves of the state
+-- ---- the state after a job's end
 
--- what the store is once this is given back
+-- the condition of the store once this is given back
 abbrev pub store_after : JobEnd → Condition
 store_after (Stored limit map) = Whole
 store_after (Unstarted limit before edits unstarted.Memory) = Whole
@@ -66,7 +66,7 @@ gave_open end s new over a = ap (λ (o : List Bool). slice_index_or o 0 false) (
 pub gave_locks : (end : JobEnd) (s new : State) (over : List ℕ) → IsAccepted s end over new → new.volatile.locks ≡ s.volatile.locks
 gave_locks end s new over a = locks_after s new end a.gives
 
--- what a job's end turns each wait into is none where there was none
+-- a job's end makes no wait where there was none
 pub no_wait_after : (turn : Wait → Wait) (waits : List (Option Wait)) → slice_index_or waits 0 None ≡ None → slice_index_or (map (option_map turn) waits) 0 None ≡ None
 no_wait_after turn [] h = refl
 no_wait_after turn (None ∷ waits) h = refl
@@ -126,7 +126,7 @@ counts_of (job.Reopen alloc old) (finished.Broken broken) runs h long =
     still_counts broken.limit broken.before broken.batch broken.cause _ _ runs.device (runs.strange h) long
 counts_of (job.Reopen alloc old) (finished.Reopened store) runs h long = runs.failures
 
--- a commit that wears the store out finds the last number
+-- a commit that wears the store out finds the last number in the root
 pub wears_of : {D A : Type 0} {G : Ghosts D} (j : AnyJob D A G) (end : Finished D A G) → RunsTo j end → EndStands end → is_short (finished_of end) ≡ false → Wears (finished_of end) (Ghosts.state G (home_disk (home_of end))).bytes
 wears_of (job.Commit planned) (finished.Stored store) runs stands long = tt
 wears_of (job.Commit planned) (finished.Unstarted store back unstarted.Memory) runs stands long = cc
@@ -165,7 +165,7 @@ gave_worn {D} {A} {G} s new over j end there runs gave is =
     (subst (λ (z : Option (Home D A G)). WearsOutLast (store_after (finished_of end)) z) (sym is)
     (λ h e. subst (λ (z : Home D A G). store_after (finished_of end) ≡ Worn → 2 ^ 64 ≤ home_number z + 1) (the_home (home_of end) h e) (worn_for j end runs)))
 
--- a store that is broken then is so for a failed call
+-- a store that is broken after a job is so because a call failed
 pub broken_failed : (end : JobEnd) (store : Condition) (a b : ℕ) → store ≡ store_after end → is_broken store ≡ true → Counts end a b → HasFailed a b
 broken_failed (Stored limit map) store a b is broke counts = let bad = sym (ap is_broken is) ∙ broke in cc
 broken_failed (Unstarted limit before edits unstarted.Memory) store a b is broke counts = let bad = sym (ap is_broken is) ∙ broke in cc
@@ -175,7 +175,7 @@ broken_failed (Reopened limit map) store a b is broke counts = let bad = sym (ap
 
 -- ---- the disk of a job
 
--- it is the one that was at home
+-- it is the disk that was at home
 pub count_at : {D A : Type 0} {G : Ghosts D} (old : Exec D A G) (j : AnyJob D A G) → old.home ≡ Some (job_home j) → failures_of old ≡ Ghosts.failures G (job_disk j)
 count_at {D} {A} {G} old j there = ap (λ (z : Option (Home D A G)). failures_at z) there ∙ by j where
   by : (j : AnyJob D A G) → failures_at (let z : Option (Home D A G) = Some (job_home j) in z) ≡ Ghosts.failures G (job_disk j)
@@ -188,7 +188,7 @@ size_at {D} {A} {G} old j there = ap (λ (z : Option (Home D A G)). extent_at z)
   by (job.Commit planned) = refl
   by (job.Reopen alloc broken) = refl
 
--- ---- the run's own words
+-- ---- facts in the run's terms
 
 same_disk : {D A : Type 0} {G : Ghosts D} (end : Finished D A G) → finished_disk end ≡ home_disk (home_of end)
 same_disk (finished.Stored store) = refl

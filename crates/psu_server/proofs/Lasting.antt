@@ -1,4 +1,4 @@
--- What lasts of the disk of a device at rest.
+-- Properties that the disk of a device at rest keeps.
 use Rattle.std.proofs.Common.{◌≡◌, Option, refl, sym, ap, ◌∙◌, subst, arith}
 use Rattle.psu_disk.specs.declared.disk.Disk.{Ghosts}
 use Rattle.psu_exec.specs.declared.condition.Condition.{Condition}
@@ -11,7 +11,7 @@ use Rattle.psu_server.specs.Progress.{HandsBack, Lasts}
 pub lasts_none : {D A : Type 0} {G : Ghosts D} (exec : Exec D A G) → Lasts exec exec
 lasts_none exec = record { extent = refl; later = omega arith; worn = λ e. e }
 
--- the store stays at home as it is
+-- the store stays at home unchanged
 pub lasts_same : {D A : Type 0} {G : Ghosts D} (old new : Exec D A G) → new.device.flush.store ≡ old.device.flush.store → new.home ≡ old.home → Lasts old new
 lasts_same {D} {A} {G} old new store there =
     let count : failures_of new ≡ failures_of old = ap (λ (z : Option (Home D A G)). failures_at z) there in
@@ -28,7 +28,7 @@ lasts_then old mid new p q = record {
   worn = λ e. q.worn (p.worn e);
 }
 
--- and then its disk is handed back
+-- the disk is kept and then returned
 pub hands_then : {D A : Type 0} {G : Ghosts D} (old mid : Exec D A G) (disk : D) → Lasts old mid → HandsBack mid disk → HandsBack old disk
 hands_then old mid disk p q = record { extent = q.extent ∙ p.extent; later = let one = p.later in let two = q.later in omega (arith, one, two) }
 

@@ -1,4 +1,4 @@
--- A unit that comes later still, after a flush.
+-- A unit whose reply is still `Later` after a flush.
 use Rattle.std.proofs.Common.{◌≡◌, ◌⊎◌, ℕ, ◌<◌, ◌==◌, ◌&&◌, not, nat_le, if◌then◌else◌, Bool, true, false, Option, Some, None, is_none, List, [], ◌∷◌, refl, sym, ap, ◌∙◌, inl, inr, arith, ⊎_elim, Result, Ok, Err}
 use Rattle.std.proofs.lemmas.Bool.Decides.{nat_tests}
 use Rattle.psu_disk.specs.Disk.{HasFailed}
@@ -37,7 +37,7 @@ and_first false b e = cc
 some_of : (n : ℕ) (b : Bool) → (nat_le 1024 n && b) ≡ true → 0 < n
 some_of n b e = let most : nat_le 1024 n ≡ true = and_first (nat_le 1024 n) b e in grind (arith, nat_tests, most)
 
--- none of the replies that a command may have
+-- the reply is not `Later`, for each reply that a command may have
 abbrev Never : Reply → Type 0
 Never reply = reply ≡ Later → ⊥
 
@@ -67,7 +67,7 @@ never_meant f (Keeps change) = never_kept (nv.refused f.contents change) (is_who
 never_meant f (Completes c) =
     never_if (not (is_whole f.store)) (Error StorageFault) _ (λ e. cc) (never_if (parks c && not (f.unflushed == 0)) Parked (answer_complete c) (λ e. cc) (never_complete c))
 
--- the session waits for nothing, so changes are left
+-- the session waits for nothing, so changes are unflushed
 full_tail : (wait : Option Wait) (n : ℕ) (nonvolatile : Bool) → wait ≡ None → is_late wait n nonvolatile ≡ true → 0 < n
 full_tail None n nonvolatile free e = some_of n nonvolatile e
 full_tail (Some w) n nonvolatile free e = cc

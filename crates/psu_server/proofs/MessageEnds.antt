@@ -14,7 +14,7 @@ use Rattle.psu_server.proofs.Lasting.{lasts_none}
 use Rattle.psu_server.proofs.Moments.{spans_none}
 use Rattle.psu_server.proofs.Within.{within_here}
 
--- nothing is done
+-- nothing is executed
 pub goes_none : {D A : Type 0} {G : Ghosts D} (exec : Exec D A G) (P : Mishaps → World → World → Type 0) → ((can : Mishaps) (w : World) → P can w w) → GoesOn exec exec P
 goes_none exec P here = record {
   runs = λ h life. (life, within_here _ (λ can. P can (world_of life exec) (world_of life exec)) (λ can. here can (world_of life exec)), spans_none exec life);
@@ -30,7 +30,7 @@ units_join can w mid new answers some all [] ys p q =
 units_join can w mid new answers some all (x ∷ xs) ys p q =
     (p.0, p.1, p.2, units_join can p.1 mid new (with_answer answers p.0) some all xs ys p.3 q)
 
--- none of them has begun
+-- no unit of the expansion has begun
 units_idle : (requests : List Request) (answers : List (List ℕ)) (can : Mishaps) (w : World) → UnitsBegin can w answers requests answers w
 units_idle [] answers can w = (refl, refl)
 units_idle (request ∷ requests) answers can w = inl (begins_none w w (request ∷ []) (executes_none w), refl)
@@ -47,7 +47,7 @@ units_begun can w mid new answers some all [] ys p q =
     subst (λ (z : World). UnitsBegin can z answers ys all new) p.0 (subst (λ (z : List (List ℕ)). UnitsBegin can mid z ys all new) p.1 q)
 units_begun can w mid new answers some all (x ∷ xs) ys (reply, there, u, more) q = inr (reply, there, u, units_begun can there mid new (with_answer answers reply) some all xs ys more q)
 
--- all of them are over
+-- all units of the expansion are finished
 pub units_over : (can : Mishaps) (w new : World) (answers all : List (List ℕ)) (requests : List Request) → UnitsRun can w answers requests all new → UnitsBegin can w answers requests all new
 units_over can w new answers all requests p =
     subst (λ (z : List Request). UnitsBegin can w answers z all new) (append-nil requests) (units_begun can w new new answers all all requests [] p (refl, refl))
@@ -61,7 +61,7 @@ line_join can w mid new answers some all [] ys p q =
 line_join can w mid new answers some all (x ∷ xs) ys (reply, there, told, after, u, r, more) q =
     (reply, there, told, after, u, r, line_join can after mid new told some all xs ys more q)
 
--- a reply that is no expansion is told
+-- a reply that is not an expansion is added to the answers
 pub told_reply : (reply : Reply) (can : Mishaps) (w : World) (answers all : List (List ℕ)) → is_expansion reply ≡ false → all ≡ with_answer answers reply → ReplyRuns can w answers reply all w
 told_reply Done can w answers all plain is = (refl, is)
 told_reply (Answer a) can w answers all plain is = (refl, is)
@@ -71,7 +71,7 @@ told_reply Parked can w answers all plain is = (refl, is)
 told_reply Held can w answers all plain is = (refl, is)
 told_reply Later can w answers all plain is = (refl, is)
 
--- none of them has begun
+-- no unit of the line has begun
 line_idle : (requests : List Request) (answers : List (List ℕ)) (can : Mishaps) (w : World) → LineBegins can w answers requests answers w
 line_idle [] answers can w = (refl, refl)
 line_idle (request ∷ requests) answers can w = inl (begins_none w w (request ∷ []) (executes_none w), refl)
@@ -90,7 +90,7 @@ line_begun can w mid new answers some all [] ys p q =
 line_begun can w mid new answers some all (x ∷ xs) ys (reply, there, told, after, u, r, more) q =
     inr (inr (reply, there, told, after, u, r, line_begun can after mid new told some all xs ys more q))
 
--- all of them are over
+-- all units of the line are finished
 pub line_over : (can : Mishaps) (w new : World) (answers all : List (List ℕ)) (requests : List Request) → LineRuns can w answers requests all new → LineBegins can w answers requests all new
 line_over can w new answers all requests p =
     subst (λ (z : List Request). LineBegins can w answers z all new) (append-nil requests) (line_begun can w new new answers all all requests [] p (refl, refl))

@@ -66,7 +66,7 @@ start_quiet image new p = record {
   wait = refl;
 }
 
--- a message, and the device behind it, are told as the script has them
+-- the text of a message and the device after it are the script's
 pub record SameTold (told : Told) (all : List ℕ) (new : World) : Type 0 where
   pub text : told.text ≡ all
   pub quiet : Quiet told.rest new

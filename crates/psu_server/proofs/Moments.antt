@@ -1,4 +1,4 @@
--- What may be left at each moment, one part of a run after another.
+-- The possible crash images at each moment, one part of a run after another.
 use Rattle.std.proofs.Common.{◌≡◌, ℕ, Option, Some, None, List, [], refl, sym, subst}
 use Rattle.psu_disk.specs.Disk.{Left, LeavesOnly}
 use Rattle.psu_disk.specs.Moments.{and_then, started, weaken}
@@ -39,13 +39,13 @@ pub since_from : {D A : Type 0} {G : Ghosts D} (there : Option (Home D A G)) (di
 since_from None disk to P same p = tt
 since_from {D} {A} {G} (Some h) disk to P same p = subst (λ (d : D). Since G (Some d) to P) (same h refl) p
 
--- to a disk that is at home then
+-- to a disk that is at home afterwards
 pub since_to : {D A : Type 0} {G : Ghosts D} (there : Option (Home D A G)) (disk : D) (P : List ℕ → Type 0) → (there ≡ None → ⊥)
     → ForSome there (λ h. LeavesOnly (Ghosts.moment G) (Ghosts.left_since G) disk (home_disk h) P) → Since G (Some disk) (disk_in there) P
 since_to None disk P some p = absurd (some refl)
 since_to (Some h) disk P some p = p h refl
 
--- and is handed back
+-- to a disk that was at home and is returned
 pub since_back : {D A : Type 0} {G : Ghosts D} (from : Option D) (there : Option (Home D A G)) (disk : D) (P : List ℕ → Type 0) → ForSome there (λ h. disk ≡ home_disk h)
     → Since G from (disk_in there) P → Since G from (Some disk) P
 since_back None there disk P same p = tt
@@ -57,7 +57,7 @@ since_back {D} {A} {G} (Some a) (Some h) disk P same p = subst (λ (d : D). Sinc
 pub leads_none : (w : World) → Leads w w
 leads_none w = ([], refl)
 
--- at this moment
+-- the present moment
 pub here : (w v : World) (image : List ℕ) → Leads w v → StandsForPrefix w image → IsBetween w v image
 here w v image leads p = (w, leads_none w, leads, p)
 

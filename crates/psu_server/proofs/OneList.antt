@@ -1,4 +1,5 @@
--- A run with its losses of power, and one behind another on the same disk, as one list of events of the theorem on power loss.
+-- A run with its power losses, and runs one after another on the same disk, as one list of events of the theorem on
+-- power loss.
 use Rattle.std.proofs.Common.{◌≡◌, ℕ, ◌+◌, false, Some, List, [], ◌∷◌, ◌++◌, length, refl, sym, ap, ◌∙◌, subst, inl, inr, arith, ⊎_elim}
 use Rattle.std.proofs.lemmas.List.{get_or_past}
 use Rattle.psu_disk.specs.Disk.{DiskState}
@@ -45,7 +46,7 @@ executed_leads w new e = calls_lead e.entries w new e.calls
 synced_keeps : (d : DiskState) → KeepsMaps d (without_power d.bytes)
 synced_keeps d = λ image left. (d.bytes, reads_left d, λ limit map s. subst (λ (x : List ℕ). Stands x limit map) (sym (only_left d.bytes image left)) s)
 
--- where each image stands for what the disk reads as
+-- where each possible crash image represents the map that the disk's bytes represent
 standing_keeps : (d new : DiskState) (limit : ℕ) (map : List Item) → Stands d.bytes limit map → EachStands new limit map → KeepsMaps d new
 standing_keeps d new limit map was is = λ image left. (
   d.bytes,
@@ -90,7 +91,8 @@ swept w new keeps size =
       ),
     )
 
--- What powers on from what the disk of a world reads as is reached by events, once all has stopped there.
+-- A device that powers on from the bytes that the disk of a world reads as is reached by events, once everything has
+-- stopped there.
 restart_leads : (w new : World) → PowersOn w.disk.bytes new → EventsLead (record w { mode = Stopped }) new
 restart_leads w new p =
     let on = p.on in
@@ -101,7 +103,7 @@ restart_leads w new p =
     (record { down = tt; sound = p.start.sound; fitting = p.start.fitting; stands = p.start.disk }, is_start on p.start)
     (Call (Opened (Some 1)) p.opens.0 ∷ [], (new, p.opens.1, refl)))
 
--- at rest a loss of power leaves what a read gives
+-- at rest a power loss leaves the bytes that a read returns
 power_leads : (w new : World) → PowersOn w.disk.bytes new → EventsLead w new
 power_leads w new p =
     let dark : World = record w { disk = without_power w.disk.bytes } in
@@ -112,7 +114,7 @@ pub process_leads : (image : List ℕ) (w new : World) → PowersOn image new �
 process_leads image w new p same =
     leads_behind w (record w { mode = Stopped }) new Stop refl (restart_leads w new (subst (λ (x : List ℕ). PowersOn x new) (sym same) p))
 
--- the disk that is handed back is left by events
+-- the disk that is returned is reached by events
 pub left_leads : (w : World) (disk : DiskState) → IsLeftBy w disk → (stopped : World) × EventsLead w stopped × (stopped.disk ≡ disk)
 left_leads w disk left = (
   record w { disk = disk; mode = Restarting w.disk },
@@ -151,7 +153,7 @@ flush_leads can w new f = executed_leads w new (flush_calls can w new f)
 
 -- ---- a run
 
--- the worlds that a run comes to behind its power-on, from one before it
+-- the worlds that a run reaches after its power-on, from one before it
 pub whole_leads : (image : List ℕ) (ms : List Message) (can : Mishaps) (first last over before : World) (text : List ℕ) → PowersOn image first → Runs can first ms text last → Flushes can last over
     → before.disk.bytes ≡ image → EventsLead before over
 whole_leads image ms can first last over before text p runs ends same =
@@ -162,7 +164,7 @@ pub first_leads : (image : List ℕ) (ms rest : List Message) (can then : Mishap
 first_leads image ms rest can then first mid last before text part p runs begun same =
     leads_then before first last (process_leads image before first p same) (leads_then first mid last (runs_lead ms can first mid text runs) (next_leads rest then mid last part begun))
 
--- ---- what is reached
+-- ---- reached worlds
 
 reached_by : (w new : World) → EventsLead w new → Reached w → Reached new
 reached_by w new e r = record { first = r.first; events = r.events ++ e.0; start = r.start; run = run_join r.events e.0 r.first w new r.run e.1 }

@@ -1,4 +1,4 @@
--- A line is one message: of its units the first alone is the first of a message.
+-- A line is one message: only the first of its units is the first of a message.
 use Rattle.std.proofs.Common.{◌≡◌, ℕ, zero, suc, ◌==◌, ◌||◌, Bool, true, false, List, [], ◌∷◌, ◌++◌, drop, refl, sym, ap, ◌∙◌, subst, if◌then◌else◌, None}
 use Rattle.std.specs.Prelude.{⊤}
 use Rattle.psu_lex.specs.Bytes.{all_white, is_closed}
@@ -11,7 +11,7 @@ abbrev pub AreLater : List Part → Type 0
 AreLater [] = ⊤
 AreLater (p ∷ ps) = (p.first ≡ false) × AreLater ps
 
--- no unit but the first is
+-- only the first unit is
 abbrev pub BeginOnce : List Part → Type 0
 BeginOnce [] = ⊤
 BeginOnce (p ∷ ps) = AreLater ps
@@ -20,7 +20,7 @@ has_not_behind : (e : ℕ) (a b : List ℕ) → has e (a ++ b) ≡ false → has
 has_not_behind e [] b h = h
 has_not_behind e (x ∷ a) b h = has_not_behind e a b (no_tail e x (a ++ b) h)
 
--- ---- units behind the first
+-- ---- units after the first
 
 later_append : (xs ys : List Part) → AreLater xs → AreLater ys → AreLater (xs ++ ys)
 later_append [] ys p q = q
@@ -65,7 +65,7 @@ once text bytes (Separator b ∷ tokens) (more, is, stands, reads) free =
     once_parted (all_white text) text (next_first true text b) tokens (λ e. next ∙ e) (λ e. next ∙ e) (once [] more tokens reads rest) (later [] more tokens reads rest)
 once text bytes (Faulty rest ∷ tokens) reads free = tt
 
--- ---- by their places
+-- ---- units by their places
 
 later_at : (ps : List Part) (place : ℕ) (p : Part) (after : List Part) → AreLater ps → drop place ps ≡ p ∷ after → p.first ≡ false
 later_at [] zero p after late e = absurd (cc (e))
@@ -79,7 +79,7 @@ first_at [] (suc n) p after begins e first = absurd (cc (e))
 first_at (q ∷ qs) zero p after begins e first = refl
 first_at (q ∷ qs) (suc n) p after begins e first = let bad = sym (later_at qs n p after begins e) ∙ first in cc
 
--- of the units of a line one is the first of a message
+-- only one of the units of a line is the first of a message
 abbrev pub IsOneMessage : List ℕ → Type 0
 IsOneMessage bytes = (units : List Part) → IsMessage bytes units → (place : ℕ) (p : Part) (after : List Part) → drop place units ≡ p ∷ after → p.first ≡ true → place ≡ 0
 

@@ -49,7 +49,7 @@ one_reply one s a b same x y p q = one_now one s a b same (is_later s 1 a) x y p
 
 -- ---- units
 
--- a request by its reading alone
+-- a request that has only its reading
 abbrev bare : Result Command ScpiError → Request
 bare reading = record { call = None; reading = reading; inside = false }
 
@@ -62,7 +62,7 @@ reply_bare r a Parked = refl
 reply_bare r a Held = refl
 reply_bare r a Later = refl
 
--- a unit goes on by its reading and its reply alone
+-- the result of a unit depends only on its reading and its reply
 reply_alike : (r : Rest) (a b : Request) (reply : Reply) → Same a b → after_reply r a reply ≡ after_reply r b reply
 reply_alike r a b reply same = reply_bare r a reply ∙ ap (λ (z : Result Command ScpiError). after_reply r (bare z) reply) same.reading ∙ sym (reply_bare r b reply)
 

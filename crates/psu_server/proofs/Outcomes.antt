@@ -1,4 +1,4 @@
--- What a whole run came to, said of the image that it began on.
+-- The result of a whole run, stated on the image that it began on.
 use Rattle.std.proofs.Common.{◌≡◌, ℕ, List, Option, Some, None, IfSome, IsErrAnd, Result, Ok, Err, ◌++◌, inl, inr, subst, sym}
 use Rattle.std.specs.Option.{ForSome}
 use Rattle.psu_disk.specs.Disk.{DiskState, LeavesOnly}
@@ -32,7 +32,7 @@ use Rattle.psu_server.proofs.Reading.{Early, Whole}
 use Rattle.psu_server.proofs.Starting.{stops_since}
 use Rattle.psu_server.proofs.Within.{covers_itself, within_itself}
 
--- the disk of a fault that is passed on
+-- the disk of a fault that is propagated
 pub passed_disk : {D : Type 0} (r : Result D (RunFault D)) (fault : RunFault D) (P : D → Type 0) → IsErrAnd r (λ told. told ≡ fault) → P fault.disk → P (disk_of r)
 passed_disk (Ok disk) fault P is p = absurd is
 passed_disk {D} (Err told) fault P is p = subst (λ (z : RunFault D). P z.disk) (sym is) p
@@ -79,7 +79,7 @@ run_early {D} {A} {G} long from u v image s fault before h starts same worn (due
       back = behind.2;
     }
 
--- and why
+-- why the run ended early
 pub run_cause : {D A : Type 0} {G : Ghosts D} (long : Type 0) (from u v : Option (List ℕ)) (image : List ℕ) (s : Exec D A G) (fault : RunFault D) (before : ℕ) → Ghosts.honest G → PowersOn image (world_of (born s) s)
     → failures_of s ≡ before → IsWornAtLast s → Early long s fault from u v → EndsFor image before (Ghosts.failures G fault.disk) (Ghosts.state G fault.disk).bytes long fault.cause
 run_cause {D} {A} {G} long from u v image s fault before h starts same worn early =
@@ -87,13 +87,13 @@ run_cause {D} {A} {G} long from u v image s fault before h starts same worn earl
     ends_late image before (Ghosts.failures G fault.disk) w.rest w.last (Ghosts.state G fault.disk).bytes long fault.cause (stands_readable _ _ _ starts.found)
     (stops_since long before w.count (Ghosts.failures G fault.disk) w.rest w.last (Ghosts.state G fault.disk).bytes fault.cause w.later w.why)
 
--- what is written of a known input where nothing goes wrong
+-- the text that is written for a known input where nothing goes wrong
 script_of : (from : Option (List ℕ)) (image : List ℕ) (due : List Message) (text : List ℕ) (first last : World) → Brings from due → PowersOn image first → Runs none first due text last
     → IfSome from (λ input. IsScript first.start first.limit input text)
 script_of None image due text first last brought starts runs = tt
 script_of (Some input) image due text first last brought starts runs = script_is_alone image input text first last starts (subst (λ (m : List Message). Runs none first m text last) brought runs)
 
--- the run ended well
+-- the run succeeded
 pub run_whole : {D A : Type 0} {G : Ghosts D} (from u v : Option (List ℕ)) (image : List ℕ) (s : Exec D A G) (disk : D) (before : ℕ) → Ghosts.honest G → PowersOn image (world_of (born s) s) → failures_of s ≡ before
     → Whole s disk from u v → WritesRun image from before (Ghosts.failures G disk) u v (Ghosts.state G disk)
 run_whole {D} {A} {G} from u v image s disk before h starts same (due, brought, p) =
@@ -124,7 +124,7 @@ run_whole {D} {A} {G} from u v image s disk before h starts same (due, brought, 
       back = e.4;
     }
 
--- ---- at each moment
+-- ---- each moment
 
 pub run_moments : {D A : Type 0} {G : Ghosts D} (from : Option (List ℕ)) (given over : D) (s : Exec D A G) (due : List Message) → Ghosts.tells G → IsNow G → PowersOn (Ghosts.state G given).bytes (world_of (born s) s)
     → (s.home ≡ None → ⊥) → ForSome s.home (λ h. LeavesOnly (Ghosts.moment G) (Ghosts.left_since G) given (home_disk h) (IsOldOrSame (Ghosts.state G given))) → Brings from due

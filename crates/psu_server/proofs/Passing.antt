@@ -1,4 +1,4 @@
--- Messages, one after another, and what may be left at each moment of them.
+-- Messages, one after another, and the possible crash images at each of their moments.
 use Rattle.std.proofs.Common.{◌≡◌, ℕ, false, List, [], ◌∷◌, ◌++◌, refl, sym, ap, ◌∙◌, subst, inl, inr, append_assoc, Option}
 use Rattle.std.proofs.lemmas.List.{append-nil}
 use Rattle.psu_disk.specs.declared.disk.Disk.{Ghosts}
@@ -29,7 +29,7 @@ runs_join can w mid new text more [] ys p q =
 runs_join can w mid new text more (x ∷ xs) ys p q =
     (p.0, p.1 ++ more, p.2, p.3, runs_join can p.2 mid new p.1 more xs ys p.4 q, ap (λ (z : List ℕ). z ++ more) p.5 ∙ append_assoc p.0 p.1 more)
 
--- ---- a moment of messages
+-- ---- a moment during messages
 
 -- calls that execute no unit
 pub idle_begins : (can : Mishaps) (w v : World) (rest : List Message) → Begins w [] v → NextBegins can w rest [] v
@@ -40,7 +40,7 @@ next_more : (can : Mishaps) (w v : World) (rest ys : List Message) (part : List 
 next_more can w v [] ys part n = subst (λ (z : List ℕ). NextBegins can w ys z v) (sym n.1) (idle_begins can w v ys n.0)
 next_more can w v (m ∷ ms) ys part n = n
 
--- where more messages are to come
+-- more messages are due
 pub while_more : (w : World) (xs ys : List Message) (image : List ℕ) → IsWhile w xs image → IsWhile w (xs ++ ys) image
 while_more w xs ys image r = record {
   done = r.done;
@@ -55,7 +55,7 @@ while_more w xs ys image r = record {
   between = r.between;
 }
 
--- behind messages that were executed
+-- after messages that were executed
 pub while_behind : (w mid : World) (xs ys : List Message) (text image : List ℕ) → Runs any w xs text mid → IsWhile mid ys image → IsWhile w (xs ++ ys) image
 while_behind w mid xs ys text image before r = record {
   done = xs ++ r.done;
@@ -80,13 +80,13 @@ while_idle w v due image b between = while_begun w v due [] image (idle_begins a
 pub while_here : (w : World) (due : List Message) (image : List ℕ) → StandsForPrefix w image → IsWhile w due image
 while_here w due image p = while_idle w w due image (begins_all w w [] (executes_none w)) (here w w image (leads_none w) p)
 
--- a message with all its units
+-- a message with all its units is one that has begun
 message_begun : (can : Mishaps) (w v : World) (m : Message) (text : List ℕ) → is_power m ≡ false → MessageRuns can w m text v → (part : List ℕ) × MessageBegins can w m part v
 message_begun can w v Message.Power text plain r = cc
 message_begun can w v Message.Overlong text plain r = (joined r.2, (r.0, r.1, r.2, line_over can w v [] r.2 r.0 r.3, refl))
 message_begun can w v (Message.Units bytes) text plain r = (joined r.2, (r.0, r.1, r.2, line_over can w v [] r.2 r.0 r.3, refl))
 
--- one message, at each moment
+-- each moment of one message
 pub run_one : {D A : Type 0} {G : Ghosts D} (old new : Exec D A G) (m : Message) (text : List ℕ) → is_power m ≡ false → GoesOn old new (λ can w v. MessageRuns can w m text v) → RunsOn old new (m ∷ []) text
 run_one {D} {A} {G} old new m text plain goes = record {
   runs = λ h life. let g = goes.runs h life in
@@ -100,7 +100,7 @@ run_one {D} {A} {G} old new m text plain goes = record {
   lasts = goes.lasts;
 }
 
--- at each moment of messages, and of what follows them
+-- each moment of messages, and of what follows them
 pub then_moments : {D A : Type 0} {G : Ghosts D} (old mid : Exec D A G) (to : Option D) (xs ys : List Message) (text : List ℕ) (goes : RunsOn old mid xs text) (h : Ghosts.honest G) (life : Life)
     → EachMoment (goes.runs h life).0 mid to ys → EachMoment life old to (xs ++ ys)
 then_moments {D} {A} {G} old mid to xs ys text goes h life more t now r =

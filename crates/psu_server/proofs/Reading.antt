@@ -50,7 +50,7 @@ stops_more {D} {A} {G} long old mid fault xs done rest text more part goes stop 
   );
 }
 
--- nothing is executed, and nothing written
+-- an early end at which nothing was executed and nothing was written
 pub early_here : {D A : Type 0} {G : Ghosts D} (long : Type 0) (old : Exec D A G) (fault : RunFault D) (due : List Message) (w : Option (List ℕ)) (cause : RunCause) → FaultOf old fault cause → cause ≢ Write
     → ((last : World) → StopsFor long (failures_of old) (Ghosts.failures G fault.disk) due last (Ghosts.state G fault.disk).bytes cause) → EndsEarly long old fault due w w
 early_here long old fault due w cause f other why = record {
@@ -84,7 +84,7 @@ early_after long old mid fault due done more text u v w is goes p b = record {
   missing = λ e. subst (λ (z : List ℕ). length (text ++ b.front) < length z) (sym (append_assoc text b.text b.part)) (longer text b.front (b.text ++ b.part) (b.missing e));
 }
 
--- what is not too long ends for the same reasons
+-- an input that is not too long has the same reasons for an early end
 pub early_never_long : {D A : Type 0} {G : Ghosts D} (long : Type 0) (old : Exec D A G) (fault : RunFault D) (due : List Message) (u v : Option (List ℕ)) → EndsEarly ⊥ old fault due u v → EndsEarly long old fault due u v
 early_never_long {D} {A} {G} long old fault due u v p = record {
   done = p.done;
@@ -106,7 +106,7 @@ early_never_long {D} {A} {G} long old fault due u v p = record {
 
 -- ---- pieces
 
--- what was read and answered so far
+-- the state after what was read and answered so far
 abbrev pub Ran : {D A : Type 0} {G : Ghosts D} → (List ℕ → List Message) → Exec D A G → Exec D A G → Option (List ℕ) → Option (List ℕ) → Option (List ℕ) → Option (List ℕ) → Type 0
 Ran mid s s1 from to old new = (seen : List ℕ) × Consumes from to seen × Answered messages seen mid s s1 old new
 
@@ -127,24 +127,24 @@ answered_then f mid after seen piece s s1 s2 u v w p q = (
   runs_all s s1 s2 p.1 q.1 p.0 q.0 p.4 q.4,
 )
 
--- a piece more
+-- one more piece
 pub ran_on : {D A : Type 0} {G : Ghosts D} (mid after : List ℕ → List Message) (piece : List ℕ) (s s1 s2 : Exec D A G) (from to next u v w : Option (List ℕ))
     → Ran mid s s1 from to u v → Consumes to next piece → Answered mid piece after s1 s2 v w → Ran after s s2 from next u w
 ran_on mid after piece s s1 s2 from to next u v w r p q =
     (r.0 ++ piece, Consumes-trans from to next r.0 piece r.1 p, answered_then messages mid after r.0 piece s s1 s2 u v w r.2 q)
 
--- what is left of an input, where it is known
+-- the rest of an input, where it is known
 abbrev left_of : Option (List ℕ) → List ℕ
 left_of None = []
 left_of (Some rest) = rest
 
--- an input brings the messages of what was read and of what is left
+-- an input brings the messages of what was read and of the rest
 brought : (from to : Option (List ℕ)) (seen : List ℕ) → Consumes from to seen → Brings from (messages (seen ++ left_of to))
 brought None to seen p = tt
 brought (Some x) None seen p = absurd p
 brought (Some x) (Some y) seen p = ap messages (sym p)
 
--- at its end, those of what was read
+-- at its end, an input brings the messages of what was read
 brought_all : (from to next : Option (List ℕ)) (seen : List ℕ) → Consumes from to seen → Consumes to next [] → IsAtEnd next → Brings from (messages (seen ++ []))
 brought_all None to next seen p q e = tt
 brought_all (Some x) None next seen p q e = absurd p
@@ -166,7 +166,7 @@ pub early_seen : {D A : Type 0} {G : Ghosts D} (long : Type 0) (f mid : List ℕ
     → Answered f seen mid s s1 u v → EndsEarly long s1 fault (mid input) v w → EndsEarly long s fault (f (seen ++ input)) u w
 early_seen long f mid seen input s s1 fault u v w p q = early_after long s s1 fault (f (seen ++ input)) p.0 (mid input) p.1 u v w (p.3 input) p.4 p.2 q
 
--- nothing is read, and nothing written
+-- an early end at which nothing was read and nothing was written
 pub early_unread : {D A : Type 0} {G : Ghosts D} (long : Type 0) (s : Exec D A G) (fault : RunFault D) (from w : Option (List ℕ)) (cause : RunCause) → FaultOf s fault cause → cause ≢ Write → Reason long s fault cause → Early long s fault from w w
 early_unread long s fault from w cause f other why =
     (messages (left_of from), brought from from [] (Consumes-nil from), early_here long s fault (messages (left_of from)) w cause f other (why (messages (left_of from))))
@@ -181,7 +181,7 @@ ran_stop long mid piece s s1 fault from to next u v w r p q =
       early_seen long messages mid r.0 (piece ++ rest) s s1 fault u v w r.2 (q rest),
     )
 
--- a fault while nothing of the next piece is answered
+-- a fault before anything of the next piece is answered
 pub ran_front : {D A : Type 0} {G : Ghosts D} (long : Type 0) (mid : List ℕ → List Message) (s s1 : Exec D A G) (fault : RunFault D) (from to u v : Option (List ℕ)) (cause : RunCause) → Ran mid s s1 from to u v
     → FaultOf s1 fault cause → cause ≢ Write → Reason long s1 fault cause → Early long s fault from u v
 ran_front long mid s s1 fault from to u v cause r f other why =
@@ -223,12 +223,12 @@ ran_end_front long mid s s1 fault from to next u v w r p e q = (
   early_seen long messages mid r.0 [] s s1 fault u v w r.2 (early_never_long long s1 fault (mid []) v w q),
 )
 
--- a text that is told from nothing on, and what is gathered of it is written
+-- a text that is output to an empty buffer is written once the buffer is
 said_written : (a b : Telling) (text : List ℕ) (v : Option (List ℕ)) → a.gathered ≡ [] → Says a b text → Appends b.written v b.gathered → Appends a.written v text
 said_written a b text v none says w =
     subst (λ (z : List ℕ). Appends a.written v z) (says.2 ∙ ap (λ (z : List ℕ). z ++ text) none) (Appends-trans a.written b.written v says.0 b.gathered says.1 w)
 
--- a front of it is written
+-- a proper prefix of the text is written where the writer fails
 said_short : (a b : Telling) (text : List ℕ) (v : Option (List ℕ)) → a.gathered ≡ [] → Says a b text → WritesShort b.written v b.gathered → WritesShort a.written v text
 said_short a b text v none says w =
     let all : says.0 ++ b.gathered ≡ text = says.2 ∙ ap (λ (z : List ℕ). z ++ text) none in (
@@ -238,7 +238,7 @@ said_short a b text v none says w =
       subst (λ (z : List ℕ). length (says.0 ++ w.0) < length z) all (longer says.0 w.0 b.gathered w.3),
     )
 
--- what was told of a piece is written
+-- the output of a piece is written
 pub fed_written : {D A : Type 0} {G : Ghosts D} (f mid : List ℕ → List Message) (piece : List ℕ) (s s1 : Exec D A G) (a b : Telling) (shown : List ℕ) (v : Option (List ℕ))
     → Fed f piece mid s s1 a b → a.gathered ≡ [] → shown ≡ b.gathered → Appends b.written v shown → Answered f piece mid s s1 a.written v
 fed_written f mid piece s s1 a b shown v p none d w = (p.0, p.1, said_written a b p.1 v none p.2 (subst (Appends b.written v) d w), p.3, p.4)
@@ -259,14 +259,14 @@ early_as s fault due done rest text part u v is stops w write = record {
   missing = λ e. w.3;
 }
 
--- a front of what was told of a piece is written, and the device is as it is then
+-- a proper prefix of the output of a piece is written, and the device is the one after the piece
 pub fed_front : {D A : Type 0} {G : Ghosts D} (f mid : List ℕ → List Message) (piece : List ℕ) (s s1 : Exec D A G) (fault : RunFault D) (a b : Telling) (shown : List ℕ) (v : Option (List ℕ))
     → Fed f piece mid s s1 a b → a.gathered ≡ [] → shown ≡ b.gathered → WritesShort b.written v shown → FaultOf s1 fault Write → (input : List ℕ) → EndsEarly ⊥ s fault (f (piece ++ input)) a.written v
 fed_front f mid piece s s1 fault a b shown v p none d w at input =
     early_as s fault (f (piece ++ input)) p.0 (mid input) p.1 [] a.written v (p.3 input) (stops_then ⊥ s s1 fault p.0 (mid input) p.1 [] p.4 (stops_now ⊥ s1 fault (mid input) Write at (λ last. tt)))
     (subst (λ (z : List ℕ). WritesShort a.written v z) (sym (append-nil p.1)) (said_short a b p.1 v none p.2 (subst (WritesShort b.written v) d w))) at.told
 
--- a fault in a piece: what was told is written
+-- a fault in a piece: the output before it is written
 pub stopped_whole : {D A : Type 0} {G : Ghosts D} (f : List ℕ → List Message) (piece : List ℕ) (s : Exec D A G) (fault : RunFault D) (a b : Telling) (shown : List ℕ) (v : Option (List ℕ))
     → Stopped f piece s fault a b → a.gathered ≡ [] → fault.cause ≢ Write → shown ≡ b.gathered → Appends b.written v shown → (input : List ℕ) → EndsEarly ⊥ s fault (f (piece ++ input)) a.written v
 stopped_whole f piece s fault a b shown v p none own d w input = record {
@@ -283,14 +283,14 @@ stopped_whole f piece s fault a b shown v p none own d w input = record {
   missing = λ e. absurd (own e);
 }
 
--- the writer failed in it
+-- a fault of the writer in a piece
 pub stopped_short : {D A : Type 0} {G : Ghosts D} (f : List ℕ → List Message) (piece : List ℕ) (s : Exec D A G) (fault : RunFault D) (a b : Telling)
     → Stopped f piece s fault a b → a.gathered ≡ [] → fault.cause ≡ Write → (input : List ℕ) → EndsEarly ⊥ s fault (f (piece ++ input)) a.written b.written
 stopped_short f piece s fault a b p none is input =
     early_as s fault (f (piece ++ input)) p.0 (p.4 input).0 p.1 p.2 a.written b.written (p.4 input).1 (p.4 input).2
     (subst (λ (z : List ℕ). WritesShort a.written b.written (z ++ (p.1 ++ p.2))) none (p.3.missing is)) is
 
--- a write fails in place of the fault that was to be told
+-- a write fault replaces the fault that was to be returned
 write_instead : {D A : Type 0} {G : Ghosts D} (s : Exec D A G) (old fault : RunFault D) (done rest : List Message) (text part : List ℕ) → Stops ⊥ s old done rest text part → fault.cause ≡ Write → fault.disk ≡ old.disk
     → Stops ⊥ s fault done rest text part
 write_instead {D} {A} {G} s old fault done rest text part p is same =
@@ -300,7 +300,7 @@ write_instead {D} {A} {G} s old fault done rest text part p is same =
           (q.0, q.1, q.2, q.3, q.4, q.5, is_write ⊥ q.2 (Ghosts.failures G old.disk) rest q.1 (Ghosts.state G old.disk).bytes fault.cause is, q.7);
     })
 
--- and the writer failed then
+-- a fault in a piece, after which the writer failed
 pub stopped_front : {D A : Type 0} {G : Ghosts D} (f : List ℕ → List Message) (piece : List ℕ) (s : Exec D A G) (old fault : RunFault D) (a b : Telling) (shown : List ℕ) (v : Option (List ℕ))
     → Stopped f piece s old a b → a.gathered ≡ [] → old.cause ≢ Write → shown ≡ b.gathered → WritesShort b.written v shown → fault.cause ≡ Write → fault.disk ≡ old.disk → (input : List ℕ)
     → EndsEarly ⊥ s fault (f (piece ++ input)) a.written v
@@ -308,9 +308,9 @@ stopped_front f piece s old fault a b shown v p none own d w is same input =
     early_as s fault (f (piece ++ input)) p.0 (p.4 input).0 p.1 p.2 a.written v (p.4 input).1 (write_instead s old fault p.0 (p.4 input).0 p.1 p.2 (p.4 input).2 is same)
     (said_short a b (p.1 ++ p.2) v none (p.3.whole own) (subst (WritesShort b.written v) d w)) is
 
--- ---- the line that the input ends in, ended
+-- ---- the last line of the input
 
--- it is all that comes
+-- it is all that is due
 last_done : (over next_over : Bool) (line next : List ℕ) (done : List Message) → is_none_begun over line ≡ false → has 10 line ≡ false → has 10 next ≡ false
     → ((input : List ℕ) → coming over line (10 ∷ input) ≡ done ++ coming next_over next input) → coming over line [] ≡ done
 last_done over next_over line next done begun free none is =
@@ -340,7 +340,7 @@ last_early over line piece s fault u v begun free is q =
 pub answers_none : {D A : Type 0} {G : Ghosts D} (over : Bool) (line : List ℕ) (s : Exec D A G) (w : Option (List ℕ)) → is_none_begun over line ≡ true → Answers (coming over line []) s s w w
 answers_none over line s w none = subst (λ (m : List Message). Answers m s s w w) (sym (coming_none over line none)) ([], Appends-nil w, runs_none s)
 
--- what is answered whole, and then a fault
+-- responses that are complete, and then a fault
 pub answers_early : {D A : Type 0} {G : Ghosts D} (due : List Message) (s s1 : Exec D A G) (fault : RunFault D) (u v : Option (List ℕ)) → Answers due s s1 u v → fault.cause ≢ Write
     → StopsHere ⊥ s1 fault [] [] → EndsEarly ⊥ s fault due u v
 answers_early due s s1 fault u v p other stop = record {
@@ -357,7 +357,7 @@ answers_early due s s1 fault u v p other stop = record {
   missing = λ e. absurd (other e);
 }
 
--- and then a flush that leaves nothing
+-- responses that are complete, and then a flush that leaves nothing unflushed
 pub answers_flushed : {D A : Type 0} {G : Ghosts D} (due : List Message) (s s1 s2 : Exec D A G) (disk : D) (u v : Option (List ℕ)) → Answers due s s1 u v → GoesOn s1 s2 Flushes
     → s2.device.flush.unflushed ≡ 0 → Ghosts.failures G disk ≡ failures_of s2 → Ghosts.extent G disk ≡ extent_of s2 → Ghosts.state G disk ≡ disk_at s2.home → ForSome s2.home (λ h. disk ≡ home_disk h) → RanAll s due disk u v
 answers_flushed {D} {A} {G} due s s1 s2 disk u v p f clean same size at there = record {

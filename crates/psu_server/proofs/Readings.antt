@@ -1,4 +1,4 @@
--- One reading of a unit, one path behind it, and some call that it may be.
+-- One reading of a unit, one path after it, and some macro call that it may be.
 use Rattle.std.proofs.Common.{◌≡◌, ℕ, Bool, true, false, List, [], ◌∷◌, refl, sym, ap, ◌∙◌, subst, inl, inr, Option, Some, None, Result, Ok, Err, is_ok}
 use Rattle.psu_lex.specs.Message.{Part}
 use Rattle.psu_lex.specs.Names.{is_label}
@@ -19,7 +19,7 @@ SomeReading = (path : List (List ℕ)) (unit : Part) → (reading : Result Comma
 abbrev pub OneReading : Type 0
 OneReading = (path : List (List ℕ)) (unit : Part) (reading other : Result Command ScpiError) → Reads path unit reading → Reads path unit other → reading ≡ other
 
--- what the laws of psu_lex say
+-- the laws of psu_lex
 abbrev pub OneSyntax : Type 0
 OneSyntax = (unit : Part) (result other : Result Syntax ScpiError) → SyntaxGives unit result → SyntaxGives unit other → result ≡ other
 
@@ -66,7 +66,7 @@ some_tail : (next rest : List ℕ) (list : List Datum) → IsBefore next rest li
 some_tail next rest [] before lists = ([], refl)
 some_tail next rest (d ∷ list) before lists = (44 ∷ rest, (rest, refl, lists))
 
--- data that hold a list, which may lie anywhere
+-- data that contain a list, at any place
 some_data : (list : List Datum) (text : List ℕ) → Lists text list → (held : Data) × HoldsData held list
 some_data [] text lists = (record { found = None }, refl)
 some_data (d ∷ list) text (space, next, rest, white, is, datum, before, lists) =

@@ -1,4 +1,4 @@
--- The requests of a message: there are some, and those read twice are alike.
+-- The requests of a message: they exist, and two readings of them are alike.
 use Rattle.std.proofs.Common.{◌≡◌, ℕ, Bool, true, false, List, [], ◌∷◌, refl, sym, ap, ◌∙◌, subst, Option, None, Some, Result, Ok, Err}
 use Rattle.std.specs.Prelude.{⊤}
 use Rattle.psu_lex.specs.Message.{Part, IsMessage}
@@ -26,7 +26,7 @@ OneUnits = (bytes : List ℕ) (units others : List Part) → IsMessage bytes uni
 
 -- ---- the data of calls
 
--- the data that are written for a call
+-- the data written for a call exist
 abbrev pub Holds : Request → Type 0
 Holds request = (list : List Datum) × HoldsParameters request.call list
 
@@ -71,14 +71,14 @@ one_found (Some found) list others (more, is, some, tail) (less, is_too, some_to
 
 -- ---- requests that read alike
 
--- Requests of one unit: where their texts lie may differ.
+-- Requests of one unit: the places of their texts may differ.
 pub record Same (a b : Request) : Type 0 where
   pub reading : a.reading ≡ b.reading
   pub place : a.inside ≡ b.inside
   pub label : label_in a.call ≡ label_in b.call
   pub parameters : (list others : List Datum) → HoldsParameters a.call list → HoldsParameters b.call others → list ≡ others
 
--- the same, one after another
+-- lists of requests that are alike, one by one
 abbrev pub Alike : List Request → List Request → Type 0
 Alike [] others = others ≡ []
 Alike (a ∷ more) others = (b : Request) × (rest : List Request) × (others ≡ b ∷ rest) × Same a b × Alike more rest
@@ -109,7 +109,7 @@ too_much_same = record { reading = refl; place = refl; label = refl; parameters 
 
 -- ---- the requests of a message
 
--- what one unit is read as, in one way
+-- the readings of a unit are unique
 pub record Ones : Type 0 where
   pub units : OneUnits
   pub reading : OneReading

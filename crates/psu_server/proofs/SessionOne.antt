@@ -1,4 +1,4 @@
--- What a call on session 1 leaves of its wait and of the store.
+-- The wait and the store after a call on session 1.
 use Rattle.std.proofs.Common.{◌≡◌, ℕ, ◌==◌, if◌then◌else◌, not, Bool, true, false, Option, Some, None, List, [], ◌∷◌, refl, sym, ap, ◌∙◌, subst, inl, inr, slice_index_or, slice_set}
 use Rattle.psu_disk.specs.declared.disk.Disk.{Ghosts}
 use Rattle.psu_locks.specs.Locks.{Locks, may_command}
@@ -27,11 +27,11 @@ executed_one s new request reply session one t = subst (λ (n : ℕ). Allows s (
 pub cleared_one : (s new : State) (session : ℕ) → session ≡ 1 → Allows s (Cleared session) new → Allows s (Cleared 1) new
 cleared_one s new session one t = subst (λ (n : ℕ). Allows s (Cleared n) new) one t
 
--- what denies a session is the locks alone
+-- only the locks deny a session
 pub still_allowed : (s new : State) → new.volatile.locks ≡ s.volatile.locks → is_denied s 1 ≡ false → is_denied new 1 ≡ false
 still_allowed s new same free = ap (λ (l : Locks). not (may_command l.holders 1)) same ∙ free
 
--- ---- what a call on a session leaves of its wait
+-- ---- the wait of a session after a call
 
 no_wait : (waits : List (Option Wait)) → slice_index_or (slice_set waits 0 None) 0 None ≡ None
 no_wait [] = refl
@@ -52,7 +52,7 @@ over_free f None final = no_wait f.waits
 over_free f (Some CutOff) final = no_wait f.waits
 over_free f (Some (Until c n)) final = over_if f c (n == 0) final
 
--- what is over leaves no wait
+-- a final reply leaves no wait
 pub settle_free : (s new : State) (reply : Reply) → Allows s (Settled 1 reply) new → is_final reply ≡ true → is_out_of_memory reply ≡ false → wait_of new.flush 1 ≡ None
 settle_free s new reply (opened, inl may, is) final long =
     ap (λ (z : State). wait_of z.flush 1) is ∙ ap (λ (r : Reply). wait_of (settled s.flush 1 r) 1) may ∙ over_free s.flush (wait_of s.flush 1) (ap is_final (sym may) ∙ final)
@@ -61,9 +61,9 @@ settle_free s new reply (opened, inr may, is) final long = let bad = ap is_out_o
 pub clear_free : (s new : State) → Allows s (Cleared 1) new → wait_of new.flush 1 ≡ None
 clear_free s new (opened, is) = ap (λ (z : State). wait_of z.flush 1) is ∙ no_wait s.flush.waits
 
--- ---- and of the store
+-- ---- the store after a call
 
--- its condition, and how many changes are left
+-- the condition of the store and the number of unflushed changes
 abbrev KeepsStore : Flush → Flush → Type 0
 KeepsStore old new = (new.store ≡ old.store) × (new.unflushed ≡ old.unflushed)
 
@@ -89,9 +89,9 @@ settle_store s new reply (opened, inr may, is) = (
   ap (λ (z : State). z.flush.unflushed) is ∙ ap (λ (r : Reply). (settled s.flush 1 r).unflushed) may.0,
 )
 
--- ---- one call more, told by the code
+-- ---- one more call, with the facts that the code has
 
--- the session is settled, cleared, or a unit of it executed: the disk stays
+-- the session is settled or cleared, or a unit of it is executed: the disk does not change
 pub settled_calls : {D A : Type 0} {G : Ghosts D} (old new : Exec D A G) (life : Life) (reply : Reply) → Allows old.device (Settled 1 reply) new.device → new.home ≡ old.home
     → Calls (world_of life old) (Settled 1 reply) (world_of (lived life old.device (Settled 1 reply)) new)
 settled_calls old new life reply t there = called old new life (Settled 1 reply) t there (λ d e. e)

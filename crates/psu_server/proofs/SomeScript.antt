@@ -16,7 +16,7 @@ use Rattle.psu_server.proofs.Scripts.{AllHold, Holds, SomeUnits, asked_hold, mes
 abbrev pub SomeExpansion : Type 0
 SomeExpansion = (body : List ℕ) (args : List (List ℕ)) → (result : Result (List ℕ) ScpiError) × ExpandsTo body args result
 
--- what bytes are read as, in some way
+-- bytes have units, and units have readings
 pub record Somes : Type 0 where
   pub units : SomeUnits
   pub reading : SomeReading

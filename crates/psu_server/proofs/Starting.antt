@@ -128,7 +128,7 @@ pub not_powered : (cause : PowerCause) (told : RunCause) (image : List ℕ) (bef
 not_powered cause told image before now limit map stands quiet bad is =
     subst (λ (t : RunCause). NotStarted image before now t) (sym is) (powered_not cause image before now limit map stands quiet bad)
 
--- contents that an image stands for fit
+-- contents that an image represents fit
 fits_on : (image : List ℕ) (limit : ℕ) (contents : Contents) → IsContents contents → Stands image limit (items_of contents) → fits limit contents ≡ true
 fits_on image limit contents sound stands =
     let cheap = stands_within image limit (items_of contents) stands in
@@ -137,7 +137,7 @@ fits_on image limit contents sound stands =
     let two : nat_le (length contents.macros) 32 ≡ true = grind (arith, nat_tests, few) in
     rw (one, two) refl
 
--- an image that stands for contents powers on, but for a failed call or a want of memory
+-- an image that represents contents powers on, unless a call failed or memory ran out
 stands_stops : (long : Type 0) (before now : ℕ) (rest : List Message) (last : World) (image left : List ℕ) (limit : ℕ) (contents : Contents) (cause : RunCause) → IsContents contents
     → Stands image limit (items_of contents) → NotStarted image before now cause → StopsFor long before now (Message.Power ∷ rest) last left cause
 stands_stops long before now rest last image left limit contents (Open start.Device) sound stands why = (tt, why)
@@ -153,7 +153,7 @@ stands_stops long before now rest last image left limit contents Device sound st
 stands_stops long before now rest last image left limit contents TooLong sound stands why = absurd why
 stands_stops long before now rest last image left limit contents Memory sound stands why = tt
 
--- a reason since a later moment is one since an earlier
+-- a reason that holds since a later moment holds since an earlier one
 pub stops_since : (long : Type 0) (since before now : ℕ) (rest : List Message) (last : World) (left : List ℕ) (cause : RunCause) → since ≤ before → StopsFor long before now rest last left cause
     → StopsFor long since now rest last left cause
 stops_since long since before now rest last left (Open start.Device) later why = (why.0, failed_before since before now later why.1)
@@ -173,7 +173,7 @@ restart_stops long since before now rest last disk left cause f later c stands w
     stops_since long since before now (Message.Power ∷ rest) last left cause later
     (stands_stops long before now rest last disk.bytes left f.limit c.first cause (sound_first f.limit c.first c.rest c.sound).sound (subst (λ (m : List Item). Stands disk.bytes f.limit m) c.first_map (stands disk.bytes (reads_left disk))) why)
 
--- ---- a fault of the device, by what its disk is
+-- ---- a fault of the device, according to its disk
 
 pub halted_stops : {D A : Type 0} {G : Ghosts D} (long : Type 0) (old new : Exec D A G) (now : ℕ) (rest : List Message) (life : Life) (left : List ℕ) (cause told : RunCause) → told ≡ cause → now ≡ failures_of new
     → (IsAtPower rest → ⊥) → IsHaltedBy old new cause → (new.device.flush.store ≡ Worn → IsWornOut left) → StopsFor long (failures_of old) now rest (world_of life new) left told
@@ -186,7 +186,7 @@ halted_stops long old new now rest life left cause told is same plain why worn =
   by Write w = tt
   by TooLong w = absurd w
 
--- no cause of a start is the writer's
+-- no cause of a start is a write fault
 pub not_write_start : (cause : Option StartCause) → cause_of_start cause ≢ Write
 not_write_start (Some cause) e = cc
 not_write_start None e = cc

@@ -1,4 +1,4 @@
--- What a line came to: it is over, or was broken off.
+-- The result of a line: it is complete, or it stopped early.
 use Rattle.std.proofs.Common.{◌≡◌, ◌⊎◌, ℕ, ◌+◌, Bool, true, false, Option, Some, None, List, [], ◌∷◌, ◌++◌, refl, sym, ap, ◌∙◌, subst, inl, inr, ⊎_elim}
 use Rattle.psu_disk.specs.declared.disk.Disk.{Ghosts}
 use Rattle.psu_lex.specs.Message.{Part}
@@ -29,7 +29,7 @@ use Rattle.psu_server.proofs.Scripts.{Ones, SomeUnits}
 use Rattle.psu_server.proofs.Telling.{until_rest, until_still}
 use Rattle.psu_server.proofs.UnitEnds.{goes_as, goes_then, halted_since}
 
--- ---- a line that is over
+-- ---- a complete line
 
 abbrev pub Whole : {D A : Type 0} {G : Ghosts D} → Source → Exec D A G → Telling → Exec D A G → Telling → Type 0
 Whole source old told new now = (requests : List Request) × AskedBy source requests × (answers : List (List ℕ)) × GoesOn old new (λ can w v. LineRuns can w [] requests answers v) × Says told now (response answers)
@@ -52,14 +52,14 @@ whole_at ones source old new told now place None expansion text (inl o) over =
 whole_at ones source old new told now place None expansion text (inr o) over = (o.done, asked_all ones source place o.done o.asked over.units, o.all, o.goes, o.says)
 whole_at ones source old new told now place (Some next) expansion text i over = absurd (no_ask ones.units source place i.request over.units (i.first, i.here))
 
--- ---- a line that is broken off
+-- ---- a line that stopped early
 
 abbrev pub Broken : {D A : Type 0} {G : Ghosts D} → Source → Exec D A G → Telling → Exec D A G → Telling → RunCause → Type 0
 Broken source old told new now cause =
     (requests : List Request) × AskedBy source requests × (answers : List (List ℕ)) × Breaks old new (λ can w v. LineBegins can w [] requests answers v) cause × SaysUntil cause told now (joined answers)
 
 module _ {D A : Type 0} {G : Ghosts D} {source : Source} {old mid new : Exec D A G} {told now later : Telling} {cause : RunCause} (ones : Ones) (reading : SomeReading) where
-  -- in a unit
+  -- a stop in a unit
   stop_outside : {place : ℕ} {text : Text} (request : Request) (first : Bool) → (o : Outside source old told mid now place text) → Asks source place request first → GoesOn mid new (λ can w v. Begins w (request ∷ []) v)
       → (Ghosts.honest G → IsHaltedBy mid new cause) → SaysUntil cause told later (joined o.all) → Broken source old told new later cause
   stop_outside {place} {text} request first o asks begun why until =
@@ -98,7 +98,7 @@ module _ {D A : Type 0} {G : Ghosts D} {source : Source} {old mid new : Exec D A
       )
 
 module _ {D A : Type 0} {G : Ghosts D} {source : Source} {old new : Exec D A G} {told now later : Telling} {cause : RunCause} (ones : Ones) (reading : SomeReading) where
-  -- between units
+  -- a stop between units
   rest_outside : {place : ℕ} {text : Text} → (o : Outside source old told new now place text) → (Ghosts.honest G → IsHaltedBy old new cause) → SaysUntil cause told later (joined o.all) → Broken source old told new later cause
   rest_outside {place} {text} o why until =
       let rest = asked_some reading source place o.done o.asked in (
@@ -142,7 +142,7 @@ begun_by mid new request cause s = record { runs = λ h life. let k = s.begun h 
 halted_by : {D A : Type 0} {G : Ghosts D} (old new : Exec D A G) (cause : RunCause) → (cause ≡ Memory) ⊎ (cause ≡ Write) → IsHaltedBy old new cause
 halted_by old new cause own = ⊎_elim (λ e. subst (IsHaltedBy old new) (sym e) tt) (λ e. subst (IsHaltedBy old new) (sym e) tt) own
 
--- what is gathered behind what was told, up to a fault
+-- the response buffer after the output, up to a fault
 left_until : (cause : RunCause) (told now later : Telling) (sent rest : List ℕ) (answers : List (List ℕ)) → Says told now sent → sent ++ rest ≡ joined answers → SaysUntil cause now later []
     → SaysUntil cause told (held later.written (later.gathered ++ rest)) (joined answers)
 left_until cause told now later sent rest answers says joins until = subst (λ (z : List ℕ). SaysUntil cause told (held later.written (later.gathered ++ rest)) z) joins (until_rest cause told now later sent rest says until)
@@ -150,20 +150,20 @@ left_until cause told now later sent rest answers says joins until = subst (λ (
 not_both : {b : Bool} → b ≡ false → b ≡ true → ⊥
 not_both e f = let bad = sym e ∙ f in cc
 
--- What a front fails in, and what it stops at, is so on a device, with what is told.
+-- The faults and stops of an executor are those of a device and its output.
 abbrev pub FailsOn : {D A : Type 0} {G : Ghosts D} {X : Type 0} → (X → Exec D A G) → (X → Telling) → (X → Request → RunCause → X → Type 0) → Type 0
 FailsOn {D} {A} {G} {X} exec told fails = (x y : X) (request : Request) (cause : RunCause) → fails x request cause y → IsFailed (exec x) (told x) request cause (exec y) (told y)
 
 abbrev pub StopsOn : {D A : Type 0} {G : Ghosts D} {X : Type 0} → (X → Exec D A G) → (X → Telling) → (X → RunCause → X → Type 0) → Type 0
 StopsOn {D} {A} {G} {X} exec told stops = (x y : X) (cause : RunCause) → stops x cause y → IsStopped (exec x) (told x) cause (exec y) (told y)
 
--- nothing is told where a unit fails
+-- nothing is output where a unit fails
 failed_until : {D A : Type 0} {G : Ghosts D} (mid new : Exec D A G) (now later : Telling) (request : Request) (cause : RunCause) → IsFailed mid now request cause new later → SaysUntil cause now later []
 failed_until mid new now later request cause (same, s) = until_still cause now later s.own (ap (λ (t : Telling). t.written) same) (ap (λ (t : Telling). t.gathered) same)
 
 module _ {D A : Type 0} {G : Ghosts D} {X : Type 0} (exec : X → Exec D A G) (told : X → Telling) (does : X → Deed → X → Type 0) (fails : X → Request → RunCause → X → Type 0) (stops : X → RunCause → X → Type 0)
     (on : DoesOn exec told does) (fail : FailsOn exec told fails) (stop : StopsOn exec told stops) (ones : Ones) (some : SomeUnits) (reading : SomeReading) (source : Source) (line : IsLine source) where
-  -- what was told up to a place, and what is gathered there
+  -- the output up to a place, and the response buffer there
   abbrev Ended : X → X → RunCause → List ℕ → Type 0
   Ended x y cause rest = Broken source (exec x) (told x) (exec y) (held (told y).written ((told y).gathered ++ rest)) cause
 
@@ -221,7 +221,7 @@ module _ {D A : Type 0} {G : Ghosts D} {X : Type 0} (exec : X → Exec D A G) (t
   cut_at x mid y cause place inside false expansion text e at (Untold here request next deed reply try d s) =
       untold_at x mid here y cause place inside expansion text request reply at next (executed (exec mid) (exec here) (told mid) (told here) false request deed reply refl try (on mid here deed d)) s
 
-  -- it stopped
+  -- the line stopped early
   broken_off : (x y : X) (cause : RunCause) (left : Text) → CutOff does fails stops source x beginning cause y left → Ended x y cause left.rest
   broken_off x y cause left (inl (s, same)) =
       let o = at_start some source (exec x) (told x) in
@@ -237,7 +237,7 @@ module _ {D A : Type 0} {G : Ghosts D} {X : Type 0} (exec : X → Exec D A G) (t
   pub broken : (x y : X) (cause : RunCause) (left : Text) (c : Course) → c ≡ beginning → CutOff does fails stops source x c cause y left → Ended x y cause left.rest
   broken x y cause left c fresh halts = broken_off x y cause left (subst (λ (z : Course). CutOff does fails stops source x z cause y left) fresh halts)
 
--- it is over
+-- the line is complete
 pub whole : {D A : Type 0} {G : Ghosts D} {X : Type 0} (exec : X → Exec D A G) (told : X → Telling) (does : X → Deed → X → Type 0) (on : DoesOn exec told does) (ones : Ones) (some : SomeUnits) (source : Source) (line : IsLine source) (x y : X) (from c : Course)
     → from ≡ beginning → Goes does source x from y c → IsOver source c → Whole source (exec x) (told x) (exec y) (told y)
 whole exec told does on ones some source line x y from c fresh went over =

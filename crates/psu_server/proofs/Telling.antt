@@ -1,4 +1,4 @@
--- What is told, one part after another.
+-- The output, one part after another.
 use Rattle.std.proofs.Common.{◌≡◌, ◌≢◌, ℕ, ◌<◌, List, [], ◌++◌, length, length-append, Option, refl, sym, ap, ◌∙◌, subst, append_assoc, append-nil, arith}
 use Rattle.std.proofs.lemmas.Grind.{common_steps}
 use Rattle.std.proofs.lemmas.List.{take-append-le}
@@ -14,7 +14,7 @@ use Rattle.psu_server.proofs.Fronts.{starts_after}
 pub longer : (text front more : List ℕ) → length front < length more → length (text ++ front) < length (text ++ more)
 longer text front more less = grind (arith, common_steps, less)
 
--- a front of a text behind another
+-- a proper prefix of a text, written after another text
 pub short_behind : (old mid new : Option (List ℕ)) (first second : List ℕ) → Appends old mid first → WritesShort mid new second → WritesShort old new (first ++ second)
 short_behind old mid new first second grows (front, more, starts, less) = (first ++ front, Appends-trans old mid new first front grows more, starts_after first front second starts, longer first front second less)
 
@@ -23,11 +23,11 @@ short_behind old mid new first second grows (front, more, starts, less) = (first
 pub says_none : (t : Telling) → Says t t []
 says_none t = ([], Appends-nil t.written, sym (append-nil t.gathered))
 
--- the same, where two things have the same names
+-- nothing is output where writer and buffer are unchanged
 pub says_still : (a b : Telling) → b.written ≡ a.written → b.gathered ≡ a.gathered → Says a b []
 says_still a b same_written same_gathered = ([], subst (λ (w : Option (List ℕ)). Appends a.written w []) (sym same_written) (Appends-nil a.written), same_gathered ∙ sym (append-nil a.gathered))
 
--- more is gathered
+-- more is buffered
 pub says_gathered : (a b : Telling) (more : List ℕ) → b.written ≡ a.written → b.gathered ≡ a.gathered ++ more → Says a b more
 says_gathered a b more same_written grown = ([], subst (λ (w : Option (List ℕ)). Appends a.written w []) (sym same_written) (Appends-nil a.written), grown)
 
@@ -52,7 +52,7 @@ short_after a b c m n p q = (
 pub until_after : (cause : RunCause) (a b c : Telling) (m n : List ℕ) → Says a b m → SaysUntil cause b c n → SaysUntil cause a c (m ++ n)
 until_after cause a b c m n p q = record { whole = λ e. says_join a b c m n p (q.whole e); missing = λ e. short_after a b c m n p (q.missing e) }
 
--- a fault that is none of the writer's
+-- a fault other than a write fault
 pub until_said : (cause : RunCause) (a b : Telling) (m : List ℕ) → cause ≢ Write → Says a b m → SaysUntil cause a b m
 until_said cause a b m own p = record { whole = λ e. p; missing = λ e. absurd (own e) }
 
@@ -62,16 +62,16 @@ until_none cause t own = until_said cause t t [] own (says_none t)
 pub until_for : (told cause : RunCause) (a b : Telling) (m : List ℕ) → told ≡ cause → SaysUntil cause a b m → SaysUntil told a b m
 until_for told cause a b m is p = subst (λ (z : RunCause). SaysUntil z a b m) (sym is) p
 
--- a fault that is none of the writer's, where nothing more is gathered or written
+-- a fault other than a write fault, where nothing more is buffered or written
 pub until_still : (cause : RunCause) (a b : Telling) → cause ≢ Write → b.written ≡ a.written → b.gathered ≡ a.gathered → SaysUntil cause a b []
 until_still cause a b own written gathered = until_said cause a b [] own (says_still a b written gathered)
 
--- what is missing of a text is missing with more behind it
+-- what is missing of a text is also missing of a longer text
 pub short_more : (old new : Option (List ℕ)) (text more : List ℕ) → WritesShort old new text → WritesShort old new (text ++ more)
 short_more old new text more (front, grows, starts, less) =
     (front, grows, take-append-le (length front) text more (omega (arith, less)) ∙ starts, subst (λ (n : ℕ). length front < n) (sym (length-append text more)) (omega (arith, less)))
 
--- what is left of a text is gathered behind what was told until a fault
+-- the rest of a text is buffered after the output, up to a fault
 pub until_rest : (cause : RunCause) (a b c : Telling) (m rest : List ℕ) → Says a b m → SaysUntil cause b c [] → SaysUntil cause a (held c.written (c.gathered ++ rest)) (m ++ rest)
 until_rest cause a b c m rest p q = record {
   whole = λ e. says_join a b (held c.written (c.gathered ++ rest)) m rest p (says_join b c (held c.written (c.gathered ++ rest)) [] rest (q.whole e) (says_gathered c (held c.written (c.gathered ++ rest)) rest refl refl));

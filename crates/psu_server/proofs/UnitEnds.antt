@@ -1,4 +1,4 @@
--- Units, their waits, and what they leave.
+-- Units, their waits, and the state after them.
 use Rattle.std.proofs.Common.{◌≡◌, ◌≢◌, ◌⊎◌, ℕ, ◌<◌, ◌≤◌, ◌==◌, Bool, true, false, Option, Some, None, List, [], ◌∷◌, ◌++◌, refl, sym, ap, ◌∙◌, subst, inl, inr, arith, ⊎_elim, append-nil}
 use Rattle.psu_disk.specs.Disk.{HasFailed}
 use Rattle.psu_disk.specs.declared.disk.Disk.{Ghosts}
@@ -25,9 +25,9 @@ use Rattle.psu_server.proofs.Lasting.{lasts_same, lasts_then}
 use Rattle.psu_server.proofs.Within.{failed_before, within_as, within_at, within_here, within_itself, within_then}
 use Rattle.psu_server.proofs.SessionOne.{cleared_calls, count_same, executed_calls, settle_store, settled_calls, until}
 
--- ---- what goes on and then stops
+-- ---- a device that continues and then stops
 
--- what went on was executed
+-- the device continued by calls that executed these requests
 pub record HasExecuted {D A : Type 0} {G : Ghosts D} (old new : Exec D A G) (requests : List Request) : Type 0 where
   pub calls : Ghosts.honest G → (life : Life) → (next : Life) × Executes (world_of life old) requests (world_of next new) × Spans old new (world_of life old) (world_of next new)
   pub lasts : Lasts old new
@@ -55,7 +55,7 @@ halts_here old new done more cause p why own = record {
   own = own;
 }
 
--- what stops a device later stops it since an earlier moment
+-- what stops a device since a later moment stops it since an earlier one
 pub halted_since : {D A : Type 0} {G : Ghosts D} (old mid new : Exec D A G) (cause : RunCause) → Lasts old mid → IsHaltedBy mid new cause → IsHaltedBy old new cause
 halted_since old mid new Device lasts w = ⊎_elim (λ f. inl (failed_before _ _ _ lasts.later f)) inr w
 halted_since old mid new Memory lasts w = tt
@@ -81,11 +81,11 @@ halts_more old new some more cause s = record {
   own = s.own;
 }
 
--- a fault for want of memory
+-- an out-of-memory fault
 pub halts_for_memory : {D A : Type 0} {G : Ghosts D} (old new : Exec D A G) (done more : List Request) → HasExecuted old new done → Halts old new (done ++ more) Memory
 halts_for_memory old new done more p = halts_here old new done more Memory p (λ h. tt) (λ e. cc)
 
--- ---- calls that go on
+-- ---- calls after which the device continues
 
 pub settled_goes : {D A : Type 0} {G : Ghosts D} (old new : Exec D A G) (reply : Reply) → Allows old.device (Settled 1 reply) new.device → new.home ≡ old.home
     → GoesOn old new (λ can w v. Calls w (Settled 1 reply) v)
@@ -123,7 +123,7 @@ meant can Held h = λ e. cc
 meant can (Expand text) h = λ e. cc
 meant can Later h = λ e. cc
 
--- a unit that is executed, with what was refused for it
+-- a unit that is executed, given what was refused for it
 pub executed_goes : {D A : Type 0} {G : Ghosts D} (old new : Exec D A G) (request : Request) (reply : Reply) → Allows old.device (Executed 1 request reply) new.device → new.home ≡ old.home
     → GoesOn old new (λ can w v. IsMeant can reply × Calls w (Executed 1 request reply) v)
 executed_goes old new request reply t there = record {
@@ -197,7 +197,7 @@ waiting_halted old mid new reply t there clean final parked =
     ⊎_elim (λ failed. inl (subst (λ (n : ℕ). HasFailed (failures_of old) n) (sym (count_same mid new there)) failed))
     (λ rest. ⊎_elim (λ worn. inr (kept.0 ∙ worn, omega (arith, some, left))) (λ none. absurd (omega (arith, some, none))) rest) clean
 
--- the session waits no more
+-- the session no longer waits
 pub halts_cleared : {D A : Type 0} {G : Ghosts D} (old mid new : Exec D A G) (cause : RunCause) → Halts old mid [] cause → Allows mid.device (Cleared 1) new.device → new.home ≡ mid.home
     → Halts old new [] cause
 halts_cleared old mid new cause s t there =
@@ -268,7 +268,7 @@ pub unit_now : {D A : Type 0} {G : Ghosts D} (old new : Exec D A G) (request : R
     → GoesOn old new (λ can w v. UnitRuns can w request reply v)
 unit_now old new request reply a over = goes_as old new (Acted request reply) (λ can w v. UnitRuns can w request reply v) a (λ can w v x. unit_at can reply w v request over x)
 
--- a unit that comes later is that one call
+-- a unit whose reply is `Later` is that one call
 pub late_call : (can : Mishaps) (reply : Reply) (w v : World) (request : Request) → is_later reply ≡ true → Acted request reply can w v → Calls w (Executed 1 request Later) v
 late_call can reply w v request late (inl l) = l.1
 late_call can Later w v request late (inr r) = let final = r.0 in cc

@@ -1,4 +1,4 @@
--- What may happen with what went wrong, step by step.
+-- What may happen given what went wrong, step by step.
 use Rattle.std.proofs.Common.{◌≡◌, ◌⊎◌, ℕ, ◌≤◌, ◌||◌, Bool, true, false, refl, subst, inl, inr, arith, ⊎_elim}
 use Rattle.psu_disk.specs.Disk.{HasFailed}
 use Rattle.psu_server.specs.Runs.{Mishaps, any, none}
@@ -33,7 +33,7 @@ covers_second can p q c = record {
   worn = λ e. c.worn (or_right p.worn q.worn e);
 }
 
--- a failure stays one
+-- a failure remains one
 pub failed_on : (a b c : ℕ) → b ≤ c → HasFailed a b → HasFailed a c
 failed_on a b c later f = ⊎_elim (λ less. inl (omega (arith, later, less))) (λ last. inr (omega (arith, later, last))) f
 
@@ -57,7 +57,7 @@ within_then a b c P Q R p q join = (
 pub within_as : (a c : ℕ) (P R : Mishaps → Type 0) → Within a c P → ((can : Mishaps) → P can → R can) → Within a c R
 within_as a c P R p turn = (p.0, p.1, p.2, λ can cov. turn can (p.3 can cov))
 
--- the count at the end is another's name
+-- the count at the end under another name
 pub within_at : (a b c : ℕ) (P : Mishaps → Type 0) → c ≡ b → Within a b P → Within a c P
 within_at a b c P same w = subst (λ (n : ℕ). Within a n P) (rev same) w where
   rev : {x y : ℕ} → x ≡ y → y ≡ x
@@ -67,10 +67,10 @@ within_at a b c P same w = subst (λ (n : ℕ). Within a n P) (rev same) w where
 pub within_itself : (a b : ℕ) (P : Mishaps → Type 0) (w : Within a b P) → P w.0
 within_itself a b P w = w.3 w.0 (covers_itself w.0)
 
--- some time goes by
+-- the end may be later
 pub within_later : (a b c : ℕ) (P : Mishaps → Type 0) → b ≤ c → Within a b P → Within a c P
 within_later a b c P later w = (w.0, omega (arith, w.1, later), (λ e. failed_on a b c later (w.2 e)), w.3)
 
--- and where anything may
+-- anything that may happen may happen where everything may go wrong
 pub within_any : (a b : ℕ) (P : Mishaps → Type 0) → Within a b P → P any
 within_any a b P w = w.3 any (record { refused = λ e. refl; failed = λ e. refl; worn = λ e. refl })

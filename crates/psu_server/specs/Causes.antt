@@ -12,7 +12,7 @@ use Rattle.psu_exec.specs.declared.start_cause.StartCause.TheVariants as start
 use Rattle.psu_server.specs.declared.run_cause.RunCause.{RunCause}
 use Rattle.psu_server.specs.declared.run_cause.RunCause.TheVariants.{Read, Write, Open, Device, TooLong, Memory}
 
--- The device does not start: why, but for a want of memory.
+-- The run's cause where the device does not start: the cause of the start, or out of memory where it has none.
 abbrev pub cause_of_start : Option StartCause → RunCause
 cause_of_start (Some cause) = Open cause
 cause_of_start None = Memory
@@ -23,15 +23,15 @@ cause_of_open cause = cause_of_start (start_of_opening cause)
 abbrev pub cause_of_power : PowerCause → RunCause
 cause_of_power cause = cause_of_start (start_of_power_on cause)
 
--- The image stands for the items of no contents that fit.
+-- The image represents items that are not those of any contents that fit.
 pub record HasBadItems (image : List ℕ) : Type 0 where
   pub limit : ℕ
   pub map : List Item
   pub stands : Stands image limit map
   pub none : AreBad limit map
 
--- A disk with this image does not power on for this cause. A failed call says nothing of the image. Memory is wanted only where
--- no call failed and a root can be read.
+-- A disk with this image does not power on for this cause. A failed call says nothing about the image. Out of memory is
+-- possible only where no call failed and a root can be read.
 abbrev pub NotStarted : List ℕ → ℕ → ℕ → RunCause → Type 0
 NotStarted image before now (Open start.Device) = HasFailed before now
 NotStarted image before now (Open start.NoRoot) = HasNoRoot image
@@ -44,6 +44,6 @@ NotStarted image before now Device = ⊥
 NotStarted image before now TooLong = ⊥
 NotStarted image before now Memory = (now ≡ before) × HasReadableRoot image
 
--- the root that counts has the last number, so that there is none for a commit
+-- the current root has the last number, so no number is left for a commit
 abbrev pub IsWornOut : List ℕ → Type 0
 IsWornOut image = 2 ^ 64 ≤ number_in (counting image) image + 1

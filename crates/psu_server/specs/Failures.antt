@@ -1,4 +1,4 @@
--- The disk of a device at rest: how often it has failed, and how many bytes it has.
+-- The disk of a device at rest: the count of its failures, and the number of its bytes.
 use Rattle.std.specs.Prelude.{ℕ, Option, Some, None}
 use Rattle.psu_disk.specs.declared.disk.Disk.{Ghosts}
 use Rattle.psu_exec.specs.Jobs.{home_disk}

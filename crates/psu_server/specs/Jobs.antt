@@ -1,4 +1,4 @@
--- What a job came to, for the run.
+-- The end of a job, as the run sees it.
 use Rattle.std.specs.Prelude.{◌≡◌, ℕ, ◌≤◌, ◌+◌, ◌^◌, Bool, false, List, Option, Some, ⊤}
 use Rattle.std.specs.Option.{ForSome}
 use Rattle.psu_disk.specs.Disk.{HasFailed}
@@ -20,17 +20,18 @@ use Rattle.psu_server.specs.Lives.{disk_at}
 use Rattle.psu_server.specs.Moments.{Since, disk_in}
 use Rattle.psu_server.specs.Runs.{EndsJob, is_short}
 
--- The count of failures: where the job broke the store, or left it broken, a call of the disk failed, and else none did.
+-- The count of failures: where the job broke the store, or left it broken, a call of the disk failed; otherwise none
+-- did.
 abbrev pub Counts : JobEnd → ℕ → ℕ → Type 0
 Counts (Failed limit before edits cause) before_count now_count = HasFailed before_count now_count
 Counts finished before_count now_count = now_count ≡ before_count
 
--- a commit is refused for good only where the root that counts has the last number
+-- a commit is permanently refused only where the current root has the last number
 abbrev pub Wears : JobEnd → List ℕ → Type 0
 Wears (Unstarted limit before edits cause) image = IsWornOut image
 Wears finished image = ⊤
 
--- The number of the root that a whole store counts with. (Of a broken one it is never asked.)
+-- The number of the current root of a whole store. (That of a broken one is never used.)
 abbrev pub home_number : {D A : Type 0} {G : Ghosts D} → Home D A G → ℕ
 home_number (home.Whole store) = store.number
 home_number (home.Failed broken) = 2 ^ 64

@@ -6,12 +6,12 @@ use Rattle.psu_tree.specs.declared.unit_request.Request.{Request}
 use Rattle.psu_lex.specs.declared.scpi_error.ScpiError.TheVariants.{TooMuchData}
 use Rattle.psu_messages.specs.Units.{IsRequest, path_at}
 
--- a byte goes onto the first part of the rest
+-- the parts with a byte prepended to the first of them
 abbrev pub first_onto : ℕ → List (List ℕ) → List (List ℕ)
 first_onto x [] = (x ∷ []) ∷ []
 first_onto x (part ∷ parts) = (x ∷ part) ∷ parts
 
--- the parts of a text that end at a byte; the last may lack it
+-- the parts of a text, each ended by a byte; the last may lack it
 abbrev pub parts_of : ℕ → List ℕ → List (List ℕ)
 parts_of end [] = []
 parts_of end (x ∷ xs) = if x == end then [] ∷ parts_of end xs else first_onto x (parts_of end xs)
@@ -48,7 +48,7 @@ message_of line =
 abbrev pub messages : List ℕ → List Message
 messages input = map message_of (parts_of 10 input)
 
--- the messages that an input brings: those of its bytes where they are known, and else any
+-- the messages that an input brings: those of its bytes where they are known, otherwise any
 abbrev pub Brings : Option (List ℕ) → List Message → Type 0
 Brings None due = ⊤
 Brings (Some input) due = due ≡ messages input

@@ -15,7 +15,7 @@ use Rattle.psu_exec.specs.declared.exec.Exec.{Exec}
 use Rattle.psu_exec.specs.declared.home.Home.{Home}
 use Rattle.psu_tree.specs.declared.unit_request.Request.{Request}
 
--- What a device at rest does not hold: the limit and the contents that its power-on found, and the units that were executed since.
+-- What a device at rest does not store: the limit and the contents found at its power-on, and the units executed since.
 pub record Life : Type 0 where
   pub limit : ℕ
   pub start : Contents
@@ -25,7 +25,7 @@ abbrev pub disk_at : {D A : Type 0} {G : Ghosts D} → Option (Home D A G) → D
 disk_at None = record { bytes = []; unsynced = [] }
 disk_at {D} {A} {G} (Some home) = Ghosts.state G (home_disk home)
 
--- the device in a life, with the disk at home
+-- the world of a device: its life, its state, and the disk at home
 abbrev pub world_of : {D A : Type 0} {G : Ghosts D} → Life → Exec D A G → World
 world_of life exec = record { state = exec.device; history = life.history; disk = disk_at exec.home; mode = Running; limit = life.limit; start = life.start }
 
@@ -33,7 +33,7 @@ world_of life exec = record { state = exec.device; history = life.history; disk 
 abbrev pub born : {D A : Type 0} {G : Ghosts D} → Exec D A G → Life
 born exec = record { limit = exec.device.flush.limit; start = exec.device.flush.contents; history = [] }
 
--- a life with a call more
+-- a life after one more call
 abbrev pub lived : Life → State → Entry → Life
 lived life s entry = record life { history = recorded s entry life.history }
 
@@ -46,7 +46,7 @@ abbrev pub CallsAll : World → List Entry → World → Type 0
 CallsAll w [] new = new ≡ w
 CallsAll w (entry ∷ entries) new = (mid : World) × Calls w entry mid × CallsAll mid entries new
 
--- the request of a call that executes a unit; a unit that is to come later isn't executed
+-- the request of a call that executes a unit; a unit whose reply is `Later` or `Held` isn't executed
 abbrev pub unit_in : Entry → List Request
 unit_in (Executed session request reply) = if is_executed reply then request ∷ [] else []
 unit_in entry = []
@@ -56,7 +56,8 @@ abbrev pub units_in : List Entry → List Request
 units_in [] = []
 units_in (entry ∷ entries) = unit_in entry ++ units_in entries
 
--- The image powers on: the contents are those that it stands for, and the one session is opened. The disk keeps its size.
+-- The image powers on: the contents are those that it represents, and the one session is opened. The disk keeps its
+-- size.
 pub record PowersOn (image : List ℕ) (new : World) : Type 0 where
   pub on : World
   pub start : IsStart on
@@ -64,18 +65,19 @@ pub record PowersOn (image : List ℕ) (new : World) : Type 0 where
   pub size : length on.disk.bytes ≡ length image
   pub opens : Calls on (Opened (Some 1)) new
 
--- A disk after the last call, or after a restart that failed behind it: what may be left of it is what may be left in the last
--- world, or stands for the same on a disk of that size.
+-- A disk after the last call, or after a restart that failed after that call: each of its possible crash images is one
+-- of the last world, or each possible crash image of either disk represents one map, the same for both, and the disks
+-- have the same size.
 abbrev pub IsLeftBy : World → DiskState → Type 0
 IsLeftBy w disk = ((image : List ℕ) → Left disk image → Left w.disk image)
     ⊎ ((limit : ℕ) × (map : List Item) × EachStands w.disk limit map × EachStands disk limit map × (length disk.bytes ≡ length w.disk.bytes))
 
--- The image stands for the contents after a front of the units executed since power-on, which holds every unit before a `*OPC?` that
--- was answered.
+-- The image represents the contents after a prefix of the units executed since power-on. That prefix contains every
+-- unit before a `*OPC?` that was answered.
 abbrev pub StandsForPrefix : World → List ℕ → Type 0
 StandsForPrefix w image = (k : ℕ) × IsPrefix w k × MayBeKept w.limit (after w k) × Stands image w.limit (items_of (after w k))
 
--- so does each image that may be left of a disk
+-- each possible crash image of the disk represents such contents
 abbrev pub LeavesPrefix : World → DiskState → Type 0
 LeavesPrefix w disk = (image : List ℕ) → Left disk image → StandsForPrefix w image
 
@@ -83,7 +85,7 @@ LeavesPrefix w disk = (image : List ℕ) → Left disk image → StandsForPrefix
 abbrev pub EventsLead : World → World → Type 0
 EventsLead w new = (events : List Event) × Run w events new
 
--- a world that events lead to, from a device that has just been powered on
+-- a world that is reached by events from a device that has just been powered on
 pub record Reached (w : World) : Type 0 where
   pub first : World
   pub events : List Event

@@ -1,4 +1,4 @@
--- What a power loss at any moment of a run may leave.
+-- The possible crash images at any moment of a run.
 use Rattle.std.specs.Prelude.{◌≡◌, ◌⊎◌, ℕ, ◌++◌, Option, Some, None, List, ⊤}
 use Rattle.psu_disk.specs.Disk.{DiskState, Left, LeavesOnly}
 use Rattle.psu_disk.specs.declared.disk.Disk.{Ghosts}
@@ -18,14 +18,14 @@ use Rattle.psu_server.specs.Runs.{any, NextBegins, Runs}
 abbrev pub Leads : World → World → Type 0
 Leads w new = (entries : List Entry) × CallsAll w entries new
 
--- the image stands for a prefix of what was executed up to some world between two
+-- the image represents a prefix of what was executed up to some world between the two
 abbrev pub IsBetween : World → World → List ℕ → Type 0
 IsBetween w new image = (mid : World) × Leads w mid × Leads mid new × StandsForPrefix mid image
 
 -- ---- messages
 
--- At some point while these messages are executed: some first of them were executed, the next one may have begun, and the image
--- stands for a prefix of what was executed up to that point.
+-- At some point during the execution of these messages: a prefix of them was executed, the next one may have begun, and
+-- the image represents a prefix of what was executed up to that point.
 pub record IsWhile (w : World) (due : List Message) (image : List ℕ) : Type 0 where
   pub done : List Message
   pub rest : List Message
@@ -40,12 +40,12 @@ pub record IsWhile (w : World) (due : List Message) (image : List ℕ) : Type 0 
 
 -- ---- a run
 
--- the image stands for what one stands for that may be left of the disk
+-- the image represents what some possible crash image of the disk represents
 abbrev pub KeepsOne : DiskState → List ℕ → Type 0
 KeepsOne disk image = (before : List ℕ) × Left disk before × ((limit : ℕ) (map : List Item) → Stands before limit map → Stands image limit map)
 
--- The image stands for what one of the disk's does, as before power-on, or for a prefix of what was executed of the messages that the
--- input brings, up to some point of the run.
+-- The image represents what some possible crash image of the disk does, as before power-on, or a prefix of what was
+-- executed, up to some point of the run, of the messages that the input brings.
 abbrev pub IsOfRun : DiskState → Option (List ℕ) → List ℕ → Type 0
 IsOfRun disk input image =
     KeepsOne disk image ⊎ ((first : World) × (due : List Message) × PowersOn disk.bytes first × Brings input due × IsWhile first due image)
@@ -56,12 +56,13 @@ abbrev pub disk_in : {D A : Type 0} {G : Ghosts D} → Option (Home D A G) → O
 disk_in None = None
 disk_in (Some home) = Some (home_disk home)
 
--- Each image at any moment from one disk to another has P. Where no disk was at home nothing is asked; one that was is at home again.
+-- Each possible crash image at any moment from one disk to the other satisfies P. Where no disk was at home, nothing is
+-- required; a disk that was at home is at home again.
 abbrev pub Since : {D : Type 0} → Ghosts D → Option D → Option D → (List ℕ → Type 0) → Type 0
 Since G None new P = ⊤
 Since G (Some old) None P = ⊥
 Since G (Some old) (Some new) P = LeavesOnly (Ghosts.moment G) (Ghosts.left_since G) old new P
 
--- since this moment there is no other
+-- an image that is possible since the present moment is a possible crash image of the disk as it is
 abbrev pub IsNow : {D : Type 0} → Ghosts D → Type 0
 IsNow {D} G = (d : D) (image : List ℕ) → Ghosts.left_since G d (Ghosts.moment G d) image → Left (Ghosts.state G d) image

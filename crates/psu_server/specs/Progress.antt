@@ -1,4 +1,4 @@
--- How far a run has come: what each of its parts has executed and told.
+-- The progress of a run: what each of its parts has executed and output.
 use Rattle.std.specs.Prelude.{◌≡◌, ◌≢◌, ◌⊎◌, ℕ, ◌<◌, ◌≤◌, List, ◌++◌, length, Option, Some}
 use Rattle.std.specs.Io.KnownBytes.{Appends}
 use Rattle.std.specs.Io.{StartsWith}
@@ -23,32 +23,33 @@ use Rattle.psu_server.specs.declared.run_fault.RunFault.{RunFault}
 
 -- ---- the disk
 
--- From one moment at rest to a later one: the disk has its size, the count of its failures did not fall, and where a store was worn
--- only at the last number it is so still.
+-- From one moment at rest to a later one: the disk keeps its size, the count of its failures did not decrease, and if
+-- the store could be worn only at the last number, that still holds.
 pub record Lasts {D A : Type 0} {G : Ghosts D} (old new : Exec D A G) : Type 0 where
   pub extent : extent_of new ≡ extent_of old
   pub later : failures_of old ≤ failures_of new
   pub worn : IsWornAtLast old → IsWornAtLast new
 
--- the disk that was at home is handed back
+-- the disk that was at home is returned
 pub record HandsBack {D A : Type 0} {G : Ghosts D} (old : Exec D A G) (disk : D) : Type 0 where
   pub extent : Ghosts.extent G disk ≡ extent_of old
   pub later : failures_of old ≤ Ghosts.failures G disk
 
 -- ---- units
 
--- Calls led from one world to another, and what may be left at each moment stands for a prefix of what was executed up to some world between.
+-- Calls lead from one world to the other, and each possible crash image at any moment represents a prefix of what was
+-- executed up to some world between.
 pub record Spans {D A : Type 0} {G : Ghosts D} (old new : Exec D A G) (w v : World) : Type 0 where
   pub leads : Leads w v
   pub time : Ghosts.tells G → IsNow G → Reached w → Since G (disk_in old.home) (disk_in new.home) (IsBetween w v)
 
--- The device went on, in a life that goes on, and this may have happened with what went wrong.
+-- The device continued within its life, and P may have happened with what went wrong.
 pub record GoesOn {D A : Type 0} {G : Ghosts D} (old new : Exec D A G) (P : Mishaps → World → World → Type 0) : Type 0 where
   pub runs : Ghosts.honest G → (life : Life) → (next : Life) × Within (failures_of old) (failures_of new) (λ can. P can (world_of life old) (world_of next new))
       × Spans old new (world_of life old) (world_of next new)
   pub lasts : Lasts old new
 
--- The device stops for this cause, after some first of these requests.
+-- The device stops for this cause, after a prefix of these requests.
 pub record Halts {D A : Type 0} {G : Ghosts D} (old new : Exec D A G) (requests : List Request) (cause : RunCause) : Type 0 where
   pub begun : Ghosts.honest G → (life : Life) → (next : Life) × Begins (world_of life old) requests (world_of next new) × Spans old new (world_of life old) (world_of next new)
   pub lasts : Lasts old new
@@ -59,29 +60,31 @@ pub record Halts {D A : Type 0} {G : Ghosts D} (old new : Exec D A G) (requests 
 abbrev pub WaitEnds : Reply → Mishaps → World → World → Type 0
 WaitEnds reply can w new = (over : World) × Flushes can w over × Calls over (Settled 1 reply) new
 
--- a unit that was executed, or that comes later
+-- a unit that was executed, or whose reply is `Later`
 abbrev pub Acted : Request → Reply → Mishaps → World → World → Type 0
 Acted request reply can w new = ((reply ≡ Later) × Calls w (Executed 1 request Later) new) ⊎ Acts can w request reply new
 
--- The device went on until a fault.
+-- The device continued until a fault.
 pub record Breaks {D A : Type 0} {G : Ghosts D} (old new : Exec D A G) (P : Mishaps → World → World → Type 0) (cause : RunCause) : Type 0 where
   pub goes : GoesOn old new P
   pub why : Ghosts.honest G → IsHaltedBy old new cause
 
 -- ---- messages
 
--- From this device on, each image at any moment until the disk is there is one while these messages are executed.
+-- At any moment from this device to the disk, each possible crash image is one of a moment during the execution of
+-- these messages.
 abbrev pub EachMoment : {D A : Type 0} {G : Ghosts D} → Life → Exec D A G → Option D → List Message → Type 0
 EachMoment {D} {A} {G} life old disk due =
     Ghosts.tells G → IsNow G → Reached (world_of life old) → Since G (disk_in old.home) disk (IsWhile (world_of life old) due)
 
--- The device went on, in a life that goes on or in others behind it: these messages were executed and told this text.
+-- The device continued, within its life or in later ones after it: these messages were executed and output this text.
 pub record RunsOn {D A : Type 0} {G : Ghosts D} (old new : Exec D A G) (done : List Message) (text : List ℕ) : Type 0 where
   pub runs : Ghosts.honest G → (life : Life) → (next : Life) × Within (failures_of old) (failures_of new) (λ can. Runs can (world_of life old) done text (world_of next new))
       × EachMoment life old (disk_in new.home) done
   pub lasts : Lasts old new
 
--- A run ended early, for a reason: of these messages the first may have begun, and `part` is what was to be told of it.
+-- A run ended early, for a reason: the first of these messages may have begun, and `part` is what was to be output of
+-- it.
 pub record StopsHere {D A : Type 0} {G : Ghosts D} (long : Type 0) (old : Exec D A G) (fault : RunFault D) (rest : List Message) (part : List ℕ) : Type 0 where
   pub hands : HandsBack old fault.disk
   pub stops : Ghosts.honest G → IsWornAtLast old → (life : Life) → (last : World)
@@ -100,14 +103,15 @@ pub record Stops {D A : Type 0} {G : Ghosts D} (long : Type 0) (old : Exec D A G
       × StopsFor long count (Ghosts.failures G fault.disk) rest last (Ghosts.state G fault.disk).bytes fault.cause
       × EachMoment life old (Some fault.disk) (done ++ rest)
 
--- The messages before the piece are those that end in it, and those after it. They were executed, and their text told.
+-- The messages due before the piece are those that end in it, and those due after it. The former were executed, and
+-- their text was output.
 abbrev pub Fed : {D A : Type 0} {G : Ghosts D} → (List ℕ → List Message) → List ℕ → (List ℕ → List Message) → Exec D A G → Exec D A G → Telling → Telling → Type 0
 Fed before piece after old new told now =
     (done : List Message) × (text : List ℕ) × Says told now text
     × ((input : List ℕ) → before (piece ++ input) ≡ done ++ after input)
     × RunsOn old new done text
 
--- the same up to a fault
+-- a piece with a fault in it: messages up to the fault were executed, and their text was output
 abbrev pub Stopped : {D A : Type 0} {G : Ghosts D} → (List ℕ → List Message) → List ℕ → Exec D A G → RunFault D → Telling → Telling → Type 0
 Stopped before piece old fault told now =
     (done : List Message) × (text : List ℕ) × (part : List ℕ) × SaysUntil fault.cause told now (text ++ part)
@@ -125,8 +129,8 @@ abbrev pub Answers : {D A : Type 0} {G : Ghosts D} → List Message → Exec D A
 Answers due old new old_written new_written =
     (text : List ℕ) × Appends old_written new_written text × RunsOn old new due text
 
--- A run ended early. What the executed messages told is written, and what was told of the next one; where the writer failed, a
--- front of it, and some of it is missing.
+-- A run ended early. The output of the executed messages is written, and what was output of the next one; where the
+-- writer failed, a proper prefix of that.
 pub record EndsEarly {D A : Type 0} {G : Ghosts D} (long : Type 0) (old : Exec D A G) (fault : RunFault D) (due : List Message) (old_written new_written : Option (List ℕ)) : Type 0 where
   pub done : List Message
   pub rest : List Message
@@ -140,7 +144,7 @@ pub record EndsEarly {D A : Type 0} {G : Ghosts D} (long : Type 0) (old : Exec D
   pub whole : fault.cause ≢ Write → front ≡ text ++ part
   pub missing : fault.cause ≡ Write → length front < length (text ++ part)
 
--- The messages were executed and told, and then all that was accepted is flushed.
+-- The messages were executed and their text was output; then all accepted changes were flushed.
 pub record RanAll {D A : Type 0} {G : Ghosts D} (old : Exec D A G) (due : List Message) (disk : D) (old_written new_written : Option (List ℕ)) : Type 0 where
   pub hands : HandsBack old disk
   pub text : List ℕ

@@ -15,8 +15,8 @@ use Rattle.psu_server.specs.Lines.{Message}
 
 -- ---- the device that is powered on
 
--- A unit or a flush can't be ended only where the disk failed since, or where changes are left and there is no number for a commit. A
--- want of memory can't be seen, nor that a writer fails.
+-- A unit or a flush fails to end only where the disk failed since, or where changes are left and no number is left for
+-- a commit. A contract cannot see that an allocation or a writer fails.
 abbrev pub IsHaltedBy : {D A : Type 0} {G : Ghosts D} → Exec D A G → Exec D A G → RunCause → Type 0
 IsHaltedBy old new Device = HasFailed (failures_of old) (failures_of new) ⊎ ((new.device.flush.store ≡ Worn) × (1 ≤ new.device.flush.unflushed))
 IsHaltedBy old new Memory = ⊤
@@ -31,11 +31,11 @@ IsAtPower [] = ⊥
 IsAtPower (Message.Power ∷ ms) = ⊤
 IsAtPower (m ∷ ms) = ⊥
 
--- Why a run ends before the first of these messages, or in it. `before` and `now` are the counts of failures before it and at the
--- end, `last` is the device then, and `left` what its disk reads as. Open: a restart was refused, and only as the disk failed in it,
--- since what it stood for still stands. Device: the disk failed meanwhile, or, but for a restart, changes are left on a store whose
--- root has the last number. TooLong: the input is too long, as `long` says. That memory is refused, or that a reader or a
--- writer fails, can't be seen.
+-- Why a run ends before the first of these messages, or in it. `before` and `now` are the counts of failures before it
+-- and at the end, `last` is the device then, and `left` the bytes that its disk reads as. Open: a restart was refused,
+-- and only because the disk failed in it, since the disk still represents what it represented. Device: the disk failed
+-- meanwhile, or, except in a restart, changes are left on a store whose root has the last number. TooLong: the input is
+-- too long, as `long` says. A contract cannot see that an allocation, a reader or a writer fails.
 abbrev pub StopsFor : Type 0 → ℕ → ℕ → List Message → World → List ℕ → RunCause → Type 0
 StopsFor long before now rest last left (Open start.Device) = IsAtPower rest × HasFailed before now
 StopsFor long before now rest last left (Open cause) = ⊥
@@ -48,7 +48,7 @@ StopsFor long before now rest last left Memory = ⊤
 -- ---- the run
 
 -- Why a run ends early: `found` is the image at its start, `left` the one at its end, and `long` says that the input is
--- too long. Memory is asked for only where a root could be read. That a reader or a writer fails can't be seen.
+-- too long. Memory is allocated only where a root could be read. A contract cannot see that a reader or a writer fails.
 abbrev pub EndsFor : List ℕ → ℕ → ℕ → List ℕ → Type 0 → RunCause → Type 0
 EndsFor found before now left long (Open start.Device) = HasFailed before now
 EndsFor found before now left long (Open start.NoRoot) = HasNoRoot found

@@ -1,4 +1,4 @@
--- What `recover` says of an image.
+-- What `recover` reports of an image.
 use Rattle.std.specs.Prelude.{◌≡◌, ℕ, ◌==◌, true, if◌then◌else◌, List, [], ◌∷◌, length, map, ⊤}
 use Rattle.psu_map.specs.Map.{Item, cost}
 use Rattle.psu_items.specs.Image.{counting, number_in, version_in, HasReadableRoot, Stands, IsRefusal}
@@ -39,7 +39,7 @@ pub record Entry : Type 0 where
 abbrev pub entry_with : List ℕ → FileKind × ℕ → Entry
 entry_with name what = record { name = name; kind = what.0; size = what.1 }
 
--- the type that a byte stands for: 0 is BIN, 1 STAT, 2 MACR
+-- the type that a byte encodes: 0 is BIN, 1 STAT, 2 MACR
 abbrev pub kind_of : ℕ → FileKind
 kind_of code = if code == 0 then kind.Binary else (if code == 1 then kind.State else kind.Macro)
 
@@ -57,9 +57,10 @@ told file = entry_with file.name (file.kind, file.size)
 
 -- ---- reports
 
--- The image stands for these contents, and the report tells them: their cost, the enables, the first service request that is
--- prescribed for them, how many user data and macros there are, and the files in byte order of their names; and the number of the root
--- that counts; and whether the settings at power-on are those of register 0.
+-- The image represents these contents, and the report has their cost, the enables, the first service request that is
+-- prescribed for them, the number of bytes of user data, the number of macros, and the files in byte order of their
+-- names; and the version and the number of the current root; and whether the settings at power-on are those of register
+-- 0.
 pub record IsReported {A : Type 0} (image : List ℕ) (report : Report A) : Type 0 where
   pub contents : Contents
   pub sound : IsContents contents
@@ -75,7 +76,7 @@ pub record IsReported {A : Type 0} (image : List ℕ) (report : Report A) : Type
   pub files : map told report.files.items ≡ map entry contents.files
   pub recall : report.recall ≡ contents.recall
 
--- a report of a device at power-on, with what its store says of the image
+-- a report of a device at power-on, with what its store says about the image
 pub record Reports {A : Type 0} (s : State) (version root limit pages : ℕ) (report : Report A) : Type 0 where
   pub version_is : report.version ≡ version
   pub root_is : report.root ≡ root
@@ -88,7 +89,8 @@ pub record Reports {A : Type 0} (s : State) (version root limit pages : ℕ) (re
   pub files : map told report.files.items ≡ map entry s.flush.contents.files
   pub recall : report.recall ≡ s.flush.contents.recall
 
--- Why an image isn't reported. A failed disk call says nothing of the image. Memory is wanted only where a root can be read.
+-- Why an image isn't reported. A failed disk call says nothing about the image. Out of memory is possible only where a
+-- root can be read.
 abbrev pub IsRecoverRefusal : List ℕ → RecoverFault → Type 0
 IsRecoverRefusal image Device = ⊤
 IsRecoverRefusal image NoRoot = IsRefusal image opening.NoRoot

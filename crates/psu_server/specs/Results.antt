@@ -1,4 +1,4 @@
--- What a run came to, where it ends well and where it ends early.
+-- The result of a run, where it succeeds and where it ends early.
 use Rattle.std.specs.Prelude.{◌≡◌, ◌≢◌, ℕ, ◌<◌, ◌≤◌, true, List, [], ◌++◌, length, Option, Result, Ok, Err, IfSome}
 use Rattle.std.specs.Io.KnownBytes.{Appends}
 use Rattle.std.specs.Io.{StartsWith}
@@ -17,10 +17,10 @@ use Rattle.psu_server.specs.declared.run_cause.RunCause.{RunCause}
 use Rattle.psu_server.specs.declared.run_cause.RunCause.TheVariants.{Write}
 use Rattle.psu_server.specs.declared.run_fault.RunFault.{RunFault}
 
--- A whole run on an image: the messages that the input brings were executed, and the writer gained a text that may be written for
--- them with what went wrong. A disk call went wrong only where the count of failures rose or stands at its last value; where nothing
--- went wrong the text is the script of a known input. All that was accepted is flushed: whatever a power loss leaves of the disk
--- stands for it.
+-- A whole run on an image: the messages that the input brings were executed, and the writer gained a text that may be
+-- written for them with what went wrong. A disk call failed only where the count of failures rose or is at its last
+-- value; where nothing went wrong, the text is the script of a known input. All accepted changes are flushed: each
+-- possible crash image of the disk represents the contents with them.
 pub record WritesRun (image : List ℕ) (input : Option (List ℕ)) (old_count new_count : ℕ) (old_written new_written : Option (List ℕ)) (disk : DiskState) : Type 0 where
   pub gone : Mishaps
   pub failed : gone.failed ≡ true → HasFailed old_count new_count
@@ -40,26 +40,27 @@ pub record WritesRun (image : List ℕ) (input : Option (List ℕ)) (old_count n
   pub since : (before : World) → before.disk.bytes ≡ image → EventsLead before over
   pub back : over.disk ≡ disk
 
--- A run that did not start: the disk does not power on, for this cause. Nothing was read and nothing written, and what each image that may be
--- left of the disk stood for each stands for.
+-- A run that did not start: the disk does not power on, for this cause. Nothing was read and nothing was written, and a
+-- map that each possible crash image of the disk represented, each still represents.
 pub record DoesNotStart (cause : RunCause) (old_count new_count : ℕ) (old_rest new_rest old_written new_written : Option (List ℕ)) (old new : DiskState) : Type 0 where
   pub reason : NotStarted old.bytes old_count new_count cause
   pub unread : new_rest ≡ old_rest
   pub unwritten : Appends old_written new_written []
   pub kept : (limit : ℕ) (map : List Item) → EachStands old limit map → EachStands new limit map
 
--- A run that ended early: some first messages that the input brings were executed, and of the next one some first units. Their text
--- and what was told of the next one are written, but where the writer failed: then some of that is missing. Each image that
--- may be left of the disk stands for the contents after a front of all these units that holds every unit before a `*OPC?` that was
--- answered. It ended for a reason, which came up at the message that was not executed; `long` says that the input is too
--- long. Events lead through all of it, and on to the disk that is handed back.
+-- A run that ended early: a prefix of the messages that the input brings was executed, and a prefix of the units of the
+-- next one. Their text and the output of the next one are written, except where the writer failed: then some of that is
+-- missing. Each possible crash image of the disk represents the contents after a prefix of all these units that
+-- contains every unit before a `*OPC?` that was answered. It ended for a reason, which arose at the message that was
+-- not executed; `long` says that the input is too long. Events lead through all of it, and on to the disk that is
+-- returned.
 pub record WritesFirst (long : Type 0) (cause : RunCause) (image : List ℕ) (input : Option (List ℕ)) (old_count new_count : ℕ) (old_written new_written : Option (List ℕ)) (disk : DiskState) : Type 0 where
   pub first : World
   pub starts : PowersOn image first
   pub done : List Message
   pub rest : List Message
   pub brought : Brings input (done ++ rest)
-  -- the messages that were executed, and the count of failures behind them
+  -- the messages that were executed, and the count of failures after them
   pub count : ℕ
   pub later : old_count ≤ count
   pub gone : Mishaps
@@ -87,7 +88,7 @@ pub record WritesFirst (long : Type 0) (cause : RunCause) (image : List ℕ) (in
   pub behind : EventsLead last stopped
   pub back : stopped.disk ≡ disk
 
--- the disk that a run hands back
+-- the disk that a run returns
 abbrev pub disk_of : {D : Type 0} → Result D (RunFault D) → D
 disk_of (Ok disk) = disk
 disk_of (Err fault) = fault.disk

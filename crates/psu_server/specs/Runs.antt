@@ -25,25 +25,25 @@ none = record { refused = false; failed = false; worn = false }
 abbrev pub any : Mishaps
 any = record { refused = true; failed = true; worn = true }
 
--- -225 stands only where memory may be refused
+-- the error -225 is possible only where memory may be refused
 abbrev pub IsMeant : Mishaps → Reply → Type 0
 IsMeant can reply = reply ≡ Error OutOfMemory → can.refused ≡ true
 
--- the job ended for want of memory
+-- the job ended out of memory
 abbrev pub is_short : JobEnd → Bool
 is_short (Unstarted limit before edits Memory) = true
 is_short (Failed limit before edits broken_cause.Memory) = true
 is_short finished = false
 
--- A job ends so only where that may go wrong: a commit is refused for good only where the root that counts on the disk has the last
--- number. One that ends for want of memory ends the run.
+-- A job ends this way only where that may go wrong: a commit is permanently refused only where the current root on the
+-- disk has the last number. A job that ends out of memory ends the run.
 abbrev pub IsSound : Mishaps → List ℕ → JobEnd → Type 0
 IsSound can image (Stored limit map) = ⊤
 IsSound can image (Unstarted limit before edits cause) = (can.worn ≡ true) × IsWornOut image
 IsSound can image (Failed limit before edits cause) = can.failed ≡ true
 IsSound can image (Reopened limit map) = ⊤
 
--- a job of this kind may end so
+-- a job of this kind may end this way
 abbrev pub EndsJob : JobKind → JobEnd → Type 0
 EndsJob Commit (Reopened limit map) = ⊥
 EndsJob Commit finished = ⊤
@@ -63,7 +63,7 @@ pub record JobDone (can : Mishaps) (w new : World) : Type 0 where
   pub sound : IsSound can new.disk.bytes finished
   pub long : is_short finished ≡ false
 
--- so many jobs, one after another
+-- that many jobs, one after another
 abbrev pub Jobs : ℕ → Mishaps → World → World → Type 0
 Jobs zero can w new = new ≡ w
 Jobs (suc n) can w new = (mid : World) × Jobs n can w mid × JobDone can mid new
@@ -88,21 +88,21 @@ abbrev pub is_expansion : Reply → Bool
 is_expansion (Expand bytes) = true
 is_expansion reply = false
 
--- the unit is done with
+-- the unit is finished
 abbrev pub is_final : Reply → Bool
 is_final Parked = false
 is_final Held = false
 is_final Later = false
 is_final reply = true
 
--- A unit that is answered at once, or once a flush has ended its wait. A wait's end that wants memory ends the run.
+-- A unit that is answered at once, or once a flush has ended its wait. A wait that ends out of memory ends the run.
 abbrev pub Acts : Mishaps → World → Request → Reply → World → Type 0
 Acts can w request reply new = (is_final reply ≡ true)
     × ((IsMeant can reply × Calls w (Executed 1 request reply) new)
     ⊎ ((is_out_of_memory reply ≡ false) × (parked : World) × (over : World)
     × Calls w (Executed 1 request Parked) parked × Flushes can parked over × Calls over (Settled 1 reply) new))
 
--- a unit; where it comes later, after a flush
+-- a unit; where its reply is `Later`, it is executed again after a flush
 abbrev pub UnitRuns : Mishaps → World → Request → Reply → World → Type 0
 UnitRuns can w request reply new =
     Acts can w request reply new
@@ -114,7 +114,7 @@ UnitsRun can w answers [] all new = (new ≡ w) × (all ≡ answers)
 UnitsRun can w answers (request ∷ more) all new =
     (reply : Reply) × (mid : World) × UnitRuns can w request reply mid × UnitsRun can mid (with_answer answers reply) more all new
 
--- what comes of a unit's reply: it is told, or the expansion that it is is executed in the unit's place
+-- the effect of a unit's reply: it is added to the answers, or an expansion is executed in the unit's place
 abbrev pub ReplyRuns : Mishaps → World → List (List ℕ) → Reply → List (List ℕ) → World → Type 0
 ReplyRuns can w answers (Expand bytes) all new = (requests : List Request) × AsksInside bytes requests × UnitsRun can w answers requests all new
 ReplyRuns can w answers reply all new = (new ≡ w) × (all ≡ with_answer answers reply)
@@ -126,12 +126,12 @@ LineRuns can w answers (request ∷ more) all new =
     (reply : Reply) × (mid : World) × (some : List (List ℕ)) × (after : World)
     × UnitRuns can w request reply mid × ReplyRuns can mid answers reply some after × LineRuns can after some more all new
 
--- a broken store is opened again, and any other stays as it is
+-- a broken store is reopened, and any other is left unchanged
 abbrev pub Reopens : Mishaps → World → World → Type 0
 Reopens can w new = ((is_broken w.state.flush.store ≡ false) × (new ≡ w))
     ⊎ ((is_broken w.state.flush.store ≡ true) × JobDone can w new × (is_broken new.state.flush.store ≡ false))
 
--- a message with its text; a power loss at rest leaves what a read gives
+-- a message with its text; after a power loss at rest the disk has the bytes that a read returns
 abbrev pub MessageRuns : Mishaps → World → Message → List ℕ → World → Type 0
 MessageRuns can w Message.Power text new = (text ≡ []) × (over : World) × Reopens can w over × PowersOn over.disk.bytes new
 MessageRuns can w m text new = (requests : List Request) × Asks m requests × (all : List (List ℕ)) × LineRuns can w [] requests all new × (text ≡ response all)
@@ -144,24 +144,24 @@ Runs can w (m ∷ ms) text new =
 
 -- ---- what has begun
 
--- some first of these requests were executed, and other calls were made
+-- a prefix of these requests was executed, and other calls were made
 abbrev pub Begins : World → List Request → World → Type 0
 Begins w requests new = (entries : List Entry) × CallsAll w entries new × (more : List Request) × (requests ≡ units_in entries ++ more)
 
--- some first units of an expansion, from the answers so far to all of them, and of the next one all but its answer
+-- a prefix of the units of an expansion, from the answers so far to all of them, and of the next one all but its answer
 abbrev pub UnitsBegin : Mishaps → World → List (List ℕ) → List Request → List (List ℕ) → World → Type 0
 UnitsBegin can w answers [] all new = (new ≡ w) × (all ≡ answers)
 UnitsBegin can w answers (request ∷ more) all new =
     (Begins w (request ∷ []) new × (all ≡ answers))
     ⊎ ((reply : Reply) × (mid : World) × UnitRuns can w request reply mid × UnitsBegin can mid (with_answer answers reply) more all new)
 
--- of the expansion that a unit is replaced by some first units
+-- a prefix of the units of the expansion that replaces a unit
 abbrev pub ReplyBegins : Mishaps → World → List (List ℕ) → Reply → List (List ℕ) → World → Type 0
 ReplyBegins can w answers (Expand bytes) all new = (requests : List Request) × AsksInside bytes requests × UnitsBegin can w answers requests all new
 ReplyBegins can w answers reply all new = (new ≡ w) × (all ≡ answers)
 
--- some first units of a message, from the answers so far to all of them, and of the next one all but its answer, or some first
--- units of its expansion
+-- a prefix of the units of a message, from the answers so far to all of them, and of the next one all but its answer,
+-- or a prefix of the units of its expansion
 abbrev pub LineBegins : Mishaps → World → List (List ℕ) → List Request → List (List ℕ) → World → Type 0
 LineBegins can w answers [] all new = (new ≡ w) × (all ≡ answers)
 LineBegins can w answers (request ∷ more) all new =
@@ -170,7 +170,7 @@ LineBegins can w answers (request ∷ more) all new =
     ⊎ ((reply : Reply) × (mid : World) × (some : List (List ℕ)) × (after : World)
     × UnitRuns can w request reply mid × ReplyRuns can mid answers reply some after × LineBegins can after some more all new)
 
--- a message that has begun, with what is told of it
+-- a message that has begun, with its output so far
 abbrev pub MessageBegins : Mishaps → World → Message → List ℕ → World → Type 0
 MessageBegins can w m text new = (requests : List Request) × Asks m requests × (all : List (List ℕ)) × LineBegins can w [] requests all new × (text ≡ joined all)
 

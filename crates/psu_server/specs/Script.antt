@@ -1,4 +1,4 @@
--- What a run writes where nothing goes wrong: over the step, and the one reading of each message.
+-- What a run writes where nothing goes wrong, defined by the device's step and the one reading of each message.
 use Rattle.std.specs.Prelude.{◌≡◌, ℕ, ◌==◌, Bool, true, false, Option, Some, None, List, [], ◌∷◌, ◌++◌, Result}
 use Rattle.psu_lex.specs.Syntax.{Datum}
 use Rattle.psu_lex.specs.declared.scpi_error.ScpiError.{ScpiError}
@@ -27,7 +27,8 @@ pub record Rest : Type 0 where
 abbrev pub at_start : ℕ → Contents → Rest
 at_start limit contents = record { state = started limit contents; stored = contents }
 
--- once a job for the changes that are not flushed is given back as stored; with none of them there is no job
+-- the device once a job for the changes that are not flushed is given back as stored; without such changes there is no
+-- job
 abbrev pub flushed_by : Bool → Rest → Rest
 flushed_by true r = r
 flushed_by false r = record { state = with_stored (with_flush r.state (job_out r.state.flush)); stored = r.state.flush.contents }
@@ -35,7 +36,7 @@ flushed_by false r = record { state = with_stored (with_flush r.state (job_out r
 abbrev pub flushed : Rest → Rest
 flushed r = flushed_by (r.state.flush.unflushed == 0) r
 
--- how a unit goes on
+-- the result of a unit: the device after it, and its reply
 pub record Went : Type 0 where
   pub rest : Rest
   pub reply : Reply
@@ -47,7 +48,7 @@ waited r = record {
   reply = settle_answer (wait_of r.state.flush 1);
 }
 
--- a unit that is answered so; parked, it waits for a flush
+-- the result of a unit with this reply; a parked unit waits for a flush
 abbrev pub after_reply : Rest → Request → Reply → Went
 after_reply r request Parked = waited (flushed (record r { state = after_unit r.state 1 request Parked }))
 after_reply r request reply = record { rest = record r { state = after_unit r.state 1 request reply }; reply = reply }
@@ -60,7 +61,7 @@ pub record Expands (request : Request) (body : List ℕ) (reply : Reply) : Type 
   pub gives : ExpandsAt request.inside body (written parameters) given
   pub is : reply ≡ answer_call given
 
--- a call stands before what the unit reads as
+-- a macro call takes precedence over what the unit reads as
 abbrev pub RepliesCalled : State → Request → Option (List ℕ) → Reply → Type 0
 RepliesCalled s request None reply = reply ≡ answer_meant s.flush (meant (here s 1) request.reading)
 RepliesCalled s request (Some body) reply = Expands request body reply
@@ -69,36 +70,36 @@ abbrev pub RepliesNow : Bool → State → Request → Reply → Type 0
 RepliesNow true s request reply = reply ≡ Later
 RepliesNow false s request reply = RepliesCalled s request (called s request) reply
 
--- what a unit answers where no memory is refused
+-- the reply to a unit where no memory is refused
 abbrev pub Replies : State → Request → Reply → Type 0
 Replies s request reply = RepliesNow (is_later s 1 request) s request reply
 
--- a unit that comes later is executed after a flush
+-- a unit whose reply is `Later` is executed after a flush
 abbrev pub GoesFrom : Rest → Request → Reply → Went → Type 0
 GoesFrom r request Later went = (reply : Reply) × Replies (flushed r).state request reply × (went ≡ after_reply (flushed r) request reply)
 GoesFrom r request reply went = went ≡ after_reply r request reply
 
--- a unit goes on so
+-- a unit has this result
 abbrev pub Goes : Rest → Request → Went → Type 0
 Goes r request went = (reply : Reply) × Replies r.state request reply × GoesFrom r request reply went
 
--- how far a message has come: the device, and the answers so far
+-- the progress of a message: the device, and the answers so far
 pub record Spoken : Type 0 where
   pub rest : Rest
   pub answers : List (List ℕ)
 
--- the units of an expansion answer so, behind the answers so far
+-- the units of an expansion answer this, after the answers so far
 abbrev pub SpeaksInside : Rest → List (List ℕ) → List Request → Spoken → Type 0
 SpeaksInside r answers [] spoken = spoken ≡ record { rest = r; answers = answers }
 SpeaksInside r answers (request ∷ more) spoken =
     (went : Went) × Goes r request went × SpeaksInside went.rest (with_answer answers went.reply) more spoken
 
--- a reply is an answer or none, or the expansion that it is is executed in the unit's place
+-- a reply adds an answer or none, or is an expansion, which is executed in the unit's place
 abbrev pub SpeaksReply : Rest → List (List ℕ) → Reply → Spoken → Type 0
 SpeaksReply r answers (Expand bytes) spoken = (requests : List Request) × AsksInside bytes requests × SpeaksInside r answers requests spoken
 SpeaksReply r answers reply spoken = spoken ≡ record { rest = r; answers = with_answer answers reply }
 
--- the units of a message answer so, behind the answers so far
+-- the units of a message answer this, after the answers so far
 abbrev pub Speaks : Rest → List (List ℕ) → List Request → Spoken → Type 0
 Speaks r answers [] spoken = spoken ≡ record { rest = r; answers = answers }
 Speaks r answers (request ∷ more) spoken =
@@ -108,12 +109,12 @@ Speaks r answers (request ∷ more) spoken =
 abbrev pub restarted : Rest → Rest
 restarted r = at_start r.state.flush.limit r.stored
 
--- what is told of a message, and the device behind it
+-- the text of a message, and the device after it
 pub record Told : Type 0 where
   pub rest : Rest
   pub text : List ℕ
 
--- a message with these requests tells this
+-- a message with these requests has this text and leaves this device
 abbrev pub TellsMessage : Rest → Message → List Request → Told → Type 0
 TellsMessage r Message.Power requests told = told ≡ record { rest = restarted r; text = [] }
 TellsMessage r m requests told = (all : Spoken) × Speaks r [] requests all × (told ≡ record { rest = all.rest; text = response all.answers })
@@ -125,6 +126,7 @@ Scripted r (m ∷ ms) text =
     (requests : List Request) × (told : Told) × (more : List ℕ)
     × Asks m requests × TellsMessage r m requests told × Scripted told.rest ms more × (text ≡ told.text ++ more)
 
--- what is written for the bytes of an input, on an image of this limit that holds these contents; there is one such text
+-- what is written for the bytes of an input, on an image of this limit that holds these contents; there is one such
+-- text
 abbrev pub IsScript : Contents → ℕ → List ℕ → List ℕ → Type 0
 IsScript contents limit bytes text = Scripted (at_start limit contents) (messages bytes) text

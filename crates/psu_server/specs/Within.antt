@@ -9,6 +9,7 @@ pub record Covers (can gone : Mishaps) : Type 0 where
   pub failed : gone.failed ≡ true → can.failed ≡ true
   pub worn : gone.worn ≡ true → can.worn ≡ true
 
--- It may happen with what went wrong, a disk call among it only where the count of failures rose or stands at its last value.
+-- P may have happened with what went wrong; a disk call failed only where the count of failures rose or is at its last
+-- value.
 abbrev pub Within : ℕ → ℕ → (Mishaps → Type 0) → Type 0
 Within before now P = (gone : Mishaps) × (before ≤ now) × (gone.failed ≡ true → HasFailed before now) × ((can : Mishaps) → Covers can gone → P can)

@@ -1,4 +1,4 @@
-// A unit, with the flushes that it waits for.
+// The execution of one unit, with the flushes that it waits for.
 ghost use Rattle.std.specs.Prelude.{◌≡◌, ◌∷◌, [], IfOk, IfErr, true, false};
 ghost use Rattle.psu_exec.specs.Device.{is_open, wait_of};
 ghost use Rattle.psu_exec.specs.Shown.{outcome_of};
@@ -36,7 +36,7 @@ fn is_out_of_memory<A: Allocator + Copy>(outcome: &Outcome<A>) -> bool
     matches!(outcome, Outcome::Error(ScpiError::OutOfMemory))
 }
 
-// Flushes, and gives what the session's wait came to.
+// Flushes, and returns the outcome of the session's wait.
 fn wait_end<D: Disk, A: Allocator + Copy>(
     exec: &mut Exec<D, A>,
     session: Session,
@@ -64,7 +64,7 @@ fn wait_end<D: Disk, A: Allocator + Copy>(
     Ok(outcome)
 }
 
-// The same; the session waits no more, whatever its wait came to.
+// Flushes, and returns the outcome of the session's wait; on an error, clears the wait.
 fn wait<D: Disk, A: Allocator + Copy>(
     exec: &mut Exec<D, A>,
     session: Session,
@@ -90,7 +90,7 @@ fn wait<D: Disk, A: Allocator + Copy>(
     }
 }
 
-/// Executes a unit; parked, it waits for a flush. It may still come later.
+/// Executes a unit. A parked unit waits for a flush and is settled. The outcome may still be `Later`.
 #[inline(always)]
 pub fn act<D: Disk, A: Allocator + Copy>(
     powered: &mut Powered<D, A>,
@@ -108,7 +108,7 @@ pub fn act<D: Disk, A: Allocator + Copy>(
     Ok(outcome)
 }
 
-/// Executes a unit; where it comes later, after a flush.
+/// Executes a unit; where its outcome is `Later`, flushes and executes it again.
 #[inline(always)]
 pub fn unit<D: Disk, A: Allocator + Copy>(
     powered: &mut Powered<D, A>,

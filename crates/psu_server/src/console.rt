@@ -1,4 +1,4 @@
-// What the units of a run are executed on.
+// The executor of a run: it executes units on the device and outputs their answers.
 ghost use Rattle.std.specs.Prelude.{◌≡◌, [], List, ℕ, IfErr, IfOk, IfSome, OnOk, None, false};
 ghost use Rattle.psu_answers.specs.Gathered.{nothing};
 ghost use Rattle.psu_answers.specs.Response.{joined, response};
@@ -29,7 +29,7 @@ use std::alloc::Allocator;
 use std::io::Write;
 use std::mem;
 
-// Executes the message of a line, which is its bytes, or that they are too many.
+// Executes the message of a line: its bytes, or the error that the line is too long.
 #[inline(always)]
 fn proceed<A: Allocator + Copy, F: Front<A>>(
     front: &mut F,
@@ -51,7 +51,7 @@ fn proceed<A: Allocator + Copy, F: Front<A>>(
     Ok(need)
 }
 
-/// What the units of a run are executed on: a device with what it has answered, and the writer.
+/// The executor of a run: a powered-on device with its answers that are not yet written, and the writer.
 #[derive(Drop)]
 pub struct Console<'p, 'w, W: Write, D: Disk, A: Allocator + Copy> {
     pub desk: &'p mut Desk<D, A>,
@@ -75,7 +75,7 @@ impl<'p, 'w, W: Write, D: Disk, A: Allocator + Copy> Front<A> for Console<'p, 'w
         unit(&mut self.desk.powered, request)
     }
 
-    // Never asked for: a unit comes to its end when it is executed.
+    // Never called: `execute` returns final outcomes alone, so no unit is left to settle.
     fn settle(&mut self) -> Result<Outcome<A>, RunCause> {
         Err(self.short())
     }
@@ -91,8 +91,8 @@ impl<'p, 'w, W: Write, D: Disk, A: Allocator + Copy> Front<A> for Console<'p, 'w
 }
 
 impl<'p, 'w, W: Write, D: Disk, A: Allocator + Copy> Console<'p, 'w, W, D, A> {
-    /// Executes the message of a line that has ended and isn't the one of a power loss, and tells its text. Where it stops, what it has answered and not told is
-    /// gathered.
+    /// Executes the message of a complete line that is not the one of a power loss, and outputs its response. Where it
+    /// stops early, the answers that were not output are left in the response buffer.
     pub fn follow(&mut self, alloc: A, lines: &Lines<A>) -> Result<(), RunCause>
         requires power { is_power (message_now lines.now.is_over lines.now.line.items) ≡ false }
         requires fresh { self.old.desk.now.unwritten.gathered ≡ nothing }

@@ -4,7 +4,8 @@ ghost use Rattle.std.specs.Prelude.{Some};
 use crate::Source;
 use std::io::{self, Read};
 
-/// A reader, how many reads were made of it, and how many of them gave bytes. Each count stops at its type's last value.
+/// A reader, the number of reads made of it, and the number of those that returned bytes. Each count saturates at its
+/// type's last value.
 #[derive(Drop)]
 pub struct Counted<R> {
     pub reader: R,

@@ -1,4 +1,4 @@
-// A device that is powered on, with what it has answered.
+// A powered-on device with its output that is not yet written.
 ghost use Rattle.std.specs.Prelude.{◌≡◌, [], ◌≤◌};
 ghost use Rattle.std.specs.Option.{ForSome};
 ghost use Rattle.psu_answers.specs.Gathered.{nothing};
@@ -16,7 +16,7 @@ use crate::unwritten::Unwritten;
 use psu_disk::Disk;
 use std::alloc::Allocator;
 
-/// A device that is powered on, with what it has answered and is not written.
+/// A powered-on device, with its answers that are not yet written.
 #[derive(Drop)]
 pub struct Desk<D: Disk, A: Allocator + Copy> {
     pub powered: Powered<D, A>,
@@ -24,7 +24,7 @@ pub struct Desk<D: Disk, A: Allocator + Copy> {
 }
 
 impl<D: Disk, A: Allocator + Copy> Desk<D, A> {
-    /// Before the first line of a piece.
+    /// Returns a device before the first line of a piece: nothing is buffered.
     pub fn new(alloc: A, powered: Powered<D, A>) -> Desk<D, A>
         ensures powered { result.powered ≡ powered }
         ensures none { result.unwritten.told.items ≡ [] }
@@ -36,7 +36,7 @@ impl<D: Disk, A: Allocator + Copy> Desk<D, A> {
         }
     }
 
-    /// The early end of a run.
+    /// Ends the run early, for this cause.
     pub fn fault(self, cause: RunCause) -> Halted<D, A>
         ensures unwritten { result.unwritten ≡ self.unwritten }
         ensures cause { result.fault.cause ≡ cause }

@@ -1,10 +1,10 @@
-// The early end of a run, in the midst of a piece.
+// The early end of a run before the end of a piece.
 use crate::RunFault;
 use crate::unwritten::Unwritten;
 use psu_disk::Disk;
 use std::alloc::Allocator;
 
-/// The early end of a run, in the midst of a piece: why, and what is answered and not written.
+/// The early end of a run before the end of a piece: why, and the answers that are not yet written.
 #[derive(Drop)]
 pub struct Halted<D: Disk, A: Allocator + Copy> {
     pub fault: RunFault<D>,

@@ -1,12 +1,12 @@
-// How much of the input was taken.
+// How much of the input has been read.
 ghost use Rattle.std.specs.Prelude.{◌≡◌, ◌+◌, ◌-◌, ◌≤◌, ◌↔◌, IsTrue, IfSome};
 
 const READS: u32 = 1_048_576;
 
 const BYTES: usize = 16_777_216;
 
-/// How many reads were made and how many bytes were taken. A run makes at most 1,048,576 reads, the one that finds the end
-/// of the input among them, and takes at most 16,777,216 bytes.
+/// The number of reads made and of bytes taken. A run makes at most 1,048,576 reads, including the one that finds the
+/// end of the input, and takes at most 16,777,216 bytes.
 #[derive(Drop)]
 pub struct Intake {
     reads: u32,
@@ -16,7 +16,7 @@ pub struct Intake {
 }
 
 impl Intake {
-    /// Before the first read.
+    /// Returns the counts before the first read.
     pub fn new() -> Intake
         ensures reads { result.reads ≡ 0 }
         ensures bytes { result.bytes ≡ 0 }
@@ -31,7 +31,7 @@ impl Intake {
         self.reads < READS
     }
 
-    /// A read is made.
+    /// Counts one more read.
     pub fn count_read(&mut self)
         requires { self.old.reads + 1 ≤ 1048576 }
         ensures reads { self.new.reads ≡ self.old.reads + 1 }
@@ -40,14 +40,14 @@ impl Intake {
         self.reads += 1;
     }
 
-    /// How many bytes may be taken.
+    /// Returns how many more bytes may be taken.
     pub fn room(&self) -> usize
         ensures { result ≡ 16777216 - self.now.bytes }
     {
         BYTES - self.bytes
     }
 
-    /// Bytes are taken.
+    /// Counts `count` more bytes as taken.
     pub fn count_bytes(&mut self, count: usize)
         requires { self.old.bytes + count ≤ 16777216 }
         ensures reads { self.new.reads ≡ self.old.reads }

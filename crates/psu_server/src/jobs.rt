@@ -1,4 +1,4 @@
-// The flush: jobs until there is none.
+// The flush: jobs are run until there is none.
 ghost use Rattle.std.specs.Prelude.{◌≡◌, ◌⊎◌, [], OnOk, IfErr, true, false, None};
 ghost use Rattle.psu_disk.specs.Disk.{HasFailed};
 ghost use Rattle.psu_exec.specs.Calls.{job_of};
@@ -18,7 +18,7 @@ use std::alloc::Allocator;
 
 const JOBS: u32 = 4;
 
-// Whether a job ended for want of memory.
+// Whether a job ended out of memory.
 fn is_short<D: Disk, A: Allocator + Copy>(finished: &Finished<D, A>) -> bool
     ensures { result ≡ is_short (finished_of finished.now) }
 {
@@ -36,7 +36,7 @@ fn is_broken(condition: Condition) -> bool
     matches!(condition, Condition::Broken)
 }
 
-// Runs the job that is out and gives it back, and tells whether it ended for want of memory.
+// Runs the job that is out, gives it back, and returns whether it ended out of memory.
 fn run_job<D: Disk, A: Allocator + Copy>(exec: &mut Exec<D, A>, job: Job<D, A>) -> bool
     requires out { exec.old.device.flush.out ≡ true }
     requires own { job_data job ≡ job_of exec.old.device.flush }
@@ -50,7 +50,8 @@ fn run_job<D: Disk, A: Allocator + Copy>(exec: &mut Exec<D, A>, job: Job<D, A>) 
     }
 }
 
-/// Takes, runs and gives back until there is nothing to take, at most 4 jobs. A job that ends for want of memory ends the run.
+/// Takes, runs and gives back jobs until there is nothing to take, at most 4 jobs. A job that ends out of memory ends
+/// the run.
 pub fn flush<D: Disk, A: Allocator + Copy>(exec: &mut Exec<D, A>) -> Result<(), RunCause>
     requires idle { exec.old.device.flush.out ≡ false }
     ensures flushes { OnOk result (GoesOn exec.old exec.new Flushes) }
@@ -60,7 +61,7 @@ pub fn flush<D: Disk, A: Allocator + Copy>(exec: &mut Exec<D, A>) -> Result<(), 
     ensures locked { exec.new.device.volatile.locks ≡ exec.old.device.volatile.locks }
     ensures free { wait_of exec.old.device.flush 1 ≡ None → wait_of exec.new.device.flush 1 ≡ None }
 
-    // What is left then is left for a reason.
+    // Changes are left unflushed only where a disk call failed or the store is worn.
     ensures clean { D.honest → OnOk result (HasFailed (failures_of exec.old) (failures_of exec.new) ⊎ (exec.new.device.flush.store ≡ Worn) ⊎ (exec.new.device.flush.unflushed ≡ 0)) }
 {
     for _ in 0..JOBS {
@@ -78,7 +79,7 @@ pub fn flush<D: Disk, A: Allocator + Copy>(exec: &mut Exec<D, A>) -> Result<(), 
     Ok(())
 }
 
-/// Opens a broken store again. One that stays broken ends the run.
+/// Reopens a broken store. A store that stays broken ends the run.
 pub fn reopen<D: Disk, A: Allocator + Copy>(exec: &mut Exec<D, A>) -> Result<(), RunCause>
     requires idle { exec.old.device.flush.out ≡ false }
     ensures reopens { OnOk result (GoesOn exec.old exec.new Reopens) }

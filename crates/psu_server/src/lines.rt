@@ -1,4 +1,4 @@
-// The line that has begun.
+// The line that is being read.
 ghost use Rattle.std.specs.Prelude.{◌≡◌, ◌≤◌, ◌++◌, [], List, ℕ, OnOk, true, false, length};
 ghost use Rattle.psu_server.specs.Lines.{has, coming, is_none_begun, is_power, message_now};
 
@@ -6,7 +6,7 @@ use std::alloc::{AllocError, Allocator};
 
 const LIMIT: usize = 65_536;
 
-/// The line that has begun. Of one that is too long only that is kept.
+/// The line that is being read. Of a line that is too long, only the fact that it is too long is kept.
 #[derive(Drop)]
 pub struct Lines<A: Allocator> {
     pub line: Vec<u8, A>,
@@ -16,7 +16,7 @@ pub struct Lines<A: Allocator> {
 }
 
 impl<A: Allocator> Lines<A> {
-    /// Before the first line.
+    /// Returns the state before the first line.
     pub fn new(alloc: A) -> Lines<A>
         ensures over { result.is_over ≡ false }
         ensures empty { result.line.items ≡ [] }
@@ -27,7 +27,7 @@ impl<A: Allocator> Lines<A> {
         }
     }
 
-    /// Takes bytes of a line that goes on.
+    /// Appends bytes to the line that is being read.
     #[tactic(auto, using(crate::proofs::Cuts::has_none_append, crate::proofs::Cuts::extend_over, crate::proofs::Cuts::after_begun))]
     #[inline(always)]
     pub fn extend(&mut self, part: &[u8]) -> Result<(), AllocError>
@@ -60,7 +60,7 @@ impl<A: Allocator> Lines<A> {
         !self.is_over && self.line.as_slice() == b"!POWER".as_slice()
     }
 
-    /// The next line begins.
+    /// Begins the next line.
     pub fn clear(&mut self)
         ensures over { self.new.is_over ≡ false }
         ensures empty { self.new.line.items ≡ [] }

@@ -8,7 +8,7 @@ use psu_lex::Bytes;
 use psu_nv::FileKind;
 use std::alloc::{AllocError, Allocator};
 
-// The type that a byte stands for.
+// The type that a byte encodes.
 fn kind_of(code: u8) -> FileKind
     ensures { result ≡ kind_of code }
 {
@@ -19,7 +19,7 @@ fn kind_of(code: u8) -> FileKind
     }
 }
 
-// A file's type, and how many bytes it has.
+// The type of a file, and the number of its bytes.
 fn of_value(value: &[u8]) -> (FileKind, usize)
     ensures { result ≡ of_value value.now }
 {

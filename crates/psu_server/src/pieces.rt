@@ -20,7 +20,8 @@ use psu_disk::Disk;
 use std::alloc::Allocator;
 use std::io::Write;
 
-// A power loss at rest, and a restart: what is not flushed is lost. A broken store is opened again before it.
+// Simulates a power loss at rest and a restart: changes that are not flushed are lost. A broken store is reopened
+// before it.
 fn restart_device<D: Disk, A: Allocator + Copy>(
     alloc: A,
     powered: Powered<D, A>,
@@ -39,7 +40,7 @@ fn restart_device<D: Disk, A: Allocator + Copy>(
     Ok(powered)
 }
 
-/// The same; what was told is told.
+/// Simulates a power loss at rest and a restart, and keeps the output that is not yet written.
 pub fn restart<D: Disk, A: Allocator + Copy>(
     alloc: A,
     desk: Desk<D, A>,
@@ -57,7 +58,8 @@ pub fn restart<D: Disk, A: Allocator + Copy>(
     }
 }
 
-/// Executes the message of a line that has ended and isn't the one of a power loss, and tells its text. The next line begins.
+/// Executes the message of a complete line that is not the one of a power loss, outputs its response, and begins the
+/// next line.
 pub fn answer_line<W: Write, D: Disk, A: Allocator + Copy>(
     alloc: A,
     desk: &mut Desk<D, A>,
@@ -80,7 +82,7 @@ pub fn answer_line<W: Write, D: Disk, A: Allocator + Copy>(
     Ok(())
 }
 
-// Executes the message of a line that has ended and isn't the one of a power loss, and tells its text.
+// Executes the message of a complete line that is not the one of a power loss, and outputs its response.
 fn execute_line<W: Write, D: Disk, A: Allocator + Copy>(
     alloc: A,
     desk: &mut Desk<D, A>,
@@ -103,7 +105,7 @@ fn execute_line<W: Write, D: Disk, A: Allocator + Copy>(
     console.follow(alloc, lines)
 }
 
-/// Executes the lines that end in a piece of the input, and tells their text.
+/// Executes the lines that end in a piece of the input, and outputs their responses.
 pub fn feed<W: Write, D: Disk, A: Allocator + Copy>(
     alloc: A,
     desk: Desk<D, A>,

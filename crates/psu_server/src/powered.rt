@@ -1,4 +1,4 @@
-// The device that is powered on.
+// The powered-on device of a run.
 ghost use Rattle.std.specs.Prelude.{◌≡◌, ◌≢◌, ◌≤◌, ℕ, List, IfOk, IfErr, true, false, None};
 ghost use Rattle.std.specs.Option.{ForSome};
 ghost use Rattle.psu_disk.specs.Disk.{LeavesOnly};
@@ -19,7 +19,7 @@ use psu_exec::{Crowded, Ended, Exec, Session};
 use psu_items::Store;
 use std::alloc::Allocator;
 
-/// A device that is powered on: its one session is open and waits for nothing, no lock denies it, and no job is out.
+/// A powered-on device: its one session is open and waits for nothing, no lock denies it, and no job is out.
 #[derive(Drop)]
 pub struct Powered<D: Disk, A: Allocator + Copy> {
     pub exec: Exec<D, A>,
@@ -32,7 +32,7 @@ pub struct Powered<D: Disk, A: Allocator + Copy> {
 }
 
 impl<D: Disk, A: Allocator + Copy> Powered<D, A> {
-    /// Opens a disk, powers on with what it holds, and opens the session.
+    /// Opens a disk, powers on with its contents, and opens the session.
     pub fn on(alloc: A, disk: D) -> Result<Powered<D, A>, RunFault<D>>
         ensures starts { D.honest → IfOk result (λ p. PowersOn (D.state disk).bytes (world_of (born p.exec) p.exec)) }
         ensures works { IfOk result (λ p. failures_of p.exec ≡ D.failures disk) }
@@ -43,11 +43,12 @@ impl<D: Disk, A: Allocator + Copy> Powered<D, A> {
         ensures refused { D.honest → IfErr result (λ f. NotStarted (D.state disk).bytes (D.failures disk) (D.failures f.disk) f.cause) }
         ensures later { IfErr result (λ f. D.failures disk ≤ D.failures f.disk) }
         ensures extent { IfErr result (λ f. D.extent f.disk ≡ D.extent disk) }
-        // At each moment since it began, each image is one from before, or has the root that counted as it was read.
+        // At each moment since the call began, each possible crash image is one from before, or has the root that was
+        // current when the disk was read.
         ensures time { D.honest → D.tells → IfOk result (λ p. ForSome p.exec.home (λ h. LeavesOnly D.moment D.left_since disk (home_disk h) (IsOldOrSame (D.state disk)))) }
         ensures time_refused { D.honest → D.tells → IfErr result (λ f. LeavesOnly D.moment D.left_since disk f.disk (IsOldOrSame (D.state disk))) }
 
-        // Also a disk that isn't powered on keeps the map that each of its images stood for.
+        // A disk that does not power on also keeps the map that each of its possible crash images represented.
         ensures left { D.honest → IfErr result (λ f. (limit : ℕ) (map : List Item) → EachStands (D.state disk) limit map → EachStands (D.state f.disk) limit map) }
     {
         let store = match Store::open(alloc, disk) {
@@ -74,7 +75,7 @@ impl<D: Disk, A: Allocator + Copy> Powered<D, A> {
         }
     }
 
-    /// The end: the disk.
+    /// Ends the device and returns its disk.
     pub fn into_disk(self) -> D
         ensures same { ForSome self.exec.home (λ h. result ≡ home_disk h) }
         ensures failures { D.failures result ≡ failures_of self.exec }
@@ -91,7 +92,7 @@ impl<D: Disk, A: Allocator + Copy> Powered<D, A> {
         }
     }
 
-    /// The early end of a run.
+    /// Ends the run early, for this cause, and returns the disk with it.
     pub fn fault(self, cause: RunCause) -> RunFault<D>
         ensures cause { result.cause ≡ cause }
         ensures same { ForSome self.exec.home (λ h. result.disk ≡ home_disk h) }

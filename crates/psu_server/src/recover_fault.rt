@@ -15,15 +15,15 @@ pub enum RecoverFault {
     /// There are no two roots, or no gate of them is open.
     #[error("no root")]
     NoRoot,
-    /// What the root that counts says is wrong.
+    /// What the current root says is invalid.
     #[error("bad root")]
     BadRoot,
-    /// The root that counts is of a version that is not read.
+    /// The current root has a version that is not supported.
     #[error("bad version")]
     BadVersion,
     #[error("out of memory")]
     Memory,
-    /// The items are those of no contents.
+    /// The items are not those of any contents.
     #[error("bad items")]
     BadItems,
 }

@@ -14,9 +14,9 @@ use psu_exec::{Ended, Exec};
 use psu_items::Store;
 use std::alloc::{AllocError, Allocator};
 
-/// Opens the image of a disk as a restart does, and so may close an older gate that stands open, and reports the contents that
-/// it finds. The report is of the contents that the image stands for, with the first service request that IEEE 488.2
-/// prescribes for them. A device fault is told only where a call of the disk failed.
+/// Opens the image of a disk as a restart does, which may close an older gate that is still open, and reports the
+/// contents that it finds. The report is of the contents that the image represents, with the first service request that
+/// IEEE 488.2 prescribes for them. A device fault is returned only where a call of the disk failed.
 pub fn recover<D: Disk + Drop, A: Allocator + Copy>(
     alloc: A,
     disk: D,
@@ -29,8 +29,8 @@ pub fn recover<D: Disk + Drop, A: Allocator + Copy>(
     found
 }
 
-/// As `recover`, with the disk: a device fault is told only where a call of the disk failed, and what the disk stood for it stands
-/// for.
+/// Does what `recover` does, and returns the disk too. A device fault is returned only where a call of the disk failed,
+/// and a map that each possible crash image of the disk represented, each still represents.
 pub fn examine<D: Disk, A: Allocator + Copy>(alloc: A, disk: D) -> Examined<D, A>
     ensures found { D.honest → IfOk result.found (IsReported (D.state disk).bytes) }
     ensures refused { D.honest → IfErr result.found (IsRecoverRefusal (D.state disk).bytes) }
@@ -62,7 +62,7 @@ pub fn examine<D: Disk, A: Allocator + Copy>(alloc: A, disk: D) -> Examined<D, A
     }
 }
 
-// The disk of a device that no job is out of.
+// The disk of a device that has no job out.
 fn disk_of<D: Disk, A: Allocator + Copy>(exec: Exec<D, A>) -> D
     requires { exec.device.flush.out ≡ false }
     ensures { ForSome exec.home (λ home. result ≡ home_disk home) }

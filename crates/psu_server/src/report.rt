@@ -12,19 +12,19 @@ use std::alloc::{AllocError, Allocator};
 pub struct Report<A: Allocator + Copy> {
     /// The version of the image's format.
     pub version: u16,
-    /// The number of the root that counts.
+    /// The number of the current root.
     pub root: u64,
-    /// What the contents cost, in pages.
+    /// The cost of the contents, in pages.
     pub pages: u128,
-    /// How many pages they may cost.
+    /// The number of pages that they may cost.
     pub limit: u16,
     /// SRE and ESE, where they are kept.
     pub enables: Option<(u8, u8)>,
     /// The status byte of the first service request, if power-on makes one.
     pub request: Option<u8>,
-    /// How many bytes of user data are kept.
+    /// The number of bytes of user data that are kept.
     pub user: usize,
-    /// How many macros are defined.
+    /// The number of macros that are defined.
     pub macros: usize,
     /// The files, in byte order of their names.
     pub files: Vec<ReportedFile<A>, A>,
@@ -117,7 +117,7 @@ fn put_request<A: Allocator + Copy>(
     Ok(())
 }
 
-// The settings at power-on, where they are those of register 0.
+// Appends the line on the settings at power-on, which is written only where they are those of register 0.
 fn put_power<A: Allocator + Copy>(text: &mut Vec<u8, A>, recall: bool) -> Result<(), AllocError>
     ensures { OnOk result (text.new.items ≡ text.old.items ++ power_line recall) }
 {

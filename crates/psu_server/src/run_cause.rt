@@ -12,19 +12,20 @@ pub enum RunCause {
     /// The reader failed.
     #[error("read fault")]
     Read,
-    /// The writer failed, or takes no more.
+    /// The writer failed, or accepts no more.
     #[error("write fault")]
     Write,
     /// The disk does not power on, at the start or at a restart.
     #[error("{0}")]
     Open(StartCause),
-    /// A flush at the end of the input leaves changes that are not flushed, or a unit that waited for a flush can't go on.
+    /// A flush at the end of the input leaves changes that are not flushed, or a unit that waited for a flush can't
+    /// continue.
     #[error("device fault")]
     Device,
     /// The input has too many reads or bytes.
     #[error("input too long")]
     TooLong,
-    /// Memory is refused outside of a unit.
+    /// An allocation failed outside of a unit.
     #[error("out of memory")]
     Memory,
 }

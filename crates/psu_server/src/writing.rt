@@ -1,4 +1,4 @@
-// What is told and not written yet.
+// The output buffer, which is written when it has grown too long.
 ghost use Rattle.std.specs.Prelude.{◌≡◌, ◌⊎◌, [], OnOk, IfErr};
 ghost use Rattle.psu_server.specs.Output.{Says, SaysUntil, held};
 
@@ -7,10 +7,10 @@ use crate::output::put;
 use std::alloc::Allocator;
 use std::io::Write;
 
-/// What is held of a text before it is written.
+/// The length beyond which buffered text is written.
 const ROOM: usize = 65_536;
 
-/// Tells a text behind what is told. What has grown long is written before.
+/// Appends a text to the output buffer. A buffer that has grown too long is written first.
 #[inline(always)]
 pub fn tell<W: Write, A: Allocator + Copy>(
     told: &mut Vec<u8, A>,
@@ -28,7 +28,7 @@ pub fn tell<W: Write, A: Allocator + Copy>(
     Ok(())
 }
 
-// Writes what has grown long, also in the midst of a line.
+// Writes the buffer where it has grown too long, also before the end of a line.
 fn write_on<W: Write, A: Allocator + Copy>(
     told: &mut Vec<u8, A>,
     writer: &mut W,

@@ -1,18 +1,19 @@
-// What a session holds is counted only while it does: more than that, one after another, goes well.
+// The credit of a session counts only what it holds at the time: more than that in total, one part after another, is
+// accepted.
 use psu_client::{Client, Missed, bare, comes, header, joined_as, repeated, send};
 use psu_hosts::new_served;
 use psu_serve::Open;
 use std::alloc::{AllocError, Global};
 use std::test::Fail;
 
-// A transmission of 65,520 bytes that asks for nothing.
+// Returns a transmission of 65,520 bytes that has no query.
 fn long(alloc: Global) -> Result<Vec<u8>, AllocError> {
     let mut frame = header(7, 0, 0xffff_ff00, 65_520).to_vec(alloc)?;
     frame.resize(65_536, b';')?;
     Ok(frame)
 }
 
-// Half a mebibyte stands behind a question that a lock holds back, and is executed after it.
+// Queues half a mebibyte after a query that a lock holds back; it is executed after the query.
 fn stands_behind(holder: &mut Client, other: &mut Client, long: &[u8]) -> Result<(), Missed> {
     holder.lock()?;
     other.say(b"*IDN?\n")?;
@@ -37,7 +38,7 @@ fn what_was_executed_is_held_no_more(rt: HostRuntime) -> Result<(), Fail> {
     Ok(())
 }
 
-// A hundred releases at once, of no lock.
+// Sends a hundred releases at once, of no lock.
 fn releases(client: &mut Client, frames: &[u8]) -> Result<(), Missed> {
     send(&mut client.other, frames)?;
     for _ in 0..100u32 {

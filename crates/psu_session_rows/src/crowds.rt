@@ -9,7 +9,7 @@ use std::alloc::Global;
 use std::net::{Net, TcpStream};
 use std::time::Clock;
 
-// Connections that say nothing.
+// Opens connections that send nothing.
 fn silent<R: Net<Stream = TcpStream> + Clock>(
     rt: &R,
     alloc: Global,
@@ -41,7 +41,7 @@ fn silent_connections_shut_nobody_out(rt: HostRuntime) -> Result<(), Missed> {
     Ok(())
 }
 
-// Of one silent connection too many the first ends, and the second does not, long before their time is over.
+// With one silent connection too many, the first ends and the second does not, long before their time is over.
 fn first_ends(streams: &mut [TcpStream]) -> Result<(), Missed> {
     let Some(first) = streams.get_mut(0) else {
         return Err(Missed::Ground("a connection"));
@@ -61,7 +61,7 @@ fn the_oldest_silent_connection_ends(rt: HostRuntime) -> Result<(), Missed> {
     Ok(())
 }
 
-// Sessions of all numbers up to this.
+// Opens sessions of all numbers up to this one.
 fn crowd<R: Net<Stream = TcpStream> + Clock>(
     rt: &R,
     alloc: Global,
@@ -78,7 +78,7 @@ fn crowd<R: Net<Stream = TcpStream> + Clock>(
     Ok(clients)
 }
 
-// One session too many.
+// Tries to open one session too many.
 fn is_crowded<R: Net<Stream = TcpStream> + Clock>(rt: &R, port: u16) -> Result<(), Missed> {
     let mut stream = connected(rt, port)?;
     send(&mut stream, &header(0, 0, 0x0100_0000, 0))?;
@@ -86,7 +86,7 @@ fn is_crowded<R: Net<Stream = TcpStream> + Clock>(rt: &R, port: u16) -> Result<(
     is_ended(&mut stream)
 }
 
-// The last session begins a transmission, and ends.
+// Begins a transmission in the last session, and ends that session.
 fn last_ends(clients: &mut Vec<Client>) -> Result<(), Missed> {
     let Some(mut last) = clients.pop() else {
         return Err(Missed::Ground("a client"));
@@ -117,7 +117,8 @@ fn there_are_sixteen_sessions(rt: HostRuntime) -> Result<(), Missed> {
     Ok(())
 }
 
-// A session that is answered and ends, a connection that says nothing, and one that ends before its session is joined.
+// Opens and ends a session that is served, a connection that sends nothing, and one that ends before its session is
+// joined.
 fn comes_and_goes<R: Net<Stream = TcpStream> + Clock>(rt: &R, port: u16) -> Result<(), Missed> {
     for _ in 0..100u32 {
         let mut client = joined_soon(rt, port)?;

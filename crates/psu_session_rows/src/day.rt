@@ -1,4 +1,4 @@
-// A day's use.
+// A day's typical use.
 use psu_hosts::{Untrue, plays};
 
 const DAY: &str = "

@@ -88,7 +88,7 @@ fn other_ends(client: Client) -> Result<(), Missed> {
     is_ended(&mut sync)
 }
 
-// One connection's end is that of its session.
+// The end of one connection ends the session.
 #[test]
 fn connections_end_together(rt: HostRuntime) -> Result<(), Missed> {
     let port = new_served(rt, rt.alloc(), "ends.image", 48_885, Open)?;
@@ -101,13 +101,13 @@ fn connections_end_together(rt: HostRuntime) -> Result<(), Missed> {
     Ok(())
 }
 
-// A client says something and goes away at once, on both connections.
+// Sends a message and ends both connections at once.
 fn says_and_goes(mut client: Client, text: &[u8]) -> Result<u8, Missed> {
     client.say(text)?;
     Ok(client.number)
 }
 
-// What was sent before the end is executed.
+// Messages sent before the end are executed.
 #[test]
 fn what_was_said_before_the_end_is_done(rt: HostRuntime) -> Result<(), Fail> {
     let alloc = rt.alloc();
@@ -124,7 +124,7 @@ fn what_was_said_before_the_end_is_done(rt: HostRuntime) -> Result<(), Fail> {
     Ok(())
 }
 
-// A transmission of 32,700 calls of a macro of 204 units.
+// Sends a transmission of 32,700 calls of a macro of 204 units.
 fn says_much(client: &mut Client, alloc: Global) -> Result<(), Missed> {
     let Ok(mut body) = b"*DMC \"M\",#41020".to_vec(alloc) else {
         return Err(Missed::Ground("memory"));
@@ -143,7 +143,7 @@ fn says_much(client: &mut Client, alloc: Global) -> Result<(), Missed> {
     client.say(calls.as_slice())
 }
 
-// Millions of units end with their session: its number is free soon.
+// Millions of units end with their session: its number is soon free.
 #[test]
 fn a_long_transmission_ends_with_its_session(rt: HostRuntime) -> Result<(), Missed> {
     let port = new_served(rt, rt.alloc(), "millions_of_units.image", 48_937, Open)?;

@@ -1,7 +1,7 @@
-//! Tests over sockets, of sessions beside each other: locks and releases, requests for service, ends, crowds and floods. Expected frames are worked by
-//! hand from the profile of the protocol.
+//! Tests over sockets of concurrent sessions: locks and releases, service requests, ends, crowds and floods. Expected
+//! frames are worked by hand from the profile of the protocol.
 //!
-//! Ports are odd: the system gives clients even ones, so none of theirs is in a server's way.
+//! Ports are odd: the system assigns even ones to clients, so no client's port conflicts with a server's.
 #![tactic(auto)]
 
 #[cfg(test)]

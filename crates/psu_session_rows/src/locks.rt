@@ -1,4 +1,4 @@
-// Locks: who is granted them, whom they hold back, and how one goes from a session to another.
+// Locks: which sessions are granted them, which they hold back, and how a lock passes from one session to another.
 use psu_hosts::{Untrue, plays};
 
 const LOCKS: &str = "

@@ -1,4 +1,4 @@
-// Releases of locks and what was sent before them, on two connections.
+// Releases of locks and the messages sent before them, on two connections.
 use psu_client::{Client, Missed, bare, holds, joined_as, next, send};
 use psu_hosts::new_served;
 use psu_serve::Open;
@@ -9,7 +9,7 @@ use std::time::{Clock, Duration, Instant};
 /// The number of a message after one that `ask` sends.
 const NEXT: u32 = 0xffff_ff02;
 
-// Who has the lock writes and lets it go at once; who waits for it sees what was written.
+// The holder of the lock writes and releases it at once; the client that waits for it sees what was written.
 fn hands_on(
     holder: &mut Client,
     other: &mut Client,
@@ -52,7 +52,7 @@ fn a_release_comes_after_what_was_written(rt: HostRuntime) -> Result<(), Missed>
     Ok(())
 }
 
-// How long a release takes.
+// Returns how long a release takes.
 fn taken<R: Clock>(rt: &R, client: &mut Client, number: u32) -> Result<Duration, Missed> {
     let Ok(start) = Instant::now(rt) else {
         return Err(Missed::Ground("a clock"));
@@ -62,14 +62,15 @@ fn taken<R: Clock>(rt: &R, client: &mut Client, number: u32) -> Result<Duration,
     start.elapsed(rt).map_err(|_| Missed::Ground("a clock"))
 }
 
-// A message that never comes is waited for a tenth of a second.
+// A release waits a tenth of a second for a message that never comes.
 fn waits_in_vain<R: Clock>(rt: &R, client: &mut Client, number: u32) -> Result<(), Missed> {
     client.lock()?;
     let taken = taken(rt, client, number)?;
     holds(taken >= Duration::from_millis(99), "a wait for a message")
 }
 
-// One that has come, or is too far ahead, isn't waited for: of ten releases one at least takes no such time.
+// A release does not wait for a message that has come, or is too far ahead: at least one of ten releases takes less
+// time.
 fn waits_not<R: Clock>(rt: &R, client: &mut Client, number: u32) -> Result<(), Missed> {
     for _ in 0..10u32 {
         client.lock()?;
@@ -80,7 +81,7 @@ fn waits_not<R: Clock>(rt: &R, client: &mut Client, number: u32) -> Result<(), M
     Err(Missed::Claim("no wait"))
 }
 
-// The last message that was received is that of ffffff00; the next 65,536 may be to come.
+// The last message that was received has the number ffffff00; the next 65,536 may still come.
 #[test]
 fn a_release_waits_for_the_next_messages(rt: HostRuntime) -> Result<(), Missed> {
     let port = new_served(rt, rt.alloc(), "message_to_come.image", 48_941, Open)?;
@@ -94,7 +95,7 @@ fn a_release_waits_for_the_next_messages(rt: HostRuntime) -> Result<(), Missed> 
     Ok(())
 }
 
-// Behind a device clear the client counts its messages from the start again, and its release comes behind the first.
+// After a device clear the client numbers its messages from the start again, and its release follows the first of them.
 fn counts_anew(client: &mut Client, other: &mut Client) -> Result<(), Missed> {
     client.say_as(0xffff_ff10, b"VOLT 1")?;
     client.lock()?;
@@ -116,7 +117,7 @@ fn messages_are_counted_anew_behind_a_clear(rt: HostRuntime) -> Result<(), Misse
     Ok(())
 }
 
-// The two answers, in the order in which they come.
+// Reads the two answers, in either order.
 fn is_released_in_a_clear(client: &mut Client) -> Result<(), Missed> {
     let (first, second) = (next(&mut client.other)?, next(&mut client.other)?);
     let (cleared, released) = (bare(23, 0), bare(5, 1));
@@ -126,7 +127,7 @@ fn is_released_in_a_clear(client: &mut Client) -> Result<(), Missed> {
     )
 }
 
-// A release that waits is made where a clear begins: of ten such one at least takes no tenth of a second.
+// A waiting release is made when a clear begins: at least one of ten such releases takes less than a tenth of a second.
 fn ends_with_a_clear<R: Clock>(rt: &R, client: &mut Client) -> Result<(), Missed> {
     for _ in 0..10u32 {
         client.lock()?;

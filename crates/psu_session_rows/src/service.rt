@@ -1,4 +1,4 @@
-// Requests for service: what calls a client, and how often.
+// Service requests: their causes, and how often they are made.
 use psu_hosts::{Untrue, plays};
 
 const CALLS: &str = "

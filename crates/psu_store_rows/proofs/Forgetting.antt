@@ -1,4 +1,4 @@
--- What a write does to the bytes and the marks of a medium that forgets.
+-- The effect of a write on the bytes and the marks of a medium that forgets.
 use Rattle.std.proofs.Common.{◌≡◌, ◌⊎◌, inl, inr, ℕ, ◌+◌, ◌-◌, ◌<◌, ◌≤◌, List, ◌++◌, Bool, true, false, length, get_or, take, drop, replicate, sym, ◌∙◌, ap, subst, arith}
 use Rattle.std.proofs.lemmas.List.{same_lists, get_or_default, length-replicate}
 use Rattle.std.proofs.lemmas.Bool.{cases_lt}
@@ -19,7 +19,7 @@ within at n k = elim (cases_lt k at) [
   ]
 ]
 
--- what reads, written again, changes no byte
+-- bytes that are written where a read returns them change nothing
 pub put_again : (at : ℕ) (put bytes : List ℕ) → at + length put ≤ length bytes → put ≡ Range at (length put) bytes → splice at put bytes ≡ bytes
 put_again at put bytes fits reads = same_lists (splice at put bytes) bytes (splices.length-splice at put bytes fits) (λ k d lt.
     elim (within at (length put) k) [
@@ -43,7 +43,7 @@ length-marked with at n marks fits =
     let long : length (replicate n with) ≡ n = length-replicate n with in
     subst (λ (m : ℕ). length (take at marks ++ (replicate n with ++ drop (at + m) marks)) ≡ length marks) long (splices.length-splice at (replicate n with) marks (omega (arith, long, fits)))
 
--- and no mark that is set
+-- marking a range whose marks are set changes no mark
 pub mark_again : (at n : ℕ) (marks : List Bool) → at + n ≤ length marks → ((k : ℕ) → at ≤ k → k < at + n → get_or marks k false ≡ true) → marked true at n marks ≡ marks
 mark_again at n marks fits set = same_lists (marked true at n marks) marks (length-marked true at n marks fits) (λ k d lt.
     let room : k < length marks = omega (arith, lt, length-marked true at n marks fits) in
@@ -54,14 +54,14 @@ mark_again at n marks fits set = same_lists (marked true at n marks) marks (leng
     ])
     ∙ get_or_default marks k false d room)
 
--- a mark that is taken away in a range is set nowhere else
+-- clearing the marks of a range sets none elsewhere
 pub unmarked : (at n : ℕ) (marks : List Bool) → at + n ≤ length marks → (k : ℕ) → get_or marks k false ≡ false → get_or (marked false at n marks) k false ≡ false
 unmarked at n marks fits k none = elim (within at n k) [
   | inl here ↦ mark_inside false at n marks fits k here.0 here.1
   | inr out ↦ mark_others false at n marks fits k out ∙ none
 ]
 
--- what is forgotten is at risk still
+-- a forgotten byte is still at risk
 pub still_at_risk : (at n : ℕ) (forgotten forgotten' at_risk at_risk' : List Bool) → at + n ≤ length forgotten → at + n ≤ length at_risk → ((k : ℕ) → get_or forgotten k false ≡ true → get_or at_risk k false ≡ true)
     → forgotten' ≡ marked false at n forgotten → at_risk' ≡ marked true at n at_risk → (k : ℕ) → get_or forgotten' k false ≡ true → get_or at_risk' k false ≡ true
 still_at_risk at n forgotten forgotten' at_risk at_risk' room room' was forgotten_is risk_is k is =

@@ -1,4 +1,4 @@
-// Heads that are refused, and heads that are good to the last: keys, lengths, counts and pages.
+// Heads that are refused, and heads that are valid up to the limits: keys, lengths, counts and pages.
 use crate::openings::is_found;
 use crate::spelled::{halves, number, put, put_word, spelled};
 use crate::trials::{Trial, rows_hold};
@@ -6,7 +6,7 @@ use psu_disk::Disk;
 use std::alloc::Allocator;
 use std::process::Abort;
 
-// The head on page 3, which says: a key of one byte, the value's length, how many pages, which.
+// The head on page 3, which consists of a key of one byte, the value's length, the number of pages, and the pages.
 const WORDS_OF_A_HEAD: &str = "
 1536: 01 01 00 00 00 01 00 01 00 08 -> 2
 1536: 01 01 00 00 02 00 00 01 00 08 -> 2
@@ -48,10 +48,11 @@ fn the_words_of_a_head(rt: HostRuntime) {
     rows_hold(&rt, rt.alloc(), Trial::Two, WORDS_OF_A_HEAD);
 }
 
-/// How many bytes an image of limit 100 takes.
+/// The number of bytes of an image of limit 100.
 pub const GREAT: u64 = 103_424;
 
-/// An image of limit 100 with one head, on page 2. The words behind it are the pages from 3 to 68 where its key has 65 bytes.
+/// An image of limit 100 with one head, on page 2. The words after it are the pages from 3 to 68 where its key has 65
+/// bytes.
 pub const ONE_HEAD: &str = "
 0: a5 'PSU 00 02 00 64 00*7 01 00 01 00 02;
 1096: 00 03 00 04 00 05 00 06 00 07 00 08 00 09 00 0a 00 0b 00 0c 00 0d 00 0e 00 0f 00 10 00 11 00 12;
@@ -61,7 +62,7 @@ pub const ONE_HEAD: &str = "
 1224: 00 43 00 44
 ";
 
-// The head says: the key's length, the key, the value's length, how many pages, which.
+// The head consists of the key's length, the key, the value's length, the number of pages, and the pages.
 const GREATEST_LENGTHS: &str = "
 1024: 01 07 00 00 02 00 00 01 00 03 -> 1
 1024: 01 07 00 00 02 01 00 02 00 03 00 04 -> 1
@@ -80,7 +81,8 @@ fn keys_and_values_of_the_greatest_length(rt: HostRuntime) {
     rows_hold(&rt, rt.alloc(), Trial::Great, GREATEST_LENGTHS);
 }
 
-// Names an item in the root, its head on an even page, and puts the head there. Its key is one byte, and its value is on the page behind.
+// Names an item in the root, its head on an even page, and writes the head there. Its key is one byte, and its value is
+// on the next page.
 fn put_item<D: Disk>(rt: &impl Abort, disk: &mut D, item: u16) {
     let page = item.saturating_mul(2).saturating_add(2);
     let place = u64::from(item).saturating_mul(2).saturating_add(530);
@@ -91,7 +93,7 @@ fn put_item<D: Disk>(rt: &impl Abort, disk: &mut D, item: u16) {
     put(rt, disk, u64::from(page).saturating_mul(512), &head);
 }
 
-// Puts the limit, and so many items, each of a key and a value of one byte, in the second root.
+// Writes the limit, and this many items, each with a key and a value of one byte, to the second root.
 fn put_many<D: Disk>(rt: &impl Abort, disk: &mut D, limit: u16, count: u16) {
     put_word(rt, disk, 518, limit);
     put_word(rt, disk, 528, count);
@@ -100,12 +102,13 @@ fn put_many<D: Disk>(rt: &impl Abort, disk: &mut D, limit: u16, count: u16) {
     }
 }
 
-// A number of two bytes.
+// Reads a number of two bytes.
 fn word(rt: &impl Abort, text: &str) -> u16 {
     text.parse().ok().expect(rt, "a word")
 }
 
-/// Whether an opening finds an image of this limit with so many items as wanted. The second root counts, of the number 9.
+/// Whether an opening finds an image of this limit with as many items as wanted. The second root is current, with the
+/// number 9.
 pub fn is_filled<A: Allocator + Copy>(
     rt: &impl Abort,
     alloc: A,
@@ -119,7 +122,7 @@ pub fn is_filled<A: Allocator + Copy>(
     is_found(alloc, disk, wanted)
 }
 
-// 240 items are on an image of limit 480, which they fill. Of limit 479 the last is one page too many.
+// 240 items fill an image of limit 480. With limit 479 the last is one page too many.
 const FILLED: &str = "
 480: 240 -> 240
 480: 241 -> bad root

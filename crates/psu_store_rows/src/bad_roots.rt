@@ -1,4 +1,4 @@
-// Roots that are refused, and roots that are good though they differ: what is looked at, and in which order.
+// Roots that are refused, and roots that are valid though they differ: what is checked, and in which order.
 use crate::holds::holds;
 use crate::openings::{IMAGE, SIZE, is_found};
 use crate::spelled::{number, spelled};
@@ -9,7 +9,7 @@ use psu_items::Store;
 use std::alloc::Allocator;
 use std::process::Abort;
 
-// A store has the limit and the number that the image says, and its two items.
+// Checks that a store has the limit and the number of the image, and its two items.
 fn is_the_image<D: Disk, A: Allocator + Copy>(rt: &impl Abort, alloc: A, store: &Store<D, A>) {
     holds(rt, store.limit() == 6, &"the limit");
     holds(rt, store.number() == 1, &"the number");
@@ -17,7 +17,7 @@ fn is_the_image<D: Disk, A: Allocator + Copy>(rt: &impl Abort, alloc: A, store: 
     has_map(rt, alloc, store, "01 = 24; 02 09 = 08*512 09*88");
 }
 
-// That store is found on a disk.
+// Checks that an opening of a disk finds that store.
 fn is_found_on<D: Disk + Drop, A: Allocator + Copy>(rt: &impl Abort, alloc: A, disk: D) {
     is_the_image(rt, alloc, &opened(rt, alloc, disk));
 }
@@ -63,7 +63,7 @@ fn the_words_of_a_root(rt: HostRuntime) {
     rows_hold(&rt, rt.alloc(), Trial::Two, WORDS_OF_A_ROOT);
 }
 
-// From the count of items on.
+// The bytes from the count of items on.
 const HEADS_OF_A_ROOT: &str = "
 16: 00 00 -> 0
 16: 00 01 -> 1
@@ -89,8 +89,8 @@ fn the_heads_that_a_root_names(rt: HostRuntime) {
     rows_hold(&rt, rt.alloc(), Trial::Two, HEADS_OF_A_ROOT);
 }
 
-// Of two open gates the higher number counts, and the other root's content is not looked at. A second root of the number 2 names the
-// second head; the last byte of its number is at 527.
+// Of two roots with open gates the one with the higher number is current, and the content of the other is not checked.
+// A second root with the number 2 names the second head; the last byte of its number is at 527.
 const ROOT_THAT_COUNTS: &str = "
 512: a5 'PSU 00 02 00 06 00*7 02 00 01 00 05 -> 1
 512: a5 'PSU 00 02 00 06 00*7 02 00 01 00 05; 512: a4 -> 2
@@ -127,7 +127,7 @@ const SIZES: &str = "
 // A root of version 2, limit 4 and number 1 without items, for a disk of another size than its image has.
 const EMPTY: &str = "0: a5 'PSU 00 02 00 04 00*7 01";
 
-/// Whether a disk of so many bytes with this root is found as wanted.
+/// Whether an opening of a disk of this many bytes with this root finds what is wanted.
 pub fn is_sized<A: Allocator + Copy>(rt: &impl Abort, alloc: A, size: &str, wanted: &str) -> bool {
     let disk = spelled(rt, alloc, number(rt, size), EMPTY);
     is_found(alloc, disk, wanted)

@@ -4,12 +4,12 @@ use psu_tables::bytes;
 use std::alloc::Allocator;
 use std::process::Abort;
 
-/// The bytes that a text has in hexadecimal digits.
+/// Returns the bytes that a text has in hexadecimal digits.
 pub fn bytes_in<A: Allocator>(rt: &impl Abort, alloc: A, text: &str) -> Vec<u8, A> {
     bytes(alloc, text).expect(rt, "a text of bytes")
 }
 
-/// A value of these bytes.
+/// Returns a value of these bytes.
 pub fn value_of<A: Allocator + Copy>(rt: &impl Abort, bytes: Vec<u8, A>) -> Value<A> {
     Value::new(bytes).expect(rt, "memory for a value")
 }
@@ -25,7 +25,7 @@ fn assign_value<A: Allocator + Copy>(
     batch.assign(key, value).expect(rt, "memory for an edit");
 }
 
-// Adds the edit that a text has: a value for a key, or the key alone, which is removed.
+// Adds the edit of a text: a value for a key, or the key alone, which is removed.
 fn add<A: Allocator + Copy>(rt: &impl Abort, alloc: A, batch: &mut Batch<A>, edit: &str) {
     let (key, value) = edit.split_once(" = ").unwrap_or((edit, ""));
     let key = bytes_in(rt, alloc, key);
@@ -36,8 +36,8 @@ fn add<A: Allocator + Copy>(rt: &impl Abort, alloc: A, batch: &mut Batch<A>, edi
     }
 }
 
-/// The batch of a text, its bytes in hexadecimal digits: `01 = 24; 02` gives the key 1 the value 36, and removes the key 2. No text is
-/// no edit.
+/// Returns the batch of a text, its bytes in hexadecimal digits: `01 = 24; 02` assigns the value 36 to the key 1, and
+/// removes the key 2. An empty text is an empty batch.
 pub fn edits<A: Allocator + Copy>(rt: &impl Abort, alloc: A, text: &str) -> Batch<A> {
     let mut batch = Batch::new(alloc);
     for edit in text.split(";") {
@@ -48,7 +48,7 @@ pub fn edits<A: Allocator + Copy>(rt: &impl Abort, alloc: A, text: &str) -> Batc
     batch
 }
 
-/// The same bytes, in memory of their own.
+/// Copies bytes to memory of their own.
 pub fn copy_of<A: Allocator>(rt: &impl Abort, alloc: A, bytes: &[u8]) -> Vec<u8, A> {
     bytes.to_vec(alloc).expect(rt, "memory for bytes")
 }
@@ -64,7 +64,7 @@ pub fn assign<A: Allocator + Copy>(
     assign_value(rt, batch, copy_of(rt, alloc, &[key]), value);
 }
 
-/// A value of one byte for each of the keys of one byte from the first to before the last.
+/// Returns a batch that assigns a value of one byte to each key of one byte from the first to before the last.
 pub fn each_of<A: Allocator + Copy>(
     rt: &impl Abort,
     alloc: A,
@@ -78,7 +78,7 @@ pub fn each_of<A: Allocator + Copy>(
     batch
 }
 
-/// The same batch once more.
+/// Copies a batch.
 pub fn copied<A: Allocator + Copy>(rt: &impl Abort, alloc: A, batch: &Batch<A>) -> Batch<A> {
     batch.copy(alloc).expect(rt, "memory for a batch")
 }
@@ -88,7 +88,7 @@ fn is<A: Allocator + Copy>(pair: &Pair<A>, edit: &Edit<A>) -> bool {
     pair.key() == edit.key() && Some(pair.value()) == edit.value()
 }
 
-/// Whether a map has just the items that a batch assigns in the order of their keys.
+/// Whether a map has exactly the items that a batch assigns in the order of their keys.
 pub fn is_map<A: Allocator + Copy>(items: &Items<A>, want: &Batch<A>) -> bool {
     for (pair, edit) in items.pairs().iter().zip(want.edits()) {
         if !is(pair, edit) {
@@ -98,7 +98,7 @@ pub fn is_map<A: Allocator + Copy>(items: &Items<A>, want: &Batch<A>) -> bool {
     items.pairs().len() == want.edits().len()
 }
 
-/// Whether a map has just the items that a text assigns in the order of their keys.
+/// Whether a map has exactly the items that a text assigns in the order of their keys.
 pub fn is_just<A: Allocator + Copy>(
     rt: &impl Abort,
     alloc: A,

@@ -1,4 +1,4 @@
-// Disks in files: what is refused, one in use too, and what a file keeps.
+// Disks in files: which are refused, also one in use, and what a file keeps.
 use crate::holds::holds;
 use crate::spelled::{put, word_at};
 use psu_disk::{Disk, FileDisk, OpenFault, OsFiles};
@@ -8,7 +8,7 @@ use std::os::unix::fs::MetadataExt;
 use std::process::Abort;
 use std::rt::Files;
 
-/// A disk of so many bytes in a new file of this name.
+/// Returns a disk of this many bytes in a new file of this name.
 pub fn new_disk(
     rt: &(impl Abort + Files<File = File>),
     alloc: Global,
@@ -19,7 +19,7 @@ pub fn new_disk(
     FileDisk::make(&mut OsFiles { files: rt }, alloc, name, size).expect(rt, "a new file")
 }
 
-/// Gives a file another length behind the back of the disk that is in it.
+/// Changes the length of a file without the knowledge of the disk in it.
 pub fn set_length(rt: &(impl Abort + Files<File = File>), name: &str, length: u64) {
     let mut options = OpenOptions::new();
     let file = options.write(true).open(rt, name).expect(rt, "the file");
@@ -33,22 +33,22 @@ pub fn remove(rt: &(impl Abort + Files<File = File>), name: &str) {
 
 const NAME: &str = "a_disk_for_a_test.image";
 
-// Why no disk is found in a file; none where one is.
+// Returns why no disk is found in a file; `None` where one is.
 fn unfound(rt: &impl Files<File = File>, alloc: Global, name: &str) -> Option<OpenFault> {
     FileDisk::of(&mut OsFiles { files: rt }, alloc, name).err()
 }
 
-// Why no disk of 4,096 bytes is made in a file; none where one is.
+// Returns why no disk of 4,096 bytes is made in a file; `None` where one is.
 fn unmade(rt: &impl Files<File = File>, alloc: Global, name: &str) -> Option<OpenFault> {
     FileDisk::make(&mut OsFiles { files: rt }, alloc, name, 4_096).err()
 }
 
-// A disk is not found or not made, for this cause.
+// Checks that a disk is not found or not made, for this cause.
 fn is_for(rt: &impl Abort, found: Option<OpenFault>, cause: OpenFault) {
     holds(rt, found == Some(cause), &(found, cause));
 }
 
-// No disk is found where there is no file, or a folder, nor made where there is no folder.
+// Checks that no disk is found where there is no file, or a folder, nor made where there is no folder.
 fn are_not_there(rt: &(impl Abort + Files<File = File>), alloc: Global) {
     let _ = std::fs::remove_file(rt, NAME);
     is_for(rt, unfound(rt, alloc, NAME), OpenFault::NoFile);
@@ -57,19 +57,19 @@ fn are_not_there(rt: &(impl Abort + Files<File = File>), alloc: Global) {
     is_for(rt, made, OpenFault::NoFile);
 }
 
-// A file in which a disk is takes no other.
+// Checks that a file with a disk that is in use takes no other.
 fn is_in_use(rt: &(impl Abort + Files<File = File>), alloc: Global) {
     is_for(rt, unmade(rt, alloc, NAME), OpenFault::Exists);
     is_for(rt, unfound(rt, alloc, NAME), OpenFault::NotOpened);
 }
 
-// A disk of 4,096 bytes takes two at its end.
+// Writes the last two bytes of a disk of 4,096 bytes.
 fn takes_its_last<D: Disk>(rt: &impl Abort, disk: &mut D) {
     holds(rt, disk.size() == 4_096, &"the size");
     put(rt, disk, 4_094, &[7, 8]);
 }
 
-// A disk is made, is in use, and takes two bytes at its end.
+// Makes a disk, checks that it is in use, and writes its last two bytes.
 fn is_made(rt: &(impl Abort + Files<File = File>), alloc: Global) {
     let mut disk = FileDisk::make(&mut OsFiles { files: rt }, alloc, NAME, 4_096).expect(
         rt,
@@ -79,14 +79,14 @@ fn is_made(rt: &(impl Abort + Files<File = File>), alloc: Global) {
     takes_its_last(rt, &mut disk);
 }
 
-// A disk that is found has them.
+// Checks that a disk that is found has these bytes.
 fn has_its_last<D: Disk + Drop>(rt: &impl Abort, mut disk: D) {
     holds(rt, disk.size() == 4_096, &"the size");
     holds(rt, word_at(rt, &mut disk, 4_094) == 0x0708, &"the bytes");
     holds(rt, disk.faults() == 0, &"a failed call");
 }
 
-// A file is made once, and keeps its bytes.
+// Checks that a file is made once, and keeps its bytes.
 fn is_made_once(rt: &(impl Abort + Files<File = File>), alloc: Global) {
     are_not_there(rt, alloc);
     is_made(rt, alloc);
@@ -104,13 +104,13 @@ fn a_file_is_made_once_and_keeps_its_bytes(rt: HostRuntime) {
 
 const NEW: &str = "a_new_disk_for_a_test.image";
 
-// A file takes room for 4,096 bytes: 8 blocks of 512 bytes or more.
+// Checks that a file takes room for 4,096 bytes: 8 blocks of 512 bytes or more.
 fn has_its_room(rt: &(impl Abort + Files<File = File>), name: &str) {
     let metadata = std::fs::metadata(rt, name).expect(rt, "the file");
     holds(rt, metadata.blocks() >= 8, &"the blocks");
 }
 
-// A file holds 4,096 bytes 00.
+// Checks that a file holds 4,096 bytes 00.
 fn is_of_zeros(rt: &(impl Abort + Alloc + Files<File = File>), name: &str) {
     let bytes = std::fs::read(rt, name).expect(rt, "its bytes");
     let is_so = bytes.as_slice() == [0; 4_096].as_slice();
@@ -125,7 +125,7 @@ fn a_new_file_is_of_zeros_and_has_its_room(rt: HostRuntime) {
     remove(&rt, NEW);
 }
 
-// A sync works or fails, and the disk has then failed so often.
+// Syncs a disk, which succeeds or fails, and checks the count of its failures.
 fn syncs<D: Disk>(rt: &impl Abort, disk: &mut D, works: bool, faults: u64) {
     holds(rt, disk.sync().is_ok() == works, &"the sync");
     holds(rt, disk.faults() == faults, &"the failed calls");
@@ -133,7 +133,7 @@ fn syncs<D: Disk>(rt: &impl Abort, disk: &mut D, works: bool, faults: u64) {
 
 const CUT: &str = "a_cut_disk_for_a_test.image";
 
-// A disk of 4,096 bytes is synced while its file has its length, and at no other.
+// Checks that syncs of a disk of 4,096 bytes succeed while its file has its length, and at no other.
 fn needs_its_length<D: Disk + Drop>(rt: &(impl Abort + Files<File = File>), mut disk: D) {
     syncs(rt, &mut disk, true, 0);
     set_length(rt, CUT, 4_095);
@@ -145,7 +145,7 @@ fn needs_its_length<D: Disk + Drop>(rt: &(impl Abort + Files<File = File>), mut 
     remove(rt, CUT);
 }
 
-// No sync is confirmed while the file has another length than the disk.
+// No sync is confirmed while the length of the file differs from that of the disk.
 #[test]
 fn a_file_that_was_cut_short_is_not_synced(rt: HostRuntime) {
     needs_its_length(&rt, new_disk(&rt, rt.alloc(), CUT, 4_096));
@@ -153,7 +153,7 @@ fn a_file_that_was_cut_short_is_not_synced(rt: HostRuntime) {
 
 const LOST: &str = "a_lost_disk_for_a_test.image";
 
-// A disk is synced until its file loses its name.
+// Checks that syncs of a disk succeed until its file loses its name.
 fn needs_a_name<D: Disk + Drop>(rt: &(impl Abort + Files<File = File>), mut disk: D) {
     syncs(rt, &mut disk, true, 0);
     remove(rt, LOST);
@@ -174,7 +174,7 @@ fn rename(rt: &(impl Abort + Files<File = File>), from: &str, to: &str) {
     std::fs::rename(rt, from, to).expect(rt, "another name");
 }
 
-// A disk is synced until another file has its name.
+// Checks that syncs of a disk succeed until another file has its name.
 fn needs_its_name<D: Disk + Drop>(rt: &(impl Abort + Files<File = File>), mut disk: D) {
     syncs(rt, &mut disk, true, 0);
     rename(rt, OTHER, NAMED);
@@ -182,7 +182,7 @@ fn needs_its_name<D: Disk + Drop>(rt: &(impl Abort + Files<File = File>), mut di
     remove(rt, NAMED);
 }
 
-// Another file of the same length takes its place, and it keeps no name.
+// Another file of the same length replaces it, and it keeps no name.
 #[test]
 fn a_file_that_was_replaced_is_not_synced(rt: HostRuntime) {
     drop(new_disk(&rt, rt.alloc(), OTHER, 4_096));
@@ -193,14 +193,14 @@ const BEFORE: &str = "a_renamed_disk_for_a_test.image";
 
 const AFTER: &str = "a_disk_renamed_for_a_test.image";
 
-// A disk is synced once its file has another name.
+// Checks that a sync of a disk succeeds after its file has got another name.
 fn needs_any_name<D: Disk + Drop>(rt: &(impl Abort + Files<File = File>), mut disk: D) {
     rename(rt, BEFORE, AFTER);
     syncs(rt, &mut disk, true, 0);
     remove(rt, AFTER);
 }
 
-// A file that only got another name is whole.
+// A file that was only renamed is intact.
 #[test]
 fn a_file_that_was_renamed_is_synced(rt: HostRuntime) {
     needs_any_name(&rt, new_disk(&rt, rt.alloc(), BEFORE, 4_096));

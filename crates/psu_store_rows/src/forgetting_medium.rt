@@ -1,4 +1,4 @@
-// A medium in memory that forgets at a failed sync, as a file of a system with a page cache does.
+// A medium in memory that forgets at a failed sync, like a file on a system with a page cache.
 ghost use Rattle.std.specs.Prelude.{◌≡◌, ℕ, ◌+◌, ◌<◌, ◌≤◌, length, replicate, true, false, slice_index, slice_index_or, IfOk};
 ghost use Rattle.psu_disk.specs.Disk.{Left, Holds, IsSynced};
 ghost use Rattle.psu_disk.specs.Loss.{lost};
@@ -8,8 +8,8 @@ ghost use Rattle.std.proofs.Props.{props};
 use psu_disk::{Choice, DiskFault, Medium};
 use std::alloc::{AllocError, Allocator};
 
-/// A medium in memory. Its syncs of two numbers fail. One that fails forgets all that it was to make safe; once both have failed, or the
-/// power was lost, it works.
+/// A medium in memory. Its syncs with two numbers fail. A sync that fails forgets all bytes that it was to make safe;
+/// once both have failed, or the power was lost, syncs succeed.
 #[derive(Drop)]
 pub struct ForgettingMedium<A: Allocator + Copy> {
     bytes: Vec<u8, A>,
@@ -17,7 +17,7 @@ pub struct ForgettingMedium<A: Allocator + Copy> {
     at_risk: Vec<bool, A>,
     forgotten: Vec<bool, A>,
     syncs: u64,
-    // The numbers of the syncs that are to fail, 0 once they have.
+    // The numbers of the syncs that fail; 0 once they have failed.
     first: u64,
     second: u64,
     ghost safe_whole: { length safe.items ≡ length bytes.items },
@@ -27,7 +27,8 @@ pub struct ForgettingMedium<A: Allocator + Copy> {
 }
 
 impl<A: Allocator + Copy> ForgettingMedium<A> {
-    /// A medium of `size` bytes 00 that are safe. Of its syncs, counted from 1 on, those of these numbers fail.
+    /// Returns a medium of `size` bytes 00 that are safe. Of its syncs, counted from 1 on, those with these numbers
+    /// fail.
     pub fn new(alloc: A, size: u64, failing: [u64; 2]) -> Result<ForgettingMedium<A>, AllocError>
         ensures bytes { IfOk result (λ medium. medium.bytes.items ≡ replicate size 0) }
         ensures safe { IfOk result (λ medium. medium.at_risk.items ≡ replicate size false) }
@@ -44,7 +45,8 @@ impl<A: Allocator + Copy> ForgettingMedium<A> {
         })
     }
 
-    /// Power is lost: the bytes at risk become as chosen, and then each byte is safe and none forgotten. No sync fails any more.
+    /// Loses power: the bytes at risk become as chosen, and then each byte is safe and none is forgotten. No later sync
+    /// fails.
     #[tactic(auto, unfolding(psu_disk::specs::Disk::Left))]
     pub fn lose(&mut self, choice: Choice)
         ensures left { Left (memory self.old.bytes.items self.old.at_risk.items) self.new.bytes.items }
@@ -62,7 +64,7 @@ impl<A: Allocator + Copy> ForgettingMedium<A> {
         self.second = 0;
     }
 
-    // A sync that fails: all that is at risk is forgotten.
+    // Fails a sync: all bytes at risk are forgotten.
     fn forget(&mut self)
         ensures bytes { self.new.bytes.items ≡ self.old.bytes.items }
         ensures safe { self.new.safe.items ≡ self.old.safe.items }
@@ -72,7 +74,7 @@ impl<A: Allocator + Copy> ForgettingMedium<A> {
         self.forgotten.copy_from_slice(&self.at_risk);
     }
 
-    // A sync that works: all that is not forgotten is safe.
+    // Completes a sync: all bytes that are not forgotten become safe.
     fn settle(&mut self)
         ensures bytes { self.new.bytes.items ≡ self.old.bytes.items }
         ensures safe { (k : ℕ) → slice_index_or self.old.forgotten.items k false ≡ false → slice_index self.new.safe.items k ≡ slice_index self.old.bytes.items k }
@@ -86,7 +88,7 @@ impl<A: Allocator + Copy> ForgettingMedium<A> {
     }
 }
 
-// Whether the sync of this number is to fail. It fails once.
+// Whether the sync with this number fails. It fails once.
 fn is_due(number: &mut u64, sync: u64) -> bool
     requires { 0 < sync }
     ensures spent { number.old ≡ 0 → (result ≡ false) × (number.new ≡ 0) }
@@ -98,7 +100,7 @@ fn is_due(number: &mut u64, sync: u64) -> bool
     true
 }
 
-// Whether the sync of this number is to fail, as one of two.
+// Whether the sync with this number is one of the two that fail.
 fn are_due(first: &mut u64, second: &mut u64, sync: u64) -> bool
     requires { 0 < sync }
     ensures spent { first.old ≡ 0 → second.old ≡ 0 → (result ≡ false) × (first.new ≡ 0) × (second.new ≡ 0) }
@@ -109,7 +111,7 @@ fn are_due(first: &mut u64, second: &mut u64, sync: u64) -> bool
     is_due(second, sync)
 }
 
-// What a loss leaves of the bytes.
+// Changes the bytes as a power loss leaves them.
 fn lose_bytes(bytes: &mut [u8], safe: &[u8], at_risk: &[bool], choice: Choice)
     requires safe { length safe.now ≡ length bytes.old }
     requires at_risk { length at_risk.now ≡ length bytes.old }
@@ -123,7 +125,7 @@ fn lose_bytes(bytes: &mut [u8], safe: &[u8], at_risk: &[bool], choice: Choice)
     }
 }
 
-// The byte that a loss leaves, by the safe one and that which a read gave.
+// Returns the byte that a power loss leaves, given the safe one and the one that a read returned.
 fn after_loss(choice: Choice, safe: u8, read: u8) -> u8
     ensures { result ≡ lost choice safe read }
 {
@@ -134,7 +136,7 @@ fn after_loss(choice: Choice, safe: u8, read: u8) -> u8
     }
 }
 
-// Makes safe what is not forgotten.
+// Makes the bytes safe that are not forgotten.
 fn make_safe(bytes: &[u8], safe: &mut [u8], forgotten: &[bool])
     requires safe { length safe.old ≡ length bytes.now }
     requires forgotten { length forgotten.now ≡ length bytes.now }
@@ -148,7 +150,7 @@ fn make_safe(bytes: &[u8], safe: &mut [u8], forgotten: &[bool])
     }
 }
 
-// Writes over the bytes from `at` on.
+// Overwrites the bytes from `at` on.
 fn put(all: &mut [u8], at: usize, bytes: &[u8])
     requires { at + length bytes.now ≤ length all.old }
     ensures { Holds at bytes.now all.old all.new }

@@ -1,5 +1,5 @@
-// Syncs that fail on a medium that forgets, and a power loss after them: what a store confirmed is there still, over a disk that writes it
-// again.
+// Syncs that fail on a medium that forgets, and a power loss after them: what a store confirmed is still there, over a
+// disk that writes it again.
 ghost use Rattle.std.specs.Prelude.{◌≡◌, ℕ, false, slice_index_or};
 
 use crate::edits::each_of;
@@ -13,19 +13,22 @@ use psu_items::{Broken, Commit, Items, Store};
 use std::alloc::Allocator;
 use std::process::Abort;
 
-// How many bytes an image of limit 4 takes.
+// The number of bytes of an image of limit 4.
 const SIZE: u64 = 5_120;
 
-// How many syncs a format makes: behind each of two gates that it closes, behind the root, and behind the gate that it opens.
+// The number of syncs of a format: after each of two gates that it closes, after the root, and after the gate that it
+// opens.
 const FORMAT: u64 = 4;
 
-// How many syncs a commit makes: behind the root, behind the gate that it opens, and behind the other that it closes.
+// The number of syncs of a commit: after the root, after the gate that it opens, and after the other one, which it
+// closes.
 const COMMIT: u64 = 3;
 
-// Two failures cost two reopenings at most, the later one in the fifth step, so the sixth is a commit that is confirmed.
+// Two failures cause at most two reopenings, the later one in the fifth step, so the sixth is a commit that is
+// confirmed.
 const LAST: u8 = 6;
 
-// What a power loss makes of the bytes that are not safe.
+// The effects of a power loss on the bytes that are not safe.
 const CHOICES: [Choice; 5] = [
     Choice::Old,
     Choice::New,
@@ -34,15 +37,15 @@ const CHOICES: [Choice; 5] = [
     Choice::Fill(0xff),
 ];
 
-// A run: which syncs fail, and how many steps follow the format.
+// A run: which syncs fail, and the number of steps after the format.
 #[derive(Clone, Copy, Drop)]
 struct Case {
     failing: [u64; 2],
     steps: u8,
 }
 
-// The values of the key 1 that may stand after some steps, 0 where no item does: the one that was confirmed last and, where a commit is
-// in flight, its target.
+// The values that the key 1 may have after some steps, 0 where there is no item: the one that was confirmed last and,
+// where a commit is in flight, its target.
 #[derive(Clone, Copy, Drop)]
 struct Values {
     confirmed: u8,
@@ -55,7 +58,7 @@ struct Run<D: Disk, A: Allocator + Copy> {
     values: Values,
 }
 
-// The value of the key 1 in a map of no other, or 0 in an empty map.
+// Returns the value of the key 1 in a map that has no other key, or 0 in an empty map.
 fn value_of<A: Allocator + Copy>(items: &Items<A>) -> Option<u8> {
     match (items.pairs(), items.get(&[1])) {
         ([], _) => Some(0),
@@ -65,7 +68,7 @@ fn value_of<A: Allocator + Copy>(items: &Items<A>) -> Option<u8> {
 }
 
 impl Values {
-    // One value that stands.
+    // Returns the values where only one is possible.
     fn just(value: u8) -> Values {
         Values {
             confirmed: value,
@@ -73,13 +76,13 @@ impl Values {
         }
     }
 
-    // The value that stands in a store, where it is one of these.
+    // Returns the value that a store has, where it is one of these.
     fn standing<D: Disk, A: Allocator + Copy>(self, store: &Store<D, A>) -> Option<u8> {
         let value = value_of(store.items())?;
         (value == self.confirmed || value == self.target).then_some(value)
     }
 
-    // The values after a commit of this one.
+    // Returns the possible values after a commit of this one.
     fn after<D: Disk, A: Allocator + Copy>(self, ended: &Commit<D, A>, target: u8) -> Values {
         match ended {
             Commit::Stored(_) => Values::just(target),
@@ -91,7 +94,7 @@ impl Values {
     }
 }
 
-// A commit of this value on a store that is whole.
+// Commits this value to a whole store.
 fn put<D: Disk + Drop, A: Allocator + Copy>(
     rt: &impl Abort,
     alloc: A,
@@ -104,7 +107,7 @@ fn put<D: Disk + Drop, A: Allocator + Copy>(
     Run { store, values }
 }
 
-// A run whose store was opened again: it confirms which of the two values stands.
+// Continues a run whose store was reopened: that confirms which of the two values the store has.
 fn found<D: Disk + Drop, A: Allocator + Copy>(
     rt: &impl Abort,
     store: Store<D, A>,
@@ -117,7 +120,7 @@ fn found<D: Disk + Drop, A: Allocator + Copy>(
     }
 }
 
-// The reopening of a store that broke: where it works, one of the two values stands.
+// Reopens a store that broke: where that succeeds, the store has one of the two values.
 fn reopened<D: Disk + Drop, A: Allocator + Copy>(
     rt: &impl Abort,
     alloc: A,
@@ -133,7 +136,7 @@ fn reopened<D: Disk + Drop, A: Allocator + Copy>(
     }
 }
 
-// The next step: a commit of this value, or the reopening of a store that broke.
+// Makes the next step: a commit of this value, or the reopening of a store that broke.
 fn next<D: Disk + Drop, A: Allocator + Copy>(
     rt: &impl Abort,
     alloc: A,
@@ -148,7 +151,7 @@ fn next<D: Disk + Drop, A: Allocator + Copy>(
     }
 }
 
-// A run of so many steps behind a format. Each value that is put is the number of its step.
+// Makes this many steps after a format. The value of each commit is the number of its step.
 fn after<D: Disk + Drop, A: Allocator + Copy>(
     rt: &impl Abort,
     alloc: A,
@@ -165,7 +168,7 @@ fn after<D: Disk + Drop, A: Allocator + Copy>(
     run
 }
 
-// The disk after that, and the values that may stand on it.
+// Returns the disk after that, and the values that it may have.
 fn ended<D: Disk + Drop, A: Allocator + Copy>(
     rt: &impl Abort,
     alloc: A,
@@ -176,7 +179,7 @@ fn ended<D: Disk + Drop, A: Allocator + Copy>(
     (disk_of(store), values)
 }
 
-// Whether an opening after the loss finds neither value.
+// Whether an opening after the power loss finds neither value.
 fn is_lost<D: Disk + Drop, A: Allocator + Copy>(alloc: A, disk: D, values: Values) -> bool {
     match Store::open(alloc, disk) {
         Ok(store) => values.standing(&store).is_none(),
@@ -184,10 +187,10 @@ fn is_lost<D: Disk + Drop, A: Allocator + Copy>(alloc: A, disk: D, values: Value
     }
 }
 
-// A disk that writes again, over a file on a medium.
+// A disk that repeats writes, over a file on a medium.
 type OnFile<A> = KeptDisk<SystemFile<MediumFile<ForgettingMedium<A>>>, A>;
 
-// A disk that writes again, in a file on a medium.
+// Returns a disk that repeats writes, in a file on a medium.
 fn kept<A: Allocator + Copy>(rt: &impl Abort, alloc: A, medium: ForgettingMedium<A>) -> OnFile<A>
     requires { (k : ℕ) → slice_index_or medium.forgotten.items k false ≡ false }
 {
@@ -195,7 +198,7 @@ fn kept<A: Allocator + Copy>(rt: &impl Abort, alloc: A, medium: ForgettingMedium
     KeptDisk::new(alloc, SystemFile { file }).expect(rt, "memory for a disk")
 }
 
-// A medium whose syncs of these numbers fail.
+// Returns a medium whose syncs with these numbers fail.
 fn forgetting<A: Allocator + Copy>(
     rt: &impl Abort,
     alloc: A,
@@ -206,7 +209,7 @@ fn forgetting<A: Allocator + Copy>(
     ForgettingMedium::new(alloc, SIZE, failing).expect(rt, "memory for a medium")
 }
 
-// Whether a run loses what was confirmed, over a disk that writes again; the last step is confirmed.
+// Whether a run loses what was confirmed, over a disk that repeats writes; the last step is confirmed.
 fn is_lost_on_kept<A: Allocator + Copy>(
     rt: &impl Abort,
     alloc: A,
@@ -225,7 +228,7 @@ fn is_lost_on_kept<A: Allocator + Copy>(
     is_lost(alloc, kept(rt, alloc, medium), values)
 }
 
-// The same over one that does not.
+// Whether a run loses what was confirmed, over a disk that does not repeat writes.
 fn is_lost_on_passing<A: Allocator + Copy>(
     rt: &impl Abort,
     alloc: A,
@@ -239,7 +242,7 @@ fn is_lost_on_passing<A: Allocator + Copy>(
     is_lost(alloc, PassingDisk::new(medium), values)
 }
 
-// A run of each number of steps in which these syncs fail loses nothing that was confirmed.
+// Checks that a run of each number of steps in which these syncs fail loses nothing that was confirmed.
 fn loses_nothing<A: Allocator + Copy>(rt: &impl Abort, alloc: A, failing: [u64; 2]) {
     for steps in 0..LAST + 1 {
         let case = Case { failing, steps };
@@ -250,7 +253,7 @@ fn loses_nothing<A: Allocator + Copy>(rt: &impl Abort, alloc: A, failing: [u64; 
     }
 }
 
-// Each sync of two commits fails once, and with it none or one of the next four, as those of the reopening.
+// Each sync of two commits fails once, and in addition none or one of the next four, such as those of the reopening.
 #[test]
 fn what_was_confirmed_is_there_after_a_loss(rt: HostRuntime) {
     for first in FORMAT + 1..FORMAT + 2 * COMMIT + 1 {
@@ -261,7 +264,8 @@ fn what_was_confirmed_is_there_after_a_loss(rt: HostRuntime) {
     }
 }
 
-// The second sync of a commit is that of its gate. Where it is forgotten, the reopening closes the other gate behind it, and no root is left.
+// The second sync of a commit is that of its gate. Where the gate is forgotten, the reopening then closes the other
+// gate, and no root remains.
 #[test]
 fn a_disk_that_does_not_write_again_loses_it(rt: HostRuntime) {
     let rows = [

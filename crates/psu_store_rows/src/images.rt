@@ -9,7 +9,7 @@ use psu_items::Store;
 use std::alloc::Allocator;
 use std::process::Abort;
 
-// Whether an image can have this limit, and a disk of this size the room for it.
+// Whether an image can have this limit, and a disk of this size has room for it.
 fn has_room(limit: u16, size: u64) -> bool
     ensures least { IsTrue result → 4 ≤ limit }
     ensures most { IsTrue result → limit ≤ 480 }
@@ -18,7 +18,8 @@ fn has_room(limit: u16, size: u64) -> bool
     4 <= limit && limit <= 480 && 512 * (2 + 2 * u64::from(limit)) <= size
 }
 
-/// A store of an empty map of this limit on a disk that is laid out for it. The limit and the room are such as an image can have.
+/// Returns a store of an empty map of this limit on a disk that is formatted for it. The limit and the room are ones
+/// that an image can have.
 pub fn laid_out<D: Disk + Drop, A: Allocator + Copy>(
     rt: &impl Abort,
     alloc: A,
@@ -31,7 +32,7 @@ pub fn laid_out<D: Disk + Drop, A: Allocator + Copy>(
         .expect(rt, "a format")
 }
 
-/// A disk that was laid out for an empty map of this limit.
+/// Returns a disk that was formatted for an empty map of this limit.
 pub fn formatted_over<D: Disk + Drop, A: Allocator + Copy>(
     rt: &impl Abort,
     alloc: A,
@@ -41,7 +42,7 @@ pub fn formatted_over<D: Disk + Drop, A: Allocator + Copy>(
     laid_out(rt, alloc, disk, limit).into_disk()
 }
 
-/// A disk of so many bytes that was laid out for an empty map of this limit.
+/// Returns a disk of this many bytes that was formatted for an empty map of this limit.
 pub fn formatted<A: Allocator + Copy>(
     rt: &impl Abort,
     alloc: A,
@@ -51,12 +52,12 @@ pub fn formatted<A: Allocator + Copy>(
     formatted_over(rt, alloc, zeros(rt, alloc, size), limit)
 }
 
-/// A disk of 5,120 bytes that holds an empty map of limit 4.
+/// Returns a disk of 5,120 bytes that holds an empty map of limit 4.
 pub fn empty<A: Allocator + Copy>(rt: &impl Abort, alloc: A) -> MemDisk<A> {
     formatted(rt, alloc, 5_120, 4)
 }
 
-/// The store on a disk after the commit of a batch, as a text has it.
+/// Returns the store on a disk after the commit of a batch, given as a text.
 pub fn store_with<D: Disk + Drop, A: Allocator + Copy>(
     rt: &impl Abort,
     alloc: A,
@@ -67,7 +68,7 @@ pub fn store_with<D: Disk + Drop, A: Allocator + Copy>(
     stored(rt, alloc, store, edits(rt, alloc, batch))
 }
 
-/// The disk after that.
+/// Returns the disk after the commit of a batch, given as a text.
 pub fn changed<D: Disk + Drop, A: Allocator + Copy>(
     rt: &impl Abort,
     alloc: A,

@@ -1,4 +1,4 @@
-// The ranges that a disk keeps to write them again, at the bound of their room.
+// The ranges that a disk keeps to write them again, at the limit of the room for them.
 use crate::ForgettingMedium;
 use crate::passing_disk::PassingDisk;
 use crate::spelled::{bytes_of, halves, number, write};
@@ -11,13 +11,13 @@ const SIZE: u64 = 4_096;
 
 type Kept<A> = KeptDisk<ForgettingMedium<A>, A>;
 
-// A disk whose medium fails this sync.
+// Returns a disk whose medium fails this sync.
 fn failing<A: Allocator + Copy>(rt: &impl Abort, alloc: A, sync: u64) -> Kept<A> {
     let medium = ForgettingMedium::new(alloc, SIZE, [sync, 0]).expect(rt, "memory for a medium");
     KeptDisk::new(alloc, medium).expect(rt, "memory for a disk")
 }
 
-// A disk that fails its next sync: the first of all, or the second, where one works first.
+// Returns a disk that fails its next sync: the first of all, or the second, where one succeeds first.
 fn fresh<A: Allocator + Copy>(rt: &impl Abort, alloc: A, is_synced: bool) -> Kept<A> {
     let mut disk = failing(rt, alloc, 1 + u64::from(is_synced));
     if is_synced {
@@ -26,7 +26,7 @@ fn fresh<A: Allocator + Copy>(rt: &impl Abort, alloc: A, is_synced: bool) -> Kep
     disk
 }
 
-// Writes so many ranges of this length, each as far from the next.
+// Writes this many ranges of this length, each at that distance from the next.
 fn write_apart<D: Disk>(rt: &impl Abort, disk: &mut D, ranges: u64, length: u64) {
     let bytes = [0xa5; 1_300];
     let range = &bytes[..length.min(1_300) as usize];
@@ -36,7 +36,7 @@ fn write_apart<D: Disk>(rt: &impl Abort, disk: &mut D, ranges: u64, length: u64)
     }
 }
 
-// How many bytes are a5.
+// Returns the number of bytes that are a5.
 fn count(bytes: &[u8]) -> u64 {
     let mut count = 0u64;
     for byte in bytes {
@@ -47,14 +47,14 @@ fn count(bytes: &[u8]) -> u64 {
     count
 }
 
-// How many bytes are there as they were written, after a loss that takes each that is not safe.
+// Returns the number of bytes that are there as written, after a power loss that takes each byte that is not safe.
 fn kept<A: Allocator + Copy>(rt: &impl Abort, alloc: A, disk: Kept<A>) -> u64 {
     let mut medium = disk.into_inner();
     medium.lose(Choice::Old);
     count(&bytes_of(rt, alloc, PassingDisk::new(medium)))
 }
 
-// Whether the next sync fails, and whether the two behind it work or fail, too.
+// Whether the next sync fails, and whether the two after it succeed or fail, as given.
 fn syncs<D: Disk>(disk: &mut D, work: bool) -> bool {
     disk.sync() == Err(DiskFault) && disk.sync().is_ok() == work && disk.sync().is_ok() == work
 }
@@ -74,7 +74,7 @@ fn are_kept<A: Allocator + Copy>(
     kept(rt, alloc, disk) == want && work
 }
 
-/// The same of a row.
+/// Whether a row holds on ranges that are written before a sync that fails.
 pub fn are_as_wanted<A: Allocator + Copy>(
     rt: &impl Abort,
     alloc: A,
@@ -87,7 +87,8 @@ pub fn are_as_wanted<A: Allocator + Copy>(
     are_kept(rt, alloc, fresh(rt, alloc, synced == "synced"), sizes)
 }
 
-// Whether a sync works first, how many ranges of which length are written before one that fails, and whether they are kept.
+// Whether a sync succeeds first, how many ranges of which length are written before one that fails, and whether they
+// are kept.
 const RANGES: &str = "
 synced: 1 of 1 -> kept
 synced: 1 of 1300 -> kept

@@ -1,5 +1,5 @@
-//! Tests of the store and what lies below it, each through its crate, and a medium and a file in memory for them. Expected values are worked by hand
-//! from the format of an image and from what a disk is.
+//! Tests of the store and the layers below it, each through its crate, and a medium and a file in memory for them.
+//! Expected values are worked by hand from the format of an image and from the definition of a disk.
 #![tactic(auto)]
 
 #[cfg(test)]

@@ -1,4 +1,4 @@
-// Losses of power during a commit and during the opening that follows, and disks that fail once.
+// Power losses during a commit and during the opening that follows, and disks that fail once.
 use crate::edits::copied;
 use crate::holds::holds;
 use crate::images::{changed, empty, formatted};
@@ -10,14 +10,14 @@ use psu_items::{Broken, Store};
 use std::alloc::Allocator;
 use std::process::Abort;
 
-// A loss of power: the number of calls before it, and what it makes of the bytes that are not safe.
+// A power loss: the number of calls before it, and its effect on the bytes that are not safe.
 #[derive(Clone, Copy, Drop)]
 struct Loss {
     calls: u64,
     choice: Choice,
 }
 
-// The commit stands on a disk where nothing fails.
+// Checks that the commit is stored on a disk where nothing fails.
 fn is_stored<D: Disk + Drop, A: Allocator + Copy>(
     rt: &impl Abort,
     alloc: A,
@@ -28,7 +28,7 @@ fn is_stored<D: Disk + Drop, A: Allocator + Copy>(
     holds(rt, scene.has_target(&store).unwrap_or(false), &"the target");
 }
 
-// The disk behind an opening of it and a commit, whatever fails in that.
+// Returns the disk after an opening of it and a commit, whatever fails in them.
 fn after_commit<D: Disk + Drop, A: Allocator + Copy>(
     rt: &impl Abort,
     alloc: A,
@@ -38,7 +38,7 @@ fn after_commit<D: Disk + Drop, A: Allocator + Copy>(
     disk_of(committed(rt, alloc, disk, &scene.batch))
 }
 
-// What a power loss leaves during a commit.
+// Returns the disk after a power loss during a commit.
 fn left<A: Allocator + Copy>(
     rt: &impl Abort,
     alloc: A,
@@ -52,7 +52,8 @@ fn left<A: Allocator + Copy>(
     disk
 }
 
-// Whether what a loss leaves can stand: the map before where no call was made, and the target where all were.
+// Whether the result of a power loss is possible: the map before unless all calls were made, and the target unless none
+// was.
 fn can_stand<A: Allocator + Copy>(rt: &impl Abort, alloc: A, scene: &Scene<A>, loss: Loss) -> bool {
     match scene.finds_target(alloc, left(rt, alloc, scene, loss)) {
         Some(true) => loss.calls > 0,
@@ -61,7 +62,7 @@ fn can_stand<A: Allocator + Copy>(rt: &impl Abort, alloc: A, scene: &Scene<A>, l
     }
 }
 
-// Old, New, and the byte of a fill.
+// Returns `Old`, `New`, or the byte of a fill.
 fn choice_of(n: u16) -> Choice {
     match n {
         256 => Choice::Old,
@@ -70,7 +71,8 @@ fn choice_of(n: u16) -> Choice {
     }
 }
 
-// A loss after each number of calls of a commit, and of each kind, leaves the map before it or the target.
+// Checks that a power loss after each number of calls of a commit, and of each kind, leaves the map before it or the
+// target.
 fn each_loss_leaves_a_map<A: Allocator + Copy>(rt: &impl Abort, alloc: A, scene: &Scene<A>) {
     for calls in 0..scene.counts.commit.saturating_add(1) {
         for n in 0..258u16 {
@@ -81,7 +83,7 @@ fn each_loss_leaves_a_map<A: Allocator + Copy>(rt: &impl Abort, alloc: A, scene:
     }
 }
 
-// The disk behind an opening, whatever fails in that.
+// Returns the disk after an opening, whatever fails in it.
 fn after_opening<D: Disk, A: Allocator + Copy>(alloc: A, disk: D) -> D {
     match Store::open(alloc, disk) {
         Ok(store) => store.into_disk(),
@@ -89,7 +91,7 @@ fn after_opening<D: Disk, A: Allocator + Copy>(alloc: A, disk: D) -> D {
     }
 }
 
-// Whether the target is found on an image after a further loss, during its opening.
+// Whether the target is found on an image after a further power loss, during its opening.
 fn finds_again<A: Allocator + Copy>(
     rt: &impl Abort,
     alloc: A,
@@ -111,8 +113,9 @@ const CHOICES: [Choice; 5] = [
     Choice::Fill(3),
 ];
 
-// The target is found on an image that a loss after k calls left, or is not, after a second loss, in each call of the opening and of each
-// kind. An opening reads the roots, a head and its value, and closes a gate: seven calls at most.
+// Checks that the target is found or is not found, as given, on an image that a power loss after k calls left, after a
+// second power loss, in each call of the opening and of each kind. An opening reads the roots, a head and its value,
+// and closes a gate: at most seven calls.
 fn each_loss_finds<A: Allocator + Copy>(
     rt: &impl Abort,
     alloc: A,
@@ -127,7 +130,7 @@ fn each_loss_finds<A: Allocator + Copy>(
     }
 }
 
-// What stands after one loss stands after a second.
+// Checks that the map after one power loss is the map after a second.
 fn second_changes_nothing<A: Allocator + Copy>(
     rt: &impl Abort,
     alloc: A,
@@ -140,7 +143,7 @@ fn second_changes_nothing<A: Allocator + Copy>(
     each_loss_finds(rt, alloc, scene, (&image, want, first.calls));
 }
 
-// A loss in the opening that follows a loss changes nothing of what stands.
+// Checks that a power loss in the opening that follows a power loss does not change the map.
 fn second_losses_change_nothing<A: Allocator + Copy>(rt: &impl Abort, alloc: A, scene: &Scene<A>) {
     for calls in 0..scene.counts.commit.saturating_add(1) {
         for choice in CHOICES {
@@ -149,16 +152,16 @@ fn second_losses_change_nothing<A: Allocator + Copy>(rt: &impl Abort, alloc: A, 
     }
 }
 
-/// The commit stands where nothing fails. A loss during it leaves the map before it or the target, and a second loss, during the opening
-/// that follows, changes nothing.
+/// Checks that the commit is stored where nothing fails. A power loss during it leaves the map before it or the target,
+/// and a second one, during the opening that follows, changes nothing.
 pub fn losses_leave_a_map<A: Allocator + Copy>(rt: &impl Abort, alloc: A, scene: &Scene<A>) {
     is_stored(rt, alloc, scene, remade(rt, alloc, &scene.image));
     each_loss_leaves_a_map(rt, alloc, scene);
     second_losses_change_nothing(rt, alloc, scene);
 }
 
-// How many calls a commit of one item makes, of its head and its value, the root, a gate and the other, with three syncs. The opening of
-// an empty map makes a sync, and a read for each root.
+// The calls of a commit of one item: its head and its value, the root, a gate and the other, with three syncs. The
+// opening of an empty map makes a sync, and a read for each root.
 const FIRST: Counts = Counts {
     limit: 4,
     version: 2,
@@ -167,7 +170,7 @@ const FIRST: Counts = Counts {
     commit: 8,
 };
 
-// The first commit of an image: of one item.
+// Returns the scene of an image's first commit: of one item.
 fn first_item<A: Allocator + Copy>(rt: &impl Abort, alloc: A) -> Scene<A> {
     let disk = empty(rt, alloc);
     Scene::of(rt, alloc, disk, ["01 = 24", "", "01 = 24"], FIRST)
@@ -178,8 +181,8 @@ fn losses_in_the_first_commit(rt: HostRuntime) {
     losses_leave_a_map(&rt, rt.alloc(), &first_item(&rt, rt.alloc()));
 }
 
-// That opening makes a sync and reads two roots, two heads and two values; that commit writes five pages, a root and two gates, with three
-// syncs.
+// That opening makes a sync and reads two roots, two heads and two values; that commit writes five pages, a root and
+// two gates, with three syncs.
 const SEVERAL: Counts = Counts {
     limit: 8,
     version: 2,
@@ -188,14 +191,14 @@ const SEVERAL: Counts = Counts {
     commit: 11,
 };
 
-// A commit that changes the key 1, drops the key 2, and gives the key 3 a value of two pages.
+// A commit that changes the key 1, drops the key 2, and assigns a value of two pages to the key 3.
 const THREE_EDITS: [&str; 3] = [
     "01 = 24; 02; 03 = 07*600",
     "01 = 0a; 02 = 14",
     "01 = 24; 03 = 07*600",
 ];
 
-// That commit on an image of limit 8.
+// Returns the scene of that commit on an image of limit 8.
 fn several_items<A: Allocator + Copy>(rt: &impl Abort, alloc: A) -> Scene<A> {
     let disk = formatted(rt, alloc, 9_216, 8);
     let disk = changed(rt, alloc, disk, THREE_EDITS[1]);
@@ -207,7 +210,7 @@ fn losses_among_several_items(rt: HostRuntime) {
     each_loss_leaves_a_map(&rt, rt.alloc(), &several_items(&rt, rt.alloc()));
 }
 
-// A store that is opened again, by the second trial where the first fails, and whether the first did.
+// Returns a store that is reopened, at the second attempt where the first fails, and whether the first did.
 fn reopened<D: Disk + Drop, A: Allocator + Copy>(
     rt: &impl Abort,
     alloc: A,
@@ -222,8 +225,8 @@ fn reopened<D: Disk + Drop, A: Allocator + Copy>(
     }
 }
 
-// The next commit of a store that was opened again stands, on a disk that failed twice. One that failed once is not tried, as it is to fail
-// again.
+// Checks that the next commit of a reopened store is stored, on a disk that failed twice. A disk that failed once is
+// not tried, as it is to fail again.
 fn continues<D: Disk + Drop, A: Allocator + Copy>(
     rt: &impl Abort,
     alloc: A,
@@ -236,7 +239,7 @@ fn continues<D: Disk + Drop, A: Allocator + Copy>(
     }
 }
 
-// The target stands on a disk that failed twice.
+// Checks that a disk that failed twice has the target.
 fn stands<D: Disk + Drop, A: Allocator + Copy>(
     rt: &impl Abort,
     alloc: A,
@@ -252,7 +255,8 @@ fn stands<D: Disk + Drop, A: Allocator + Copy>(
     holds(rt, faults_of(store) == 2, &"two failed calls");
 }
 
-// Whether the target stands after a commit that failed, and whether the reopening failed once too; then the store continues.
+// Whether the disk has the target after a commit that failed, and whether the reopening failed once too; then the store
+// continues.
 fn fails_again<D: Disk + Drop, A: Allocator + Copy>(
     rt: &impl Abort,
     alloc: A,
@@ -266,8 +270,8 @@ fn fails_again<D: Disk + Drop, A: Allocator + Copy>(
     (target, again)
 }
 
-// Whether the reopening failed once too, on a disk that fails at the call k of the commit, and again after so many calls more. None where
-// the target is not what has to stand.
+// Whether the reopening failed once too, on a disk that fails at the call k of the commit, and again `more` calls after
+// it. `None` where the map is not the one that it has to be.
 fn fails_twice<A: Allocator + Copy>(
     rt: &impl Abort,
     alloc: A,
@@ -280,7 +284,8 @@ fn fails_twice<A: Allocator + Copy>(
     (target? || k.saturating_add(1) < scene.counts.commit).then_some(again)
 }
 
-// Each call of a commit fails once, and then each of the reopening. The store continues: its next commit stands.
+// Checks that the store continues where each call of a commit fails once, and then each of the reopening: its next
+// commit is stored.
 fn is_opened_again<A: Allocator + Copy>(rt: &impl Abort, alloc: A, scene: &Scene<A>) {
     let mut twice = 0u32;
     for k in 0..scene.counts.commit {

@@ -1,4 +1,4 @@
-// The map of items by itself.
+// The map of items without a store.
 use crate::edits::{copy_of, edits, is_just, value_of};
 use crate::holds::holds;
 use crate::spelled::number;
@@ -7,7 +7,7 @@ use psu_items::{Edit, Items};
 use std::alloc::Allocator;
 use std::process::Abort;
 
-// Puts the value that an edit assigns.
+// Inserts the value that an edit assigns.
 fn put<A: Allocator + Copy>(rt: &impl Abort, alloc: A, items: &mut Items<A>, edit: &Edit<A>) {
     let value = edit.value().expect(rt, "a value");
     let value = value_of(rt, copy_of(rt, alloc, value));
@@ -15,7 +15,7 @@ fn put<A: Allocator + Copy>(rt: &impl Abort, alloc: A, items: &mut Items<A>, edi
     items.insert(key, value).expect(rt, "memory for an item");
 }
 
-// A map of the items that a text has, put in its order.
+// Returns a map of the items that a text has, inserted in its order.
 fn map_of<A: Allocator + Copy>(rt: &impl Abort, alloc: A, text: &str) -> Items<A> {
     let mut items = Items::new(alloc);
     for edit in edits(rt, alloc, text).edits() {
@@ -24,12 +24,12 @@ fn map_of<A: Allocator + Copy>(rt: &impl Abort, alloc: A, text: &str) -> Items<A
     items
 }
 
-// A map has this value for a key, or none where that is empty.
+// Checks that a map has this value for a key, or none where that is empty.
 fn has<A: Allocator + Copy>(rt: &impl Abort, items: &Items<A>, key: &[u8], value: &[u8]) {
     holds(rt, items.get(key).unwrap_or(&[]) == value, &key);
 }
 
-// A map whose items are put in another order than that of their keys, and one of them twice, is in the order of its keys.
+// Checks that a map is in the order of its keys, whose items are inserted in another order, and one of them twice.
 fn is_in_order<A: Allocator + Copy>(rt: &impl Abort, alloc: A) {
     let items = map_of(rt, alloc, "05 = 0a; 01 = 14; 03 = 1e; 01 = 28");
     let is_so = is_just(rt, alloc, &items, "01 = 28; 03 = 1e; 05 = 0a");
@@ -43,7 +43,7 @@ fn a_map_is_in_the_order_of_its_keys(rt: HostRuntime) {
     is_in_order(&rt, rt.alloc());
 }
 
-// What a map of one value costs.
+// The cost of a map of one value.
 const COSTS: &str = "
 05 = 00*1 -> 2
 05 = 00*512 -> 2
@@ -54,7 +54,7 @@ The value of a file of 29,183 bytes, and of one of 32,768.
 05 = 00*32769 -> 66
 ";
 
-/// Whether a map of these items costs so many pages.
+/// Whether a map of these items costs this many pages.
 pub fn costs<A: Allocator + Copy>(rt: &impl Abort, alloc: A, items: &str, pages: &str) -> bool {
     map_of(rt, alloc, items).cost() == u128::from(number(rt, pages))
 }

@@ -1,14 +1,14 @@
-//! A file in memory, by the calls of the system on it.
+//! A file in memory, with the system's calls on it.
 ghost use Rattle.std.specs.Prelude.{◌≡◌, ◌+◌, ◌≤◌, length, true, false, is_ok};
 ghost use Rattle.psu_disk.specs.FileCalls.{FileCall, Keeps, Works};
 
 use psu_disk::{DiskFault, FileCalls, FileFacts, LockAnswer, Medium};
 
-/// A file over a medium in memory, which nobody else opens, cuts short or removes: its calls do what they do for a file that keeps what a
-/// successful sync confirmed.
+/// A file over a medium in memory, which no other process opens, truncates or removes: its calls do what they do for a
+/// file that keeps what a successful sync confirmed.
 #[derive(Drop)]
 pub struct MediumFile<M: Medium> {
-    /// What it lies on.
+    /// The medium of the file.
     pub medium: M,
 }
 

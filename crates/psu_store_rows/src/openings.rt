@@ -1,15 +1,16 @@
-// What an opening finds of images that are spelled: how many items, or why none. Each row of a table puts parts over an image.
+// The result of opening images that are spelled: the number of items, or why none is found. Each row of a table writes
+// parts over an image.
 use crate::spelled::{spelled, with_parts};
 use psu_disk::Disk;
 use psu_items::{OpenCause, Store};
 use std::alloc::Allocator;
 use std::process::Abort;
 
-/// How many bytes an image of limit 6 takes.
+/// The number of bytes of an image of limit 6.
 pub const SIZE: u64 = 7_168;
 
-/// An image of limit 6 whose first root, of the number 1, names the heads on pages 3 and 5: the key 1 with the value 36 on page 4, and
-/// the key 2, 9 with 600 bytes on pages 7 and 6.
+/// An image of limit 6 whose first root, with the number 1, names the heads on pages 3 and 5: the key 1 with the value
+/// 36 on page 4, and the key 2, 9 with 600 bytes on pages 7 and 6.
 pub const IMAGE: &str = "
    0: a5 'PSU 00 02 00 06 00*7 01 00 02 00 03 00 05;
 1536: 01 01 00 00 00 01 00 01 00 04;
@@ -19,7 +20,7 @@ pub const IMAGE: &str = "
 3072: 09*88
 ";
 
-// Whether what an opening finds is what a table wants, in its words.
+// Whether the result of an opening is the one that a table wants, in its words.
 fn is_wanted(found: Result<usize, OpenCause>, wanted: &str) -> bool {
     match found {
         Ok(count) => wanted.parse() == Ok(count),
@@ -30,7 +31,7 @@ fn is_wanted(found: Result<usize, OpenCause>, wanted: &str) -> bool {
     }
 }
 
-// What an opening finds of a disk: how many items, or why none.
+// Returns the number of items that an opening of a disk finds, or why it finds none.
 fn found<D: Disk + Drop, A: Allocator + Copy>(alloc: A, disk: D) -> Result<usize, OpenCause> {
     match Store::open(alloc, disk) {
         Ok(store) => Ok(store.items().pairs().len()),
@@ -38,12 +39,13 @@ fn found<D: Disk + Drop, A: Allocator + Copy>(alloc: A, disk: D) -> Result<usize
     }
 }
 
-/// Whether an opening finds a disk as a table wants.
+/// Whether the result of opening a disk is the one that a table wants.
 pub fn is_found<D: Disk + Drop, A: Allocator + Copy>(alloc: A, disk: D, wanted: &str) -> bool {
     is_wanted(found(alloc, disk), wanted)
 }
 
-/// Whether an opening finds an image of so many bytes as a table wants, with parts put over it: `512: a5 'PSU; 527: 01 -> bad root`.
+/// Whether the result of opening an image of this many bytes is the one that a table wants, with parts written over it:
+/// `512: a5 'PSU; 527: 01 -> bad root`.
 pub fn is_spelled<A: Allocator + Copy>(
     rt: &impl Abort,
     alloc: A,

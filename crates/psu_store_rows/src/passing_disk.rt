@@ -1,10 +1,11 @@
-// A disk that passes each call on to its medium, and trusts the sync that works after one that failed.
+// A disk that passes each call on to its medium, and trusts a sync that succeeds after one that failed.
 ghost use Rattle.std.specs.Prelude.{◌≡◌};
 ghost use Rattle.psu_disk.specs.Disk.{HasCause};
 
 use psu_disk::{Disk, DiskFault, Medium};
 
-/// A disk over a medium with nothing between them. Nothing is claimed of its bytes: after a sync that failed it loses some.
+/// A disk over a medium with nothing between them. Nothing is claimed of its bytes: after a sync that failed it loses
+/// some.
 #[derive(Drop)]
 pub struct PassingDisk<M: Medium> {
     medium: M,
@@ -12,18 +13,18 @@ pub struct PassingDisk<M: Medium> {
 }
 
 impl<M: Medium> PassingDisk<M> {
-    /// The disk over a medium.
+    /// Returns the disk over a medium.
     pub fn new(medium: M) -> PassingDisk<M> {
         PassingDisk { medium, faults: 0 }
     }
 
-    /// The medium below it.
+    /// Returns the medium below it.
     pub fn into_inner(self) -> M {
         let PassingDisk { medium, faults: _ } = self;
         medium
     }
 
-    // The answer of a call, which is counted where it failed.
+    // Returns the answer of a call, after counting it where it failed.
     fn counted(&mut self, answer: Result<(), DiskFault>) -> Result<(), DiskFault>
         ensures same { result ≡ answer }
         ensures medium { self.new.medium ≡ self.old.medium }

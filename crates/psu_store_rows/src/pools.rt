@@ -1,4 +1,4 @@
-// Pools that are full: every page comes back. And the last number that a root may have.
+// Full pools, of which every page is used again, and the last number that a root may have.
 use crate::edits::{assign, copied, each_of, edits, is_map};
 use crate::holds::holds;
 use crate::images::{changed, empty, formatted, store_with};
@@ -9,8 +9,8 @@ use psu_items::{Batch, Commit, Store, UnstartedCause};
 use std::alloc::Allocator;
 use std::process::Abort;
 
-// Commits of one value after another for so many keys: from the first value to before the last. From the value `again` on the store is
-// opened again after each.
+// Commits of one value after another for this many keys: from the first value to before the last. From the value
+// `again` on the store is opened again after each.
 #[derive(Clone, Copy, Drop)]
 struct Course {
     keys: u8,
@@ -19,7 +19,7 @@ struct Course {
     again: u8,
 }
 
-// The store, or the one that an opening finds on its disk where that is wanted.
+// Returns the store, or the one that an opening finds on its disk where that is requested.
 fn kept<D: Disk + Drop, A: Allocator + Copy>(
     rt: &impl Abort,
     alloc: A,
@@ -32,7 +32,7 @@ fn kept<D: Disk + Drop, A: Allocator + Copy>(
     opened(rt, alloc, store.into_disk())
 }
 
-// The store after a commit of a batch whose items are then all that it has.
+// Returns the store after a commit of a batch, and checks that the batch's items are then all that it has.
 fn set_all<D: Disk + Drop, A: Allocator + Copy>(
     rt: &impl Abort,
     alloc: A,
@@ -45,7 +45,7 @@ fn set_all<D: Disk + Drop, A: Allocator + Copy>(
     store
 }
 
-// After these commits on a disk its store has this number, and its map costs so many pages.
+// Checks that after these commits on a disk its store has this number, and its map costs this many pages.
 fn is_set_often<D: Disk + Drop, A: Allocator + Copy>(
     rt: &impl Abort,
     alloc: A,
@@ -60,7 +60,7 @@ fn is_set_often<D: Disk + Drop, A: Allocator + Copy>(
     ends_with(rt, &store, number, pages);
 }
 
-// A store has this number, and its map costs so many pages.
+// Checks that a store has this number, and its map costs this many pages.
 fn ends_with<D: Disk, A: Allocator + Copy>(
     rt: &impl Abort,
     store: &Store<D, A>,
@@ -85,8 +85,8 @@ fn two_hundred_and_forty_items(rt: HostRuntime) {
     is_set_often(&rt, rt.alloc(), disk, (MANY, 6, 480));
 }
 
-// Two items fill the limit of 4, and a commit that changes both takes the whole pool of 8 pages. The commits continue in one store, and
-// from the value 40 on each in one that was opened for it.
+// Two items fill the limit of 4, and a commit that changes both takes the whole pool of 8 pages. The commits continue
+// in one store, and from the value 40 on each in one that was opened for it.
 const TWO: Course = Course {
     keys: 2,
     first: 0,
@@ -100,14 +100,14 @@ fn sixty_commits_in_a_pool_that_is_full(rt: HostRuntime) {
     is_set_often(&rt, rt.alloc(), disk, (TWO, 61, 4));
 }
 
-// A batch that drops the key 0, and gives this value to the key 200.
+// Returns a batch that drops the key 0, and assigns this value to the key 200.
 fn moved<A: Allocator + Copy>(rt: &impl Abort, alloc: A, value: u8) -> Batch<A> {
     let mut batch = edits(rt, alloc, "00");
     assign(rt, alloc, &mut batch, (200, value));
     batch
 }
 
-// The key 0 gets a value, gives its place to the key 200, and that is dropped. The key 1 stays.
+// Assigns a value to the key 0, replaces the key by the key 200, and drops that. The key 1 is unchanged.
 fn passed_on<D: Disk + Drop, A: Allocator + Copy>(
     rt: &impl Abort,
     alloc: A,
@@ -121,7 +121,7 @@ fn passed_on<D: Disk + Drop, A: Allocator + Copy>(
     store
 }
 
-// Sixty such turns on an empty image of limit 4 that two items fill.
+// Repeats this sixty times on an empty image of limit 4 that two items fill.
 fn is_passed_on_often<D: Disk + Drop, A: Allocator + Copy>(rt: &impl Abort, alloc: A, disk: D) {
     let mut store = store_with(rt, alloc, disk, "00 = 63; 01 = 63");
     for value in 0..60u8 {
@@ -130,7 +130,8 @@ fn is_passed_on_often<D: Disk + Drop, A: Allocator + Copy>(rt: &impl Abort, allo
     ends_with(rt, &store, 182, 2);
 }
 
-// One item of a full image is changed again and again, and the other stays; then it gives its place to a third.
+// One item of a full image is changed again and again, and the other is unchanged; then the first is replaced by a
+// third.
 #[test]
 fn sixty_commits_beside_what_stays(rt: HostRuntime) {
     is_passed_on_often(&rt, rt.alloc(), empty(&rt, rt.alloc()));
@@ -139,7 +140,7 @@ fn sixty_commits_beside_what_stays(rt: HostRuntime) {
 // A fresh image of limit 4 whose root has the last number but one.
 const NEARLY_WORN: &str = "0: a5 'PSU 00 02 00 04 ff*7 fe";
 
-// A commit of no edit was not begun as the number is the last: the store that it hands back.
+// Returns the store after a commit of an empty batch that was not begun because the number is the last.
 fn unstarted<D: Disk + Drop, A: Allocator + Copy>(
     rt: &impl Abort,
     ended: Commit<D, A>,
@@ -153,7 +154,8 @@ fn unstarted<D: Disk + Drop, A: Allocator + Copy>(
     }
 }
 
-// The root of the last number, which the one before it writes, takes no commit, and its map is left.
+// Checks that the root with the last number, which the commit on the one before it writes, accepts no commit, and that
+// its map is unchanged.
 fn is_worn<D: Disk + Drop, A: Allocator + Copy>(rt: &impl Abort, alloc: A, disk: D) {
     let store = opened(rt, alloc, changed(rt, alloc, disk, "01 = 24"));
     holds(rt, store.number() == u64::MAX, &"the last number");
@@ -161,7 +163,7 @@ fn is_worn<D: Disk + Drop, A: Allocator + Copy>(rt: &impl Abort, alloc: A, disk:
     has_map(rt, alloc, &unstarted(rt, ended), "01 = 24");
 }
 
-// The root of the last number takes no commit, and the one before takes one.
+// The root with the last number accepts no commit, and the one before it accepts one.
 #[test]
 fn the_last_number_is_worn(rt: HostRuntime) {
     is_worn(

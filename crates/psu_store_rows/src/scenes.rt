@@ -1,4 +1,4 @@
-// Commits in which power is lost: the image before one, its batch, and the maps on both sides of it.
+// Commits during which power is lost: the image before one, its batch, and the maps before and after it.
 use crate::edits::{edits, is_map};
 use crate::spelled::bytes_of;
 use psu_disk::Disk;
@@ -6,7 +6,7 @@ use psu_items::{Batch, Items, Store};
 use std::alloc::Allocator;
 use std::process::Abort;
 
-/// Of an image before a commit: what its store says, and how many calls of the disk are made.
+/// The properties of an image before a commit: those of its store, and the number of disk calls.
 #[derive(Clone, Copy, Drop)]
 pub struct Counts {
     /// The limit of the image.
@@ -26,9 +26,9 @@ pub struct Counts {
 pub struct Scene<A: Allocator + Copy> {
     /// The bytes of the image.
     pub image: Vec<u8, A>,
-    /// What the commit is to change.
+    /// The changes of the commit.
     pub batch: Batch<A>,
-    /// What its store says, and how many calls are made.
+    /// The properties of its store, and the numbers of calls.
     pub counts: Counts,
     // The maps before it and after it, as the batches that assign their items.
     before: Batch<A>,
@@ -36,7 +36,7 @@ pub struct Scene<A: Allocator + Copy> {
 }
 
 impl<A: Allocator + Copy> Scene<A> {
-    /// The commit of a batch on a disk. The texts are the batch, the map before it, and the map after it.
+    /// Returns the commit of a batch on a disk. The texts are the batch, the map before it, and the map after it.
     pub fn of<D: Disk + Drop>(
         rt: &impl Abort,
         alloc: A,
@@ -53,13 +53,13 @@ impl<A: Allocator + Copy> Scene<A> {
         }
     }
 
-    /// Whether a map is the one after the commit; it is that or the one before. None where it is neither.
+    /// Whether a map is the one after the commit, rather than the one before. `None` where it is neither.
     pub fn is_target(&self, items: &Items<A>) -> Option<bool> {
         let is_after = is_map(items, &self.after);
         (is_map(items, &self.before) != is_after).then_some(is_after)
     }
 
-    // Whether a store of either map has the version and the number that are the map's.
+    // Whether a store of either map has the map's version and number.
     fn is_numbered<D: Disk>(&self, store: &Store<D, A>, is_target: bool) -> bool {
         let counts = self.counts;
         let version = if is_target { 2 } else { counts.version };
@@ -67,13 +67,13 @@ impl<A: Allocator + Copy> Scene<A> {
         store.limit() == counts.limit && store.version() == version && store.number() == number
     }
 
-    /// Whether a store has the target; it has that or the map before. None where it has neither.
+    /// Whether a store has the target, rather than the map before. `None` where it has neither.
     pub fn has_target<D: Disk>(&self, store: &Store<D, A>) -> Option<bool> {
         let is_target = self.is_target(store.items())?;
         self.is_numbered(store, is_target).then_some(is_target)
     }
 
-    /// Whether an opening of a disk finds the target; it finds that or the map before. None where it finds neither.
+    /// Whether an opening of a disk finds the target, rather than the map before. `None` where it finds neither.
     pub fn finds_target<D: Disk + Drop>(&self, alloc: A, disk: D) -> Option<bool> {
         match Store::open(alloc, disk) {
             Ok(store) => self.has_target(&store),

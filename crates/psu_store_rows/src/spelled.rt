@@ -12,46 +12,46 @@ pub fn write<D: Disk>(rt: &impl Abort, disk: &mut D, at: u64, bytes: &[u8]) {
     disk.write(at, bytes).expect(rt, "a write");
 }
 
-/// Puts bytes on a disk, and makes sure of them.
+/// Writes bytes to a disk, and syncs them.
 pub fn put<D: Disk>(rt: &impl Abort, disk: &mut D, at: u64, bytes: &[u8]) {
     write(rt, disk, at, bytes);
     disk.sync().expect(rt, "a sync");
 }
 
-/// Puts a word of two bytes on a disk.
+/// Writes a word of two bytes to a disk, and syncs it.
 pub fn put_word<D: Disk>(rt: &impl Abort, disk: &mut D, at: u64, word: u16) {
     put(rt, disk, at, &word.to_be_bytes());
 }
 
-/// The number that a text has.
+/// Returns the number that a text has.
 pub fn number(rt: &impl Abort, text: &str) -> u64 {
     text.parse().ok().expect(rt, "a number")
 }
 
-/// The two parts of a text with these letters between them.
+/// Returns the two parts of a text with these letters between them.
 pub fn halves<'t>(rt: &impl Abort, text: &'t str, between: &str) -> (&'t str, &'t str) {
     text.split_once(between).expect(rt, "two parts")
 }
 
-// Puts a part on a disk: its place, and then the bytes.
+// Writes a part to a disk: its place, and then the bytes.
 fn put_part<D: Disk, A: Allocator>(rt: &impl Abort, alloc: A, disk: &mut D, part: &str) {
     let (at, cell) = halves(rt, part.trim(), ": ");
     put(rt, disk, number(rt, at), &bytes_in(rt, alloc, cell));
 }
 
-/// Puts parts on a disk, each with its place: `512: a5 'PSU; 527: 01`.
+/// Writes parts to a disk, each with its place: `512: a5 'PSU; 527: 01`.
 pub fn put_all<D: Disk, A: Allocator + Copy>(rt: &impl Abort, alloc: A, disk: &mut D, parts: &str) {
     for part in parts.split(";") {
         put_part(rt, alloc, disk, part);
     }
 }
 
-/// A disk of so many bytes 00.
+/// Returns a disk of this many bytes 00.
 pub fn zeros<A: Allocator + Copy>(rt: &impl Abort, alloc: A, size: u64) -> MemDisk<A> {
     MemDisk::new(alloc, size).expect(rt, "memory for a disk")
 }
 
-/// A disk of so many bytes 00 but for these parts.
+/// Returns a disk of this many bytes 00 except for these parts.
 pub fn spelled<A: Allocator + Copy>(
     rt: &impl Abort,
     alloc: A,
@@ -61,7 +61,7 @@ pub fn spelled<A: Allocator + Copy>(
     with_parts(rt, alloc, zeros(rt, alloc, size), parts)
 }
 
-/// A disk with these parts put over what it has.
+/// Returns a disk with these parts written over its bytes.
 pub fn with_parts<D: Disk, A: Allocator + Copy>(
     rt: &impl Abort,
     alloc: A,
@@ -72,7 +72,7 @@ pub fn with_parts<D: Disk, A: Allocator + Copy>(
     disk
 }
 
-/// All bytes of a disk.
+/// Returns all bytes of a disk.
 pub fn bytes_of<D: Disk + Drop, A: Allocator + Copy>(
     rt: &impl Abort,
     alloc: A,
@@ -93,14 +93,14 @@ pub fn are_alike<D: Disk + Drop, E: Disk + Drop, A: Allocator + Copy>(
     bytes_of(rt, alloc, one) == bytes_of(rt, alloc, other)
 }
 
-/// A disk in memory with these bytes.
+/// Returns a disk in memory with these bytes.
 pub fn remade<A: Allocator + Copy>(rt: &impl Abort, alloc: A, bytes: &[u8]) -> MemDisk<A> {
     let mut disk = zeros(rt, alloc, bytes.len() as u64);
     put(rt, &mut disk, 0, bytes);
     disk
 }
 
-/// The word of two bytes at a place of a disk.
+/// Returns the word of two bytes at a place of a disk.
 pub fn word_at<D: Disk>(rt: &impl Abort, disk: &mut D, at: u64) -> u16 {
     let mut word = [0; 2];
     let size = disk.size();

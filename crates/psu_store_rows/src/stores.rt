@@ -41,7 +41,7 @@ fn takes<D: Disk, A: Allocator + Copy>(alloc: A, store: &Store<D, A>, batch: &Ba
     }
 }
 
-/// What a commit gives, where the image can hold the map after the batch.
+/// Returns the result of a commit, where the image can hold the map after the batch.
 pub fn commit<D: Disk + Drop, A: Allocator + Copy>(
     rt: &impl Abort,
     alloc: A,
@@ -52,7 +52,7 @@ pub fn commit<D: Disk + Drop, A: Allocator + Copy>(
     store.commit(alloc, batch)
 }
 
-/// The store after a commit that nothing hindered.
+/// Returns the store after a commit that succeeded.
 pub fn stored_by<D: Disk + Drop, A: Allocator + Copy>(
     rt: &impl Abort,
     ended: Commit<D, A>,
@@ -63,7 +63,7 @@ pub fn stored_by<D: Disk + Drop, A: Allocator + Copy>(
     }
 }
 
-/// The store after a commit that nothing hinders.
+/// Returns the store after a commit, which has to succeed.
 pub fn stored<D: Disk + Drop, A: Allocator + Copy>(
     rt: &impl Abort,
     alloc: A,
@@ -73,7 +73,7 @@ pub fn stored<D: Disk + Drop, A: Allocator + Copy>(
     stored_by(rt, commit(rt, alloc, store, batch))
 }
 
-/// The store that an opening gives.
+/// Returns the store of a disk that is opened.
 pub fn opened<D: Disk + Drop, A: Allocator + Copy>(
     rt: &impl Abort,
     alloc: A,
@@ -82,7 +82,7 @@ pub fn opened<D: Disk + Drop, A: Allocator + Copy>(
     Store::open(alloc, disk).ok().expect(rt, "a map on a disk")
 }
 
-/// What a commit gives on a disk that is opened for it.
+/// Returns the result of a commit on a disk that is opened for it.
 pub fn committed<D: Disk + Drop, A: Allocator + Copy>(
     rt: &impl Abort,
     alloc: A,
@@ -93,7 +93,7 @@ pub fn committed<D: Disk + Drop, A: Allocator + Copy>(
     commit(rt, alloc, store, copied(rt, alloc, batch))
 }
 
-/// The disk that a commit hands on.
+/// Returns the disk after a commit.
 pub fn disk_of<D: Disk, A: Allocator + Copy>(commit: Commit<D, A>) -> D {
     match commit {
         Commit::Stored(store) => store.into_disk(),
@@ -102,7 +102,7 @@ pub fn disk_of<D: Disk, A: Allocator + Copy>(commit: Commit<D, A>) -> D {
     }
 }
 
-/// The store that broke in a commit.
+/// Returns the store that broke in a commit.
 pub fn broken_by<D: Disk + Drop, A: Allocator + Copy>(
     rt: &impl Abort,
     ended: Commit<D, A>,
@@ -113,12 +113,12 @@ pub fn broken_by<D: Disk + Drop, A: Allocator + Copy>(
     }
 }
 
-/// How often a call of the disk of a store failed.
+/// Returns the number of failed calls of a store's disk.
 pub fn faults_of<D: Disk + Drop, A: Allocator + Copy>(store: Store<D, A>) -> u64 {
     store.into_disk().faults()
 }
 
-/// A store has just the items that a text assigns in the order of their keys.
+/// Checks that a store has exactly the items that a text assigns in the order of their keys.
 pub fn has_map<D: Disk, A: Allocator + Copy>(
     rt: &impl Abort,
     alloc: A,
@@ -128,7 +128,7 @@ pub fn has_map<D: Disk, A: Allocator + Copy>(
     holds(rt, is_just(rt, alloc, store.items(), want), &want);
 }
 
-// Edits of which the later of a key counts, and one that removes.
+// Edits of which the later one of a key is effective, and one that removes.
 const FIVE_EDITS: &str = "01 = 0a; 02 = 14; 03 = 1e; 02; 03 = 1f";
 
 // Whether a batch has each of the five edits, and the fourth is the one that removes.
@@ -137,7 +137,7 @@ fn are_the_five<A: Allocator + Copy>(batch: &Batch<A>) -> bool {
     edits.len() == 5 && edits[3].key() == [2].as_slice() && edits[3].value().is_none()
 }
 
-// A store on an empty disk has the map of the five edits after a commit of them.
+// Checks that a store on an empty disk has the map of the five edits after a commit of them.
 fn keeps_the_later<D: Disk + Drop, A: Allocator + Copy>(rt: &impl Abort, alloc: A, disk: D) {
     let store = store_with(rt, alloc, disk, FIVE_EDITS);
     has_map(rt, alloc, &store, "01 = 0a; 03 = 1f");
@@ -149,21 +149,21 @@ fn the_later_edit_of_a_key_counts(rt: HostRuntime) {
     keeps_the_later(&rt, rt.alloc(), empty(&rt, rt.alloc()));
 }
 
-// A store has the number and the map of a first commit.
+// Checks that a store has the number and the map of a first commit.
 fn is_first<D: Disk, A: Allocator + Copy>(rt: &impl Abort, alloc: A, store: &Store<D, A>) {
     holds(rt, store.number() == 2, &"the number");
     holds(rt, store.version() == 2, &"the version");
     has_map(rt, alloc, store, "01 = 24");
 }
 
-// A first commit stands on a disk of 5,120 bytes, none of whose calls fails.
+// Checks that a first commit is stored on a disk of 5,120 bytes, none of whose calls fails.
 fn is_stored_on<D: Disk + Drop, A: Allocator + Copy>(rt: &impl Abort, alloc: A, disk: D) {
     let store = store_with(rt, alloc, formatted_over(rt, alloc, disk, 4), "01 = 24");
     is_first(rt, alloc, &store);
     holds(rt, faults_of(store) == 0, &"a failed call");
 }
 
-// A disk that reports its moments, on which the clauses on moments are no empty promise.
+// A disk that reports its moments, for which the clauses on moments are not vacuous.
 #[test]
 fn a_disk_that_reports_its_moments_is_stored_on(rt: HostRuntime) {
     let disk = TellingDisk::new(rt.alloc(), 5_120).expect(&rt, "a disk");

@@ -1,4 +1,4 @@
-// A store on a file that breaks, and in whose file another map lies when it is opened again.
+// A store on a file that breaks, and whose file contains another map when it is reopened.
 use crate::edits::edits;
 use crate::files::{new_disk, remove, set_length};
 use crate::holds::holds;
@@ -14,7 +14,7 @@ use std::rt::Files;
 
 const NAME: &str = "a_strange_disk_for_a_test.image";
 
-// What a commit of the value 36 gives while the file is cut short.
+// Returns the result of a commit of the value 36 while the file is cut short.
 fn cut<D: Disk + Drop, A: Allocator + Copy>(
     rt: &(impl Abort + Files<File = File>),
     alloc: A,
@@ -27,17 +27,17 @@ fn cut<D: Disk + Drop, A: Allocator + Copy>(
     ended
 }
 
-// Puts bytes in the file.
+// Writes bytes to the file.
 fn put(rt: &(impl Abort + Files<File = File>), bytes: &[u8]) {
     std::fs::write(rt, NAME, bytes).expect(rt, "a file");
 }
 
-// An image whose map a text has.
+// Returns an image with the map of a text.
 fn image<A: Allocator + Copy>(rt: &impl Abort, alloc: A, map: &str) -> Vec<u8, A> {
     bytes_of(rt, alloc, changed(rt, alloc, empty(rt, alloc), map))
 }
 
-// A store that stays broken where it is opened again, as what is put in its file is strange.
+// Returns a store that stays broken when it is reopened, as the new bytes of its file are strange.
 fn strange<D: Disk + Drop, A: Allocator + Copy>(
     rt: &(impl Abort + Files<File = File>),
     alloc: A,
@@ -54,7 +54,7 @@ fn strange<D: Disk + Drop, A: Allocator + Copy>(
     broken
 }
 
-// A store to which zeros and another map in its file are strange.
+// Checks that zeros and another map in its file are strange to a store.
 fn stays_broken<D: Disk + Drop, A: Allocator + Copy>(
     rt: &(impl Abort + Files<File = File>),
     alloc: A,
@@ -64,7 +64,7 @@ fn stays_broken<D: Disk + Drop, A: Allocator + Copy>(
     strange(rt, alloc, broken, &image(rt, alloc, "01 = 25"))
 }
 
-// A store finds its target in the file.
+// Checks that a store finds its target in the file.
 fn is_found<D: Disk + Drop, A: Allocator + Copy>(
     rt: &(impl Abort + Files<File = File>),
     alloc: A,
@@ -75,7 +75,8 @@ fn is_found<D: Disk + Drop, A: Allocator + Copy>(
     has_map(rt, alloc, &store, "01 = 24");
 }
 
-// A store on a disk in the file breaks for its device, and finds its target after zeros and another map.
+// Checks that a store on a disk in the file breaks because of its device, and finds its target after zeros and another
+// map.
 fn is_found_in<D: Disk + Drop, A: Allocator + Copy>(
     rt: &(impl Abort + Files<File = File>),
     alloc: A,
@@ -86,7 +87,7 @@ fn is_found_in<D: Disk + Drop, A: Allocator + Copy>(
     is_found(rt, alloc, stays_broken(rt, alloc, broken));
 }
 
-// Neither zeros nor another map are the map before the commit or the one after it; the one after it is.
+// Neither zeros nor another map are the map before the commit or the one after it; the last map is the one after it.
 #[test]
 fn a_strange_file_is_reported_as_strange(rt: HostRuntime) {
     is_found_in(&rt, rt.alloc(), new_disk(&rt, rt.alloc(), NAME, 5_120));

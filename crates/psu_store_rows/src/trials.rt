@@ -1,4 +1,4 @@
-// The rows of tables, each of what is given to a trial, and what is wanted of it.
+// The rows of tables, each with the input of a trial, and the wanted result.
 use crate::bad_heads::{GREAT, ONE_HEAD, is_filled};
 use crate::bad_roots::is_sized;
 use crate::holds::holds;
@@ -10,14 +10,14 @@ use psu_tables::row;
 use std::alloc::Allocator;
 use std::process::Abort;
 
-/// What is done with each row of a table.
+/// The trial of each row of a table.
 #[derive(Clone, Copy, Drop)]
 pub enum Trial {
-    /// Parts are put over an image, which is opened: one with two items.
+    /// Parts are written over an image with two items, which is opened.
     Two,
-    /// One of limit 100.
+    /// Parts are written over an image of limit 100, which is opened.
     Great,
-    /// One of version 1.
+    /// Parts are written over an image of version 1, which is opened.
     Old,
     /// A disk of a size is opened.
     Sized,
@@ -50,7 +50,7 @@ fn is_so<A: Allocator + Copy>(
     }
 }
 
-/// Each row of a table holds. The table has one at least.
+/// Checks that each row of the table holds, and that it has at least one.
 pub fn rows_hold<A: Allocator + Copy>(rt: &impl Abort, alloc: A, trial: Trial, table: &str) {
     let mut rows = 0u32;
     for line in table.lines() {

@@ -1,7 +1,7 @@
-// What the cells of a table stand for.
+// The values of the cells of a table.
 use std::alloc::Allocator;
 
-// Adds what a word stands for; none where it is no word, or memory is wanted.
+// Appends the bytes of a word; `None` where it is not a word, or memory is refused.
 fn add_word<A: Allocator>(bytes: &mut Vec<u8, A>, word: &str) -> Option<()> {
     if let Some(text) = word.strip_prefix("'") {
         return bytes.extend_from_slice(text.as_bytes()).ok();
@@ -14,8 +14,9 @@ fn add_word<A: Allocator>(bytes: &mut Vec<u8, A>, word: &str) -> Option<()> {
     Some(())
 }
 
-/// The bytes of a cell, word by word: a byte by its two hexadecimal digits (`a5`), such a byte so many times (`00*27`), or those of a text
-/// behind an apostrophe (`'PSU`). None where a word is none of them, or memory is wanted.
+/// Returns the bytes of a cell, word by word: a byte by its two hexadecimal digits (`a5`), such a byte repeated
+/// (`00*27`), or those of a text after an apostrophe (`'PSU`). `None` where a word is none of these, or memory is
+/// refused.
 pub fn bytes<A: Allocator>(alloc: A, cell: &str) -> Option<Vec<u8, A>> {
     let mut bytes = Vec::new(alloc);
     for word in cell.split_whitespace() {
@@ -24,7 +25,7 @@ pub fn bytes<A: Allocator>(alloc: A, cell: &str) -> Option<Vec<u8, A>> {
     Some(bytes)
 }
 
-/// A text with NL for each `\n` that is written in it; none where memory is wanted.
+/// Returns a text with NL for each `\n` that is written in it; `None` where memory is refused.
 pub fn written<A: Allocator>(alloc: A, cell: &str) -> Option<String<A>> {
     let mut text = String::new(alloc);
     for (at, line) in cell.split("\\n").enumerate() {

@@ -1,5 +1,5 @@
-//! Tables of worked rows as texts, a row a line, for the crates of tests. A text costs a proof far less than an array of rows, and reads
-//! better.
+//! Tables of worked rows as texts, a row a line, for the crates of tests. A text costs a proof far less than an array
+//! of rows, and reads better.
 #![tactic(auto)]
 
 mod cells;

@@ -1,4 +1,4 @@
-// A command, its answer, and the sizes of answers.
+// A command, its response, and the sizes of responses.
 use crate::conversations::goes_as_told;
 
 const A_COMMAND: &str = "
@@ -15,8 +15,9 @@ fn a_command_and_a_status_query(rt: HostRuntime) {
     goes_as_told(&rt, rt.alloc(), A_COMMAND);
 }
 
-// Each greatest message of a client is answered by the server's own, 65,536 bytes, and bounds the frames of its answers: each but the last
-// is Data, as long as may be, and the last a DataEnd. The MessageID tells the sizes apart; the last session is told none.
+// Each maximum message size of a client is answered by the server's own, 65,536 bytes, and bounds the frames of its
+// responses: each but the last is Data, of the maximum length, and the last a DataEnd. The MessageID distinguishes the
+// sizes; the last session reports none.
 const SIZES: &str = "
 async 'HS 11 00*4 01 -> async 'HS 12
 async 'HS 0f 00*12 08 00*8 -> async 'HS 10 00*12 08 00*5 01 00*2

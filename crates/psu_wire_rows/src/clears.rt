@@ -1,7 +1,8 @@
-// Device clears, answers in parts, a feed that is refused memory, and the answers to what is asked of the locks.
+// Device clears, responses in parts, a feed that is refused memory, and the responses to lock messages.
 //
-// In the conversations `06 .. 'A` is Data with the byte `A`, and `07 .. 'B` DataEnd with `B`, both with MessageID 2; `13` is
-// AsyncDeviceClear, answered by its acknowledgement `17` alone, and `08` DeviceClearComplete, answered by `09` alone.
+// In the conversations `06 .. 'A` is Data with the byte `A`, and `07 .. 'B` DataEnd with `B`, both with MessageID 2;
+// `13` is AsyncDeviceClear, answered only by its acknowledgement `17`, and `08` DeviceClearComplete, answered only by
+// `09`.
 use crate::conversations::goes_as_told;
 use crate::frames::{bare, feed_again, is_frame, leave};
 use crate::told::holds;
@@ -80,7 +81,8 @@ fn a_fatal_error_in_a_clear(rt: HostRuntime) {
     goes_as_told(&rt, rt.alloc(), FATAL_ERRORS_IN_A_CLEAR);
 }
 
-// A completion is answered, and the clear behind it waits for none, unless Data, DataEnd or a trigger came between.
+// A DeviceClearComplete is answered, and the clear after it waits for none, unless Data, DataEnd or a trigger came
+// between.
 const COMPLETIONS: &str = "
 async 'HS 11 00*4 01 -> async 'HS 12
 sync 'HS 06 00*4 02 00*7 01 'A -> nothing
@@ -113,7 +115,7 @@ fn a_completion_that_no_clear_waits_for(rt: HostRuntime) {
     goes_as_told(&rt, rt.alloc(), COMPLETIONS);
 }
 
-// The client takes frames of 20 bytes, 4 of them payload.
+// The client accepts frames of 20 bytes, 4 of them payload.
 const PARTS: &str = "
 async 'HS 11 00*4 01 -> async 'HS 12
 async 'HS 0f 00*12 08 00*7 14 -> async 'HS 10 00*12 08 00*5 01 00*2
@@ -129,7 +131,7 @@ fn an_answer_in_parts(rt: HostRuntime) {
     goes_as_told(&rt, rt.alloc(), PARTS);
 }
 
-// Whether this is the answer to a lock that is asked for.
+// Whether this is the response to a lock request.
 fn is_told(asked: Result<Grant, LockRefusal>, control: u8) -> bool {
     match lock_response(asked) {
         Some(header) => header.bytes() == bare(5, control),
@@ -137,12 +139,12 @@ fn is_told(asked: Result<Grant, LockRefusal>, control: u8) -> bool {
     }
 }
 
-// The same of a lock that is given up.
+// Whether this is the response to a release.
 fn is_told_free(released: Result<Freed, LockRefusal>, control: u8) -> bool {
     release_response(released).bytes() == bare(5, control)
 }
 
-// The same of a question who holds locks.
+// Whether this is the response to a query of the locks.
 fn is_told_info(exclusive: bool, holders: u8, control: u8) -> bool {
     let mut wanted = bare(25, control);
     wanted[7] = holders;
@@ -177,7 +179,7 @@ fn are_both(messages: &[Message<&Bump>]) -> bool {
     messages.len() == 2 && is_frame(messages.first(), 6, b"A") && is_frame(messages.last(), 7, b"B")
 }
 
-// The frames, of which the first has begun, fed with so many bytes of an arena; true where it was refused.
+// Whether the frames, of which the first has begun, are refused when fed with this many bytes of an arena.
 fn rest_is_refused(arena: &Bump, begun: &[u8], rest: &[u8], left: usize) -> Option<bool> {
     let mut channel = Channel::new(arena);
     if !channel.feed(begun).ok()?.is_empty() {
@@ -196,7 +198,7 @@ fn feed_is_refused(alloc: Global, begun: usize, left: usize) -> Option<bool> {
     rest_is_refused(&arena, &FRAMES[..begun], &FRAMES[begun..], left)
 }
 
-// Whether a feed is right with any memory, refused with some and not with all.
+// Whether a feed has the right result with any memory, is refused with some and succeeds with enough.
 fn is_fed_again(alloc: Global, begun: usize) -> bool {
     let mut refused = false;
     let mut whole = false;

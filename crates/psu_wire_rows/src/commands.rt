@@ -1,10 +1,10 @@
-// What units of the command tree ask for: files, what is kept, and the calls of macros.
+// The commands of units in the command tree: files, nonvolatile commands, and macro calls.
 use crate::told::holds;
 use crate::tree::{read, unit_of};
 use psu_tables::row;
 use psu_tree::{Command, Path, nonvolatile, request};
 
-// Whether a unit, which changes what is nonvolatile, puts this file; one of no name where none is wanted.
+// Whether a unit, which changes nonvolatile state, stores this file; one without a name where none is wanted.
 fn puts(text: &[u8], wanted: Option<&[u8]>, contents: &[u8]) -> bool {
     match read(text) {
         Ok(command) => nonvolatile(&command, true) && is_file(&command, wanted, contents),
@@ -27,7 +27,7 @@ fn files(rt: HostRuntime) {
     assert!(rt; puts(b"MMEM:DATA 'a''b',#10", None, b""));
 }
 
-// Whether a unit changes what is nonvolatile, where the power-on status clear flag is this.
+// Whether a unit changes nonvolatile state, where the power-on status clear flag is this.
 fn changes(text: &[u8], flag: bool) -> bool {
     match read(text) {
         Ok(command) => nonvolatile(&command, flag),
@@ -40,7 +40,7 @@ fn enables_that_are_kept(rt: HostRuntime) {
     assert!(rt; changes(b"*SRE 1", false) && !changes(b"*SRE 1", true));
 }
 
-// Units, and whether each is the call of a macro where there is one of its label.
+// Units, and whether each is a macro call where a macro with its label is defined.
 const CALLS: &str = r#"
 SETA 3, "x" -> yes
 VOLT 1E32001 -> yes
@@ -53,7 +53,7 @@ A:B -> no
 SETA 1, -> no
 "#;
 
-// Whether a unit is one inside of a macro's call, and a call where it is wanted.
+// Whether a unit is read inside of a macro call, and is a call itself where it is wanted.
 fn calls(text: &[u8], wanted: bool) -> bool {
     let asked = request(&mut Path::root(), &unit_of(text), true);
     asked.inside && asked.call.is_some() == wanted

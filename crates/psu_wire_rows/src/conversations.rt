@@ -1,18 +1,20 @@
-// Conversations of a session, as tables: a row a line, a step of the session and what it comes to; a blank line begins a new session.
+// Conversations of a session, as tables: one row a line, a step of the session and its result; a blank line begins a
+// new session.
 //
-// A message is a step, as `sync` or `async` and its bytes, filled up with zeros to the 16 of a header. It comes to what it asks for, in
-// order, or to `nothing`. A command's place in the session is its MessageID and the clears before it, as in `2/0`; an `answer` to it or
-// a `part` of one comes to frames, or to `none`; `current`, `joined` and `failed` ask the session, and come to `yes` or `no`.
+// A message is a step, given as `sync` or `async` and its bytes, padded with zeros to the 16 of a header. Its result is
+// what it requests, in order, or `nothing`. A command's place in the session is its MessageID and the clears before it,
+// as in `2/0`; the result of an `answer` to it or a `part` of one is frames, or `none`; `current`, `joined` and
+// `failed` query the session, with the result `yes` or `no`.
 use crate::told::holds;
 use psu_hislip::{Action, Channel, Origin, SessionCore, Side};
 use psu_tables::{bytes, row};
 use std::alloc::Global;
 use std::process::Abort;
 
-// What a message asks for.
+// The actions that a message requests.
 type Asked = Vec<Action<Global>>;
 
-/// The bytes of a message, filled up with zeros to the 16 of a header.
+/// Returns the bytes of a message, padded with zeros to the 16 of a header.
 pub fn message(alloc: Global, cell: &str) -> Option<Vec<u8>> {
     let mut message = bytes(alloc, cell)?;
     for _ in message.len()..16 {
@@ -29,7 +31,7 @@ pub fn are_bytes(alloc: Global, given: &[u8], cell: &str) -> bool {
     }
 }
 
-// The same of a message.
+// Whether these are the bytes of a cell's message.
 fn is_message(alloc: Global, given: &[u8], cell: &str) -> bool {
     match message(alloc, cell) {
         Some(wanted) => wanted.as_slice() == given,
@@ -37,7 +39,7 @@ fn is_message(alloc: Global, given: &[u8], cell: &str) -> bool {
     }
 }
 
-/// The two cells of a text with a space between them; the second is empty where there is none.
+/// Returns the two cells of a text with a space between them; the second is empty where there is none.
 pub fn halves(cell: &str) -> (&str, &str) {
     match cell.split_once(" ") {
         Some(halves) => halves,
@@ -45,7 +47,7 @@ pub fn halves(cell: &str) -> (&str, &str) {
     }
 }
 
-// The place of a command in its session.
+// Reads the place of a command in its session.
 fn place(cell: &str) -> Option<Origin> {
     let (id, clears) = cell.split_once("/")?;
     Some(Origin {
@@ -54,19 +56,19 @@ fn place(cell: &str) -> Option<Origin> {
     })
 }
 
-// Whether the command of this place has this text.
+// Whether the command at this place has this text.
 fn is_command(alloc: Global, origin: Origin, text: &[u8], cell: &str) -> bool {
     let (at, text_cell) = halves(cell);
     place(at) == Some(origin) && are_bytes(alloc, text, text_cell)
 }
 
-// Whether a lock is the one of this string, to be waited for so long.
+// Whether a lock is the one with this string and this timeout.
 fn is_lock(alloc: Global, milliseconds: u32, string: &[u8], cell: &str) -> bool {
     let (wait, string_cell) = halves(cell);
     wait.parse() == Ok(milliseconds) && are_bytes(alloc, string, string_cell)
 }
 
-// How a thing asked for is called.
+// Returns the word for an action.
 fn called(action: &Action<Global>) -> &'static str {
     match action {
         Action::Send(Side::Sync, _) => "sync",
@@ -84,7 +86,7 @@ fn called(action: &Action<Global>) -> &'static str {
     }
 }
 
-// Whether what it is asked with is that of a cell.
+// Whether the parameters of an action are those of a cell.
 fn has(alloc: Global, action: &Action<Global>, cell: &str) -> bool {
     match action {
         Action::Send(_, bytes) => is_message(alloc, bytes, cell),
@@ -95,13 +97,13 @@ fn has(alloc: Global, action: &Action<Global>, cell: &str) -> bool {
     }
 }
 
-// Whether a thing asked for is the one of a cell.
+// Whether an action is the one of a cell.
 fn is_asked(alloc: Global, action: &Action<Global>, cell: &str) -> bool {
     let (word, rest) = halves(cell);
     word == called(action) && has(alloc, action, rest)
 }
 
-// Whether all that is asked for stands in a cell, in order, and nothing else.
+// Whether the actions are those of a cell, in order.
 fn are_asked(alloc: Global, asked: &[Action<Global>], cell: &str) -> bool {
     if cell == "nothing" {
         return asked.is_empty();
@@ -116,7 +118,7 @@ fn are_asked(alloc: Global, asked: &[Action<Global>], cell: &str) -> bool {
     cells.next().is_none()
 }
 
-// What a message asks for.
+// Returns the actions that a message requests.
 fn tell(alloc: Global, core: &mut SessionCore<Global>, side: Side, cell: &str) -> Option<Asked> {
     let mut channel = Channel::new(alloc);
     let messages = channel.feed(&message(alloc, cell)?).ok()?;
@@ -136,7 +138,7 @@ fn asks(
     }
 }
 
-// Whether frames, if there are any, are those of a cell.
+// Whether the frames, if there are any, are those of a cell.
 fn are_frames(alloc: Global, frames: Option<Vec<u8>>, cell: &str) -> bool {
     match frames {
         Some(frames) => are_bytes(alloc, &frames, cell),
@@ -144,7 +146,7 @@ fn are_frames(alloc: Global, frames: Option<Vec<u8>>, cell: &str) -> bool {
     }
 }
 
-// An answer to a command, whole or the last of its parts.
+// Whether the response to a command, whole or its last part, is the wanted one.
 fn answers(alloc: Global, core: &SessionCore<Global>, cell: &str, wanted: &str) -> Option<bool> {
     let (at, text) = halves(cell);
     let text = bytes(alloc, text)?;
@@ -152,7 +154,7 @@ fn answers(alloc: Global, core: &SessionCore<Global>, cell: &str, wanted: &str) 
     Some(are_frames(alloc, frames, wanted))
 }
 
-// A part of an answer, which goes on.
+// Whether a part of a response that continues is the wanted one.
 fn parts(alloc: Global, core: &SessionCore<Global>, cell: &str, wanted: &str) -> Option<bool> {
     let (at, text) = halves(cell);
     let text = bytes(alloc, text)?;
@@ -164,7 +166,7 @@ fn yes_or_no(is: bool) -> &'static str {
     if is { "yes" } else { "no" }
 }
 
-// What the session says of itself.
+// Returns the session's answer to a query.
 fn says(core: &SessionCore<Global>, word: &str, cell: &str) -> Option<&'static str> {
     match word {
         "current" => Some(yes_or_no(core.is_current(place(cell)?))),
@@ -174,7 +176,7 @@ fn says(core: &SessionCore<Global>, word: &str, cell: &str) -> Option<&'static s
     }
 }
 
-// Whether a step comes to what its row says.
+// Whether the result of a step is the one of its row.
 fn comes_to(alloc: Global, core: &mut SessionCore<Global>, step: &str, wanted: &str) -> bool {
     let (word, rest) = halves(step);
     match word {
@@ -186,13 +188,13 @@ fn comes_to(alloc: Global, core: &mut SessionCore<Global>, step: &str, wanted: &
     }
 }
 
-// Takes the step of a line; none where the line is no row.
+// Makes the step of a line, and returns whether its result is the row's; `None` where the line is not a row.
 fn step(alloc: Global, core: &mut SessionCore<Global>, line: &str) -> Option<bool> {
     let (step, wanted) = row(line)?;
     Some(comes_to(alloc, core, step, wanted))
 }
 
-/// Each step of some conversations comes to what its row says.
+/// Checks that the result of each step of some conversations is the one of its row.
 pub fn goes_as_told(rt: &impl Abort, alloc: Global, table: &str) {
     let mut core = SessionCore::new(alloc, 1);
     for line in table.lines() {

@@ -1,20 +1,20 @@
-// What the tests of frames share: messages by the bytes of the profile's table, and memory that is refused.
+// Helpers of the tests of frames: messages with the bytes of the profile's table, and memory that is refused.
 use bumpalo::Bump;
 use psu_hislip::{Channel, Message, Origin};
 
-/// A message without parameter and payload.
+/// Returns a message without parameter and payload.
 pub fn bare(kind: u8, control: u8) -> [u8; 16] {
     [
         0x48, 0x53, kind, control, 0, 0, 0, 0, 0, 0, 0, 0, 0, 0, 0, 0,
     ]
 }
 
-/// A message of this MessageID in a session that has had no device clear.
+/// Returns the origin of a message with this MessageID in a session that has had no device clear.
 pub fn origin(id: u32) -> Origin {
     Origin { id, clears: 0 }
 }
 
-/// Leaves so many bytes of an arena.
+/// Leaves this many bytes of an arena free.
 pub fn leave(arena: &Bump, left: usize) -> Option<()> {
     arena.set_allocation_limit(Some(arena.allocated_bytes()));
     let spare = arena.chunk_capacity();
@@ -28,7 +28,7 @@ pub fn leave(arena: &Bump, left: usize) -> Option<()> {
 /// The messages of a piece, with memory of an arena.
 pub type Fed<'a> = Vec<Message<&'a Bump>, &'a Bump>;
 
-/// Feeds a piece, once more with all memory where it is refused; what comes of it, and whether it was refused.
+/// Feeds a piece, and again with all memory where it is refused; returns the messages, and whether it was refused.
 pub fn feed_again<'a>(
     channel: &mut Channel<&'a Bump>,
     arena: &'a Bump,

@@ -8,7 +8,7 @@ use psu_tables::{bytes, row, written};
 use std::alloc::Global;
 use std::process::Abort;
 
-// How a unit lies in its message: whether it is the first, and its fault.
+// Returns the place of a unit in its message: whether it is the first, and its fault.
 fn placed(unit: &Unit<'_>) -> &'static str {
     match (unit.first, unit.fault) {
         (true, None) => "first",
@@ -26,7 +26,7 @@ fn is_unit(unit: &Unit<'_>, cell: &str) -> bool {
     }
 }
 
-// Whether units are those of a cell, and no others.
+// Whether the units are exactly those of a cell.
 fn are_units(units: &[Unit<'_>], cell: &str) -> bool {
     if cell == "none" {
         return units.is_empty();
@@ -48,14 +48,14 @@ fn are_cut(alloc: Global, text: &[u8], wanted: &str) -> bool {
     }
 }
 
-// The same where `\n` stands for NL.
+// Whether the units of a message are those of a cell, where `\n` means NL.
 fn is_cut(alloc: Global, text: &str, wanted: &str) -> Option<bool> {
     let text = written(alloc, text)?;
     let wanted = written(alloc, wanted)?;
     Some(are_cut(alloc, text.as_bytes(), &wanted))
 }
 
-// Whether a number reads as its row says, where so many places of it count.
+// Whether a number reads as its row says, with this many decimal places.
 fn is_number(text: &[u8], places: u8, wanted: &str) -> bool {
     match (number(text, places), wanted.strip_prefix("error ")) {
         (Ok(value), None) => wanted.parse() == Ok(value),
@@ -64,7 +64,7 @@ fn is_number(text: &[u8], places: u8, wanted: &str) -> bool {
     }
 }
 
-// Whether what was read is what a row says: these bytes in brackets, or nothing.
+// Whether the result of a reading is the one of a row: these bytes in brackets, or nothing.
 fn is_read(read: Result<Bytes<Global>, ScpiError>, error: ScpiError, wanted: &str) -> bool {
     match read {
         Ok(bytes) => inner(wanted) == Some(bytes.as_slice()),
@@ -72,7 +72,7 @@ fn is_read(read: Result<Bytes<Global>, ScpiError>, error: ScpiError, wanted: &st
     }
 }
 
-// The bytes of a text that stands in brackets.
+// Returns the bytes of a text that is in brackets.
 fn inner(cell: &str) -> Option<&[u8]> {
     Some(cell.strip_prefix("[")?.strip_suffix("]")?.as_bytes())
 }
@@ -88,7 +88,7 @@ fn block_is_read(alloc: Global, text: &str, wanted: &str) -> bool {
     }
 }
 
-// Adds the parameters of a cell, each in brackets.
+// Appends the parameters of a cell, each in brackets.
 fn add_parameters<'a>(args: &mut Vec<&'a [u8]>, cell: &'a str) -> bool {
     for parameter in cell.split("]") {
         match parameter.strip_prefix("[") {
@@ -99,7 +99,7 @@ fn add_parameters<'a>(args: &mut Vec<&'a [u8]>, cell: &'a str) -> bool {
     true
 }
 
-// Whether a body is expanded as a row says.
+// Whether the expansion of a body is the one of a row.
 fn expands(alloc: Global, body: &str, args: &[&[u8]], wanted: &str) -> bool {
     match expand(alloc, body.as_bytes(), args) {
         Ok(text) => text.as_slice() == wanted.as_bytes(),
@@ -120,7 +120,7 @@ fn is_answered(alloc: Global, value: i64, wanted: &str) -> bool {
     }
 }
 
-// Whether a text in brackets is what a row of this kind says.
+// Whether the result of a text in brackets is the one of a row of this kind.
 fn is_so(kind: &str, text: &[u8], wanted: &str) -> bool {
     match kind {
         "number" => is_number(text, 0, wanted),
@@ -130,7 +130,7 @@ fn is_so(kind: &str, text: &[u8], wanted: &str) -> bool {
     }
 }
 
-// The same of bytes.
+// Whether the result of bytes is the one of a row of this kind.
 fn are_so(kind: &str, bytes: &[u8], wanted: &str) -> bool {
     if kind == "digits" {
         return is_number(bytes, 0, wanted);
@@ -151,7 +151,7 @@ fn are_data(alloc: Global, kind: &str, cell: &str, wanted: &str) -> bool {
     }
 }
 
-// Whether a text comes to what a row of this kind says. The kinds are told where the rows are.
+// Whether the result of a text is the one of a row of this kind. The kinds are explained at the rows.
 fn comes_to(alloc: Global, kind: &str, cell: &str, wanted: &str) -> Option<bool> {
     match kind {
         "number" | "thousandths" | "label" | "name" => Some(is_so(kind, inner(cell)?, wanted)),
@@ -162,7 +162,8 @@ fn comes_to(alloc: Global, kind: &str, cell: &str, wanted: &str) -> Option<bool>
     }
 }
 
-// A row is a kind and a text, ` -> `, and what the text comes to; a line that begins with `# ` tells what the rows below it are for.
+// Whether a row holds. A row is a kind and a text, ` -> `, and the result of the text; a line that begins with `# `
+// says what the rows below it are for.
 fn holds_row(alloc: Global, line: &str) -> bool {
     match row(line) {
         Some((text, wanted)) => match text.split_once(" ") {
@@ -277,7 +278,7 @@ expand #12$1$1'$1 [x] -> #12$1x'$1
 expand $2 [x] -> none
 "#;
 
-// Whether eleven bytes are answered as a block.
+// Whether the response of eleven bytes is a block.
 fn is_definite(alloc: Global) -> bool {
     match definite(alloc, b"a;b\n0123456") {
         Ok(block) => block.as_slice() == b"#211a;b\n0123456".as_slice(),

@@ -3,12 +3,12 @@ use crate::tree::stands;
 use psu_tree::{Kind, Node, Row, Section, patterns};
 use std::alloc::Global;
 
-// A number that is hard to guess, from the one before.
+// Returns the next pseudorandom number after this one.
 fn next(seed: u32) -> u32 {
     seed.wrapping_mul(1_664_525).wrapping_add(1_013_904_223)
 }
 
-// Adds a mnemonic, `kept` letters of it, in letters of either case.
+// Appends a mnemonic, `kept` letters of it, in letters of either case.
 fn add_word(text: &mut Vec<u8>, name: &[u8], kept: usize, seed: u32) -> Option<()> {
     let mut dice = seed;
     for letter in name.iter().take(kept) {
@@ -22,7 +22,7 @@ fn add_word(text: &mut Vec<u8>, name: &[u8], kept: usize, seed: u32) -> Option<(
     Some(())
 }
 
-// How many letters its short form has.
+// Returns the number of letters of a name's short form.
 fn short_of(name: &[u8]) -> usize {
     name.iter()
         .take_while(|letter| !letter.is_ascii_lowercase())
@@ -33,7 +33,7 @@ fn may_miss(node: &Node) -> bool {
     matches!(node.kind, Kind::Maybe | Kind::MaybeNumbered)
 }
 
-// Adds a node, left out, short, long or cut by one letter, and answers whether it may stand so.
+// Appends a node, left out, short, long or cut by one letter, and returns whether this form is valid.
 fn add_node(text: &mut Vec<u8>, node: &Node, seed: u32) -> Option<bool> {
     let name = node.name.as_bytes();
     let choice = seed / 65_536 % 8;
@@ -52,7 +52,8 @@ fn add_node(text: &mut Vec<u8>, node: &Node, seed: u32) -> Option<bool> {
     Some(kept == name.len() || kept == short_of(name))
 }
 
-// Whether a header made from a row is defined where all of its nodes are short or long forms. Each node takes the next number.
+// Whether a header made from a row is defined exactly where all of its nodes are short or long forms. Each node takes
+// the next number.
 fn is_defined(alloc: Global, section: &Section, row: &Row, seed: &mut u32) -> Option<bool> {
     let mut text = Vec::new(alloc);
     *seed = next(*seed);

@@ -1,4 +1,4 @@
-// Each allocation of a feed, of a message and of an answer refused in turn: nothing has changed.
+// Each allocation of a feed, of a message and of a response is refused in turn: nothing has changed.
 use crate::frames::{feed_again, is_frame, leave, origin};
 use crate::told::holds;
 use bumpalo::Bump;
@@ -11,13 +11,13 @@ const JOIN: &[u8] = b"HS\x11\x00\x00\x00\x00\x01\x00\x00\x00\x00\x00\x00\x00\x00
 /// Data with the bytes `*ID`.
 const BEGIN: &[u8] = b"HS\x06\x00\x00\x00\x00\x02\x00\x00\x00\x00\x00\x00\x00\x03*ID";
 
-/// DataEnd with the bytes `N?` and NL; the client has read the last answer.
+/// DataEnd with the bytes `N?` and NL; the client has read the last response.
 const END: &[u8] = b"HS\x07\x01\x00\x00\x00\x02\x00\x00\x00\x00\x00\x00\x00\x03N?\n";
 
-/// The one frame of the answer `a` and NL.
+/// The one frame of the response `a` and NL.
 const ANSWER: &[u8] = b"HS\x07\x00\x00\x00\x00\x02\x00\x00\x00\x00\x00\x00\x00\x02a\n";
 
-// Whether a feed is refused with so many bytes of an arena; none where anything is wrong.
+// Whether a feed is refused with this many bytes of an arena; `None` where its result is wrong.
 fn feed_is_refused(arena: &Bump, left: usize) -> Option<bool> {
     leave(arena, left)?;
     let mut channel = Channel::new(arena);
@@ -25,10 +25,10 @@ fn feed_is_refused(arena: &Bump, left: usize) -> Option<bool> {
     is_frame(messages.first(), 7, b"N?\n").then_some(refused)
 }
 
-// What a message asks for, with memory of an arena.
+// The actions that a message requests, with memory of an arena.
 type Asked<'a> = Vec<Action<&'a Bump>, &'a Bump>;
 
-// The message of a stream of one, on a channel of the core; the inner result tells whether memory is refused.
+// Handles the one message of a stream on a channel of the core; the inner result is an error where memory is refused.
 fn on<'a>(
     core: &mut SessionCore<&'a Bump>,
     ample: &'a Bump,
@@ -39,12 +39,12 @@ fn on<'a>(
     Some(core.on(side, messages.first()?))
 }
 
-// Whether a message is taken.
+// Whether a message is accepted.
 fn takes<'a>(core: &mut SessionCore<&'a Bump>, ample: &'a Bump, side: Side, stream: &[u8]) -> bool {
     matches!(on(core, ample, side, stream), Some(Ok(_)))
 }
 
-// Whether the transmission that BEGIN began is executed whole.
+// Whether the transmission that BEGIN began is executed completely.
 fn is_whole(actions: &[Action<&Bump>]) -> bool {
     match (actions.first(), actions.last()) {
         (Some(Action::Delivered), Some(Action::Execute(origin, bytes))) => origin.id == 2
@@ -53,7 +53,7 @@ fn is_whole(actions: &[Action<&Bump>]) -> bool {
     }
 }
 
-// Whether it is once END comes, with all memory.
+// Whether that transmission is executed completely once END comes, with all memory.
 fn ends_whole<'a>(core: &mut SessionCore<&'a Bump>, ample: &'a Bump) -> bool {
     match on(core, ample, Side::Sync, END) {
         Some(Ok(asked)) => is_whole(&asked),
@@ -61,7 +61,7 @@ fn ends_whole<'a>(core: &mut SessionCore<&'a Bump>, ample: &'a Bump) -> bool {
     }
 }
 
-// The core of a session that is joined, with memory of its own.
+// Returns the core of a session that is joined, with memory of its own.
 fn joined<'a>(ample: &'a Bump, arena: &'a Bump) -> Option<SessionCore<&'a Bump>> {
     let mut core = SessionCore::new(arena, 1);
     if !takes(&mut core, ample, Side::Async, JOIN) {
@@ -70,7 +70,8 @@ fn joined<'a>(ample: &'a Bump, arena: &'a Bump) -> Option<SessionCore<&'a Bump>>
     Some(core)
 }
 
-// The same as of a feed, of the first of the two messages of a transmission.
+// Whether the first of the two messages of a transmission is refused with this many bytes; `None` where its result is
+// wrong.
 fn first_is_refused(ample: &Bump, arena: &Bump, left: usize) -> Option<bool> {
     let mut core = joined(ample, arena)?;
     leave(arena, left)?;
@@ -82,7 +83,7 @@ fn first_is_refused(ample: &Bump, arena: &Bump, left: usize) -> Option<bool> {
     ends_whole(&mut core, ample).then_some(refused)
 }
 
-// The same of the second: it is executed at once, or where it comes again.
+// Whether the second message is refused with this many bytes: it is executed at once, or when it comes again.
 fn second_is_refused(ample: &Bump, arena: &Bump, left: usize) -> Option<bool> {
     let mut core = joined(ample, arena)?;
     if !takes(&mut core, ample, Side::Sync, BEGIN) {
@@ -96,7 +97,7 @@ fn second_is_refused(ample: &Bump, arena: &Bump, left: usize) -> Option<bool> {
     ends_whole(&mut core, ample).then_some(true)
 }
 
-// Whether frames are those of the answer.
+// Whether the frames are those of the response.
 fn is_answer(frames: &Option<Vec<u8, &Bump>>) -> bool {
     match frames {
         Some(frames) => frames.as_slice() == ANSWER,
@@ -104,7 +105,7 @@ fn is_answer(frames: &Option<Vec<u8, &Bump>>) -> bool {
     }
 }
 
-// Whether a core is refused memory for its answer; none where that is another.
+// Whether a core is refused memory for its response; `None` where that is another one.
 fn refuses_answer<'a>(core: &SessionCore<&'a Bump>) -> Option<bool> {
     match core.answer(origin(2), b"a\n") {
         Ok(frames) => is_answer(&frames).then_some(false),
@@ -112,13 +113,13 @@ fn refuses_answer<'a>(core: &SessionCore<&'a Bump>) -> Option<bool> {
     }
 }
 
-// The same of an answer.
+// Whether a response is refused with this many bytes of an arena; `None` where it is another one.
 fn answer_is_refused(arena: &Bump, left: usize) -> Option<bool> {
     leave(arena, left)?;
     refuses_answer(&SessionCore::new(arena, 1))
 }
 
-// The same of the step of this name.
+// Whether the step with this name is refused with this many bytes; `None` where its result is wrong.
 fn is_refused(alloc: Global, step: &str, left: usize) -> Option<bool> {
     let ample = Bump::try_with_capacity(alloc, 4096).ok()?;
     let arena = Bump::try_with_capacity(alloc, 4096).ok()?;
@@ -130,7 +131,7 @@ fn is_refused(alloc: Global, step: &str, left: usize) -> Option<bool> {
     }
 }
 
-// Whether a step is right with any memory, refused with some and not with all.
+// Whether a step has the right result with any memory, is refused with some and succeeds with enough.
 fn is_done_again(alloc: Global, step: &str) -> bool {
     let mut refused = false;
     let mut whole = false;

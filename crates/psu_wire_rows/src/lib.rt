@@ -1,5 +1,5 @@
-//! Tests of what stands by itself between the wire and the execution, each through its crate. Expected values are worked by hand from
-//! the standards' rules.
+//! Tests of the parts between the wire and the execution, each through its crate. Expected values are worked by hand
+//! from the rules of the standards.
 #![tactic(auto)]
 
 #[cfg(test)]

@@ -1,18 +1,18 @@
 // The locks of two sessions, row by row.
 use psu_locks::{Freed, Grant, Info, Kind, LockRefusal, LockString, LockTable, Session, Sessions};
 
-// Two sessions.
+// Returns two sessions.
 fn two() -> Option<(Session, Session)> {
     Some((Session::new(1)?, Session::new(2)?))
 }
 
-// Whether a session is granted the lock shared as `k`.
+// Whether a session is granted the shared lock `k`.
 fn shares(locks: &mut LockTable, session: Session) -> Option<bool> {
     let kind = Kind::Shared(LockString::new(b"k")?);
     Some(locks.request(session, kind, 0, 0) == Ok(Grant::Granted))
 }
 
-// Whether two sessions share a lock, and one of them has the exclusive one above it.
+// Whether two sessions share a lock, and one of them has the exclusive one in addition.
 fn lock(locks: &mut LockTable, one: Session, two: Session) -> Option<bool> {
     let at_first = locks.may_command(one) && locks.may_command(two);
     let shared = shares(locks, one)? && shares(locks, two)?;
@@ -20,7 +20,7 @@ fn lock(locks: &mut LockTable, one: Session, two: Session) -> Option<bool> {
     Some(at_first && shared && exclusive)
 }
 
-// Whether a session gives up a lock of this kind, and none waited for it.
+// Whether a session releases a lock of this kind, and no session waited for it.
 fn frees(locks: &mut LockTable, session: Session, wanted: Freed) -> bool {
     match locks.release(session) {
         Ok((freed, then)) => freed == wanted && then.is_empty(),
@@ -28,13 +28,13 @@ fn frees(locks: &mut LockTable, session: Session, wanted: Freed) -> bool {
     }
 }
 
-// What is told of an exclusive lock and two sessions that share one.
+// The info on an exclusive lock and two sessions that share one.
 const BOTH: Info = Info {
     exclusive: true,
     holders: 2,
 };
 
-// Whether locks are given up in the order exclusive, shared, none.
+// Whether locks are released in the order exclusive, shared, none.
 fn free(locks: &mut LockTable, one: Session, two: Session) -> bool {
     frees(locks, one, Freed::Exclusive)
         && locks.may_command(two)
@@ -57,7 +57,7 @@ fn a_shared_lock_under_an_exclusive_one(rt: HostRuntime) {
     assert!(rt; both_are_held() == Some(true));
 }
 
-// What a request of the exclusive lock comes to: `wait` milliseconds from the moment `now`.
+// Requests the exclusive lock at the moment `now` with a timeout of `wait` milliseconds.
 fn exclusive(
     locks: &mut LockTable,
     session: Session,
@@ -67,7 +67,7 @@ fn exclusive(
     locks.request(session, Kind::Exclusive, now, wait)
 }
 
-// The sessions that are granted a lock once a session gives one up.
+// Returns the sessions that are granted a lock when a session releases one.
 fn granted_behind(locks: &mut LockTable, session: Session) -> Option<Sessions> {
     match locks.release(session) {
         Ok((_, then)) => Some(then),
@@ -75,7 +75,7 @@ fn granted_behind(locks: &mut LockTable, session: Session) -> Option<Sessions> {
     }
 }
 
-// Whether the exclusive lock goes to one, and two and three wait for it.
+// Whether session one is granted the exclusive lock, and two and three wait for it.
 fn wait(locks: &mut LockTable, one: Session, two: Session, three: Session) -> bool {
     exclusive(locks, one, 10, 0) == Ok(Grant::Granted)
         && exclusive(locks, one, 10, 5) == Err(LockRefusal::AlreadyHeld)
@@ -85,9 +85,9 @@ fn wait(locks: &mut LockTable, one: Session, two: Session, three: Session) -> bo
         && exclusive(locks, two, 5, 50) == Err(LockRefusal::Waiting)
 }
 
-// Whether the lock goes on from one to three, and from three to two.
+// Whether the lock passes from one to three, and from three to two.
 fn go_on(locks: &mut LockTable, one: Session, two: Session, three: Session) -> Option<bool> {
-    // An earlier moment counts as the greatest so far, 20: the second request fails at 70.
+    // An earlier moment counts as the latest one so far, 20: the second request fails at 70.
     let early = locks.tick(69).is_empty();
     let behind_one = granted_behind(locks, one)?.as_slice() == [three].as_slice();
     let failed = locks.tick(70).as_slice() == [two].as_slice();

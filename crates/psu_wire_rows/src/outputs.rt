@@ -4,14 +4,14 @@ use psu_outputs::{
     Measured, Milliamperes, Milliohms, Millivolts, Output, Outputs, Setting, Settings,
 };
 
-// The outputs with one thing more set.
+// Changes one more setting of the outputs.
 fn set(outputs: &mut Outputs, setting: Setting) -> Result<(), ScpiError> {
     let mut settings = outputs.get();
     settings.set(Output::First, setting)?;
     outputs.set(settings)
 }
 
-// Whether a thing more can be set.
+// Whether one more setting can be changed.
 fn is_set(outputs: &mut Outputs, setting: Setting) -> bool {
     set(outputs, setting) == Ok(())
 }
@@ -33,7 +33,7 @@ fn a_load_in_current_limit(rt: HostRuntime) {
     assert!(rt; outputs.measure(Output::First) == want && outputs.conditions() == 2);
 }
 
-// Whether a load of 7 kilohms is taken and a short circuit refused.
+// Whether a load of 7 kilohms is accepted and a short circuit is refused.
 fn loads(outputs: &mut Outputs) -> bool {
     outputs.set_load(Output::First, Milliohms(7_000_000)) == Ok(())
         && outputs.set_load(Output::First, Milliohms(0)) == Err(ScpiError::DataOutOfRange)

@@ -1,8 +1,9 @@
-// Where the path stands behind each kind of header, by SCPI-1999 volume 1, 6.2.4. 0 stands for a command, another number for the fault of
-// the reading.
+// The path after each kind of header, by SCPI-1999 volume 1, 6.2.4. 0 means a command, another number the fault of the
+// reading.
 use crate::tree::read_as_told;
 
-// Behind a path below SYSTem a header, then `ERR?`, which is read below SYSTem, and `CURR 1`, which is read at the root and below SOURce.
+// After a path below SYSTem a header, then `ERR?`, which is read below SYSTem, and `CURR 1`, which is read at the root
+// and below SOURce.
 const PATHS_BEHIND_GOOD_HEADERS: &str = r#"
 A single node leaves the path, behind a leading colon it leads to the root.
 SYST:VERS?;ERR?;ERR?;CURR 1 -> 0 0 0 113

@@ -1,5 +1,5 @@
-// Units as commands are read from them, and the faults of a reading in their order. A number is rounded half away from
-// zero before it is looked at.
+// The commands that are read from units, and the faults of a reading in their order. A number is rounded half away from
+// zero before it is checked.
 use crate::told::holds;
 use crate::tree::{fail_as_told, read};
 use psu_lex::{ScpiError, Unit, split};
@@ -8,7 +8,8 @@ use psu_tables::bracketed;
 use psu_tree::{Command, Enable, Flag, Level, Path, Query, Switch, request};
 use std::alloc::Global;
 
-// Units, and what each puts where: enable registers, the flag of `*PSC`, the voltage of output 3, the state of output 2; or what a query asks for.
+// Units, and what each sets: enable registers, the flag of `*PSC`, the voltage of output 3, the state of output 2; or
+// what it queries.
 const UNITS: &str = "
 [*sRe 00005] service 5
 [*SRE \t5 ] service 5
@@ -35,7 +36,7 @@ const UNITS: &str = "
 [ *sre? ] query service
 ";
 
-// How a query is called.
+// Returns the word for a query.
 fn called(query: Query) -> &'static str {
     match query {
         Query::Identification => "identification",
@@ -50,7 +51,7 @@ fn is_yes_or_no(is: bool, cell: &str) -> bool {
     cell == (if is { "yes" } else { "no" })
 }
 
-// Whether a command puts there what its row says, or asks for it.
+// Whether a command sets what its row says, or queries it.
 fn puts(command: &Command<'_>, what: &str, value: &str) -> bool {
     match command {
         Command::Enable(Enable::ServiceRequest, bits) => what == "service"
@@ -66,7 +67,7 @@ fn puts(command: &Command<'_>, what: &str, value: &str) -> bool {
     }
 }
 
-// Whether what a unit reads as is that of a cell, `fault 151` for a fault.
+// Whether the reading of a unit is the one of a cell, `fault 151` for a fault.
 fn is_told(reading: Result<Command<'_>, ScpiError>, cell: &str) -> bool {
     match (reading, cell.split_once(" ")) {
         (Ok(command), Some((what, value))) => puts(&command, what, value),
@@ -133,7 +134,7 @@ const MESSAGE: &[u8] = b"*SRE 255; *sre? ;*ESE 'a";
 
 const READ: &str = "service 255, query service, fault 151";
 
-// Whether units read as the cells of a text say.
+// Whether the readings of units are the cells of a text.
 fn are_told(units: &[Unit<'_>], cells: &str) -> bool {
     let mut path = Path::root();
     let mut cells = cells.split(", ");

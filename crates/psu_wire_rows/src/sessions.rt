@@ -26,7 +26,7 @@ fn every_error_in_its_order(rt: HostRuntime) {
     goes_as_told(&rt, rt.alloc(), ERRORS);
 }
 
-// A message ends the session, joined or not, and each later one finds it closed.
+// A message ends the session, joined or not, and each later message finds it closed.
 const FATAL_ERRORS: &str = "
 async 'HS 11 00*4 01 -> async 'HS 12
 sync 00 -> sync 'HS 02 01, closed
@@ -78,7 +78,7 @@ fn every_fatal_error_in_its_order(rt: HostRuntime) {
     goes_as_told(&rt, rt.alloc(), FATAL_ERRORS);
 }
 
-// Frames of 32,768 bytes: a transmission of three is too much, and none of it is kept for the next.
+// Frames of 32,768 bytes: a transmission of three is too long, and none of it is kept for the next.
 const FRAMES: &str = "
 async 'HS 11 00*4 01 -> async 'HS 12
 sync 'HS 06 01 00*10 80 00 20*32768 -> delivered
@@ -143,7 +143,7 @@ fn locks_and_the_rest_of_the_types(rt: HostRuntime) {
     goes_as_told(&rt, rt.alloc(), LOCKS);
 }
 
-// First messages of a connection, and what each asks for.
+// First messages of a connection, and what each requests.
 const FIRST_MESSAGES: &str = "
 'HS 00 00 01 00*10 07 'hislip0 -> start
 'HS 00 00 01 -> start
@@ -153,13 +153,13 @@ const FIRST_MESSAGES: &str = "
 'HS 06 00*5 ff*8 -> refused 3
 ";
 
-// What the first message of a connection asks for.
+// Returns what the first message of a connection requests.
 fn first(alloc: Global, cell: &str) -> Option<First> {
     let messages = Channel::new(alloc).feed(&message(alloc, cell)?).ok()?;
     Some(First::of(messages.first()?))
 }
 
-// Whether a first message asks for what its row says.
+// Whether a first message requests what its row says.
 fn comes_first(alloc: Global, line: &str) -> Option<bool> {
     let (cell, wanted) = row(line)?;
     match first(alloc, cell)? {

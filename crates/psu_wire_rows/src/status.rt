@@ -2,7 +2,7 @@
 use psu_lex::ScpiError;
 use psu_status::{Filter, Group, Status};
 
-// Whether the queue gives so many undefined headers and an overflow, and then nothing.
+// Whether the queue returns this many undefined headers and an overflow, and then nothing.
 fn overflows(status: &mut Status, headers: u32) -> bool {
     for _ in 0..headers {
         if status.pop_error() != Some(ScpiError::UndefinedHeader) {
@@ -24,7 +24,7 @@ fn a_queue_that_overflows(rt: HostRuntime) {
     assert!(rt; ScpiError::QueueOverflow.text() == "Queue overflow");
 }
 
-// The first service request of these enables.
+// Returns the first service request with these enables.
 fn requested(ese: u8, sre: u8) -> Option<u8> {
     Status::power_on(Some((ese, sre)), 3).first_request()
 }
@@ -40,7 +40,7 @@ fn the_first_service_request(rt: HostRuntime) {
     );
 }
 
-// Clears the status, and raises bit 0 where that alone is enabled.
+// Clears the status, and raises bit 0 where only that is enabled.
 fn raise_alone(status: &mut Status) -> bool {
     status.clear();
     let cleared = status.status_byte(false) == 0;
@@ -82,14 +82,14 @@ fn conditions_make_events(rt: HostRuntime) {
     );
 }
 
-// The status whose questionable events are those of a condition that ends, and the first of them enabled.
+// Sets the questionable events to those of a condition that ends, and enables the first of them.
 fn negative(status: &mut Status) {
     status.set_group_filter(Group::Questionable, Filter::Positive, 0);
     status.set_group_filter(Group::Questionable, Filter::Negative, 65_535);
     status.set_group_filter(Group::Questionable, Filter::Enable, 1);
 }
 
-// The status byte under a condition.
+// Returns the status byte with a condition.
 fn byte_under(status: &mut Status, condition: u16) -> u8 {
     status.condition(condition);
     status.status_byte(false)

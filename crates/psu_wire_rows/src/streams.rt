@@ -10,7 +10,7 @@ use std::alloc::Global;
 const INITIALIZE: &[u8] =
     b"\x48\x53\x00\x00\x01\x00\x00\x00\x00\x00\x00\x00\x00\x00\x00\x07hislip0";
 
-// Whether this is the message of INITIALIZE, and begins a session.
+// Whether this is the message of INITIALIZE, and opens a session.
 fn is_initialize(message: &Message<Global>) -> bool {
     match message {
         Message::Frame(header, payload) => header.message_type() == Some(MessageType::Initialize)
@@ -22,7 +22,7 @@ fn is_initialize(message: &Message<Global>) -> bool {
     }
 }
 
-// Whether the stream cut in two is read as one message, of which the first piece gives none unless it is all.
+// Whether the stream cut in two is read as one message, of which the first piece returns none unless it is the whole.
 fn is_read_cut(alloc: Global, at: usize) -> Option<bool> {
     if at > INITIALIZE.len() {
         return None;
@@ -47,7 +47,7 @@ fn a_stream_cut_at_every_place(rt: HostRuntime) {
     assert!(rt; SessionCore::new(rt.alloc(), 1).response().bytes() == *response);
 }
 
-// The pieces of a stream, and the one message that each ends, or none; a blank line begins another stream.
+// The pieces of a stream, and the one message that each completes, or none; a blank line begins another stream.
 const PIECES: &str = "
 'HS 00 00 01 00*10 07 'hislip0 -> frame 'hislip0
 
@@ -88,7 +88,7 @@ fn is_message(alloc: Global, message: &Message<Global>, cell: &str) -> bool {
     }
 }
 
-// Whether a piece ends what its row says.
+// Whether a piece completes what its row says.
 fn ends(alloc: Global, channel: &mut Channel<Global>, line: &str) -> Option<bool> {
     let (piece, wanted) = row(line)?;
     let messages = channel.feed(&bytes(alloc, piece)?).ok()?;
@@ -121,7 +121,7 @@ fn bytes_that_are_no_header(rt: HostRuntime) {
     assert!(rt; fault.bytes() == bare(2, 1));
 }
 
-// A frame of the greatest length.
+// A frame of the maximum length.
 const AN_OVERSIZE_FRAME: &str = "
 async 'HS 11 00*4 01 -> async 'HS 12
 sync 'HS 06 00*5 ff*8 -> sync 'HS 03 04

@@ -5,7 +5,7 @@ use psu_lex::{Data, Datum, DatumClass, ScpiError, Unit, UnitFault, split, syntax
 use psu_tables::bracketed;
 use std::alloc::Global;
 
-// The class of this name.
+// Returns the class with this name.
 fn class_named(name: &str) -> Option<DatumClass> {
     match name {
         "number" => Some(DatumClass::Numeric),
@@ -25,7 +25,7 @@ fn is_datum(datum: Datum<'_>, cell: &str) -> bool {
     }
 }
 
-// Whether data are those of a text, each with its class, and no others.
+// Whether the data are exactly those of a text, each with its class.
 fn are_data(data: Data<'_>, cells: &str) -> bool {
     let mut rest = data;
     for cell in cells.split(" | ") {
@@ -37,7 +37,7 @@ fn are_data(data: Data<'_>, cells: &str) -> bool {
     rest.first().is_none()
 }
 
-// Whether a unit has this header, and these data behind it.
+// Whether a unit has this header, followed by these data.
 fn reads(text: &[u8], wanted: &str) -> bool {
     let Ok(parts) = syntax(&unit_of(text)) else {
         return false;
@@ -86,7 +86,7 @@ fn units_are_read_by_their_parts(rt: HostRuntime) {
     assert!(rt; reads(b" \t*CLS\r", "*CLS"));
 }
 
-// What is no unit, in brackets.
+// Texts in brackets that are not units.
 const NO_UNITS: &str = r#"
 []
 [ ]
@@ -155,7 +155,7 @@ fn faults_of_a_unit_come_in_order(rt: HostRuntime) {
     assert!(rt; syntax(&faulty).err() == Some(ScpiError::InvalidStringData));
 }
 
-// A unit of the greatest length, whose data are this byte again and again.
+// Returns a unit of the maximum length, whose data are this byte again and again.
 fn unit_with(byte: u8) -> [u8; 65_536] {
     let mut text = [byte; 65_536];
     text[0] = b'A';
@@ -163,7 +163,7 @@ fn unit_with(byte: u8) -> [u8; 65_536] {
     text
 }
 
-// Puts a number before each comma of its data; the last of them is no comma.
+// Puts a number before each comma of its data; the last byte is not a comma.
 fn number(text: &mut [u8; 65_536]) {
     for at in 2..65_536 {
         if at % 2 == 0 {
@@ -187,7 +187,7 @@ fn many_data_are_read_in_one_pass(rt: HostRuntime) {
     assert!(rt; is_read(&unit_with(b'\'')));
 }
 
-// Whether the units of a beginning of a message have the faults that they were cut with.
+// Whether the units of a prefix of a message have the faults that they were split with.
 fn begins(alloc: Global, text: &[u8]) -> bool {
     match split(alloc, text) {
         Ok(units) => {
@@ -210,7 +210,7 @@ fn keeps_its_fault(unit: &Unit<'_>) -> bool {
     }
 }
 
-// Every beginning of a message reads in one way, and no beginning stops the program.
+// Every prefix of a message reads in one way, and none stops the program.
 #[test]
 fn beginnings_of_a_message_are_read(rt: HostRuntime) {
     let text = b" *DMC \"a\"\"b\" , #212a;b,c\n'\"#1x ,-1.5 E +2 MV;SYST:ERR? 'x";

@@ -1,5 +1,5 @@
-// The command tree: headers of the table, and faults in their order.
-// 0 stands for a command, another number for the fault of the reading.
+// The command tree: headers of the table, and faults in their order. 0 means a command, another number the fault of the
+// reading.
 use crate::told::holds;
 use psu_lex::{ScpiError, Unit, split};
 use psu_tables::{row, written};
@@ -7,7 +7,7 @@ use psu_tree::{Command, Path, read_unit, request};
 use std::alloc::Global;
 use std::process::Abort;
 
-/// A unit that is `text`, cut out of a transmission that is no more than it.
+/// Returns a unit with this text, as if split from a transmission that has nothing else.
 pub fn unit_of(text: &[u8]) -> Unit<'_> {
     Unit {
         text,
@@ -16,17 +16,17 @@ pub fn unit_of(text: &[u8]) -> Unit<'_> {
     }
 }
 
-/// What a unit reads as at the root.
+/// Reads a unit at the root.
 pub fn read(text: &[u8]) -> Result<Command<'_>, ScpiError> {
     read_unit(&Path::root(), &unit_of(text))
 }
 
-// The fault of a unit's reading at the root, 0 where it is a command.
+// Returns the fault of a unit's reading at the root, 0 where it is a command.
 fn fault(text: &[u8]) -> u16 {
     number(read(text))
 }
 
-// What a reading comes to: 0 where it is a command, else the number of its fault.
+// Returns 0 for a command, otherwise the number of the fault.
 fn number(reading: Result<Command<'_>, ScpiError>) -> u16 {
     match reading {
         Ok(_) => 0,
@@ -34,7 +34,7 @@ fn number(reading: Result<Command<'_>, ScpiError>) -> u16 {
     }
 }
 
-// The same of a unit of a message, which leaves the path where it does.
+// Returns the fault of a unit of a message, and moves the path as the unit does.
 fn fault_at<'a>(path: &mut Path<'a>, unit: &Unit<'a>) -> u16 {
     if unit.first {
         *path = Path::root();
@@ -62,15 +62,15 @@ fn are_read(units: &[Unit<'_>], wanted: &str) -> bool {
     faults.next().is_none()
 }
 
-// The same of a message.
+// Whether the readings of a message's units, in order, are those of a row.
 fn reads(alloc: Global, message: &str, wanted: &str) -> Option<bool> {
     let message = written(alloc, message)?;
     let units = split(alloc, message.as_bytes()).ok()?;
     Some(are_read(units.as_slice(), wanted))
 }
 
-/// The messages of a table read as its rows say. A row is a line: a message, in which `\n` stands for NL, ` -> `, and the faults of its
-/// units. Other lines tell what the rows below them are for.
+/// Checks that the messages of a table read as its rows say. A row is a line: a message, in which `\n` means NL,
+/// ` -> `, and the faults of its units. Other lines say what the rows below them are for.
 pub fn read_as_told(rt: &impl Abort, alloc: Global, table: &str) {
     let mut rows = 0u32;
     for line in table.lines() {
@@ -82,7 +82,7 @@ pub fn read_as_told(rt: &impl Abort, alloc: Global, table: &str) {
     holds(rt, rows > 0, table);
 }
 
-/// The units of a table read at the root as its rows say, each by itself.
+/// Checks that the units of a table read at the root as its rows say, each by itself.
 pub fn fail_as_told(rt: &impl Abort, table: &str) {
     let mut rows = 0u32;
     for line in table.lines() {
@@ -94,13 +94,14 @@ pub fn fail_as_told(rt: &impl Abort, table: &str) {
     holds(rt, rows > 0, table);
 }
 
-/// Whether a header is one of the table, whatever its data: it reads, or wants a parameter.
+/// Whether a header is one of the table, whatever its data: it reads, or lacks a parameter.
 pub fn stands(header: &[u8]) -> bool {
     let fault = fault(header);
     fault == 0 || fault == 109
 }
 
-// Each header of the table: its shortest form, its longest, and whether it stands as a command, as a query, or as both.
+// Each header of the table: its shortest form, its longest, and whether it is defined as a command, as a query, or as
+// both.
 const HEADERS: &str = r#"
 *IDN *idn query
 *TST *tst query
@@ -159,7 +160,7 @@ MMEM:STOR:MACR :MMEMORY:STORE:MACRO command
 MMEM:LOAD:MACR :MMEMORY:LOAD:MACRO command
 "#;
 
-// Whether a form of a header stands as a command and as a query where its kind says so.
+// Whether a form of a header is defined as a command and as a query where its kind says so.
 fn form_stands(alloc: Global, form: &str, kind: &str) -> Option<bool> {
     let command = stands(form.as_bytes());
     let mut text = form.as_bytes().to_vec(alloc).ok()?;
@@ -167,7 +168,7 @@ fn form_stands(alloc: Global, form: &str, kind: &str) -> Option<bool> {
     Some(command == (kind != "query") && stands(&text) == (kind != "command"))
 }
 
-// Whether both forms of a header stand as its row says.
+// Whether both forms of a header are defined as its row says.
 fn header_stands(alloc: Global, line: &str) -> Option<bool> {
     let (short, rest) = line.split_once(" ")?;
     let (long, kind) = rest.split_once(" ")?;
@@ -200,7 +201,7 @@ fn numeric_suffixes(rt: HostRuntime) {
     read_as_told(&rt, rt.alloc(), NUMERIC_SUFFIXES);
 }
 
-// One word of two without regard to case, and a number behind no node.
+// One word of two without regard to case, and no node with a number.
 const SETTINGS_AT_POWER_ON: &str = r#"
 OUTP:PON:STAT RST;STAT rcl0;STATE Rcl0;STAT? -> 0 0 0 0
 OUTP:PON:STAT RCL;STAT RCL1;STAT 0;STAT "RST" -> 224 113 113 113

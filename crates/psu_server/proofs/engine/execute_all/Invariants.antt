@@ -4,7 +4,7 @@ use Rattle.psu_server.specs.Lines.{coming}
 use Rattle.psu_server.proofs.Reading.{Ran}
 use Rattle.psu_server.proofs.engine.execute_all.Given as goal
 
--- Each read so far gave bytes.
+-- Each read so far returned bytes.
 abbrev pub invariant-reading : goal.invariant-reading
 invariant-reading g l = record {
   seen : List ℕ;

@@ -15,12 +15,12 @@ use Rattle.psu_server.specs.Causes.{HasBadItems}
 use Rattle.psu_server.specs.Recover.{IsReported, IsRecoverRefusal, Reports, recover_open, recover_power}
 use Rattle.psu_server.proofs.recovery.examine.Goals as goal
 
--- a report is found where it is one of the device
+-- the report is valid where it is one of the device
 found_of : {A : Type 0} (r : Result (Report A) RecoverFault) (image : List ℕ) (P : Report A → Type 0) → IfOk r P → ((report : Report A) → P report → IsReported image report) → IfOk r (IsReported image)
 found_of (Ok report) image P p turn = turn report p
 found_of (Err e) image P p turn = tt
 
--- the one refusal is for memory
+-- the only refusal is out of memory
 only_memory : {A : Type 0} (r : Result (Report A) RecoverFault) (P : RecoverFault → Type 0) → IfErr r (λ e. e ≡ Memory) → P Memory → IfErr r P
 only_memory (Ok report) P p q = tt
 only_memory (Err e) P p q = subst P (sym p) q
@@ -64,7 +64,7 @@ by_open image opening.BadRoot is memory = is
 by_open image opening.BadVersion is memory = is
 by_open image opening.Memory is memory = memory refl
 
--- bad items are those of no contents
+-- bad items are not those of any contents
 by_cause : (image : List ℕ) (cause : PowerCause) → HasReadableRoot image → (cause ≡ power.BadItems → HasBadItems image) → IsRecoverRefusal image (recover_power cause)
 by_cause image power.BadItems rooted bad = bad refl
 by_cause image power.Memory rooted bad = rooted
@@ -90,7 +90,7 @@ returns-in-Err-power_on-clause-left g c = λ h limit map each.
     subst (λ d. EachStands (g.D.Disk.state d) limit map) (sym c.into_disk.ensures.value)
     (subst (λ s. EachStands (g.D.Disk.state s.disk) limit map) (sym c.in-Err-power_on.ensures.back) (c.in-Ok.ensures.left h limit map each))
 
--- no cause of a power-on is a failed call
+-- no cause of a failed power-on is a failed call
 not_device : (cause : PowerCause) → recover_power cause ≡ Device → ⊥
 not_device power.BadItems is = cc
 not_device power.Memory is = cc
