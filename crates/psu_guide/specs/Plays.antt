@@ -9,8 +9,8 @@ use Rattle.psu_server.specs.declared.run_cause.RunCause.{RunCause}
 use Rattle.psu_guide.specs.declared.play_fault.PlayFault.{PlayFault}
 use Rattle.psu_guide.specs.declared.play_fault.PlayFault.TheVariants.{Memory, Run}
 
--- A disk with a new image, of 263,168 bytes: whatever a power loss leaves of it stands for the empty map, which may take 256 pages,
--- and the root that counts has the number 1.
+-- A disk with a new image, of 263,168 bytes: each possible crash image of it represents the empty map, which may take 256
+-- pages, and the current root has the number 1.
 pub record IsNew (disk : DiskState) : Type 0 where
   pub size : length disk.bytes ≡ 263168
   pub stands : EachStands disk 256 []
@@ -32,7 +32,7 @@ pub record Stops (sent : List ℕ) (cause : RunCause) : Type 0 where
   pub rest : List ℕ
   pub why : EndsFor disk.bytes 0 0 left (IsTooLong (Some sent) (Some rest) None None) cause
 
--- Why a new instrument gives up. That memory was refused can't be seen.
+-- Why a new instrument cannot answer. A contract cannot see that an allocation failed.
 abbrev pub GivesUp : List ℕ → PlayFault → Type 0
 GivesUp sent Memory = ⊤
 GivesUp sent (Run cause) = Stops sent cause
