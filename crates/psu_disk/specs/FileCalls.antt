@@ -1,6 +1,6 @@
 -- The system's calls on a file, as data: what each asked, and what it returned. The calls are those of POSIX.1-2017:
 -- pread, pwrite, fdatasync, fsync, fstat, open, unlink, and flock of the systems that have it.
-use Rattle.std.specs.Prelude.{◌≡◌, ◌↔◌, ◌+◌, ◌<◌, IsTrue, ⊤, ℕ, Bool, true, false, List, [], ◌∷◌, length, replicate, Option, Some, None}
+use Rattle.std.specs.Prelude.{◌≡◌, ◌⊎◌, ◌↔◌, ◌+◌, ◌<◌, IsTrue, ⊤, ℕ, Bool, true, false, List, [], ◌∷◌, length, replicate, Option, Some, None}
 use Rattle.psu_disk.specs.Disk.{DiskState, Range, Holds, IsFlagged, Touches}
 use Rattle.psu_disk.specs.Medium.{NoneMore, IsKnown, Settles}
 use Rattle.psu_disk.specs.declared.file_calls.FileFacts.{FileFacts}
@@ -44,6 +44,11 @@ LooksWhole made size old whole new = (seen : Option FileFacts) × made old (File
 -- A successful sync made the file's data durable, and then saw the file whole.
 abbrev pub IsSync : {F : Type 0} → (F → FileCall → F → Type 0) → ℕ → F → F → Type 0
 IsSync made size old new = (seen : Option FileFacts) × Calls made (FileCall.SyncData true ∷ FileCall.Looked seen ∷ []) old new × IsWhole size seen
+
+-- A sync that failed: the file's data was not made durable, or the file was not seen whole after that.
+abbrev pub IsFailedSync : {F : Type 0} → (F → FileCall → F → Type 0) → ℕ → F → F → Type 0
+IsFailedSync made size old new = made old (FileCall.SyncData false) new
+    ⊎ ((seen : Option FileFacts) × Calls made (FileCall.SyncData true ∷ FileCall.Looked seen ∷ []) old new × (IsWhole size seen → ⊥))
 
 -- no other opening of the file has it locked, as far as the file system has locks
 abbrev pub IsFree : LockAnswer → Type 0

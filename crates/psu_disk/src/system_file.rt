@@ -2,7 +2,7 @@
 ghost use Rattle.std.specs.Prelude.{◌≡◌, ◌+◌, ◌≤◌, length, is_ok, OnOk, OnErr};
 ghost use Rattle.psu_disk.specs.Disk.{Range, Holds, IsFlagged, Touches};
 ghost use Rattle.psu_disk.specs.Medium.{NoneMore, IsKnown, Settles};
-ghost use Rattle.psu_disk.specs.FileCalls.{FileCall, IsSync, LooksWhole};
+ghost use Rattle.psu_disk.specs.FileCalls.{FileCall, IsFailedSync, IsSync, LooksWhole};
 
 use crate::{DiskFault, FileCalls, Medium};
 
@@ -87,6 +87,7 @@ impl<F: FileCalls> Medium for SystemFile<F> {
         ensures err { F.keeps → OnErr result (F.state self.new.file ≡ F.state self.old.file) }
         ensures works { F.works self.old.file → OnErr result ⊥ × F.works self.new.file }
         ensures made { OnOk result (IsSync F.made (F.extent self.old.file) self.old.file self.new.file) }
+        ensures failed { OnErr result (IsFailedSync F.made (F.extent self.old.file) self.old.file self.new.file) }
     {
         self.file.sync_data()?;
         // The file is looked at last: a successful call has synced a file that was still whole afterwards.

@@ -58,8 +58,7 @@ impl<D: Disk, A: Allocator + Copy> Exec<D, A> {
         ensures only { IfOk result (λ e. (c : Kept) → IsContents c → items_of c ≡ store.items → c ≡ e.device.flush.contents) }
         ensures sound { IfOk result (λ e. IsContents e.device.flush.contents) }
         ensures fitting { IfOk result (λ e. fits store.limit e.device.flush.contents ≡ true) }
-        // As IEEE 488.2 prescribes: 96 exactly if the enables are kept with bit 5 of SRE and bit 7 of ESE set,
-        // otherwise none.
+        // As IEEE 488.2 prescribes: 96 exactly if the enables are kept with SRE bit 5 and ESE bit 7 set, else none.
         ensures request { IfOk result (λ e. first_request e.device.volatile.instrument.status ≡ prescribed e.device.flush.contents.enables) }
         ensures home { IfOk result (λ e. e.home ≡ Some (at_home.Whole store)) }
 
@@ -118,8 +117,7 @@ impl<D: Disk, A: Allocator + Copy> Exec<D, A> {
         self.device.execute(session, request)
     }
 
-    /// Returns the result of an open session's wait: Done if the session isn't parked, Parked only while a change is
-    /// unflushed.
+    /// Returns the result of an open session's wait: Done if it isn't parked, Parked only while a change is unflushed.
     pub fn settle(&mut self, session: Session) -> Outcome<A>
         requires open { is_open self.old.device session ≡ true }
         ensures step { Allows self.old.device (Settled session (outcome_of result)) self.new.device }
@@ -178,8 +176,7 @@ impl<D: Disk, A: Allocator + Copy> Exec<D, A> {
         self.device.delivered(session);
     }
 
-    /// Returns the response to a status query of an open session: the status byte with the session's RQS in bit 6.
-    /// RQS is then cleared.
+    /// Answers a status query of an open session, by the status byte with its RQS in bit 6, and then clears RQS.
     pub fn status(&mut self, session: Session) -> u8
         requires { is_open self.old.device session ≡ true }
         ensures step { Allows self.old.device (Queried session result) self.new.device }
@@ -198,8 +195,7 @@ impl<D: Disk, A: Allocator + Copy> Exec<D, A> {
         self.device.requests(session)
     }
 
-    /// Returns the open sessions that have requested service since the last call, and whether a take would return a
-    /// job.
+    /// Returns the open sessions that requested service since the last call, and whether a take would return a job.
     pub fn news(&mut self) -> (Sessions, bool)
         ensures step { Allows self.old.device (Told result.0 result.1) self.new.device }
         ensures home { self.new.home ≡ self.old.home }
@@ -279,8 +275,7 @@ impl<D: Disk, A: Allocator + Copy> Exec<D, A> {
         self.device.is_open(session)
     }
 
-    /// The nonvolatile contents with all accepted changes: what the store's map represents, with the unflushed
-    /// changes made.
+    /// The nonvolatile contents with all accepted changes: those of the store's map with the unflushed changes made.
     pub fn contents(&self) -> &Contents<A>
         ensures value { result.now ≡ self.now.device.flush.contents }
         ensures consistent { IsConsistent self.now.device.flush }
