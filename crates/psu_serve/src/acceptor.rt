@@ -1,9 +1,11 @@
 // The server: it powers on, and gives each connection a thread.
+use crate::caller::Caller;
+use crate::condition::Condition;
+use crate::connection::Connection;
+use crate::flushing::Flusher;
 use crate::serve_fault::ServeFault;
 use crate::starting::power_on;
 use psu_bench::Gate;
-use psu_callers::{Caller, Condition, Flusher};
-use psu_connections::Connection;
 use psu_disk::{Disk, FileDisk, OsFiles};
 use psu_members::{Link, Server, Silent};
 use std::alloc::Global;

@@ -2,9 +2,10 @@
 ghost use Rattle.std.specs.Prelude.{IfOk};
 ghost use Rattle.psu_serve.specs.PowerOn.{BeginsWith};
 
+use crate::caller::Caller;
 use crate::serve_fault::ServeFault;
+use crate::shared_gate::SharedGate;
 use psu_bench::{Gate, Gated};
-use psu_callers::{Caller, SharedGate};
 use psu_disk::Disk;
 use psu_exec::Exec;
 use psu_items::Store;

@@ -1,0 +1,160 @@
+// The flusher: it puts changes on the disk, and fails lock requests whose time is over.
+ghost use Rattle.std.specs.Prelude.{◌≡◌};
+ghost use Rattle.psu_exec.specs.Calls.{JobEnd, Taken};
+ghost use Rattle.psu_bench.specs.Rounds.{IsEndOf};
+ghost use Rattle.psu_serve.specs.Seen.{GivesBack, IsRound};
+
+use crate::caller::Caller;
+use crate::condition::Condition;
+use psu_bench::Gate;
+use psu_disk::Disk;
+use psu_exec::{Finished, Grant, Job, NoJob};
+use psu_hislip::lock_response;
+use psu_members::Server;
+use std::alloc::Global;
+use std::io::Eprint;
+use std::rt::Clock;
+use std::sync::Wait;
+
+/// How long the flusher waits after a job that did not go well, in milliseconds, unless others have something to be flushed before.
+const PAUSE: u64 = 1000;
+
+/// What a round came to.
+#[derive(Clone, Copy, Debug, PartialEq, Eq)]
+enum Round {
+    /// There was nothing to do.
+    Idle,
+    /// A job went well.
+    Worked,
+    /// The disk failed, or memory was refused.
+    Failed,
+}
+
+impl Round {
+    // What a job's end makes of its round.
+    fn of<D: Disk>(finished: &Finished<D, Global>) -> Round {
+        match finished {
+            Finished::Stored(_) | Finished::Reopened(_) => Round::Worked,
+            Finished::Unstarted(_, _, _) | Finished::Broken(_) => Round::Failed,
+        }
+    }
+}
+
+/// The flusher.
+#[derive(Drop)]
+pub struct Flusher<'a, D: Disk, G: Gate, E: Eprint> {
+    pub server: &'a Server,
+    pub caller: Caller<D, G>,
+    /// Where an operator is told of the store.
+    pub errors: E,
+    /// What was told last; that it works where nothing was.
+    pub told: Condition,
+}
+
+impl<'a, D: Disk + Drop, G: Gate + Drop, E: Eprint> Flusher<'a, D, G, E> {
+    ghost use Rattle.psu_exec.specs.Jobs.{finished_of, job_data};
+
+    // Tells how the store is, where that has changed.
+    fn tell(&mut self, condition: Condition)
+        ensures told { self.new.told ≡ condition }
+        ensures same { self.new.caller ≡ self.old.caller }
+    {
+        let is_news = condition != self.told;
+        self.told = condition;
+        if is_news {
+            let _ = eprintln!(self.errors; "psu: {condition}");
+        }
+    }
+
+    // Tells what a job's end shows of the store.
+    fn show(&mut self, finished: &Finished<D, Global>)
+        ensures { self.new.caller ≡ self.old.caller }
+    {
+        if let Some(condition) = Condition::shown_by(finished) {
+            self.tell(condition);
+        }
+    }
+
+    // Gives a job's end back, wakes those whose waits are over and those that wait for room, and tells who asks for service. The work that is left
+    // the flusher knows of: it does not ring its own bell, which would end its pause.
+    fn give_back<R: Wait>(&mut self, rt: &R, finished: Finished<D, Global>)
+        ensures call { GivesBack D.honest (finished_of finished) self.old.caller.seat self.new.caller.seat }
+    {
+        let (over, news) = self.caller.give_back(rt, finished);
+        let registry = self.server.registry.lock(rt);
+        registry.wake(rt, &over);
+        registry.wake_late(rt);
+        drop(registry);
+        self.server.call(rt, &news.asking);
+    }
+
+    // Runs a job outside the device's turn, and gives it back.
+    fn run<R: Wait>(&mut self, rt: &R, job: Job<D, Global>) -> Round
+        ensures call { (end : JobEnd) × IsEndOf (job_data job) end × GivesBack D.honest end self.old.caller.seat self.new.caller.seat }
+    {
+        self.caller.before_run();
+        let finished = job.run();
+        let round = Round::of(&finished);
+        self.show(&finished);
+        self.give_back(rt, finished);
+        round
+    }
+
+    // One round: a job is taken and run. Where there is none after the store broke, a reopening has found all stored.
+    fn round<R: Wait>(&mut self, rt: &R) -> Round
+        ensures calls { (taken : Taken) × IsRound D.honest taken self.old.caller.seat self.new.caller.seat }
+    {
+        match self.caller.take(rt) {
+            Ok(job) => self.run(rt, job),
+            Err(NoJob::Memory) => Round::Failed,
+            Err(NoJob::Out) => Round::Idle,
+            Err(NoJob::Nothing) => {
+                if self.told == Condition::Broken {
+                    self.tell(Condition::Works);
+                }
+                Round::Idle
+            }
+        }
+    }
+
+    // Milliseconds to the next deadline of a lock request.
+    fn left<R: Wait + Clock>(&mut self, rt: &R) -> Option<u64> {
+        let deadline = self.caller.next_deadline(rt)?;
+        let now = u128::from(self.server.now(rt));
+        Some(u64::try_from(deadline.saturating_sub(now)).unwrap_or(u64::MAX))
+    }
+
+    // Fails the lock requests whose time is over; milliseconds to the next.
+    fn tick<R: Wait + Clock>(&mut self, rt: &R) -> Option<u64> {
+        let left = self.left(rt)?;
+        if left > 0 {
+            return Some(left);
+        }
+        let registry = self.server.registry.lock(rt);
+        let now = self.server.now(rt);
+        let failed = self.caller.tick(rt, now);
+        if let Some(header) = lock_response(Ok(Grant::Failed)) {
+            registry.answer(rt, &failed, header);
+        }
+        drop(registry);
+        self.left(rt)
+    }
+
+    /// Flushes and ticks for ever.
+    pub fn flush<R: Wait + Clock>(&mut self, rt: &R) {
+        for _ in rt.forever() {
+            let round = self.round(rt);
+            let left = self.tick(rt);
+            match (round, left) {
+                (Round::Worked, _) => {}
+                (Round::Idle, None) => self.server.bell.sleep(rt),
+                (Round::Idle, Some(left)) => self.server.bell.sleep_at_most(rt, left.max(1)),
+                (Round::Failed, None) => self.server.bell.sleep_at_most(rt, PAUSE),
+                (Round::Failed, Some(left)) => self
+                    .server
+                    .bell
+                    .sleep_at_most(rt, left.clamp(1, PAUSE)),
+            }
+        }
+    }
+}
