@@ -8,8 +8,8 @@ use Rattle.psu_nv.specs.Contents.{Contents, items_of}
 use Rattle.psu_status.specs.Status as reporting
 use Rattle.psu_tree.specs.declared.command.Command.{Command}
 use Rattle.psu_tree.specs.declared.command.Command.TheVariants as command
-use Rattle.psu_tree.specs.declared.flag.Flag.TheVariants.{PowerOnClear as Clears}
-use Rattle.psu_tree.specs.declared.query.Query.TheVariants.{OperationComplete}
+use Rattle.psu_tree.specs.declared.values.Flag.TheVariants.{PowerOnClear as Clears}
+use Rattle.psu_tree.specs.declared.queries.Query.TheVariants.{OperationComplete}
 use Rattle.psu_tree.specs.declared.unit_request.Request.{Request}
 use Rattle.psu_exec.specs.Batch.{batch}
 use Rattle.psu_exec.specs.Device.{Done, Answer, Error, Parked}

@@ -10,25 +10,25 @@ use Rattle.psu_outputs.specs.Outputs.{all_settings, any_conflicts}
 use Rattle.psu_outputs.specs.Settings.{after_set, is_in_range}
 use Rattle.psu_outputs.specs.declared.output.Output.{Output}
 use Rattle.psu_outputs.specs.declared.setting.Setting.{Setting}
-use Rattle.psu_tree.specs.declared.action.Action.TheVariants as action
+use Rattle.psu_tree.specs.declared.queries.Action.TheVariants as action
 use Rattle.psu_tree.specs.declared.command.Command.{Command}
 use Rattle.psu_tree.specs.declared.command.Command.TheVariants as command
-use Rattle.psu_tree.specs.declared.enable.Enable.{Enable}
-use Rattle.psu_tree.specs.declared.enable.Enable.TheVariants as enable
-use Rattle.psu_tree.specs.declared.extreme.Extreme.{Extreme}
-use Rattle.psu_tree.specs.declared.extreme.Extreme.TheVariants as extreme
-use Rattle.psu_tree.specs.declared.flag.Flag.{Flag}
-use Rattle.psu_tree.specs.declared.flag.Flag.TheVariants as flag
-use Rattle.psu_tree.specs.declared.level.Level.{Level}
-use Rattle.psu_tree.specs.declared.on_file.OnFile.TheVariants as on_file
-use Rattle.psu_tree.specs.declared.on_macro.OnMacro.TheVariants as on_macro
-use Rattle.psu_tree.specs.declared.on_names.OnNames.TheVariants as on_names
-use Rattle.psu_tree.specs.declared.on_register.OnRegister.TheVariants as on_register
-use Rattle.psu_tree.specs.declared.output_query.OutputQuery.{OutputQuery}
-use Rattle.psu_tree.specs.declared.output_query.OutputQuery.TheVariants as output_query
-use Rattle.psu_tree.specs.declared.query.Query.{Query}
-use Rattle.psu_tree.specs.declared.query.Query.TheVariants as query
-use Rattle.psu_tree.specs.declared.transfer.Transfer.TheVariants as transfer
+use Rattle.psu_tree.specs.declared.values.Enable.{Enable}
+use Rattle.psu_tree.specs.declared.values.Enable.TheVariants as enable
+use Rattle.psu_tree.specs.declared.values.Extreme.{Extreme}
+use Rattle.psu_tree.specs.declared.values.Extreme.TheVariants as extreme
+use Rattle.psu_tree.specs.declared.values.Flag.{Flag}
+use Rattle.psu_tree.specs.declared.values.Flag.TheVariants as flag
+use Rattle.psu_tree.specs.declared.values.Level.{Level}
+use Rattle.psu_tree.specs.declared.values.OnFile.TheVariants as on_file
+use Rattle.psu_tree.specs.declared.values.OnMacro.TheVariants as on_macro
+use Rattle.psu_tree.specs.declared.values.OnNames.TheVariants as on_names
+use Rattle.psu_tree.specs.declared.values.OnRegister.TheVariants as on_register
+use Rattle.psu_tree.specs.declared.queries.OutputQuery.{OutputQuery}
+use Rattle.psu_tree.specs.declared.queries.OutputQuery.TheVariants as output_query
+use Rattle.psu_tree.specs.declared.queries.Query.{Query}
+use Rattle.psu_tree.specs.declared.queries.Query.TheVariants as query
+use Rattle.psu_tree.specs.declared.values.Transfer.TheVariants as transfer
 use Rattle.psu_instrument.specs.Commands.{meaning, query_means}
 use Rattle.psu_instrument.specs.Common.{choice, flag_asked, enables_asked, identity}
 use Rattle.psu_instrument.specs.Files.{read_unless}

@@ -1,13 +1,13 @@
 -- The meaning of each command: the table, whose entries are defined with their subsystems.
 use Rattle.std.specs.Prelude.{ℕ}
-use Rattle.psu_tree.specs.declared.action.Action.{Action}
-use Rattle.psu_tree.specs.declared.action.Action.TheVariants as action
+use Rattle.psu_tree.specs.declared.queries.Action.{Action}
+use Rattle.psu_tree.specs.declared.queries.Action.TheVariants as action
 use Rattle.psu_tree.specs.declared.command.Command.{Command}
 use Rattle.psu_tree.specs.declared.command.Command.TheVariants as command
-use Rattle.psu_tree.specs.declared.query.Query.{Query}
-use Rattle.psu_tree.specs.declared.query.Query.TheVariants as query
-use Rattle.psu_tree.specs.declared.on_register.OnRegister.{OnRegister}
-use Rattle.psu_tree.specs.declared.on_register.OnRegister.TheVariants as on_register
+use Rattle.psu_tree.specs.declared.queries.Query.{Query}
+use Rattle.psu_tree.specs.declared.queries.Query.TheVariants as query
+use Rattle.psu_tree.specs.declared.values.OnRegister.{OnRegister}
+use Rattle.psu_tree.specs.declared.values.OnRegister.TheVariants as on_register
 use Rattle.psu_instrument.specs.declared.completion.Completion.TheVariants as completion
 use Rattle.psu_instrument.specs.Meaning.{Situation, Meaning, Completes, answers}
 use Rattle.psu_instrument.specs.Common as common

@@ -6,10 +6,10 @@ use Rattle.psu_nv.specs.Commands.{ServiceEnable, EventEnable, PowerOnClear, Save
 use Rattle.psu_outputs.specs.Outputs.{all_settings, restored}
 use Rattle.psu_outputs.specs.Settings.{reset}
 use Rattle.psu_status.specs.Status as reporting
-use Rattle.psu_tree.specs.declared.enable.Enable.{Enable}
-use Rattle.psu_tree.specs.declared.enable.Enable.TheVariants as enable
-use Rattle.psu_tree.specs.declared.flag.Flag.{Flag}
-use Rattle.psu_tree.specs.declared.flag.Flag.TheVariants as flag
+use Rattle.psu_tree.specs.declared.values.Enable.{Enable}
+use Rattle.psu_tree.specs.declared.values.Enable.TheVariants as enable
+use Rattle.psu_tree.specs.declared.values.Flag.{Flag}
+use Rattle.psu_tree.specs.declared.values.Flag.TheVariants as flag
 use Rattle.psu_instrument.specs.Instrument.{with_status, with_sre, with_ese, with_supplies, with_register}
 use Rattle.psu_instrument.specs.Meaning.{Situation, Meaning, Refuses, Does, Keeps, answers, says, leaves}
 

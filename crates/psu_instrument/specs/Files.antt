@@ -8,12 +8,12 @@ use Rattle.psu_nv.specs.Commands as nv
 use Rattle.psu_nv.specs.Commands.{first_of, has_file, bytes_in, StoreBytes, Delete, Copy, Move, StoreState, LoadState, StoreMacro, LoadMacro}
 use Rattle.psu_nv.specs.Contents.{Contents, cost_of}
 use Rattle.psu_lex.specs.Names.{is_name}
-use Rattle.psu_tree.specs.declared.on_file.OnFile.{OnFile}
-use Rattle.psu_tree.specs.declared.on_file.OnFile.TheVariants as on_file
-use Rattle.psu_tree.specs.declared.on_names.OnNames.{OnNames}
-use Rattle.psu_tree.specs.declared.on_names.OnNames.TheVariants as on_names
-use Rattle.psu_tree.specs.declared.transfer.Transfer.{Transfer}
-use Rattle.psu_tree.specs.declared.transfer.Transfer.TheVariants as transfer
+use Rattle.psu_tree.specs.declared.values.OnFile.{OnFile}
+use Rattle.psu_tree.specs.declared.values.OnFile.TheVariants as on_file
+use Rattle.psu_tree.specs.declared.values.OnNames.{OnNames}
+use Rattle.psu_tree.specs.declared.values.OnNames.TheVariants as on_names
+use Rattle.psu_tree.specs.declared.values.Transfer.{Transfer}
+use Rattle.psu_tree.specs.declared.values.Transfer.TheVariants as transfer
 use Rattle.psu_instrument.specs.Macros.{quoted}
 use Rattle.psu_instrument.specs.Meaning.{Situation, Meaning, Refuses, Keeps, answers, text_of}
 

@@ -8,9 +8,9 @@ use Rattle.psu_lex.specs.declared.scpi_error.ScpiError.{ScpiError}
 use Rattle.psu_lex.specs.declared.scpi_error.ScpiError.TheVariants.{MacroHeaderNotFound, MacroRecursionError, OutOfMemory}
 use Rattle.psu_nv.specs.Commands.{DefineMacro, RemoveMacro, PurgeMacros}
 use Rattle.psu_nv.specs.Contents.{Macro, body_at}
-use Rattle.psu_tree.specs.declared.macro_call.MacroCall.{MacroCall}
-use Rattle.psu_tree.specs.declared.on_macro.OnMacro.{OnMacro}
-use Rattle.psu_tree.specs.declared.on_macro.OnMacro.TheVariants as on_macro
+use Rattle.psu_tree.specs.declared.unit_request.MacroCall.{MacroCall}
+use Rattle.psu_tree.specs.declared.values.OnMacro.{OnMacro}
+use Rattle.psu_tree.specs.declared.values.OnMacro.TheVariants as on_macro
 use Rattle.psu_instrument.specs.Instrument.{Instrument}
 use Rattle.psu_instrument.specs.Meaning.{Situation, Meaning, Refuses, Keeps, answers, text_of}
 

@@ -10,14 +10,14 @@ use Rattle.psu_outputs.specs.declared.setting.Setting.{Setting}
 use Rattle.psu_outputs.specs.declared.setting.Setting.TheVariants as setting
 use Rattle.psu_outputs.specs.declared.supply.Supply.{Supply}
 use Rattle.psu_tree.specs.Commands.{greatest_of}
-use Rattle.psu_tree.specs.declared.extreme.Extreme.{Extreme}
-use Rattle.psu_tree.specs.declared.extreme.Extreme.TheVariants as extreme
-use Rattle.psu_tree.specs.declared.level.Level.{Level}
-use Rattle.psu_tree.specs.declared.level.Level.TheVariants as level
-use Rattle.psu_tree.specs.declared.output_query.OutputQuery.{OutputQuery}
-use Rattle.psu_tree.specs.declared.output_query.OutputQuery.TheVariants as query
-use Rattle.psu_tree.specs.declared.switch.Switch.{Switch}
-use Rattle.psu_tree.specs.declared.switch.Switch.TheVariants as switch
+use Rattle.psu_tree.specs.declared.values.Extreme.{Extreme}
+use Rattle.psu_tree.specs.declared.values.Extreme.TheVariants as extreme
+use Rattle.psu_tree.specs.declared.values.Level.{Level}
+use Rattle.psu_tree.specs.declared.values.Level.TheVariants as level
+use Rattle.psu_tree.specs.declared.queries.OutputQuery.{OutputQuery}
+use Rattle.psu_tree.specs.declared.queries.OutputQuery.TheVariants as query
+use Rattle.psu_tree.specs.declared.values.Switch.{Switch}
+use Rattle.psu_tree.specs.declared.values.Switch.TheVariants as switch
 use Rattle.psu_instrument.specs.Common.{digit}
 use Rattle.psu_instrument.specs.Instrument.{with_supplies}
 use Rattle.psu_instrument.specs.Meaning.{Situation, Meaning, Refuses, says, says_fixed, leaves}

@@ -7,8 +7,8 @@ use Rattle.psu_lex.specs.NumberScan.{run, left, is_number, scanned}
 use Rattle.psu_lex.specs.Syntax.{Datum, IsBefore, Lists, datum_of, IsDatum, IsWholeIn, is_node, class_of}
 use Rattle.psu_lex.specs.Shown.{TailLists, HoldsFound, IsSomeDatum}
 use Rattle.psu_lex.specs.SyntaxScan.{is_parted, datum_at, datum_in, after_datum, class_at, parted, written}
-use Rattle.psu_lex.specs.declared.found.Found.{Found}
-use Rattle.psu_lex.specs.declared.datum_class.DatumClass.{DatumClass}
+use Rattle.psu_lex.specs.declared.data.Found.{Found}
+use Rattle.psu_lex.specs.declared.data.DatumClass.{DatumClass}
 use Rattle.psu_lex.proofs.Runs.{same_tail, both, run_white, leads, white_every, run_left, run_every, left_at, left_none, every, digits_every, every_head}
 use Rattle.std.proofs.lemmas.Bool.{eqb-true, cases_Bool}
 use Rattle.std.proofs.lemmas.Bool.Decides.{nat_tests}
@@ -16,7 +16,7 @@ use Rattle.std.proofs.Math.Seq.{take-append_seam}
 use Rattle.psu_lex.specs.Message.{Piece, spelling, BeginsPiece}
 use Rattle.psu_lex.specs.Message.Piece.{Quoted, Counted, Open}
 use Rattle.psu_lex.specs.Scan.{after_piece}
-use Rattle.psu_lex.specs.declared.datum_class.DatumClass.TheVariants.{Numeric, Character, String, Block}
+use Rattle.psu_lex.specs.declared.data.DatumClass.TheVariants.{Numeric, Character, String, Block}
 use Rattle.psu_lex.proofs.PieceScans.{found, whole}
 use Rattle.psu_lex.proofs.NumberSound.{number_in}
 use Rattle.psu_lex.proofs.WrittenData.{number_found, word_found, written_whole}

@@ -12,7 +12,7 @@ use Rattle.psu_lex.proofs.Runs.{same_head, same_tail, both, every, leads, run_at
 use Rattle.std.proofs.lemmas.List.{append-nil}
 use Rattle.std.proofs.Math.Seq.{take-append_seam}
 use Rattle.psu_lex.specs.Shown.{ShowsHeader}
-use Rattle.psu_lex.specs.declared.header.Header as rust
+use Rattle.psu_lex.specs.declared.unit.Header as rust
 use Rattle.psu_lex.proofs.WrittenData.{node_every}
 
 -- the rest of a path whose first node has begun (true), or has not (false)

@@ -10,8 +10,8 @@ use Rattle.psu_lex.specs.Message.Token.{Separator, Whole}
 use Rattle.psu_lex.specs.Scan.{has}
 use Rattle.psu_lex.specs.Syntax.{Datum, IsBefore, IsDatum, IsWholeIn, Lists, Syntax, UnitReads}
 use Rattle.psu_lex.specs.SyntaxScan.{is_high}
-use Rattle.psu_lex.specs.declared.datum_class.DatumClass.{DatumClass}
-use Rattle.psu_lex.specs.declared.datum_class.DatumClass.TheVariants.{Numeric, Character, String, Block}
+use Rattle.psu_lex.specs.declared.data.DatumClass.{DatumClass}
+use Rattle.psu_lex.specs.declared.data.DatumClass.TheVariants.{Numeric, Character, String, Block}
 use Rattle.psu_lex.proofs.HeaderScans.{spelled_every}
 use Rattle.psu_lex.proofs.PieceScans.{last_line}
 use Rattle.psu_lex.proofs.Runs.{every, every_head, every_tail}

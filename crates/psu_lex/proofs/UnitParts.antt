@@ -6,8 +6,8 @@ use Rattle.psu_lex.specs.NumberScan.{run, left, is_number, scanned}
 use Rattle.psu_lex.specs.Message.{Part, Token, Reads}
 use Rattle.psu_lex.specs.Syntax.{error_of, is_name_byte, SpellsHeader, Lists, Syntax, is_apart, UnitReads, has_high, TextGives, FaultGives, SyntaxGives, Datum}
 use Rattle.psu_lex.specs.Shown.{Shows, ShowsSyntax, TailLists}
-use Rattle.psu_lex.specs.declared.unit_syntax.Syntax as rust
-use Rattle.psu_lex.specs.declared.unit_fault.UnitFault.{UnitFault}
+use Rattle.psu_lex.specs.declared.unit.Syntax as rust
+use Rattle.psu_lex.specs.declared.unit.UnitFault.{UnitFault}
 use Rattle.psu_lex.specs.declared.scpi_error.ScpiError.{ScpiError}
 use Rattle.psu_lex.specs.declared.scpi_error.ScpiError.TheVariants.{InvalidCharacter, SyntaxError}
 use Rattle.psu_lex.proofs.Runs.{run_white, every, leads, every_head, run_at, left_at, run_left, same_head}

@@ -6,7 +6,7 @@ use Rattle.std.proofs.lemmas.Grind.{common_steps}
 use Rattle.memchr.specs.Find.{IsFirstByte, is_byte3}
 use Rattle.psu_lex.specs.Bytes.{opens, separates, is_closed, all_white}
 use Rattle.psu_lex.specs.Message.{opens_first, ends_unit, BeginsPiece, HasNoPiece, Makes, Part, ended, next_first, fault_of, spelling, part, parts, Token, Reads}
-use Rattle.psu_lex.specs.declared.unit_fault.UnitFault.{UnitFault}
+use Rattle.psu_lex.specs.declared.unit.UnitFault.{UnitFault}
 use Rattle.psu_lex.specs.Message.Token.{Byte, Separator, Whole, Faulty}
 use Rattle.psu_lex.specs.Scan.{has, after_piece, stops, units_in}
 use Rattle.psu_lex.proofs.PieceScans.{whole}

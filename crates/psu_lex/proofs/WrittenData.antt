@@ -13,7 +13,7 @@ use Rattle.psu_lex.specs.NumberScan.{run, left, is_number}
 use Rattle.psu_lex.specs.Scan.{has}
 use Rattle.psu_lex.specs.Syntax.{is_name_byte, all_name, is_node, ends_in_white}
 use Rattle.psu_lex.specs.SyntaxScan.{is_high, is_uncut, is_parted, put_dark, trimmed, written, after_datum}
-use Rattle.psu_lex.specs.declared.datum_class.DatumClass.TheVariants.{Numeric, Character}
+use Rattle.psu_lex.specs.declared.data.DatumClass.TheVariants.{Numeric, Character}
 use Rattle.psu_lex.proofs.Runs.{run_white, every, leads, digits_every, white_every, letters_every, every_head, every_tail, every_append, every_more, run_at, run_all, run_left}
 use Rattle.psu_lex.proofs.Searches.{has_head, has_tail, free_before, free_all}
 use Rattle.psu_lex.proofs.NumberFound.{digits_parts, number_out}

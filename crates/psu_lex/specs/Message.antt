@@ -3,8 +3,8 @@
 use Rattle.std.specs.Prelude.{◌≡◌, ◌⊎◌, ℕ, ◌+◌, ◌<◌, ◌==◌, ◌||◌, ◌&&◌, Bool, true, false, List, [], ◌∷◌, ◌++◌, length, Option, Some, None, if◌then◌else◌}
 use Rattle.psu_lex.specs.Bytes.{separates, is_quote, opens, all_white, all_digits, has_newline, starts, ends_in_newline, value_after, is_closed}
 use Rattle.psu_lex.specs.declared.unit.Unit as rust
-use Rattle.psu_lex.specs.declared.unit_fault.UnitFault.{UnitFault}
-use Rattle.psu_lex.specs.declared.unit_fault.UnitFault.TheVariants.{String, Block}
+use Rattle.psu_lex.specs.declared.unit.UnitFault.{UnitFault}
+use Rattle.psu_lex.specs.declared.unit.UnitFault.TheVariants.{String, Block}
 
 -- ---- strings and blocks
 

@@ -4,10 +4,10 @@ use Rattle.psu_lex.specs.Number.{Sign, Exponent, Number, fraction_digits}
 use Rattle.psu_lex.specs.Number.Sign.{Plus, Minus, Unsigned}
 use Rattle.psu_lex.specs.Syntax.{Header, IsHeader, header_text, path_text, Datum, IsDatum, Lists, Syntax, datum_of}
 use Rattle.psu_lex.specs.declared.data.Data as rust_data
-use Rattle.psu_lex.specs.declared.datum.Datum as rust_datum
-use Rattle.psu_lex.specs.declared.found.Found as rust_found
-use Rattle.psu_lex.specs.declared.header.Header as rust_header
-use Rattle.psu_lex.specs.declared.unit_syntax.Syntax as rust
+use Rattle.psu_lex.specs.declared.data.Datum as rust_datum
+use Rattle.psu_lex.specs.declared.data.Found as rust_found
+use Rattle.psu_lex.specs.declared.unit.Header as rust_header
+use Rattle.psu_lex.specs.declared.unit.Syntax as rust
 use Rattle.psu_lex.specs.declared.written.Written as rust_written
 use Rattle.psu_lex.specs.declared.scpi_error.ScpiError.{ScpiError}
 

@@ -6,15 +6,15 @@ use Rattle.psu_lex.specs.Number.{Number, IsNumber, number_text}
 use Rattle.psu_lex.specs.Message.{Piece, spelling, IsWhole, Token, Reads, Part}
 use Rattle.psu_lex.specs.Message.Piece.{Quoted, Counted, Open}
 use Rattle.psu_lex.specs.Message.Token.{Byte}
-use Rattle.psu_lex.specs.declared.datum_class.DatumClass.{DatumClass}
-use Rattle.psu_lex.specs.declared.datum_class.DatumClass.TheVariants.{Numeric, Character, String, Block}
-use Rattle.psu_lex.specs.declared.datum.Datum as rust
+use Rattle.psu_lex.specs.declared.data.DatumClass.{DatumClass}
+use Rattle.psu_lex.specs.declared.data.DatumClass.TheVariants.{Numeric, Character, String, Block}
+use Rattle.psu_lex.specs.declared.data.Datum as rust
 use Rattle.psu_lex.specs.declared.mark.Mark.{Mark}
 use Rattle.psu_lex.specs.declared.mark.Mark.TheVariants.{Star, Colon, Bare}
 use Rattle.psu_lex.specs.declared.scpi_error.ScpiError.{ScpiError}
 use Rattle.psu_lex.specs.declared.scpi_error.ScpiError.TheVariants.{InvalidCharacter, InvalidStringData, InvalidBlockData, SyntaxError}
-use Rattle.psu_lex.specs.declared.unit_fault.UnitFault.{UnitFault}
-use Rattle.psu_lex.specs.declared.unit_fault.UnitFault.TheVariants as fault
+use Rattle.psu_lex.specs.declared.unit.UnitFault.{UnitFault}
+use Rattle.psu_lex.specs.declared.unit.UnitFault.TheVariants as fault
 
 -- ---- headers
 

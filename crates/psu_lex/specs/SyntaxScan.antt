@@ -4,8 +4,8 @@ use Rattle.psu_lex.specs.Bytes.{is_dark, is_white, is_letter, is_quote, starts, 
 use Rattle.psu_lex.specs.NumberScan.{run, left, is_number}
 use Rattle.psu_lex.specs.Scan.{after_piece}
 use Rattle.psu_lex.specs.Syntax.{is_name_byte, is_node, Datum}
-use Rattle.psu_lex.specs.declared.datum_class.DatumClass.{DatumClass}
-use Rattle.psu_lex.specs.declared.datum_class.DatumClass.TheVariants.{Numeric, Character, String, Block}
+use Rattle.psu_lex.specs.declared.data.DatumClass.{DatumClass}
+use Rattle.psu_lex.specs.declared.data.DatumClass.TheVariants.{Numeric, Character, String, Block}
 use Rattle.psu_lex.specs.declared.mark.Mark.{Mark}
 use Rattle.psu_lex.specs.declared.mark.Mark.TheVariants.{Star, Colon, Bare}
 

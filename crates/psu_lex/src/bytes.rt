@@ -1,11 +1,21 @@
-// Bytes that a call returns.
+// Bytes that a call returns, and how they are stored.
 ghost use Rattle.std.specs.Prelude.{◌≡◌, [], ◌++◌, decimal, IfOk, OnOk, OnErr};
 
-use crate::held::Held;
 use arrayvec::ArrayVec;
 use itoa::Buffer;
 use std::alloc::{AllocError, Allocator};
 use std::marker::Model;
+
+/// The number of bytes that are stored without allocation.
+pub const FEW: usize = 16;
+
+/// Bytes: a few inline, or any number in allocated memory.
+#[derive(Drop)]
+pub enum Held<A: Allocator + Copy> {
+    /// A few bytes; where they become too many, memory is allocated by this allocator.
+    Few(A, ArrayVec<u8, FEW>),
+    Many(Vec<u8, A>),
+}
 
 /// Bytes that a call returns; a few bytes that are known at once need no allocation. Contracts see the list of them.
 #[derive(Drop)]

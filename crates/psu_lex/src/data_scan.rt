@@ -4,10 +4,10 @@ ghost use Rattle.psu_lex.specs.Bytes.{all_white};
 ghost use Rattle.psu_lex.specs.Syntax.{Datum as DatumData, Lists, datum_of, ends_in_white};
 ghost use Rattle.psu_lex.specs.Shown.{HoldsData, HoldsFound, TailLists};
 ghost use Rattle.psu_lex.specs.SyntaxScan.{after_datum, class_at, datum_at, is_parted, written};
-ghost use Rattle.psu_lex.specs.declared.datum_class.DatumClass.TheVariants.{Numeric, Character, String, Block};
+ghost use Rattle.psu_lex.specs.declared.data.DatumClass.TheVariants.{Numeric, Character, String, Block};
 
 use crate::class::Class;
-use crate::found::Found;
+use crate::data::Found;
 use crate::headers::is_node;
 use crate::message::is_blank;
 use crate::number_scan::{run_of, scan};

@@ -1,5 +1,29 @@
-// A unit of a message.
-use crate::UnitFault;
+// A unit of a message: its text, its fault, and its parts.
+use crate::{Data, Mark, ScpiError};
+
+/// The fault of a unit: the first of its strings and blocks that is not whole.
+#[derive(Clone, Copy, Debug, PartialEq, Eq)]
+pub enum UnitFault {
+    /// The first one is a string.
+    String,
+    /// The first one is a block.
+    Block,
+}
+
+impl UnitFault {
+    ghost use Rattle.std.specs.Prelude.{◌≡◌};
+    ghost use Rattle.psu_lex.specs.Syntax.{error_of};
+
+    /// Returns the error of the fault: invalid string data, or invalid block data.
+    pub fn error(self) -> ScpiError
+        ensures { result ≡ error_of self }
+    {
+        match self {
+            UnitFault::String => ScpiError::InvalidStringData,
+            UnitFault::Block => ScpiError::InvalidBlockData,
+        }
+    }
+}
 
 /// A program message unit as written (IEEE 488.2, 7.3.2), or the faulty bytes in its place.
 #[derive(Clone, Copy, Debug, PartialEq, Eq)]
@@ -10,4 +34,26 @@ pub struct Unit<'a> {
     pub first: bool,
     /// The fault of the unit, if it has one.
     pub fault: Option<UnitFault>,
+}
+
+/// The parts of a unit's header (IEEE 488.2, 7.6).
+#[derive(Clone, Copy, Debug, PartialEq, Eq)]
+pub struct Header<'a> {
+    /// The header as written, with its mark and its `?`.
+    pub text: &'a [u8],
+    /// The mark that it begins with.
+    pub mark: Mark,
+    /// Its nodes, separated by `:`.
+    pub nodes: &'a [u8],
+    /// Whether it ends with `?`.
+    pub asks: bool,
+}
+
+/// The parts of a unit (IEEE 488.2, 7.3.2): a header, and data.
+#[derive(Clone, Copy, Debug, PartialEq, Eq)]
+pub struct Syntax<'a> {
+    /// Its header.
+    pub header: Header<'a>,
+    /// Its data, in order.
+    pub parameters: Data<'a>,
 }

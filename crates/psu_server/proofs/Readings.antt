@@ -5,12 +5,12 @@ use Rattle.psu_lex.specs.Names.{is_label}
 use Rattle.psu_lex.specs.Shown.{HoldsData, TailLists}
 use Rattle.psu_lex.specs.Syntax.{Datum, Header, IsBefore, IsHeader, Lists, Syntax, SyntaxGives, FaultGives, TextGives, UnitReads, has_high, header_text}
 use Rattle.psu_lex.specs.declared.data.Data.{Data}
-use Rattle.psu_lex.specs.declared.unit_fault.UnitFault.{UnitFault}
+use Rattle.psu_lex.specs.declared.unit.UnitFault.{UnitFault}
 use Rattle.psu_lex.specs.declared.scpi_error.ScpiError.{ScpiError}
 use Rattle.psu_tree.specs.Path.{path_behind}
 use Rattle.psu_tree.specs.Reading.{Reads, Moves, Calls, SyntaxReads, SyntaxMoves, SyntaxCalls}
 use Rattle.psu_tree.specs.declared.command.Command.{Command}
-use Rattle.psu_tree.specs.declared.macro_call.MacroCall.{MacroCall}
+use Rattle.psu_tree.specs.declared.unit_request.MacroCall.{MacroCall}
 
 -- every unit reads in some way at a path, and in one way
 abbrev pub SomeReading : Type 0

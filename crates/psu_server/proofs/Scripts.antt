@@ -5,12 +5,12 @@ use Rattle.psu_lex.specs.Message.{Part, IsMessage}
 use Rattle.psu_lex.specs.Names.{is_label}
 use Rattle.psu_lex.specs.Shown.{HoldsFound, TailLists}
 use Rattle.psu_lex.specs.Syntax.{Datum, Lists, Syntax, datum_of}
-use Rattle.psu_lex.specs.declared.found.Found.{Found}
+use Rattle.psu_lex.specs.declared.data.Found.{Found}
 use Rattle.psu_lex.specs.declared.scpi_error.ScpiError.{ScpiError}
 use Rattle.psu_lex.proofs.DataLists.{one_list}
 use Rattle.psu_tree.specs.Reading.{Moves, SyntaxCalls}
 use Rattle.psu_tree.specs.declared.command.Command.{Command}
-use Rattle.psu_tree.specs.declared.macro_call.MacroCall.{MacroCall}
+use Rattle.psu_tree.specs.declared.unit_request.MacroCall.{MacroCall}
 use Rattle.psu_tree.specs.declared.unit_request.Request.{Request}
 use Rattle.psu_instrument.specs.Macros.{HoldsParameters, label_in}
 use Rattle.psu_messages.specs.Units.{path_at}

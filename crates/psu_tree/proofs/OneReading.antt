@@ -4,15 +4,15 @@ use Rattle.psu_lex.specs.Data.{IsStringOf, IsDatumOf}
 use Rattle.psu_lex.specs.Message.{Part}
 use Rattle.psu_lex.specs.Number.{Number, IsNumber, number_text, reading_of}
 use Rattle.psu_lex.specs.Syntax.{Datum, Header, IsHeader, Syntax, SyntaxGives, header_text}
-use Rattle.psu_lex.specs.declared.datum_class.DatumClass.{DatumClass}
-use Rattle.psu_lex.specs.declared.datum_class.DatumClass.TheVariants.{Numeric, Character, String, Block}
+use Rattle.psu_lex.specs.declared.data.DatumClass.{DatumClass}
+use Rattle.psu_lex.specs.declared.data.DatumClass.TheVariants.{Numeric, Character, String, Block}
 use Rattle.psu_lex.specs.declared.scpi_error.ScpiError.{ScpiError}
 use Rattle.psu_tree.specs.Commands.{CommandReads, Makes, unit_of, greatest_of}
 use Rattle.psu_tree.specs.Parameters.{One, Perhaps, Two, mapped, next, paired, WholeOf, SwitchOf, AmountOf, WordOf, StringOf, BlockOf, TakesWhole, TakesSwitch, TakesAmount, TakesWord, TakesString, TakesBlock, amount_of, counted, flagged, switched, extreme_of, leveled, recalled, at_most, labeled, named}
 use Rattle.psu_tree.specs.Path.{words_of}
 use Rattle.psu_tree.specs.Reading.{FormReads, SyntaxReads, Reads, header_reads}
-use Rattle.psu_tree.specs.declared.choice.Choice.{Choice}
-use Rattle.psu_tree.specs.declared.choice.Choice.TheVariants.{Amount}
+use Rattle.psu_tree.specs.declared.text.Choice.{Choice}
+use Rattle.psu_tree.specs.declared.text.Choice.TheVariants.{Amount}
 use Rattle.psu_tree.specs.declared.command.Command.{Command}
 use Rattle.psu_tree.specs.declared.form.Form.{Form}
 use Rattle.psu_tree.specs.declared.form.Form.TheVariants as f

@@ -7,9 +7,9 @@ use Rattle.psu_lex.specs.Bytes.{all_digits}
 use Rattle.psu_tree.specs.Headers.{Entry, asked, capital, fits, in_brackets, is_form, is_numbered, is_small, stem}
 use Rattle.psu_tree.specs.Scans.{first_letter, second_letter}
 use Rattle.psu_tree.specs.Shown.{begins_with, each_begins, entry, fits_behind, named_of, row_behind}
-use Rattle.psu_tree.specs.declared.node.Node.{Node}
-use Rattle.psu_tree.specs.declared.row.Row.{Row}
-use Rattle.psu_tree.specs.declared.section.Section.{Section}
+use Rattle.psu_tree.specs.declared.rows.Node.{Node}
+use Rattle.psu_tree.specs.declared.rows.Row.{Row}
+use Rattle.psu_tree.specs.declared.rows.Section.{Section}
 
 same_fit : (root : Node) (row : Row) (ws : List (List ℕ)) → fits (entry root row).nodes ws ≡ fits_behind (named_of root ws) (in_brackets root.kind) row.nodes.now ws
 same_fit root row [] = refl

@@ -3,7 +3,7 @@ use Rattle.std.proofs.Common.{◌≡◌, ℕ, Bool, true, false, List, [], ◌�
 use Rattle.psu_lex.specs.Message.{Part}
 use Rattle.psu_lex.specs.Shown.{IsSomeDatum}
 use Rattle.psu_lex.specs.Syntax.{Datum, Lists, Syntax, SyntaxGives, TextGives, FaultGives, UnitReads, has_high}
-use Rattle.psu_lex.specs.declared.unit_fault.UnitFault.{UnitFault}
+use Rattle.psu_lex.specs.declared.unit.UnitFault.{UnitFault}
 use Rattle.psu_lex.specs.declared.scpi_error.ScpiError.{ScpiError}
 use Rattle.psu_lex.specs.declared.scpi_error.ScpiError.TheVariants.{MissingParameter, ParameterNotAllowed}
 use Rattle.psu_tree.specs.Commands.{CommandReads, Makes, alone, unit_of, greatest_of}
@@ -12,7 +12,7 @@ use Rattle.psu_tree.specs.Path.{words_of}
 use Rattle.psu_tree.specs.Reading.{FormReads, SyntaxReads, Reads, header_reads}
 use Rattle.psu_tree.specs.declared.command.Command.{Command}
 use Rattle.psu_tree.specs.declared.command.Command.TheVariants as c
-use Rattle.psu_tree.specs.declared.flag.Flag.TheVariants.{Protection, Recall}
+use Rattle.psu_tree.specs.declared.values.Flag.TheVariants.{Protection, Recall}
 use Rattle.psu_tree.specs.declared.form.Form.{Form}
 use Rattle.psu_tree.specs.declared.form.Form.TheVariants as f
 use Rattle.psu_outputs.specs.declared.output.Output.{Output}

@@ -3,13 +3,13 @@ use Rattle.std.proofs.Common.{◌≡◌, ℕ, List, [], ◌∷◌, refl, sym, su
 use Rattle.psu_lex.specs.Number.{reading_of}
 use Rattle.psu_lex.specs.Syntax.{Datum, IsDatum}
 use Rattle.psu_lex.specs.Shown.{IsSomeDatum}
-use Rattle.psu_lex.specs.declared.datum_class.DatumClass.{DatumClass}
-use Rattle.psu_lex.specs.declared.datum_class.DatumClass.TheVariants.{Numeric, Character, String, Block}
+use Rattle.psu_lex.specs.declared.data.DatumClass.{DatumClass}
+use Rattle.psu_lex.specs.declared.data.DatumClass.TheVariants.{Numeric, Character, String, Block}
 use Rattle.psu_lex.specs.declared.scpi_error.ScpiError.{ScpiError}
 use Rattle.psu_lex.specs.declared.scpi_error.ScpiError.TheVariants.{DataTypeError}
 use Rattle.psu_tree.specs.Parameters.{mapped, next, WholeOf, SwitchOf, AmountOf, WordOf, StringOf, BlockOf, TakesWhole, TakesSwitch, TakesAmount, TakesWord, TakesString, TakesBlock, amount_of, Two}
-use Rattle.psu_tree.specs.declared.choice.Choice.{Choice}
-use Rattle.psu_tree.specs.declared.choice.Choice.TheVariants.{Amount, Word}
+use Rattle.psu_tree.specs.declared.text.Choice.{Choice}
+use Rattle.psu_tree.specs.declared.text.Choice.TheVariants.{Amount, Word}
 use Rattle.psu_tree.proofs.Taking.{string_at, block_at}
 
 whole_at : (class : DatumClass) (text more : List ℕ) → IsDatum class text more → (taken : Result ℤ ScpiError) × WholeOf class text taken

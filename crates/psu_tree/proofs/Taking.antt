@@ -6,11 +6,11 @@ use Rattle.psu_lex.specs.Message.{Piece, doubled, spelling}
 use Rattle.psu_lex.specs.Message.Piece.{Quoted, Counted, Open}
 use Rattle.psu_lex.specs.Number.{Number, IsNumber, NumberGives, number_text, reading_of}
 use Rattle.psu_lex.specs.Syntax.{IsDatum, class_of, IsWholeIn}
-use Rattle.psu_lex.specs.declared.datum_class.DatumClass.{DatumClass}
-use Rattle.psu_lex.specs.declared.datum_class.DatumClass.TheVariants.{Numeric, Character, String, Block}
+use Rattle.psu_lex.specs.declared.data.DatumClass.{DatumClass}
+use Rattle.psu_lex.specs.declared.data.DatumClass.TheVariants.{Numeric, Character, String, Block}
 use Rattle.psu_lex.specs.declared.scpi_error.ScpiError.{ScpiError}
 use Rattle.psu_tree.specs.Parameters.{mapped, next, SwitchOf, AmountOf, WordOf, StringOf, BlockOf, amount_of, label_of, labeled, name_of, named}
-use Rattle.psu_tree.specs.declared.choice.Choice.TheVariants.{Amount}
+use Rattle.psu_tree.specs.declared.text.Choice.TheVariants.{Amount}
 use Rattle.psu_tree.proofs.Quoting.{label_doubled, name_doubled}
 
 abbrev Written : List ℕ → Type 0

@@ -6,10 +6,10 @@ use Rattle.psu_lex.specs.Shown.{Shows, ShowsSyntax}
 use Rattle.psu_lex.specs.Syntax.{Datum, Syntax, SyntaxGives}
 use Rattle.psu_lex.specs.declared.scpi_error.ScpiError.{ScpiError}
 use Rattle.psu_lex.specs.declared.scpi_error.ScpiError.TheVariants.{UndefinedHeader}
-use Rattle.psu_lex.specs.declared.unit_syntax.Syntax as rust
+use Rattle.psu_lex.specs.declared.unit.Syntax as rust
 use Rattle.psu_tree.specs.Reading.{Calls, FormReads, SyntaxCalls, header_reads, output_of, placed, suffix_of}
 use Rattle.psu_tree.specs.declared.form.Form.{Form}
-use Rattle.psu_tree.specs.declared.macro_call.MacroCall.{MacroCall}
+use Rattle.psu_tree.specs.declared.unit_request.MacroCall.{MacroCall}
 use Rattle.psu_tree.proofs.TableSize.{none_asked}
 
 -- a header with too many nodes is undefined

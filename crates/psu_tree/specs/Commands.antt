@@ -7,11 +7,11 @@ use Rattle.psu_lex.specs.declared.scpi_error.ScpiError.TheVariants.{ParameterNot
 use Rattle.psu_tree.specs.Parameters.{One, Perhaps, Two, mapped, TakesWhole, TakesSwitch, TakesAmount, TakesWord, TakesString, TakesBlock, counted, flagged, switched, extreme_of, leveled, recalled, at_most, labeled, named}
 use Rattle.psu_tree.specs.declared.command.Command.{Command}
 use Rattle.psu_tree.specs.declared.command.Command.TheVariants as c
-use Rattle.psu_tree.specs.declared.flag.Flag.TheVariants.{Protection, Recall}
+use Rattle.psu_tree.specs.declared.values.Flag.TheVariants.{Protection, Recall}
 use Rattle.psu_tree.specs.declared.form.Form.{Form}
 use Rattle.psu_tree.specs.declared.form.Form.TheVariants as f
-use Rattle.psu_tree.specs.declared.level.Level.{Level}
-use Rattle.psu_tree.specs.declared.level.Level.TheVariants as level
+use Rattle.psu_tree.specs.declared.values.Level.{Level}
+use Rattle.psu_tree.specs.declared.values.Level.TheVariants as level
 use Rattle.psu_outputs.specs.declared.output.Output.{Output}
 
 -- no parameter

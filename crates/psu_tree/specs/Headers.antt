@@ -3,8 +3,8 @@
 use Rattle.std.specs.Prelude.{◌≡◌, ◌⊎◌, ℕ, ◌-◌, ◌==◌, ◌||◌, ◌&&◌, nat_lt, Bool, true, false, List, [], ◌∷◌, ◌++◌, Option, Some, None, option_and_then, find, if◌then◌else◌}
 use Rattle.psu_lex.specs.Bytes.{all_digits}
 use Rattle.psu_tree.specs.declared.form.Form.{Form}
-use Rattle.psu_tree.specs.declared.kind.Kind.{Kind}
-use Rattle.psu_tree.specs.declared.kind.Kind.TheVariants.{Must, Maybe, Numbered, MaybeNumbered}
+use Rattle.psu_tree.specs.declared.rows.Kind.{Kind}
+use Rattle.psu_tree.specs.declared.rows.Kind.TheVariants.{Must, Maybe, Numbered, MaybeNumbered}
 
 -- a lowercase letter
 abbrev pub is_small : ℕ → Bool

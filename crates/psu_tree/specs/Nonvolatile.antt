@@ -2,20 +2,20 @@
 use Rattle.std.specs.Prelude.{Bool, true, false, not, Option, Some, None}
 use Rattle.psu_tree.specs.Headers.{Keeping}
 use Rattle.psu_tree.specs.Headers.Keeping.{Never, Always, WhileFalse}
-use Rattle.psu_tree.specs.declared.action.Action.{Action}
-use Rattle.psu_tree.specs.declared.action.Action.TheVariants.{PurgeMacros}
+use Rattle.psu_tree.specs.declared.queries.Action.{Action}
+use Rattle.psu_tree.specs.declared.queries.Action.TheVariants.{PurgeMacros}
 use Rattle.psu_tree.specs.declared.command.Command.{Command}
 use Rattle.psu_tree.specs.declared.command.Command.TheVariants as c
-use Rattle.psu_tree.specs.declared.flag.Flag.{Flag}
-use Rattle.psu_tree.specs.declared.flag.Flag.TheVariants.{PowerOnClear, Recall}
+use Rattle.psu_tree.specs.declared.values.Flag.{Flag}
+use Rattle.psu_tree.specs.declared.values.Flag.TheVariants.{PowerOnClear, Recall}
 use Rattle.psu_tree.specs.declared.form.Form.{Form}
 use Rattle.psu_tree.specs.declared.form.Form.TheVariants as f
-use Rattle.psu_tree.specs.declared.on_file.OnFile.{OnFile}
-use Rattle.psu_tree.specs.declared.on_file.OnFile.TheVariants.{Delete}
-use Rattle.psu_tree.specs.declared.on_macro.OnMacro.{OnMacro}
-use Rattle.psu_tree.specs.declared.on_macro.OnMacro.TheVariants.{Remove}
-use Rattle.psu_tree.specs.declared.on_register.OnRegister.{OnRegister}
-use Rattle.psu_tree.specs.declared.on_register.OnRegister.TheVariants.{Save}
+use Rattle.psu_tree.specs.declared.values.OnFile.{OnFile}
+use Rattle.psu_tree.specs.declared.values.OnFile.TheVariants.{Delete}
+use Rattle.psu_tree.specs.declared.values.OnMacro.{OnMacro}
+use Rattle.psu_tree.specs.declared.values.OnMacro.TheVariants.{Remove}
+use Rattle.psu_tree.specs.declared.values.OnRegister.{OnRegister}
+use Rattle.psu_tree.specs.declared.values.OnRegister.TheVariants.{Save}
 
 abbrev pub of_action : Action → Keeping
 of_action PurgeMacros = Always

@@ -5,15 +5,15 @@ use Rattle.psu_lex.specs.Data.{IsStringOf, IsDatumOf}
 use Rattle.psu_lex.specs.Names.{is_label, is_name}
 use Rattle.psu_lex.specs.Number.{Number, IsNumber, number_text, reading_of, valued}
 use Rattle.psu_lex.specs.Syntax.{Datum}
-use Rattle.psu_lex.specs.declared.datum_class.DatumClass.{DatumClass}
-use Rattle.psu_lex.specs.declared.datum_class.DatumClass.TheVariants.{Numeric, Character, String, Block}
+use Rattle.psu_lex.specs.declared.data.DatumClass.{DatumClass}
+use Rattle.psu_lex.specs.declared.data.DatumClass.TheVariants.{Numeric, Character, String, Block}
 use Rattle.psu_lex.specs.declared.scpi_error.ScpiError.{ScpiError}
 use Rattle.psu_lex.specs.declared.scpi_error.ScpiError.TheVariants.{DataTypeError, MissingParameter, ParameterNotAllowed, DataOutOfRange, TooMuchData, IllegalParameterValue, InvalidSuffix}
 use Rattle.psu_tree.specs.Headers.{same_letters}
-use Rattle.psu_tree.specs.declared.choice.Choice.{Choice}
-use Rattle.psu_tree.specs.declared.choice.Choice.TheVariants.{Amount, Word}
-use Rattle.psu_tree.specs.declared.extreme.Extreme.{Extreme}
-use Rattle.psu_tree.specs.declared.extreme.Extreme.TheVariants.{Least, Greatest}
+use Rattle.psu_tree.specs.declared.text.Choice.{Choice}
+use Rattle.psu_tree.specs.declared.text.Choice.TheVariants.{Amount, Word}
+use Rattle.psu_tree.specs.declared.values.Extreme.{Extreme}
+use Rattle.psu_tree.specs.declared.values.Extreme.TheVariants.{Least, Greatest}
 
 -- continues with the value where there is no error
 abbrev pub next : {A B : Type 0} → Result A ScpiError → (A → Result B ScpiError) → Result B ScpiError

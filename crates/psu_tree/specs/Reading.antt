@@ -14,7 +14,7 @@ use Rattle.psu_tree.specs.Path.{words_of, path_behind}
 use Rattle.psu_tree.specs.Table.{table}
 use Rattle.psu_tree.specs.declared.command.Command.{Command}
 use Rattle.psu_tree.specs.declared.form.Form.{Form}
-use Rattle.psu_tree.specs.declared.macro_call.MacroCall as rust_call
+use Rattle.psu_tree.specs.declared.unit_request.MacroCall as rust_call
 use Rattle.psu_outputs.specs.declared.output.Output.{Output}
 use Rattle.psu_outputs.specs.declared.output.Output.TheVariants.{First, Second, Third, Fourth}
 

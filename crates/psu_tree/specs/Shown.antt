@@ -2,9 +2,9 @@
 use Rattle.std.specs.Prelude.{ℕ, Bool, false, true, ◌==◌, ◌&&◌, ◌||◌, not, List, [], ◌∷◌, ◌++◌, map, find, Option}
 use Rattle.psu_tree.specs.Headers.{Mnemonic, Entry, fits, is_numbered, is_small, names}
 use Rattle.psu_tree.specs.Nonvolatile.{keeping_of}
-use Rattle.psu_tree.specs.declared.node.Node.{Node}
-use Rattle.psu_tree.specs.declared.row.Row.{Row}
-use Rattle.psu_tree.specs.declared.section.Section.{Section}
+use Rattle.psu_tree.specs.declared.rows.Node.{Node}
+use Rattle.psu_tree.specs.declared.rows.Row.{Row}
+use Rattle.psu_tree.specs.declared.rows.Section.{Section}
 
 abbrev pub mnemonic : Node → Mnemonic
 mnemonic node = record { name = node.name.now; kind = node.kind }

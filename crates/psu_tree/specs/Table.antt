@@ -3,20 +3,20 @@
 use Rattle.std.specs.Prelude.{List, [], ◌∷◌, codes}
 use Rattle.psu_tree.specs.Headers.{Entry, both, only, asks, kept, kept_while_false}
 use Rattle.psu_tree.specs.declared.form.Form.TheVariants.{Action, Query, OutputQuery, ClearTrip, Enable, Flag, Filter, Register, Load, Level, LevelQuery, Switch, Protect, PowerOn, UserData, Define, Macro, Contents, File, Names, StateFile, MacroFile}
-use Rattle.psu_tree.specs.declared.action.Action.TheVariants as a
-use Rattle.psu_tree.specs.declared.query.Query.TheVariants as q
-use Rattle.psu_tree.specs.declared.enable.Enable.TheVariants as e
-use Rattle.psu_tree.specs.declared.flag.Flag.TheVariants as g
+use Rattle.psu_tree.specs.declared.queries.Action.TheVariants as a
+use Rattle.psu_tree.specs.declared.queries.Query.TheVariants as q
+use Rattle.psu_tree.specs.declared.values.Enable.TheVariants as e
+use Rattle.psu_tree.specs.declared.values.Flag.TheVariants as g
 use Rattle.psu_status.specs.declared.group.Group.TheVariants.{Operation, Questionable}
 use Rattle.psu_status.specs.declared.filter.Filter.TheVariants as f
-use Rattle.psu_tree.specs.declared.output_query.OutputQuery.TheVariants as o
-use Rattle.psu_tree.specs.declared.level.Level.TheVariants as l
-use Rattle.psu_tree.specs.declared.switch.Switch.TheVariants as s
-use Rattle.psu_tree.specs.declared.on_macro.OnMacro.TheVariants as m
-use Rattle.psu_tree.specs.declared.on_file.OnFile.TheVariants as on_file
-use Rattle.psu_tree.specs.declared.on_names.OnNames.TheVariants as on_names
-use Rattle.psu_tree.specs.declared.on_register.OnRegister.TheVariants as on_register
-use Rattle.psu_tree.specs.declared.transfer.Transfer.TheVariants as transfer
+use Rattle.psu_tree.specs.declared.queries.OutputQuery.TheVariants as o
+use Rattle.psu_tree.specs.declared.values.Level.TheVariants as l
+use Rattle.psu_tree.specs.declared.values.Switch.TheVariants as s
+use Rattle.psu_tree.specs.declared.values.OnMacro.TheVariants as m
+use Rattle.psu_tree.specs.declared.values.OnFile.TheVariants as on_file
+use Rattle.psu_tree.specs.declared.values.OnNames.TheVariants as on_names
+use Rattle.psu_tree.specs.declared.values.OnRegister.TheVariants as on_register
+use Rattle.psu_tree.specs.declared.values.Transfer.TheVariants as transfer
 
 abbrev pub table : List Entry
 table =

@@ -2,7 +2,7 @@
 use Rattle.std.specs.Prelude.{◌≡◌, List, [], ◌∷◌, Option, Some, None, Result, Ok, Err}
 use Rattle.psu_lex.specs.Shown.{IsSomeDatum}
 use Rattle.psu_lex.specs.Syntax.{Datum, datum_of}
-use Rattle.psu_lex.specs.declared.datum.Datum as rust
+use Rattle.psu_lex.specs.declared.data.Datum as rust
 use Rattle.psu_lex.specs.declared.scpi_error.ScpiError.{ScpiError}
 use Rattle.psu_lex.specs.declared.scpi_error.ScpiError.TheVariants.{MissingParameter, ParameterNotAllowed}
 use Rattle.psu_tree.specs.Parameters.{next}

@@ -1,6 +1,15 @@
-// Parsed units.
-use crate::{Command, MacroCall};
-use psu_lex::ScpiError;
+// Parsed units, and the macro calls that they may be.
+use crate::Command;
+use psu_lex::{Data, ScpiError};
+
+/// A unit whose header has the form of a macro label (IEEE 488.2, 10.8).
+#[derive(Drop)]
+pub struct MacroCall<'a> {
+    /// The header as written.
+    pub label: &'a [u8],
+    /// The data, each as written.
+    pub args: Data<'a>,
+}
 
 /// A parsed unit.
 #[derive(Drop)]

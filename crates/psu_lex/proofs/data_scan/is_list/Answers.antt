@@ -2,7 +2,7 @@ use Rattle.std.proofs.Common.{◌≡◌, ◌∷◌, Option, Some, None, IfSome, 
 use Rattle.psu_lex.specs.Shown.{HoldsFound}
 use Rattle.psu_lex.specs.Syntax.{datum_of}
 use Rattle.psu_lex.specs.SyntaxScan.{datum_at}
-use Rattle.psu_lex.specs.declared.found.Found.{Found}
+use Rattle.psu_lex.specs.declared.data.Found.{Found}
 use Rattle.psu_lex.proofs.DataLists.{lists_in, no_list, rest_of, some_datum}
 use Rattle.psu_lex.proofs.data_scan.is_list.Goals as goal
 

@@ -4,8 +4,8 @@ use Rattle.std.specs.Option.{option_copied}
 use Rattle.psu_tree.specs.Headers.{asked}
 use Rattle.psu_tree.specs.Scans.{first_letter, second_letter}
 use Rattle.psu_tree.specs.Shown.{each_begins, entries, named_of}
-use Rattle.psu_tree.specs.declared.row.Row.{Row}
-use Rattle.psu_tree.specs.declared.section.Section.{Section}
+use Rattle.psu_tree.specs.declared.rows.Row.{Row}
+use Rattle.psu_tree.specs.declared.rows.Section.{Section}
 use Rattle.psu_tree.proofs.Sections.{each_one, found, none_passed, passed, unnamed}
 use Rattle.psu_tree.proofs.lookups.form_in.Goals as goal
 

@@ -1,6 +1,6 @@
 use Rattle.std.proofs.Common.{refl, Ok, Err}
-use Rattle.psu_lex.specs.declared.datum_class.DatumClass.{DatumClass}
-use Rattle.psu_lex.specs.declared.datum_class.DatumClass.TheVariants.{Numeric, String, Block}
+use Rattle.psu_lex.specs.declared.data.DatumClass.{DatumClass}
+use Rattle.psu_lex.specs.declared.data.DatumClass.TheVariants.{Numeric, String, Block}
 use Rattle.psu_lex.specs.declared.scpi_error.ScpiError.TheVariants.{DataTypeError}
 use Rattle.psu_tree.specs.Parameters.{WordOf}
 use Rattle.psu_tree.proofs.Taking.{of_three, word_taken}

@@ -2,7 +2,7 @@ use Rattle.std.proofs.Common.{Result, subst}
 use Rattle.psu_lex.specs.Message.{part}
 use Rattle.psu_lex.specs.Shown.{Shows}
 use Rattle.psu_lex.specs.declared.scpi_error.ScpiError.{ScpiError}
-use Rattle.psu_lex.specs.declared.unit_syntax.Syntax as rust
+use Rattle.psu_lex.specs.declared.unit.Syntax as rust
 use Rattle.psu_tree.proofs.UnitReadings.{called}
 use Rattle.psu_tree.proofs.readings.request.Goals as goal
 

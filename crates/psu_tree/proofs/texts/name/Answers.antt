@@ -1,6 +1,6 @@
 use Rattle.std.proofs.Common.{refl, ap, ◌∙◌, List, ℕ, Ok, Err, Option, Result}
-use Rattle.psu_lex.specs.declared.datum_class.DatumClass.{DatumClass}
-use Rattle.psu_lex.specs.declared.datum_class.DatumClass.TheVariants.{Numeric, Character, Block}
+use Rattle.psu_lex.specs.declared.data.DatumClass.{DatumClass}
+use Rattle.psu_lex.specs.declared.data.DatumClass.TheVariants.{Numeric, Character, Block}
 use Rattle.psu_lex.specs.declared.scpi_error.ScpiError.{ScpiError}
 use Rattle.psu_lex.specs.declared.scpi_error.ScpiError.TheVariants.{DataTypeError}
 use Rattle.psu_tree.specs.Parameters.{StringOf}
