@@ -180,13 +180,13 @@ pub count_at : {D A : Type 0} {G : Ghosts D} (old : Exec D A G) (j : AnyJob D A 
 count_at {D} {A} {G} old j there = ap (λ (z : Option (Home D A G)). failures_at z) there ∙ by j where
   by : (j : AnyJob D A G) → failures_at (let z : Option (Home D A G) = Some (job_home j) in z) ≡ Ghosts.failures G (job_disk j)
   by (job.Commit planned) = refl
-  by (job.Reopen old) = refl
+  by (job.Reopen reopening) = refl
 
 pub size_at : {D A : Type 0} {G : Ghosts D} (old : Exec D A G) (j : AnyJob D A G) → old.home ≡ Some (job_home j) → extent_of old ≡ Ghosts.extent G (job_disk j)
 size_at {D} {A} {G} old j there = ap (λ (z : Option (Home D A G)). extent_at z) there ∙ by j where
   by : (j : AnyJob D A G) → extent_at (let z : Option (Home D A G) = Some (job_home j) in z) ≡ Ghosts.extent G (job_disk j)
   by (job.Commit planned) = refl
-  by (job.Reopen old) = refl
+  by (job.Reopen reopening) = refl
 
 -- ---- facts in the run's terms
 

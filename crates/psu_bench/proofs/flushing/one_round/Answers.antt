@@ -13,14 +13,7 @@ returns-in-Ok-clause-calls g c = (
   Took (Job (job_data c.in-Ok.job)) ∷ GaveBack (finished_of c.run-finished.result.end) (over_of c.give_back-given.result) ∷ [],
   both_calls c.args.seat.now.mine c.take.new.seat.mine c.give_back-given.new.seat.mine _ _
       (c.take.ensures.call.mine ∙ ap (λ r. c.args.seat.now.mine ++ Took (taken_of r) ∷ []) c.in-Ok.is) c.give_back-given.ensures.call.mine,
-  (
-    c.in-Ok.job,
-    finished_of c.run-finished.result.end,
-    over_of c.give_back-given.result,
-    refl,
-    (c.run-finished.result.end, c.run-finished.ensures.end, refl),
-    refl,
-  ),
+  (c.in-Ok.job, finished_of c.run-finished.result.end, over_of c.give_back-given.result, refl, (c.run-finished.result.end, c.run-finished.ensures.end, refl), refl),
 )
 
 pub returns-in-Ok-clause-seen : goal.returns-in-Ok-clause-seen
