@@ -21,8 +21,8 @@ ghost use Rattle.psu_exec.specs.declared.wait.Wait.TheVariants.{Until};
 use crate::seal::Seal;
 use crate::{
     Condition, Contents, Crowded, Device, End, Ended, Finished, Freed, Grant, Home, Info, Job,
-    Kind, LockRefusal, NoJob, Outcome, Planned, PowerCause, PowerFault, Reopening, Request, Session,
-    Sessions, Stranger,
+    Kind, LockRefusal, NoJob, Outcome, Planned, PowerCause, PowerFault, Reopening, Request,
+    Session, Sessions, Stranger,
 };
 use psu_disk::Disk;
 use psu_items::{Batch, Store};
