@@ -115,7 +115,7 @@ impl<D: Disk, A: Allocator + Copy> Bench<D, A> {
         finished: Finished<D, A>,
     ) -> Result<Sessions, Stranger<D, A>>
         requires own { IsOf self.now seat.old }
-        ensures call { Calls (AdmitsOn D.honest) seat.old (GaveBack (finished_of finished) (over_of result)) seat.new }
+        ensures call { Calls (AdmitsOn D.honest) seat.old (GaveBack (finished_of finished.end) (over_of result)) seat.new }
         ensures own { IsOf self.now seat.new }
     {
         let call = Snapshot::of(&finished);

@@ -7,6 +7,7 @@ ghost use Rattle.psu_bench.specs.Seen.{HasSeen};
 
 use crate::{Bench, Gate, Point, Seat};
 use psu_disk::Disk;
+use psu_exec::{Sessions, Stranger};
 use std::alloc::Allocator;
 use std::sync::Wait;
 
@@ -21,7 +22,7 @@ pub fn flusher<D: Disk + Drop, A: Allocator + Copy, R: Wait, G: Gate>(
 ) -> Seat<A>
     requires own { IsOf bench.now seat }
     ensures same { IsSame seat result }
-    ensures calls { (calls : List Entry) × (result.mine ≡ seat.mine ++ calls) × AreRounds rounds calls }
+    ensures calls { (calls : List Entry) × (result.mine ≡ seat.mine ++ calls) × AreRounds A D.Disk rounds calls }
     ensures seen { 0 < rounds → HasSeen D.honest seat result }
     ensures own { IsOf bench.now result }
 {
@@ -31,8 +32,15 @@ pub fn flusher<D: Disk + Drop, A: Allocator + Copy, R: Wait, G: Gate>(
     seat
 }
 
-// Runs one round. The finished job is no stranger's if no other thread takes jobs of this bench; a stranger's is
-// dropped.
+// Discards a stranger. A finished job is none where its job was taken of the same bench.
+fn discard_stranger<D: Disk + Drop, A: Allocator + Copy>(given: Result<Sessions, Stranger<D, A>>) {
+    match given {
+        Ok(_) => {}
+        Err(stranger) => stranger.discard(),
+    }
+}
+
+// Runs one round.
 fn one_round<D: Disk + Drop, A: Allocator + Copy, R: Wait, G: Gate>(
     rt: &R,
     bench: &Bench<D, A>,
@@ -41,7 +49,7 @@ fn one_round<D: Disk + Drop, A: Allocator + Copy, R: Wait, G: Gate>(
 )
     requires own { IsOf bench.now seat.old }
     ensures same { IsSame seat.old seat.new }
-    ensures calls { (taken : Taken) × (calls : List Entry) × (seat.new.mine ≡ seat.old.mine ++ calls) × IsRound taken calls }
+    ensures calls { (taken : Taken) × (calls : List Entry) × (seat.new.mine ≡ seat.old.mine ++ calls) × IsRound A D.Disk taken calls }
     ensures seen { HasSeen D.honest seat.old seat.new }
     ensures own { IsOf bench.now seat.new }
 {
@@ -49,7 +57,8 @@ fn one_round<D: Disk + Drop, A: Allocator + Copy, R: Wait, G: Gate>(
         Ok(job) => {
             gate.at(Point::BeforeRun);
             let finished = job.run();
-            let _given = bench.give_back(rt, seat, finished);
+            let given = bench.give_back(rt, seat, finished);
+            discard_stranger(given);
         }
         Err(_none) => {}
     }

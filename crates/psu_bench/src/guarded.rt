@@ -62,7 +62,7 @@ impl<D: Disk, A: Allocator + Copy> Guarded<D, A> {
 
     /// Gives back a finished job, as `Exec::give_back` does.
     pub fn give_back(&mut self, finished: Finished<D, A>) -> Result<Sessions, Stranger<D, A>>
-        ensures call { AdmitsOn D.honest self.old.exec.value.device (GaveBack (finished_of finished) (over_of result)) self.new.exec.value.device }
+        ensures call { AdmitsOn D.honest self.old.exec.value.device (GaveBack (finished_of finished.end) (over_of result)) self.new.exec.value.device }
     {
         self.exec.give_back(finished)
     }

@@ -2,7 +2,7 @@
 use crate::plays::{LEAST, ends, image_of, played, taken, whole};
 use psu_call_steps::is_over;
 use psu_disk::Disk;
-use psu_exec::{Exec, Finished, Stranger};
+use psu_exec::{Exec, Finished};
 use std::alloc::Allocator;
 use std::process::Abort;
 
@@ -25,7 +25,7 @@ fn refused<D: Disk + Drop, A: Allocator + Copy>(
 ) -> Finished<D, A> {
     match exec.give_back(finished) {
         Ok(_) => panic!(rt; "a stranger is accepted"),
-        Err(Stranger { finished }) => finished,
+        Err(stranger) => stranger.into_finished(),
     }
 }
 

@@ -11,7 +11,13 @@ fn given_back<D: Disk + Drop, A: Allocator + Copy>(
     finished: Finished<D, A>,
     wanted: &str,
 ) -> Option<bool> {
-    Some(are(&exec.give_back(finished).ok()?, wanted))
+    match exec.give_back(finished) {
+        Ok(over) => Some(are(&over, wanted)),
+        Err(stranger) => {
+            stranger.discard();
+            None
+        }
+    }
 }
 
 /// Whether a device expects the end of a job, and it ends the waits of these sessions.

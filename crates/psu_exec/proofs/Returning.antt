@@ -10,8 +10,8 @@ use Rattle.psu_exec.specs.Jobs.{finished_of, home_edits, home_goal, home_limit, 
 use Rattle.psu_exec.specs.declared.home.Home.{Home}
 use Rattle.psu_exec.specs.declared.ending.Ending.{Ending}
 use Rattle.psu_exec.specs.declared.ending.Ending.TheVariants as ending
-use Rattle.psu_exec.specs.declared.finished.Finished.{Finished}
-use Rattle.psu_exec.specs.declared.finished.Finished.TheVariants as finished
+use Rattle.psu_exec.specs.declared.finished.End.{End}
+use Rattle.psu_exec.specs.declared.finished.End.TheVariants as finished
 
 -- the invariant of a store while no job is out
 pub record IsHome {D A : Type 0} {G : Ghosts D} (f : Flush) (home : Home D A G) : Type 0 where
@@ -21,7 +21,7 @@ pub record IsHome {D A : Type 0} {G : Ghosts D} (f : Flush) (home : Home D A G) 
   pub edits : home_edits (batch f.before (target f)) home ≡ batch f.before (target f)
   pub goal : home_goal (target f) home ≡ target f
 
-pub returned : {D A : Type 0} {G : Ghosts D} (f new : Flush) (end : Finished D A G) → IsExpected f (finished_of end) → FlushGives f (finished_of end) new → home_goal (target f) (home_of end) ≡ target f
+pub returned : {D A : Type 0} {G : Ghosts D} (f new : Flush) (end : End D A G) → IsExpected f (finished_of end) → FlushGives f (finished_of end) new → home_goal (target f) (home_of end) ≡ target f
     → IsHome new (home_of end)
 returned f new (finished.Stored store) expected is goal = rw is (record { holds = expected.1; sized = expected.0; kind = refl; edits = refl; goal = refl })
 returned f new (finished.Unstarted store edits unstarted.Memory) expected is goal = rw is (record { holds = expected.1; sized = expected.0; kind = refl; edits = refl; goal = refl })

@@ -16,27 +16,27 @@ use Rattle.psu_exec.specs.declared.job.Job.TheVariants as job
 use Rattle.psu_exec.specs.declared.no_job.NoJob.{NoJob}
 use Rattle.psu_items.specs.declared.broken.Broken.{Broken}
 use Rattle.psu_items.specs.declared.broken.BrokenCause.TheVariants as broken_cause
-use Rattle.psu_exec.specs.declared.finished.Finished.{Finished}
-use Rattle.psu_exec.specs.declared.finished.Finished.TheVariants as finished
+use Rattle.psu_exec.specs.declared.finished.End.{End}
+use Rattle.psu_exec.specs.declared.finished.End.TheVariants as finished
 use Rattle.psu_exec.specs.declared.home.Home.{Home}
 use Rattle.psu_exec.specs.declared.home.Home.TheVariants as home
 
 -- the result of a finished job, as data
-abbrev pub finished_of : {D A : Type 0} {G : Ghosts D} → Finished D A G → JobEnd
+abbrev pub finished_of : {D A : Type 0} {G : Ghosts D} → End D A G → JobEnd
 finished_of (finished.Stored store) = JobEnd.Stored store.limit store.items
 finished_of (finished.Unstarted store batch cause) = JobEnd.Unstarted store.limit store.items batch cause
 finished_of (finished.Broken broken) = JobEnd.Failed broken.limit broken.before broken.batch broken.cause
 finished_of (finished.Reopened store) = JobEnd.Reopened store.limit store.items
 
 -- the disk of a finished job
-abbrev pub finished_disk : {D A : Type 0} {G : Ghosts D} → Finished D A G → D
+abbrev pub finished_disk : {D A : Type 0} {G : Ghosts D} → End D A G → D
 finished_disk (finished.Stored store) = store.disk
 finished_disk (finished.Unstarted store batch cause) = store.disk
 finished_disk (finished.Broken broken) = broken.disk
 finished_disk (finished.Reopened store) = store.disk
 
 -- the store once a job is given back
-abbrev pub home_of : {D A : Type 0} {G : Ghosts D} → Finished D A G → Home D A G
+abbrev pub home_of : {D A : Type 0} {G : Ghosts D} → End D A G → Home D A G
 home_of (finished.Stored store) = home.Whole store
 home_of (finished.Unstarted store batch cause) = home.Whole store
 home_of (finished.Broken broken) = home.Failed broken
@@ -71,16 +71,16 @@ home_goal goal (home.Failed broken) = changed broken.before broken.batch
 -- a job with its maps, as data
 abbrev pub job_data : {D A : Type 0} {G : Ghosts D} → Job D A G → JobData
 job_data (job.Commit planned) = record { kind = Commit; limit = planned.store.limit; before = planned.store.items; target = changed planned.store.items planned.batch; edits = planned.batch }
-job_data (job.Reopen alloc broken) = record { kind = Reopen; limit = broken.limit; before = broken.before; target = changed broken.before broken.batch; edits = broken.batch }
+job_data (job.Reopen reopening) = record { kind = Reopen; limit = reopening.broken.limit; before = reopening.broken.before; target = changed reopening.broken.before reopening.broken.batch; edits = reopening.broken.batch }
 
 abbrev pub job_disk : {D A : Type 0} {G : Ghosts D} → Job D A G → D
 job_disk (job.Commit planned) = planned.store.disk
-job_disk (job.Reopen alloc broken) = broken.disk
+job_disk (job.Reopen reopening) = reopening.broken.disk
 
 -- the store of a job, as it was before the job was taken
 abbrev pub job_home : {D A : Type 0} {G : Ghosts D} → Job D A G → Home D A G
 job_home (job.Commit planned) = home.Whole planned.store
-job_home (job.Reopen alloc broken) = home.Failed broken
+job_home (job.Reopen reopening) = home.Failed reopening.broken
 
 -- the reply to a take
 abbrev pub taken_of : {D A : Type 0} {G : Ghosts D} → Result (Job D A G) NoJob → Taken
@@ -89,7 +89,7 @@ taken_of (Err e) = none_of e
 
 -- The possible results of a commit of the batch to the store: Stored only if the count of failures did not rise,
 -- Broken only if it rose or is at its last value.
-abbrev pub CommitsTo : {D A : Type 0} {G : Ghosts D} → MapOn D → List Edit → Finished D A G → Type 0
+abbrev pub CommitsTo : {D A : Type 0} {G : Ghosts D} → MapOn D → List Edit → End D A G → Type 0
 CommitsTo {D} {A} {G} old batch (finished.Stored store) = HasStored old batch store × (Ghosts.failures G store.disk ≡ Ghosts.failures G old.disk)
 CommitsTo old batch (finished.Unstarted store back cause) = IsUnchanged old batch store back cause
 CommitsTo old batch (finished.Broken broken) = HasBroken old batch broken
@@ -113,23 +113,23 @@ pub record HasNotReopened {D A : Type 0} {G : Ghosts D} (old broken : Broken D A
   pub strange : Ghosts.honest G → broken.cause ≢ broken_cause.Strange
 
 -- The possible results of a reopening: a store of the map before or of the target, or one that is still broken.
-abbrev pub ReopensTo : {D A : Type 0} {G : Ghosts D} → Broken D A G → Finished D A G → Type 0
+abbrev pub ReopensTo : {D A : Type 0} {G : Ghosts D} → Broken D A G → End D A G → Type 0
 ReopensTo old (finished.Stored store) = ⊥
 ReopensTo old (finished.Unstarted store back cause) = ⊥
 ReopensTo old (finished.Broken broken) = HasNotReopened old broken
 ReopensTo old (finished.Reopened store) = HasReopened old store
 
-abbrev pub RunsTo : {D A : Type 0} {G : Ghosts D} → Job D A G → Finished D A G → Type 0
-RunsTo (job.Commit planned) finished = CommitsTo planned.store planned.batch finished
-RunsTo (job.Reopen alloc broken) finished = ReopensTo broken finished
+abbrev pub RunsTo : {D A : Type 0} {G : Ghosts D} → Job D A G → End D A G → Type 0
+RunsTo (job.Commit planned) end = CommitsTo planned.store planned.batch end
+RunsTo (job.Reopen reopening) end = ReopensTo reopening.broken end
 
 -- a commit after which no number for a root is left
 abbrev pub IsAtLastNumber : {D A : Type 0} {G : Ghosts D} → Job D A G → Type 0
 IsAtLastNumber (job.Commit planned) = 2 ^ 64 ≤ planned.store.number + 1
-IsAtLastNumber (job.Reopen alloc broken) = ⊥
+IsAtLastNumber (job.Reopen reopening) = ⊥
 
 -- a commit that was not started, since the root has the last number
-abbrev pub IsLastNumber : {D A : Type 0} {G : Ghosts D} → Finished D A G → Type 0
+abbrev pub IsLastNumber : {D A : Type 0} {G : Ghosts D} → End D A G → Type 0
 IsLastNumber (finished.Stored store) = ⊥
 IsLastNumber (finished.Unstarted store back cause) = cause ≡ unstarted.Worn
 IsLastNumber (finished.Broken broken) = ⊥
@@ -137,7 +137,7 @@ IsLastNumber (finished.Reopened store) = ⊥
 
 -- Each possible crash image of the disk represents the map that the store holds, under its number; for a broken
 -- store, the map before or the map after the batch.
-abbrev pub EndStands : {D A : Type 0} {G : Ghosts D} → Finished D A G → Type 0
+abbrev pub EndStands : {D A : Type 0} {G : Ghosts D} → End D A G → Type 0
 EndStands {D} {A} {G} (finished.Stored store) = IsOnDisk (Ghosts.state G) store
 EndStands {D} {A} {G} (finished.Unstarted store batch cause) = IsOnDisk (Ghosts.state G) store
 EndStands {D} {A} {G} (finished.Broken broken) = EachIsEither (Ghosts.state G broken.disk) broken.limit broken.before (changed broken.before broken.batch)

@@ -18,10 +18,11 @@ ghost use Rattle.psu_exec.specs.World.{asks_opc};
 ghost use Rattle.psu_instrument.specs.declared.completion.Completion.{Completion};
 ghost use Rattle.psu_exec.specs.declared.wait.Wait.TheVariants.{Until};
 
+use crate::seal::Seal;
 use crate::{
-    Condition, Contents, Crowded, Device, Ended, Finished, Freed, Grant, Home, Info, Job, Kind,
-    LockRefusal, NoJob, Outcome, Planned, PowerCause, PowerFault, Request, Session, Sessions,
-    Stranger,
+    Condition, Contents, Crowded, Device, End, Ended, Finished, Freed, Grant, Home, Info, Job,
+    Kind, LockRefusal, NoJob, Outcome, Planned, PowerCause, PowerFault, Reopening, Request,
+    Session, Sessions, Stranger,
 };
 use psu_disk::Disk;
 use psu_items::{Batch, Store};
@@ -321,7 +322,11 @@ impl<D: Disk, A: Allocator + Copy> Exec<D, A> {
                 }
                 None => unreachable!(),
             },
-            Some(Home::Failed(broken)) => return Ok(Job::Reopen(self.alloc, broken)),
+            Some(Home::Failed(broken)) => return Ok(Job::Reopen(Reopening {
+                alloc: self.alloc,
+                broken,
+                seal: Seal(()),
+            })),
             None => unreachable!(),
         }
     }
@@ -329,16 +334,16 @@ impl<D: Disk, A: Allocator + Copy> Exec<D, A> {
     /// Gives back a finished job. It is accepted if a job is out and its limit, maps and batch are the expected ones;
     /// the sessions whose wait is then over are returned. Otherwise it is handed back, and nothing has changed.
     pub fn give_back(&mut self, finished: Finished<D, A>) -> Result<Sessions, Stranger<D, A>>
-        ensures step { Allows self.old.device (GaveBack (finished_of finished) (over_of result)) self.new.device }
+        ensures step { Allows self.old.device (GaveBack (finished_of finished.end) (over_of result)) self.new.device }
         // Each possible crash image of its disk represents the map that the result states; for a broken store, the
         // map before or the target.
-        ensures stands { D.honest → OnOk result (IsTrueOf (target self.old.device.flush) (finished_of finished) (D.state (finished_disk finished))) }
-        ensures home { OnOk result (self.new.home ≡ Some (home_of finished)) }
+        ensures stands { D.honest → OnOk result (IsTrueOf (target self.old.device.flush) (finished_of finished.end) (D.state (finished_disk finished.end))) }
+        ensures home { OnOk result (self.new.home ≡ Some (home_of finished.end)) }
         ensures free { OnOk result (self.new.device.flush.out ≡ false) }
         ensures stranger { IfErr result (λ s. s.finished ≡ finished) }
         ensures same { OnErr result (self.new.home ≡ self.old.home) }
     {
-        let Some(ending) = self.device.ending_of(&finished) else {
+        let Some(ending) = self.device.ending_of(&finished.end) else {
             return Err(Stranger { finished });
         };
         self.device.end_job(ending);
@@ -394,13 +399,15 @@ fn planned_of<D: Disk, A: Allocator + Copy>(
 
 // The store of a job that was given back.
 fn home_after<D: Disk, A: Allocator + Copy>(finished: Finished<D, A>) -> Home<D, A>
-    ensures { result ≡ home_of finished }
+    ensures { result ≡ home_of finished.end }
 {
-    match finished {
-        Finished::Stored(store) => Home::Whole(store),
-        Finished::Unstarted(store, _, _) => Home::Whole(store),
-        Finished::Broken(broken) => Home::Failed(broken),
-        Finished::Reopened(store) => Home::Whole(store),
+    let Finished { end, seal } = finished;
+    let Seal(_) = seal;
+    match end {
+        End::Stored(store) => Home::Whole(store),
+        End::Unstarted(store, _, _) => Home::Whole(store),
+        End::Broken(broken) => Home::Failed(broken),
+        End::Reopened(store) => Home::Whole(store),
     }
 }
 

@@ -29,7 +29,13 @@ pub fn opened(exec: &mut Power) -> Option<Session> {
 
 // Whether the end of a job is accepted.
 fn is_given_back(exec: &mut Power, finished: Finished<MemDisk<Global>, Global>) -> bool {
-    exec.give_back(finished).is_ok()
+    match exec.give_back(finished) {
+        Ok(_) => true,
+        Err(stranger) => {
+            stranger.discard();
+            false
+        }
+    }
 }
 
 /// Whether one job succeeds from its take to its end, or there is nothing to do.

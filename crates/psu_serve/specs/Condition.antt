@@ -2,13 +2,13 @@
 use Rattle.std.specs.Prelude.{Option, Some, None}
 use Rattle.psu_disk.specs.declared.disk.Disk.{Ghosts}
 use Rattle.psu_items.specs.declared.commit.UnstartedCause.TheVariants as unstarted
-use Rattle.psu_exec.specs.declared.finished.Finished.{Finished}
-use Rattle.psu_exec.specs.declared.finished.Finished.TheVariants as finished
+use Rattle.psu_exec.specs.declared.finished.End.{End}
+use Rattle.psu_exec.specs.declared.finished.End.TheVariants as finished
 use Rattle.psu_serve.specs.declared.condition.Condition.{Condition}
 use Rattle.psu_serve.specs.declared.condition.Condition.TheVariants.{Works, Broken, Worn}
 
 -- What the end of a job shows of the store. That it was opened again shows nothing yet: a disk without room reads and syncs, and takes nothing.
-abbrev pub shown : {D A : Type 0} {G : Ghosts D} → Finished D A G → Option Condition
+abbrev pub shown : {D A : Type 0} {G : Ghosts D} → End D A G → Option Condition
 shown (finished.Stored store) = Some Works
 shown (finished.Reopened store) = None
 shown (finished.Broken broken) = Some Broken

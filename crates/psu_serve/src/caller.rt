@@ -12,7 +12,7 @@ use psu_bench::{Bench, Gate, Point, Seat};
 use psu_disk::Disk;
 use psu_exec::{
     Crowded, Exec, Finished, Freed, Grant, Info, Job, Kind, LockRefusal, NoJob, Outcome, Request,
-    Session, Sessions,
+    Session, Sessions, Stranger,
 };
 use psu_members::News;
 use std::alloc::{AllocError, Global};
@@ -44,6 +44,17 @@ fn news_of<D: Disk, R: Wait>(
     match outcome {
         Outcome::Answer(_) => News::none(),
         _ => News::of(bench.news(rt, seat)),
+    }
+}
+
+// The sessions whose waits are over. The end of another device's job, which ends none here, is discarded.
+fn sessions_over<D: Disk + Drop>(given: Result<Sessions, Stranger<D, Global>>) -> Sessions {
+    match given {
+        Ok(over) => over,
+        Err(stranger) => {
+            stranger.discard();
+            Sessions::new()
+        }
     }
 }
 
@@ -127,15 +138,15 @@ impl<D: Disk + Drop, G: Gate + Drop> Caller<D, G> {
         self.bench.take(rt, &mut self.seat)
     }
 
-    /// A job's end: the sessions whose waits are over, and what it caused. The end of another device's job is let go.
+    /// A job's end: the sessions whose waits are over, and what it caused. The end of another device's job is discarded.
     #[tactic(auto, using(crate::proofs::Seats::is_of))]
     pub fn give_back<R: Wait>(&mut self, rt: &R, finished: Finished<D, Global>) -> (Sessions, News)
-        ensures call { GivesBack D.honest (finished_of finished) self.old.seat self.new.seat }
+        ensures call { GivesBack D.honest (finished_of finished.end) self.old.seat self.new.seat }
     {
         let _place = self.door.lock(rt);
-        let over = self.bench.give_back(rt, &mut self.seat, finished);
+        let given = self.bench.give_back(rt, &mut self.seat, finished);
         let news = News::of(self.bench.news(rt, &mut self.seat));
-        (over.unwrap_or(Sessions::new()), news)
+        (sessions_over(given), news)
     }
 
     /// Opens the session of the least free number.

@@ -3,7 +3,7 @@ ghost use Rattle.std.specs.Prelude.{◌≡◌};
 ghost use Rattle.psu_serve.specs.Condition.{shown};
 
 use psu_disk::Disk;
-use psu_exec::Finished;
+use psu_exec::End;
 use psu_items::UnstartedCause;
 use std::alloc::Allocator;
 use thiserror::Error;
@@ -25,14 +25,14 @@ pub enum Condition {
 impl Condition {
     /// What the end of a job shows of the store, if anything. That it was opened again shows nothing yet: a disk without room reads and syncs, and
     /// takes nothing.
-    pub fn shown_by<D: Disk, A: Allocator + Copy>(finished: &Finished<D, A>) -> Option<Condition>
-        ensures { result ≡ shown finished.now }
+    pub fn shown_by<D: Disk, A: Allocator + Copy>(end: &End<D, A>) -> Option<Condition>
+        ensures { result ≡ shown end.now }
     {
-        match finished {
-            Finished::Stored(_) => Some(Condition::Works),
-            Finished::Broken(_) => Some(Condition::Broken),
-            Finished::Unstarted(_, _, UnstartedCause::Worn) => Some(Condition::Worn),
-            Finished::Reopened(_) | Finished::Unstarted(_, _, UnstartedCause::Memory) => None,
+        match end {
+            End::Stored(_) => Some(Condition::Works),
+            End::Broken(_) => Some(Condition::Broken),
+            End::Unstarted(_, _, UnstartedCause::Worn) => Some(Condition::Worn),
+            End::Reopened(_) | End::Unstarted(_, _, UnstartedCause::Memory) => None,
         }
     }
 }

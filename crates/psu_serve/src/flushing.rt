@@ -8,7 +8,7 @@ use crate::caller::Caller;
 use crate::condition::Condition;
 use psu_bench::Gate;
 use psu_disk::Disk;
-use psu_exec::{Finished, Grant, Job, NoJob};
+use psu_exec::{End, Finished, Grant, Job, NoJob};
 use psu_hislip::lock_response;
 use psu_members::Server;
 use std::alloc::Global;
@@ -32,10 +32,10 @@ enum Round {
 
 impl Round {
     // What a job's end makes of its round.
-    fn of<D: Disk>(finished: &Finished<D, Global>) -> Round {
-        match finished {
-            Finished::Stored(_) | Finished::Reopened(_) => Round::Worked,
-            Finished::Unstarted(_, _, _) | Finished::Broken(_) => Round::Failed,
+    fn of<D: Disk>(end: &End<D, Global>) -> Round {
+        match end {
+            End::Stored(_) | End::Reopened(_) => Round::Worked,
+            End::Unstarted(_, _, _) | End::Broken(_) => Round::Failed,
         }
     }
 }
@@ -52,7 +52,7 @@ pub struct Flusher<'a, D: Disk, G: Gate, E: Eprint> {
 }
 
 impl<'a, D: Disk + Drop, G: Gate + Drop, E: Eprint> Flusher<'a, D, G, E> {
-    ghost use Rattle.psu_exec.specs.Jobs.{finished_of, job_data};
+    ghost use Rattle.psu_exec.specs.Jobs.{finished_of};
 
     // Tells how the store is, where that has changed.
     fn tell(&mut self, condition: Condition)
@@ -67,10 +67,10 @@ impl<'a, D: Disk + Drop, G: Gate + Drop, E: Eprint> Flusher<'a, D, G, E> {
     }
 
     // Tells what a job's end shows of the store.
-    fn show(&mut self, finished: &Finished<D, Global>)
+    fn show(&mut self, end: &End<D, Global>)
         ensures { self.new.caller ≡ self.old.caller }
     {
-        if let Some(condition) = Condition::shown_by(finished) {
+        if let Some(condition) = Condition::shown_by(end) {
             self.tell(condition);
         }
     }
@@ -78,7 +78,7 @@ impl<'a, D: Disk + Drop, G: Gate + Drop, E: Eprint> Flusher<'a, D, G, E> {
     // Gives a job's end back, wakes those whose waits are over and those that wait for room, and tells who asks for service. The work that is left
     // the flusher knows of: it does not ring its own bell, which would end its pause.
     fn give_back<R: Wait>(&mut self, rt: &R, finished: Finished<D, Global>)
-        ensures call { GivesBack D.honest (finished_of finished) self.old.caller.seat self.new.caller.seat }
+        ensures call { GivesBack D.honest (finished_of finished.end) self.old.caller.seat self.new.caller.seat }
     {
         let (over, news) = self.caller.give_back(rt, finished);
         let registry = self.server.registry.lock(rt);
@@ -88,21 +88,21 @@ impl<'a, D: Disk + Drop, G: Gate + Drop, E: Eprint> Flusher<'a, D, G, E> {
         self.server.call(rt, &news.asking);
     }
 
-    // Runs a job outside the device's turn, and gives it back.
+    // Runs a job outside the device's turn, and gives its result back.
     fn run<R: Wait>(&mut self, rt: &R, job: Job<D, Global>) -> Round
-        ensures call { (end : JobEnd) × IsEndOf (job_data job) end × GivesBack D.honest end self.old.caller.seat self.new.caller.seat }
+        ensures call { (end : JobEnd) × IsEndOf job end × GivesBack D.honest end self.old.caller.seat self.new.caller.seat }
     {
         self.caller.before_run();
         let finished = job.run();
-        let round = Round::of(&finished);
-        self.show(&finished);
+        let round = Round::of(finished.end());
+        self.show(finished.end());
         self.give_back(rt, finished);
         round
     }
 
     // One round: a job is taken and run. Where there is none after the store broke, a reopening has found all stored.
     fn round<R: Wait>(&mut self, rt: &R) -> Round
-        ensures calls { (taken : Taken) × IsRound D.honest taken self.old.caller.seat self.new.caller.seat }
+        ensures calls { (taken : Taken) × IsRound D.Disk taken self.old.caller.seat self.new.caller.seat }
     {
         match self.caller.take(rt) {
             Ok(job) => self.run(rt, job),
@@ -140,7 +140,8 @@ impl<'a, D: Disk + Drop, G: Gate + Drop, E: Eprint> Flusher<'a, D, G, E> {
         self.left(rt)
     }
 
-    /// Flushes and ticks for ever.
+    /// Flushes and ticks for ever. No clause speaks of a loop that doesn't return: what holds each round to what
+    /// `round` ensures is that a job, and a finished one, can't be let go (`psu_exec::Job`).
     pub fn flush<R: Wait + Clock>(&mut self, rt: &R) {
         for _ in rt.forever() {
             let round = self.round(rt);

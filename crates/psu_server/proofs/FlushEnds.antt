@@ -166,7 +166,7 @@ job_spans {D} {A} {G} old taken new j life short h took there run =
   where
     disk_of_job : (j : AnyJob D A G) → disk_in (let z : Option (Home D A G) = Some (job_home j) in z) ≡ Some (job_disk j)
     disk_of_job (job.Commit planned) = refl
-    disk_of_job (job.Reopen alloc broken) = refl
+    disk_of_job (job.Reopen reopening) = refl
 
 -- the calls of these jobs
 pub jobs_execute : {D A : Type 0} {G : Ghosts D} (first old : Exec D A G) (life : Life) (i : ℕ) → Within (failures_of first) (failures_of old) (λ can. Jobs i can (world_of life first) (world_of life old))

@@ -17,8 +17,8 @@ use Rattle.psu_exec.proofs.Giving.{FlushGives, flush_gives, locks_after, open_af
 use Rattle.psu_exec.specs.declared.condition.Condition.{Condition}
 use Rattle.psu_exec.specs.declared.condition.Condition.TheVariants.{Whole, Broken, Worn}
 use Rattle.psu_exec.specs.declared.exec.Exec.{Exec}
-use Rattle.psu_exec.specs.declared.finished.Finished.{Finished}
-use Rattle.psu_exec.specs.declared.finished.Finished.TheVariants as finished
+use Rattle.psu_exec.specs.declared.finished.End.{End}
+use Rattle.psu_exec.specs.declared.finished.End.TheVariants as finished
 use Rattle.psu_exec.specs.declared.home.Home.{Home}
 use Rattle.psu_exec.specs.declared.job.Job.{Job as AnyJob}
 use Rattle.psu_exec.specs.declared.job.Job.TheVariants as job
@@ -83,29 +83,29 @@ gave_free (Reopened limit map) s new over a e =
 
 -- ---- the job that is out is the one that runs
 
-pub expected : {D A : Type 0} {G : Ghosts D} (f : Flush) (j : AnyJob D A G) (end : Finished D A G) → job_data j ≡ job_of f → RunsTo j end → IsExpected f (finished_of end)
+pub expected : {D A : Type 0} {G : Ghosts D} (f : Flush) (j : AnyJob D A G) (end : End D A G) → job_data j ≡ job_of f → RunsTo j end → IsExpected f (finished_of end)
 expected f (job.Commit planned) (finished.Stored store) own runs = (runs.0.limit ∙ ap (λ (d : JobData). d.limit) own, runs.0.items ∙ ap (λ (d : JobData). d.target) own)
 expected f (job.Commit planned) (finished.Unstarted store back cause) own runs =
     (ap (λ s. s.limit) runs.store ∙ ap (λ (d : JobData). d.limit) own, ap (λ s. s.items) runs.store ∙ ap (λ (d : JobData). d.before) own, runs.batch_is ∙ ap (λ (d : JobData). d.edits) own)
 expected f (job.Commit planned) (finished.Broken broken) own runs =
     (runs.limit ∙ ap (λ (d : JobData). d.limit) own, runs.before ∙ ap (λ (d : JobData). d.before) own, runs.batch_is ∙ ap (λ (d : JobData). d.edits) own)
 expected f (job.Commit planned) (finished.Reopened store) own runs = absurd runs
-expected f (job.Reopen alloc old) (finished.Stored store) own runs = absurd runs
-expected f (job.Reopen alloc old) (finished.Unstarted store back cause) own runs = absurd runs
-expected f (job.Reopen alloc old) (finished.Broken broken) own runs =
+expected f (job.Reopen old) (finished.Stored store) own runs = absurd runs
+expected f (job.Reopen old) (finished.Unstarted store back cause) own runs = absurd runs
+expected f (job.Reopen old) (finished.Broken broken) own runs =
     (runs.same.limit ∙ ap (λ (d : JobData). d.limit) own, runs.same.before ∙ ap (λ (d : JobData). d.before) own, runs.same.batch ∙ ap (λ (d : JobData). d.edits) own)
-expected f (job.Reopen alloc old) (finished.Reopened store) own runs =
+expected f (job.Reopen old) (finished.Reopened store) own runs =
     (runs.limit ∙ ap (λ (d : JobData). d.limit) own, ⊎_elim (λ e. inl (e ∙ ap (λ (d : JobData). d.before) own)) (λ e. inr (e ∙ ap (λ (d : JobData). d.target) own)) runs.items)
 
-pub ends_job : {D A : Type 0} {G : Ghosts D} (j : AnyJob D A G) (end : Finished D A G) → RunsTo j end → EndsJob (job_data j).kind (finished_of end)
+pub ends_job : {D A : Type 0} {G : Ghosts D} (j : AnyJob D A G) (end : End D A G) → RunsTo j end → EndsJob (job_data j).kind (finished_of end)
 ends_job (job.Commit planned) (finished.Stored store) runs = tt
 ends_job (job.Commit planned) (finished.Unstarted store back cause) runs = tt
 ends_job (job.Commit planned) (finished.Broken broken) runs = tt
 ends_job (job.Commit planned) (finished.Reopened store) runs = absurd runs
-ends_job (job.Reopen alloc old) (finished.Stored store) runs = absurd runs
-ends_job (job.Reopen alloc old) (finished.Unstarted store back cause) runs = absurd runs
-ends_job (job.Reopen alloc old) (finished.Broken broken) runs = tt
-ends_job (job.Reopen alloc old) (finished.Reopened store) runs = tt
+ends_job (job.Reopen old) (finished.Stored store) runs = absurd runs
+ends_job (job.Reopen old) (finished.Unstarted store back cause) runs = absurd runs
+ends_job (job.Reopen old) (finished.Broken broken) runs = tt
+ends_job (job.Reopen old) (finished.Reopened store) runs = tt
 
 -- a reopening that leaves the store broken, by its cause
 still_counts : (limit : ℕ) (before : List Item) (edits : List Edit) (cause : BrokenCause) (a b : ℕ)
@@ -114,20 +114,20 @@ still_counts limit before edits broken_cause.Device a b device strange long = de
 still_counts limit before edits broken_cause.Strange a b device strange long = absurd (strange refl)
 still_counts limit before edits broken_cause.Memory a b device strange long = cc
 
-pub counts_of : {D A : Type 0} {G : Ghosts D} (j : AnyJob D A G) (end : Finished D A G) → RunsTo j end → Ghosts.honest G → is_short (finished_of end) ≡ false
+pub counts_of : {D A : Type 0} {G : Ghosts D} (j : AnyJob D A G) (end : End D A G) → RunsTo j end → Ghosts.honest G → is_short (finished_of end) ≡ false
     → Counts (finished_of end) (Ghosts.failures G (job_disk j)) (Ghosts.failures G (home_disk (home_of end)))
 counts_of (job.Commit planned) (finished.Stored store) runs h long = runs.1
 counts_of {D} {A} {G} (job.Commit planned) (finished.Unstarted store back cause) runs h long = ap (λ s. Ghosts.failures G s.disk) runs.store
 counts_of (job.Commit planned) (finished.Broken broken) runs h long = runs.failures
 counts_of (job.Commit planned) (finished.Reopened store) runs h long = absurd runs
-counts_of (job.Reopen alloc old) (finished.Stored store) runs h long = absurd runs
-counts_of (job.Reopen alloc old) (finished.Unstarted store back cause) runs h long = absurd runs
-counts_of (job.Reopen alloc old) (finished.Broken broken) runs h long =
+counts_of (job.Reopen old) (finished.Stored store) runs h long = absurd runs
+counts_of (job.Reopen old) (finished.Unstarted store back cause) runs h long = absurd runs
+counts_of (job.Reopen old) (finished.Broken broken) runs h long =
     still_counts broken.limit broken.before broken.batch broken.cause _ _ runs.device (runs.strange h) long
-counts_of (job.Reopen alloc old) (finished.Reopened store) runs h long = runs.failures
+counts_of (job.Reopen old) (finished.Reopened store) runs h long = runs.failures
 
 -- a commit that wears the store out finds the last number in the root
-pub wears_of : {D A : Type 0} {G : Ghosts D} (j : AnyJob D A G) (end : Finished D A G) → RunsTo j end → EndStands end → is_short (finished_of end) ≡ false → Wears (finished_of end) (Ghosts.state G (home_disk (home_of end))).bytes
+pub wears_of : {D A : Type 0} {G : Ghosts D} (j : AnyJob D A G) (end : End D A G) → RunsTo j end → EndStands end → is_short (finished_of end) ≡ false → Wears (finished_of end) (Ghosts.state G (home_disk (home_of end))).bytes
 wears_of (job.Commit planned) (finished.Stored store) runs stands long = tt
 wears_of (job.Commit planned) (finished.Unstarted store back unstarted.Memory) runs stands long = cc
 wears_of {D} {A} {G} (job.Commit planned) (finished.Unstarted store back unstarted.Worn) runs stands long =
@@ -136,29 +136,29 @@ wears_of {D} {A} {G} (job.Commit planned) (finished.Unstarted store back unstart
     subst (λ (n : ℕ). 2 ^ 64 ≤ n + 1) (ap (λ s. s.number) (sym runs.store) ∙ sym told) (runs.worn refl)
 wears_of (job.Commit planned) (finished.Broken broken) runs stands long = tt
 wears_of (job.Commit planned) (finished.Reopened store) runs stands long = tt
-wears_of (job.Reopen alloc old) (finished.Stored store) runs stands long = tt
-wears_of (job.Reopen alloc old) (finished.Unstarted store back cause) runs stands long = absurd runs
-wears_of (job.Reopen alloc old) (finished.Broken broken) runs stands long = tt
-wears_of (job.Reopen alloc old) (finished.Reopened store) runs stands long = tt
+wears_of (job.Reopen old) (finished.Stored store) runs stands long = tt
+wears_of (job.Reopen old) (finished.Unstarted store back cause) runs stands long = absurd runs
+wears_of (job.Reopen old) (finished.Broken broken) runs stands long = tt
+wears_of (job.Reopen old) (finished.Reopened store) runs stands long = tt
 
 -- ---- why a store can't take a commit
 
 -- a store is worn only where its number is the last
-worn_for : {D A : Type 0} {G : Ghosts D} (j : AnyJob D A G) (end : Finished D A G) → RunsTo j end → store_after (finished_of end) ≡ Worn → 2 ^ 64 ≤ home_number (home_of end) + 1
+worn_for : {D A : Type 0} {G : Ghosts D} (j : AnyJob D A G) (end : End D A G) → RunsTo j end → store_after (finished_of end) ≡ Worn → 2 ^ 64 ≤ home_number (home_of end) + 1
 worn_for (job.Commit planned) (finished.Stored new) runs = λ e. cc
 worn_for (job.Commit planned) (finished.Unstarted new back unstarted.Memory) runs = λ e. cc
 worn_for (job.Commit planned) (finished.Unstarted new back unstarted.Worn) runs = λ e. subst (λ s. 2 ^ 64 ≤ s.number + 1) (sym runs.store) (runs.worn refl)
 worn_for (job.Commit planned) (finished.Broken broken) runs = λ e. cc
 worn_for (job.Commit planned) (finished.Reopened new) runs = absurd runs
-worn_for (job.Reopen alloc old) (finished.Stored new) runs = absurd runs
-worn_for (job.Reopen alloc old) (finished.Unstarted new back cause) runs = absurd runs
-worn_for (job.Reopen alloc old) (finished.Broken broken) runs = λ e. cc
-worn_for (job.Reopen alloc old) (finished.Reopened new) runs = λ e. cc
+worn_for (job.Reopen old) (finished.Stored new) runs = absurd runs
+worn_for (job.Reopen old) (finished.Unstarted new back cause) runs = absurd runs
+worn_for (job.Reopen old) (finished.Broken broken) runs = λ e. cc
+worn_for (job.Reopen old) (finished.Reopened new) runs = λ e. cc
 
 pub the_home : {D A : Type 0} {G : Ghosts D} (a b : Home D A G) → Some a ≡ Some b → a ≡ b
 the_home a b e = cc
 
-gave_worn : {D A : Type 0} {G : Ghosts D} (s new : State) (over : List ℕ) (j : AnyJob D A G) (end : Finished D A G) (there : Option (Home D A G))
+gave_worn : {D A : Type 0} {G : Ghosts D} (s new : State) (over : List ℕ) (j : AnyJob D A G) (end : End D A G) (there : Option (Home D A G))
     → RunsTo j end → IsAccepted s (finished_of end) over new → there ≡ Some (home_of end) → WearsOutLast new.flush.store there
 gave_worn {D} {A} {G} s new over j end there runs gave is =
     subst (λ (c : Condition). WearsOutLast c there) (sym (gave_store (finished_of end) s new over gave))
@@ -180,23 +180,23 @@ pub count_at : {D A : Type 0} {G : Ghosts D} (old : Exec D A G) (j : AnyJob D A 
 count_at {D} {A} {G} old j there = ap (λ (z : Option (Home D A G)). failures_at z) there ∙ by j where
   by : (j : AnyJob D A G) → failures_at (let z : Option (Home D A G) = Some (job_home j) in z) ≡ Ghosts.failures G (job_disk j)
   by (job.Commit planned) = refl
-  by (job.Reopen alloc broken) = refl
+  by (job.Reopen reopening) = refl
 
 pub size_at : {D A : Type 0} {G : Ghosts D} (old : Exec D A G) (j : AnyJob D A G) → old.home ≡ Some (job_home j) → extent_of old ≡ Ghosts.extent G (job_disk j)
 size_at {D} {A} {G} old j there = ap (λ (z : Option (Home D A G)). extent_at z) there ∙ by j where
   by : (j : AnyJob D A G) → extent_at (let z : Option (Home D A G) = Some (job_home j) in z) ≡ Ghosts.extent G (job_disk j)
   by (job.Commit planned) = refl
-  by (job.Reopen alloc broken) = refl
+  by (job.Reopen reopening) = refl
 
 -- ---- facts in the run's terms
 
-same_disk : {D A : Type 0} {G : Ghosts D} (end : Finished D A G) → finished_disk end ≡ home_disk (home_of end)
+same_disk : {D A : Type 0} {G : Ghosts D} (end : End D A G) → finished_disk end ≡ home_disk (home_of end)
 same_disk (finished.Stored store) = refl
 same_disk (finished.Unstarted store back cause) = refl
 same_disk (finished.Broken broken) = refl
 same_disk (finished.Reopened store) = refl
 
-pub has_run : {D A : Type 0} {G : Ghosts D} (old : Exec D A G) (j : AnyJob D A G) (new : Exec D A G) (end : Finished D A G) (over : List ℕ) (short : Bool)
+pub has_run : {D A : Type 0} {G : Ghosts D} (old : Exec D A G) (j : AnyJob D A G) (new : Exec D A G) (end : End D A G) (over : List ℕ) (short : Bool)
     → RunsTo j end → Ghosts.extent G (finished_disk end) ≡ Ghosts.extent G (job_disk j) → Ghosts.failures G (job_disk j) ≤ Ghosts.failures G (finished_disk end)
     → IsAccepted old.device (finished_of end) over new.device → new.home ≡ Some (home_of end)
     → (Ghosts.honest G → IsTrueOf (target old.device.flush) (finished_of end) (Ghosts.state G (finished_disk end))) → (Ghosts.honest G → EndStands end) → short ≡ is_short (finished_of end)

@@ -12,19 +12,19 @@ ghost use Rattle.psu_server.specs.Runs.{Flushes, Reopens, is_short};
 
 use crate::RunCause;
 use psu_disk::Disk;
-use psu_exec::{Condition, Exec, Finished, Job, NoJob};
+use psu_exec::{Condition, End, Exec, Job, NoJob};
 use psu_items::{BrokenCause, UnstartedCause};
 use std::alloc::Allocator;
 
 const JOBS: u32 = 4;
 
 // Whether a job ended out of memory.
-fn is_short<D: Disk, A: Allocator + Copy>(finished: &Finished<D, A>) -> bool
-    ensures { result ≡ is_short (finished_of finished.now) }
+fn is_short<D: Disk, A: Allocator + Copy>(end: &End<D, A>) -> bool
+    ensures { result ≡ is_short (finished_of end.now) }
 {
-    match finished {
-        Finished::Unstarted(_, _, cause) => matches!(cause, UnstartedCause::Memory),
-        Finished::Broken(broken) => matches!(broken.cause(), BrokenCause::Memory),
+    match end {
+        End::Unstarted(_, _, cause) => matches!(cause, UnstartedCause::Memory),
+        End::Broken(broken) => matches!(broken.cause(), BrokenCause::Memory),
         _ => false,
     }
 }
@@ -43,7 +43,7 @@ fn run_job<D: Disk, A: Allocator + Copy>(exec: &mut Exec<D, A>, job: Job<D, A>) 
     ensures run { HasRun exec.old job exec.new result }
 {
     let finished = job.run();
-    let short = is_short(&finished);
+    let short = is_short(finished.end());
     match exec.give_back(finished) {
         Ok(_) => short,
         Err(_) => unreachable!(),

@@ -7,7 +7,7 @@ pub loop-preserved : goal.loop-preserved
 loop-preserved g c = let i = c.loop.invariant in let e = c.one_round.ensures in (
   e.own,
   same_again _ _ _ i.1 e.same,
-  one_more c.loop.counter c.args.seat.mine c.loop.seat.mine c.one_round.new.seat.mine i.2 e.calls,
+  one_more g.row.A.Denot g.D.Disk c.loop.counter c.args.seat.mine c.loop.seat.mine c.one_round.new.seat.mine i.2 e.calls,
   inr (seen_more _ _ _ _ (⊎_elim (λ none. inl none.1) inr i.3) e.seen),
 )
 

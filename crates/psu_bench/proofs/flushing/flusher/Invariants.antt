@@ -6,5 +6,5 @@ use Rattle.psu_bench.specs.Seen.{HasSeen}
 use Rattle.psu_bench.proofs.flushing.flusher.Given as goal
 
 abbrev pub invariant-loop : goal.invariant-loop
-invariant-loop g l = IsOf l.fn.bench l.seat × IsSame l.fn.seat l.seat × ((calls : List Entry) × (l.seat.mine ≡ l.fn.seat.mine ++ calls) × AreRounds l.counter calls)
+invariant-loop g l = IsOf l.fn.bench l.seat × IsSame l.fn.seat l.seat × ((calls : List Entry) × (l.seat.mine ≡ l.fn.seat.mine ++ calls) × AreRounds g.row.A.Denot g.D.Disk l.counter calls)
     × (((l.counter ≡ 0) × (l.seat ≡ l.fn.seat)) ⊎ HasSeen g.D.Disk.honest l.fn.seat l.seat)

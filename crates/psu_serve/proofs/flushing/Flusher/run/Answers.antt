@@ -1,14 +1,13 @@
-use Rattle.std.proofs.Common.{subst}
+use Rattle.std.proofs.Common.{refl, subst}
 use Rattle.psu_exec.specs.Jobs.{finished_of}
-use Rattle.psu_bench.proofs.Rounds.{end_of}
 use Rattle.psu_serve.specs.Seen.{GivesBack}
 use Rattle.psu_serve.proofs.flushing.Flusher.run.Goals as goal
 
 pub returns : goal.returns
 returns g c = record {
   call = (
-    finished_of c.run-finished.result,
-    end_of c.args.job c.run-finished.result c.run-finished.ensures.end,
-    subst (λ caller. GivesBack g.D.Disk.honest (finished_of c.run-finished.result) caller.seat c.give_back.new.self.caller.seat) c.show.ensures c.give_back.ensures.call,
+    finished_of c.run-finished.result.end,
+    (c.run-finished.result.end, c.run-finished.ensures.end, refl),
+    subst (λ caller. GivesBack g.D.Disk.honest (finished_of c.run-finished.result.end) caller.seat c.give_back.new.self.caller.seat) c.show.ensures c.give_back.ensures.call,
   );
 }
