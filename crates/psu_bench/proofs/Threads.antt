@@ -149,7 +149,7 @@ one_disk_call D A G counts honest tells run w disk next steps state last running
     let moves : Moves w.disk (Ghosts.state G next) = subst (λ (d : DiskState). Moves d (Ghosts.state G next)) (sym is) call.moves in
     let either : EachIsEither (Ghosts.state G next) w.state.flush.limit w.state.flush.before (target w.state.flush)
     = still_either G counts (job_disk run.job) next (finished_disk run.finished) (job_data run.job).limit w.state.flush.limit (job_data run.job).before w.state.flush.before (job_data run.job).target (target w.state.flush)
-        (run.time honest tells) call.later call.within out.limit out.before out.goal in
+    (run.time honest tells) call.later call.within out.limit out.before out.goal in
     (r.0, (mid, (moves, inl (record { running = running; out = out.out; either = either }, refl)), r.1), r.2, r.3)
 
 step_by_step : (D A : Type 0) (G : Ghosts D) → Counts D G → Ghosts.honest G → Ghosts.tells G
