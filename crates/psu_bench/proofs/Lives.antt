@@ -167,7 +167,7 @@ on_disk honest s next (Ticked now failed) h admits = (admits, tt)
 on_disk honest s next (Informed info) h admits = (admits, tt)
 on_disk honest s next (Due deadline) h admits = (admits, tt)
 
-over_disks : (honest : Type 0) (history : List (Numbered Entry)) (first last : State) → honest → Leads (AdmitsOn honest) first history last → LeadsOverDisks first history last
+pub over_disks : (honest : Type 0) (history : List (Numbered Entry)) (first last : State) → honest → Leads (AdmitsOn honest) first history last → LeadsOverDisks first history last
 over_disks honest [] first last h leads = leads
 over_disks honest (call ∷ history) first last h (next, admits, rest) =
     let on = on_disk honest first next call.entry h admits in (next, on.0, on.1, over_disks honest history next last h rest)

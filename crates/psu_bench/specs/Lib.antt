@@ -3,3 +3,4 @@ pub mod Rounds
 pub mod Seen
 pub mod Tries
 pub mod Lives
+pub mod Threads

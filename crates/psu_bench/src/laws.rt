@@ -1,7 +1,9 @@
 //! Laws of the histories.
 ghost use Rattle.psu_bench.specs.Lives.{HistoriesHappen, LivesAreEvents, SeenHistoriesHappen, SomeHistoryHappens, ThreadsLeavePrefix};
+ghost use Rattle.psu_bench.specs.Threads.{DisksLeavePrefix, EndsAreTrue, ThreadsAreEvents};
 
 use psu_disk::Disk;
+use std::alloc::Allocator;
 
 /// The power-loss theorem holds for threads: what happens while they run, the calls of a legal history and the disk
 /// calls of its jobs, is a list of events of the theorem, except for calls for closed sessions, which change nothing.
@@ -16,4 +18,14 @@ pub fn histories_are_lives()
 /// The history that a seat has seen of a bench over honest disks is one that happens.
 pub fn seen_histories_happen<D: Disk>()
     ensures { SeenHistoriesHappen D.honest }
+{}
+
+/// The power-loss theorem holds of the disk that the threads have. An end that is accepted is true of the disk that it
+/// carries. The calls of a legal history, with the disk calls of each run of a job between its take and its give-back,
+/// are events of the theorem, each with the threads' disk: that of the end that was accepted last, and during a run
+/// the one that its last disk call left. A job is to have the disk of the end before it.
+pub fn threads_are_events<D: Disk, A: Allocator + Copy>()
+    ensures ends { D.honest → EndsAreTrue D A D.Disk }
+    ensures events { D.honest → D.tells → ThreadsAreEvents D A D.Disk }
+    ensures prefix { D.honest → D.tells → DisksLeavePrefix D A D.Disk }
 {}

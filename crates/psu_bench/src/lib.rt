@@ -16,6 +16,6 @@ pub use call::Call;
 pub use flushing::flusher;
 pub use gate::{Gate, Open};
 pub use gated::Gated;
-pub use laws::{histories_are_lives, seen_histories_happen};
+pub use laws::{histories_are_lives, seen_histories_happen, threads_are_events};
 pub use point::Point;
 pub use working::session_worker;

@@ -1,0 +1,11 @@
+use Rattle.psu_bench.proofs.Threads.{disks_leave_prefix, ends_are_true, threads_are_events}
+use Rattle.psu_bench.proofs.laws.threads_are_events.Goals as goal
+
+pub returns-clause-ends : goal.returns-clause-ends
+returns-clause-ends g c = λ honest. ends_are_true _ _ g.D.Disk
+
+pub returns-clause-events : goal.returns-clause-events
+returns-clause-events g c = λ honest tells. threads_are_events _ _ g.D.Disk (g.met.D.Disk.counts_now tells) honest tells
+
+pub returns-clause-prefix : goal.returns-clause-prefix
+returns-clause-prefix g c = λ honest tells. disks_leave_prefix _ _ g.D.Disk (g.met.D.Disk.counts_now tells) honest tells
