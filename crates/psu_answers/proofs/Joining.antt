@@ -1,8 +1,8 @@
 -- The responses of a message's units, appended and sent in parts.
 use Rattle.std.proofs.Common.{◌≡◌, ℕ, Bool, true, List, [], ◌∷◌, ◌++◌, refl, sym, ap, ◌∙◌}
 use Rattle.std.proofs.lemmas.List.{append_assoc}
-use Rattle.psu_answers.specs.Gathered.{Makes, Text, addition}
-use Rattle.psu_answers.specs.Gathered.Makes.{Begin, Tell, Send}
+use Rattle.psu_answers.specs.ResponseBuffer.{Makes, Text, addition}
+use Rattle.psu_answers.specs.ResponseBuffer.Makes.{Begin, Append, Send}
 use Rattle.psu_answers.specs.Response.{are_some, end_of, joined, response}
 
 pub some_more : (xs : List (List ℕ)) (x : List ℕ) → true ≡ are_some (xs ++ x ∷ [])
@@ -20,7 +20,7 @@ nothing_more (x ∷ xs) = ap (λ (l : List ℕ). x ∷ l) (nothing_more xs)
 
 pub makes : (answers : List (List ℕ)) (sent : List ℕ) (text : Text) → Makes answers sent text → (sent ++ text.rest ≡ joined answers) × (text.answered ≡ are_some answers)
 makes answers sent text Begin = (refl, refl)
-makes answers sent text (Tell {answers = before} {sent = gone} {text = old} m answer) =
+makes answers sent text (Append {answers = before} {sent = gone} {text = old} m answer) =
     let ih = makes before gone old m in (
       sym (append_assoc gone old.rest (addition old.answered answer)) ∙ ap (λ (l : List ℕ). l ++ addition old.answered answer) ih.0
           ∙ ap (λ (b : Bool). joined before ++ addition b answer) ih.1 ∙ joined_more before answer,

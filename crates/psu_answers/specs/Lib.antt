@@ -1,2 +1,2 @@
-pub mod Gathered
+pub mod ResponseBuffer
 pub mod Response

@@ -1,5 +1,5 @@
 // Laws of response messages that are sent in parts.
-ghost use Rattle.psu_answers.specs.Gathered.{PartsAreTheAnswers, PartsAreTheResponse};
+ghost use Rattle.psu_answers.specs.ResponseBuffer.{PartsAreTheAnswers, PartsAreTheResponse};
 
 /// However a response message is sent in parts, what was sent and what is buffered are the responses of its units,
 /// joined by `;`.

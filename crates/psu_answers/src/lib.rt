@@ -2,8 +2,8 @@
 //! sent in parts.
 #![tactic(auto)]
 
-mod gathered;
 mod laws;
+mod response_buffer;
 
-pub use gathered::Gathered;
 pub use laws::{parts_are_the_answers, parts_are_the_response};
+pub use response_buffer::ResponseBuffer;

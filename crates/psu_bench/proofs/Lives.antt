@@ -4,7 +4,7 @@ use Rattle.std.specs.Prelude.{⊤}
 use Rattle.psu_disk.specs.Disk.{DiskState}
 use Rattle.psu_exec.specs.Device.{State}
 use Rattle.psu_exec.specs.Calls.{Entry}
-use Rattle.psu_exec.specs.Calls.Entry.{Executed, Settled, Took, GaveBack, Opened, Closed, Cleared, Sent, Delivered, Queried, Fetched, Told, Locked, Released, Ticked, Informed, Due}
+use Rattle.psu_exec.specs.Calls.Entry.{Executed, Settled, Took, GaveBack, Opened, Closed, Cleared, Sent, Delivered, Queried, Fetched, Notified, Locked, Released, Ticked, Informed, Due}
 use Rattle.psu_exec.specs.Lives.{broken_life}
 use Rattle.psu_exec.specs.World.{World, Running, Event, Call, DiskCall, Loss, Stop, Restart, DiskAfter, Happens, Run, recorded}
 use Rattle.psu_exec.proofs.BrokenLife.{breaks_and_mends}
@@ -56,7 +56,7 @@ disk_after w (Sent session) has = (w.disk, refl)
 disk_after w (Delivered session) has = (w.disk, refl)
 disk_after w (Queried session byte) has = (w.disk, refl)
 disk_after w (Fetched session byte) has = (w.disk, refl)
-disk_after w (Told sessions work) has = (w.disk, refl)
+disk_after w (Notified sessions work) has = (w.disk, refl)
 disk_after w (Locked session kind now timeout result) has = (w.disk, refl)
 disk_after w (Released session result) has = (w.disk, refl)
 disk_after w (Ticked now failed) has = (w.disk, refl)
@@ -103,7 +103,7 @@ has_after w (Sent session) disk is = tt
 has_after w (Delivered session) disk is = tt
 has_after w (Queried session byte) disk is = tt
 has_after w (Fetched session byte) disk is = tt
-has_after w (Told sessions work) disk is = tt
+has_after w (Notified sessions work) disk is = tt
 has_after w (Locked session kind now timeout result) disk is = tt
 has_after w (Released session result) disk is = tt
 has_after w (Ticked now failed) disk is = tt
@@ -123,7 +123,7 @@ has_absent s (Sent session) absent = tt
 has_absent s (Delivered session) absent = tt
 has_absent s (Queried session byte) absent = tt
 has_absent s (Fetched session byte) absent = tt
-has_absent s (Told sessions work) absent = tt
+has_absent s (Notified sessions work) absent = tt
 has_absent s (Locked session kind now timeout result) absent = tt
 has_absent s (Released session result) absent = tt
 has_absent s (Ticked now failed) absent = tt
@@ -160,7 +160,7 @@ on_disk honest s next (Sent session) h admits = (admits, tt)
 on_disk honest s next (Delivered session) h admits = (admits, tt)
 on_disk honest s next (Queried session byte) h admits = (admits, tt)
 on_disk honest s next (Fetched session byte) h admits = (admits, tt)
-on_disk honest s next (Told sessions work) h admits = (admits, tt)
+on_disk honest s next (Notified sessions work) h admits = (admits, tt)
 on_disk honest s next (Locked session kind now timeout result) h admits = (admits, tt)
 on_disk honest s next (Released session result) h admits = (admits, tt)
 on_disk honest s next (Ticked now failed) h admits = (admits, tt)
@@ -179,16 +179,16 @@ seen_histories_happen honest w history last h running leads = happen history w l
 -- ---- a history that happens
 
 -- no power loss, no end of the process and no restart
-Goes : List Event → Type 0
-Goes [] = ⊤
-Goes (Call entry disk ∷ more) = Goes more
-Goes (DiskCall disk ∷ more) = Goes more
-Goes (Loss image ∷ more) = ⊥
-Goes (Stop ∷ more) = ⊥
-Goes (Restart limit contents ∷ more) = ⊥
+IsUninterrupted : List Event → Type 0
+IsUninterrupted [] = ⊤
+IsUninterrupted (Call entry disk ∷ more) = IsUninterrupted more
+IsUninterrupted (DiskCall disk ∷ more) = IsUninterrupted more
+IsUninterrupted (Loss image ∷ more) = ⊥
+IsUninterrupted (Stop ∷ more) = ⊥
+IsUninterrupted (Restart limit contents ∷ more) = ⊥
 
-lives_of : (events : List Event) (w new : World) → Goes events → Run w events new → Lives w (by_one events) new
-unfolding Goes
+lives_of : (events : List Event) (w new : World) → IsUninterrupted events → Run w events new → Lives w (by_one events) new
+unfolding IsUninterrupted
 lives_of [] w new goes same = same
 lives_of (Call entry disk ∷ more) w new goes (mid, happens, rest) = inl (mid, happens, lives_of more mid new goes rest)
 lives_of (DiskCall disk ∷ more) w new goes (mid, happens, rest) = (mid, happens, lives_of more mid new goes rest)
@@ -197,7 +197,7 @@ lives_of (Stop ∷ more) w new goes run = absurd goes
 lives_of (Restart limit contents ∷ more) w new goes run = absurd goes
 
 pub some_history_happens : SomeHistoryHappens
-unfolding Goes
+unfolding IsUninterrupted
 some_history_happens first torn disk start moves either mends each =
     let life = breaks_and_mends first torn disk start moves either mends each in (life.0, lives_of (broken_life first torn disk) first life.0 tt life.2, life.3)
 

@@ -1,14 +1,14 @@
 -- The steps of threads happen, step by step, with the disks of the threads.
 use Rattle.std.proofs.Common.{◌≡◌, inl, inr, ℕ, ◌≤◌, Bool, true, false, cond, Option, Some, None, List, [], ◌∷◌, refl, sym, ap, ap₂, subst, ◌∙◌}
 use Rattle.std.specs.Prelude.{⊤}
-use Rattle.psu_disk.specs.Disk.{DiskState, Left}
+use Rattle.psu_disk.specs.Disk.{DiskState, IsCrashImage}
 use Rattle.psu_disk.specs.declared.disk.Disk.{Ghosts}
 use Rattle.psu_items.specs.Image.{EachIsEither}
 use Rattle.psu_nv.specs.Contents.{items_of}
 use Rattle.psu_exec.specs.Consistent.{IsConsistent}
 use Rattle.psu_exec.specs.Device.{Reply, State, Flush, is_whole, map_held, target}
 use Rattle.psu_exec.specs.Calls.{Entry, JobData, Taken, Allows, ends_wait, job_out, settled, unparked}
-use Rattle.psu_exec.specs.Calls.Entry.{Executed, Settled, Took, GaveBack, Opened, Closed, Cleared, Sent, Delivered, Queried, Fetched, Told, Locked, Released, Ticked, Informed, Due}
+use Rattle.psu_exec.specs.Calls.Entry.{Executed, Settled, Took, GaveBack, Opened, Closed, Cleared, Sent, Delivered, Queried, Fetched, Notified, Locked, Released, Ticked, Informed, Due}
 use Rattle.psu_exec.specs.Jobs.{finished_disk, finished_of, job_data, job_disk}
 use Rattle.psu_exec.specs.World.{World, Running, DiskAfter, IsStart, Moves, recorded}
 use Rattle.psu_exec.proofs.Carrying.{still_either, true_of}
@@ -36,7 +36,7 @@ plain_after w (Sent session) plain = refl
 plain_after w (Delivered session) plain = refl
 plain_after w (Queried session byte) plain = refl
 plain_after w (Fetched session byte) plain = refl
-plain_after w (Told sessions work) plain = refl
+plain_after w (Notified sessions work) plain = refl
 plain_after w (Locked session kind now timeout result) plain = refl
 plain_after w (Released session result) plain = refl
 plain_after w (Ticked now failed) plain = refl
@@ -76,7 +76,7 @@ plain_same s new (Sent session) plain a = same_at s.flush new _ a.1 (record { li
 plain_same s new (Delivered session) plain a = same_at s.flush new _ a.1 (record { limit = refl; before = refl; held = refl; out = refl })
 plain_same s new (Queried session byte) plain a = same_at s.flush new _ a.2 (record { limit = refl; before = refl; held = refl; out = refl })
 plain_same s new (Fetched session byte) plain a = same_at s.flush new _ a.2 (record { limit = refl; before = refl; held = refl; out = refl })
-plain_same s new (Told sessions work) plain a = same_at s.flush new _ a.2 (record { limit = refl; before = refl; held = refl; out = refl })
+plain_same s new (Notified sessions work) plain a = same_at s.flush new _ a.2 (record { limit = refl; before = refl; held = refl; out = refl })
 plain_same s new (Locked session kind now timeout result) plain a = same_at s.flush new _ a.2 (record { limit = refl; before = refl; held = refl; out = refl })
 plain_same s new (Released session result) plain a = same_at s.flush new _ a.2 (record { limit = refl; before = refl; held = refl; out = refl })
 plain_same s new (Ticked now failed) plain a = same_at s.flush new _ a.1 (record { limit = refl; before = refl; held = refl; out = refl })
@@ -125,7 +125,7 @@ taken_out D A G run s new a = record {
 
 -- the possible crash images now are among those since any moment so far
 abbrev pub Counts : (D : Type 0) → Ghosts D → Type 0
-Counts D G = (d : D) (t : ℕ) (x : List ℕ) → t ≤ Ghosts.moment G d → Left (Ghosts.state G d) x → Ghosts.left_since G d t x
+Counts D G = (d : D) (t : ℕ) (x : List ℕ) → t ≤ Ghosts.moment G d → IsCrashImage (Ghosts.state G d) x → Ghosts.left_since G d t x
 
 abbrev Stepped : (D A : Type 0) (G : Ghosts D) → World → List (Step D A G) → State → D → Type 0
 Stepped D A G w steps state last = (new : World) × Lives w (shown w.disk steps) new × (new.state ≡ state) × (new.disk ≡ Ghosts.state G last)
@@ -140,62 +140,62 @@ one_call : (D A : Type 0) (G : Ghosts D) (w : World) (call : Numbered Entry) (ne
 one_call D A G w call next disk steps state last running allows after r = (r.0, inl (after_call w call.entry next disk, (next, running, allows, after, refl), r.1), r.2, r.3)
 
 -- a disk call of the run, before steps that happen
-one_disk_call : (D A : Type 0) (G : Ghosts D) → Counts D G → Ghosts.honest G → Ghosts.tells G
+one_disk_call : (D A : Type 0) (G : Ghosts D) → Counts D G → Ghosts.honest G → Ghosts.records G
     → (run : JobRun D A G) (w : World) (disk next : D) (steps : List (Step D A G)) (state : State) (last : D) → w.mode ≡ Running → IsOut run w.state.flush → w.disk ≡ Ghosts.state G disk → IsDiskCall run disk next
     → Stepped D A G (record w { disk = Ghosts.state G next }) steps state last
     → (new : World) × Lives w (Moved (Ghosts.state G next) ∷ shown (Ghosts.state G next) steps) new × (new.state ≡ state) × (new.disk ≡ Ghosts.state G last)
-one_disk_call D A G counts honest tells run w disk next steps state last running out is call r =
+one_disk_call D A G counts honest records run w disk next steps state last running out is call r =
     let mid : World = record w { disk = Ghosts.state G next } in
     let moves : Moves w.disk (Ghosts.state G next) = subst (λ (d : DiskState). Moves d (Ghosts.state G next)) (sym is) call.moves in
     let either : EachIsEither (Ghosts.state G next) w.state.flush.limit w.state.flush.before (target w.state.flush)
     = still_either G counts (job_disk run.job) next (finished_disk run.finished) (job_data run.job).limit w.state.flush.limit (job_data run.job).before w.state.flush.before (job_data run.job).target (target w.state.flush)
-    (run.time honest tells) call.later call.within out.limit out.before out.goal in
+    (run.time honest records) call.later call.within out.limit out.before out.goal in
     (r.0, (mid, (moves, inl (record { running = running; out = out.out; either = either }, refl)), r.1), r.2, r.3)
 
-step_by_step : (D A : Type 0) (G : Ghosts D) → Counts D G → Ghosts.honest G → Ghosts.tells G
+step_by_step : (D A : Type 0) (G : Ghosts D) → Counts D G → Ghosts.honest G → Ghosts.records G
     → (steps : List (Step D A G)) (run : Option (JobRun D A G)) (w : World) (disk last : D) (state : State) → w.mode ≡ Running → IsConsistent w.state.flush → AreOut run w.state.flush → w.disk ≡ Ghosts.state G disk
     → HaveDisks D A G run disk steps last → LeadsOverDisks w.state (calls_in (shown w.disk steps)) state → Stepped D A G w steps state last
-step_by_step D A G counts honest tells [] run w disk last state running k out is have leads = (w, refl, leads, is ∙ sym (ap (λ (d : D). Ghosts.state G d) have))
-step_by_step D A G counts honest tells (Makes call ∷ steps) run w disk last state running k out is have (next, inl allows, on, rest) =
+step_by_step D A G counts honest records [] run w disk last state running k out is have leads = (w, refl, leads, is ∙ sym (ap (λ (d : D). Ghosts.state G d) have))
+step_by_step D A G counts honest records (Makes call ∷ steps) run w disk last state running k out is have (next, inl allows, on, rest) =
     let still = still_out D A G run w.state.flush next.flush (plain_same w.state next call.entry have.0 allows) out in
-    let r = step_by_step D A G counts honest tells steps run (after_call w call.entry next w.disk) disk last state running (each_stays_consistent w.state next call.entry allows k) still is have.1 rest in
+    let r = step_by_step D A G counts honest records steps run (after_call w call.entry next w.disk) disk last state running (each_stays_consistent w.state next call.entry allows k) still is have.1 rest in
     one_call D A G w call next w.disk steps state last running allows (plain_after w call.entry have.0) r
-step_by_step D A G counts honest tells (Makes call ∷ steps) run w disk last state running k out is have (next, inr (absent, same), on, rest) =
-    let r = step_by_step D A G counts honest tells steps run w disk last state running k out is have.1 (subst (λ (s : State). LeadsOverDisks s (calls_in (shown w.disk steps)) state) same rest) in
+step_by_step D A G counts honest records (Makes call ∷ steps) run w disk last state running k out is have (next, inr (absent, same), on, rest) =
+    let r = step_by_step D A G counts honest records steps run w disk last state running k out is have.1 (subst (λ (s : State). LeadsOverDisks s (calls_in (shown w.disk steps)) state) same rest) in
     (r.0, inr (absent, refl, r.1), r.2, r.3)
-step_by_step D A G counts honest tells (Takes seat begun ∷ steps) run w disk last state running k out is have (next, inl allows, on, rest) =
+step_by_step D A G counts honest records (Takes seat begun ∷ steps) run w disk last state running k out is have (next, inl allows, on, rest) =
     let call : Numbered Entry = numbered seat (Took (Taken.Job (job_data begun.job))) in
     let started = taken_out D A G begun w.state next allows in
-    let r = step_by_step D A G counts honest tells steps (Some begun) (after_call w call.entry next w.disk) disk last state running (each_stays_consistent w.state next call.entry allows k) started is have.1 rest in
+    let r = step_by_step D A G counts honest records steps (Some begun) (after_call w call.entry next w.disk) disk last state running (each_stays_consistent w.state next call.entry allows k) started is have.1 rest in
     one_call D A G w call next w.disk steps state last running allows refl r
-step_by_step D A G counts honest tells (Takes seat begun ∷ steps) run w disk last state running k out is have (next, inr (absent, same), on, rest) = absurd absent
-step_by_step D A G counts honest tells (Reaches next ∷ steps) None w disk last state running k out is have leads = absurd have.0
-step_by_step D A G counts honest tells (Reaches next ∷ steps) (Some now) w disk last state running k out is have leads =
-    let r = step_by_step D A G counts honest tells steps (Some now) (record w { disk = Ghosts.state G next }) next last state running k out refl have.1 leads in
-    one_disk_call D A G counts honest tells now w disk next steps state last running out is have.0 r
-step_by_step D A G counts honest tells (Gives seat finished over ∷ steps) run w disk last state running k out is have (next, inl allows, on, rest) =
+step_by_step D A G counts honest records (Takes seat begun ∷ steps) run w disk last state running k out is have (next, inr (absent, same), on, rest) = absurd absent
+step_by_step D A G counts honest records (Reaches next ∷ steps) None w disk last state running k out is have leads = absurd have.0
+step_by_step D A G counts honest records (Reaches next ∷ steps) (Some now) w disk last state running k out is have leads =
+    let r = step_by_step D A G counts honest records steps (Some now) (record w { disk = Ghosts.state G next }) next last state running k out refl have.1 leads in
+    one_disk_call D A G counts honest records now w disk next steps state last running out is have.0 r
+step_by_step D A G counts honest records (Gives seat finished over ∷ steps) run w disk last state running k out is have (next, inl allows, on, rest) =
     let call : Numbered Entry = numbered seat (GaveBack (finished_of finished) (Some over)) in
     let carried : DiskState = Ghosts.state G (finished_disk finished) in
     let own = true_of w.state.flush finished k allows.expected (have.0 honest) in
-    let r = step_by_step D A G counts honest tells steps None (after_call w call.entry next carried) (finished_disk finished) last state running (each_stays_consistent w.state next call.entry allows k) tt refl have.1 rest in
+    let r = step_by_step D A G counts honest records steps None (after_call w call.entry next carried) (finished_disk finished) last state running (each_stays_consistent w.state next call.entry allows k) tt refl have.1 rest in
     one_call D A G w call next carried steps state last running allows own r
-step_by_step D A G counts honest tells (Gives seat finished over ∷ steps) run w disk last state running k out is have (next, inr (absent, same), on, rest) = absurd absent
+step_by_step D A G counts honest records (Gives seat finished over ∷ steps) run w disk last state running k out is have (next, inr (absent, same), on, rest) = absurd absent
 
 -- ---- the laws
 
 pub ends_are_true : (D A : Type 0) (G : Ghosts D) → EndsAreTrue D A G
 ends_are_true D A G s new finished over k stands accepted = true_of s.flush finished k accepted.expected stands
 
-pub threads_are_events : (D A : Type 0) (G : Ghosts D) → Counts D G → Ghosts.honest G → Ghosts.tells G → ThreadsAreEvents D A G
-threads_are_events D A G counts honest tells w first last steps state running k is have leads =
-    let r = step_by_step D A G counts honest tells steps None w first last state running k tt is have (over_disks (Ghosts.honest G) (calls_in (shown w.disk steps)) w.state state honest leads) in
+pub threads_are_events : (D A : Type 0) (G : Ghosts D) → Counts D G → Ghosts.honest G → Ghosts.records G → ThreadsAreEvents D A G
+threads_are_events D A G counts honest records w first last steps state running k is have leads =
+    let r = step_by_step D A G counts honest records steps None w first last state running k tt is have (over_disks (Ghosts.honest G) (calls_in (shown w.disk steps)) w.state state honest leads) in
     record { new = r.0; lives = r.1; state_is = r.2; disk_is = r.3; are = (lives_are_events w r.0 (shown w.disk steps) r.1).0 }
 
 consistent_at_start : (w : World) → IsStart w → IsConsistent w.state.flush
 consistent_at_start w start = subst (λ (s : State). IsConsistent s.flush) (sym start.state) (consistent_start w.limit w.start (items_of w.start) start.sound start.fitting refl)
 
-pub disks_leave_prefix : (D A : Type 0) (G : Ghosts D) → Counts D G → Ghosts.honest G → Ghosts.tells G → DisksLeavePrefix D A G
-disks_leave_prefix D A G counts honest tells w first last steps state image start is have leads left =
-    let o = threads_are_events D A G counts honest tells w first last steps state start.mode (consistent_at_start w start) is have leads in
-    let p = threads_leave_prefix w o.new (shown w.disk steps) image start o.lives (subst (λ (d : DiskState). Left d image) (sym o.disk_is) left) in
+pub disks_leave_prefix : (D A : Type 0) (G : Ghosts D) → Counts D G → Ghosts.honest G → Ghosts.records G → DisksLeavePrefix D A G
+disks_leave_prefix D A G counts honest records w first last steps state image start is have leads left =
+    let o = threads_are_events D A G counts honest records w first last steps state start.mode (consistent_at_start w start) is have leads in
+    let p = threads_leave_prefix w o.new (shown w.disk steps) image start o.lives (subst (λ (d : DiskState). IsCrashImage d image) (sym o.disk_is) left) in
     (o.new, p.0, o.lives, p.1, p.2, p.3)

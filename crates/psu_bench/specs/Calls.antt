@@ -3,7 +3,7 @@ use Rattle.std.specs.Prelude.{◌≡◌, ◌⊎◌, ℕ, false, Option, Some, No
 use Rattle.psu_disk.specs.Disk.{DiskState}
 use Rattle.psu_exec.specs.Device.{State, is_open, target, Later}
 use Rattle.psu_exec.specs.Calls.{Entry, Allows}
-use Rattle.psu_exec.specs.Calls.Entry.{Executed, Settled, Took, GaveBack, Opened, Closed, Cleared, Sent, Delivered, Queried, Fetched, Told, Locked, Released, Ticked, Informed, Due}
+use Rattle.psu_exec.specs.Calls.Entry.{Executed, Settled, Took, GaveBack, Opened, Closed, Cleared, Sent, Delivered, Queried, Fetched, Notified, Locked, Released, Ticked, Informed, Due}
 use Rattle.psu_exec.specs.World.{IsTrueOf}
 use Rattle.psu_locks.specs.declared.grant.Grant.TheVariants.{Failed}
 use Rattle.psu_locks.specs.declared.lock_refusal.LockRefusal.TheVariants.{NotHeld}
@@ -21,7 +21,7 @@ HasNoSession s (Sent session) = is_open s session ≡ false
 HasNoSession s (Delivered session) = is_open s session ≡ false
 HasNoSession s (Queried session byte) = (is_open s session ≡ false) × (byte ≡ 0)
 HasNoSession s (Fetched session byte) = (is_open s session ≡ false) × (byte ≡ None)
-HasNoSession s (Told sessions work) = ⊥
+HasNoSession s (Notified sessions work) = ⊥
 HasNoSession s (Locked session kind now timeout result) = (is_open s session ≡ false) × (result ≡ Ok Failed)
 HasNoSession s (Released session result) = (is_open s session ≡ false) × (result ≡ Err NotHeld)
 HasNoSession s (Ticked now failed) = ⊥

@@ -1,7 +1,7 @@
 -- The histories of the bench as events of the power-loss theorem.
 use Rattle.std.specs.Prelude.{◌≡◌, ◌⊎◌, ◌↔◌, ℕ, List, [], ◌∷◌}
-use Rattle.psu_disk.specs.Disk.{DiskState, Left}
-use Rattle.psu_items.specs.Image.{Stands, EachStands, EachIsEither}
+use Rattle.psu_disk.specs.Disk.{DiskState, IsCrashImage}
+use Rattle.psu_items.specs.Image.{Represents, EachRepresents, EachIsEither}
 use Rattle.psu_nv.specs.Contents.{items_of}
 use Rattle.psu_exec.specs.Consistent.{MayBeKept}
 use Rattle.psu_exec.specs.Device.{State}
@@ -66,12 +66,12 @@ by_one (Restart limit contents ∷ more) = []
 -- store then holds.
 abbrev pub SomeHistoryHappens : Type 0
 SomeHistoryHappens = (first : World) (torn disk : DiskState)
-    → IsStart first → Moves first.disk torn → EachIsEither torn first.limit (items_of first.start) (items_of (cleared first)) → Moves torn disk → EachStands disk first.limit (items_of (cleared first))
+    → IsStart first → Moves first.disk torn → EachIsEither torn first.limit (items_of first.start) (items_of (cleared first)) → Moves torn disk → EachRepresents disk first.limit (items_of (cleared first))
     → (last : World) × Lives first (by_one (broken_life first torn disk)) last × (answered last.history ≡ 3)
 
 -- Whatever threads do, each possible crash image represents the contents after a prefix of the executed units that
 -- includes every unit before an answered `*OPC?`; an image can store these contents.
 abbrev pub ThreadsLeavePrefix : Type 0
 ThreadsLeavePrefix = (first now : World) (happenings : List Happening) (image : List ℕ)
-    → IsStart first → Lives first happenings now → Left now.disk image
-    → (k : ℕ) × IsPrefix now k × MayBeKept now.limit (after now k) × Stands image now.limit (items_of (after now k))
+    → IsStart first → Lives first happenings now → IsCrashImage now.disk image
+    → (k : ℕ) × IsPrefix now k × MayBeKept now.limit (after now k) × Represents image now.limit (items_of (after now k))

@@ -1,8 +1,8 @@
 -- What threads do with a disk: the calls of a history, the runs of its jobs, and the disks that these leave.
 use Rattle.std.specs.Prelude.{◌≡◌, ℕ, ◌≤◌, Option, Some, None, List, [], ◌∷◌, ⊤}
-use Rattle.psu_disk.specs.Disk.{DiskState, Left, LeavesOnly}
+use Rattle.psu_disk.specs.Disk.{DiskState, IsCrashImage, LeavesOnly}
 use Rattle.psu_disk.specs.declared.disk.Disk.{Ghosts}
-use Rattle.psu_items.specs.Image.{Stands, IsEither}
+use Rattle.psu_items.specs.Image.{Represents, IsEither}
 use Rattle.psu_nv.specs.Contents.{items_of}
 use Rattle.psu_exec.specs.Consistent.{IsConsistent, MayBeKept}
 use Rattle.psu_exec.specs.Device.{State, target}
@@ -24,7 +24,7 @@ use Rattle.psu_bench.specs.Lives.{Happening, Called, Moved, Lives, calls_in}
 pub record JobRun (D A : Type 0) (G : Ghosts D) : Type 0 where
   pub job : Job D A G
   pub finished : EndOf D A G
-  pub time : Ghosts.honest G → Ghosts.tells G
+  pub time : Ghosts.honest G → Ghosts.records G
       → LeavesOnly (Ghosts.moment G) (Ghosts.left_since G) (job_disk job) (finished_disk finished) (IsEither (job_data job).limit (job_data job).before (job_data job).target)
 
 -- A step of a thread.
@@ -103,5 +103,5 @@ ThreadsAreEvents D A G = (w : World) (first last : D) (steps : List (Step D A G)
 -- contents after a prefix of the executed units that includes every unit before an answered `*OPC?`.
 abbrev pub DisksLeavePrefix : (D A : Type 0) → Ghosts D → Type 0
 DisksLeavePrefix D A G = (w : World) (first last : D) (steps : List (Step D A G)) (state : State) (image : List ℕ)
-    → IsStart w → w.disk ≡ Ghosts.state G first → HaveDisks D A G None first steps last → Leads (AdmitsOn (Ghosts.honest G)) w.state (calls_in (shown w.disk steps)) state → Left (Ghosts.state G last) image
-    → (now : World) × (k : ℕ) × Lives w (shown w.disk steps) now × IsPrefix now k × MayBeKept now.limit (after now k) × Stands image now.limit (items_of (after now k))
+    → IsStart w → w.disk ≡ Ghosts.state G first → HaveDisks D A G None first steps last → Leads (AdmitsOn (Ghosts.honest G)) w.state (calls_in (shown w.disk steps)) state → IsCrashImage (Ghosts.state G last) image
+    → (now : World) × (k : ℕ) × Lives w (shown w.disk steps) now × IsPrefix now k × MayBeKept now.limit (after now k) × Represents image now.limit (items_of (after now k))

@@ -1,7 +1,7 @@
 //! The shared state, which threads call in turns.
 ghost use Rattle.std.specs.Prelude.{◌≡◌, IfOk, IfErr, length};
 ghost use Rattle.psu_turn.specs.Seats.{Begins, IsOf, Calls, Sees, Splits, Joins, Closes};
-ghost use Rattle.psu_exec.specs.Calls.Entry.{Executed, Settled, Took, GaveBack, Opened, Closed, Cleared, Sent, Delivered, Queried, Fetched, Told, Locked, Released, Ticked, Informed, Due};
+ghost use Rattle.psu_exec.specs.Calls.Entry.{Executed, Settled, Took, GaveBack, Opened, Closed, Cleared, Sent, Delivered, Queried, Fetched, Notified, Locked, Released, Ticked, Informed, Due};
 ghost use Rattle.psu_exec.specs.Shown.{outcome_of, over_of};
 ghost use Rattle.psu_bench.specs.Calls.{AdmitsOn, session_of};
 
@@ -211,13 +211,13 @@ impl<D: Disk, A: Allocator + Copy> Bench<D, A> {
 
     /// Returns the sessions that have requested service since the last call, and whether a take would return a job,
     /// in a turn.
-    pub fn news<R: Wait>(&self, rt: &R, seat: &mut Seat<A>) -> (Sessions, bool)
+    pub fn take_notifications<R: Wait>(&self, rt: &R, seat: &mut Seat<A>) -> (Sessions, bool)
         requires own { IsOf self.now seat.old }
-        ensures call { Calls (AdmitsOn D.honest) seat.old (Told result.0 result.1) seat.new }
+        ensures call { Calls (AdmitsOn D.honest) seat.old (Notified result.0 result.1) seat.new }
         ensures own { IsOf self.now seat.new }
     {
         let mut taken = self.turn.enter(rt, seat);
-        let reply = taken.object.news();
+        let reply = taken.object.take_notifications();
         self.turn.leave::<Brand, _, _>(seat, taken, &(), &reply);
         reply
     }

@@ -31,7 +31,7 @@ impl<D: Disk, G: Gate + Drop> Gated<D, G> {
 impl<D: Disk, G: Gate> Disk for Gated<D, G> {
     ghost honest = { D.honest };
 
-    ghost tells = { D.tells };
+    ghost records = { D.records };
 
     ghost extent = { λ g. D.extent g.inner };
 

@@ -1,6 +1,6 @@
 //! The device's state, called by threads that may close each other's sessions.
 ghost use Rattle.std.specs.Prelude.{◌≡◌};
-ghost use Rattle.psu_exec.specs.Calls.Entry.{Executed, Settled, Took, GaveBack, Opened, Closed, Cleared, Sent, Delivered, Queried, Fetched, Told, Locked, Released, Ticked, Informed, Due};
+ghost use Rattle.psu_exec.specs.Calls.Entry.{Executed, Settled, Took, GaveBack, Opened, Closed, Cleared, Sent, Delivered, Queried, Fetched, Notified, Locked, Released, Ticked, Informed, Due};
 ghost use Rattle.psu_exec.specs.Shown.{outcome_of, over_of};
 ghost use Rattle.psu_bench.specs.Calls.{Admits, AdmitsOn, session_of};
 
@@ -134,11 +134,11 @@ impl<D: Disk, A: Allocator + Copy> Guarded<D, A> {
         self.exec.requests(session)
     }
 
-    /// Returns the sessions that have requested service, and whether there is a job, as `Exec::news` does.
-    pub fn news(&mut self) -> (Sessions, bool)
-        ensures call { Admits self.old.exec.value.device (Told result.0 result.1) self.new.exec.value.device }
+    /// Returns the sessions that have requested service, and whether there is a job, as `Exec::take_notifications` does.
+    pub fn take_notifications(&mut self) -> (Sessions, bool)
+        ensures call { Admits self.old.exec.value.device (Notified result.0 result.1) self.new.exec.value.device }
     {
-        self.exec.news()
+        self.exec.take_notifications()
     }
 
     /// Requests a lock for a session; `Failed` if it isn't open.

@@ -26,6 +26,6 @@ pub fn seen_histories_happen<D: Disk>()
 /// the one that its last disk call left. A job is to have the disk of the end before it.
 pub fn threads_are_events<D: Disk, A: Allocator + Copy>()
     ensures ends { D.honest → EndsAreTrue D A D.Disk }
-    ensures events { D.honest → D.tells → ThreadsAreEvents D A D.Disk }
-    ensures prefix { D.honest → D.tells → DisksLeavePrefix D A D.Disk }
+    ensures events { D.honest → D.records → ThreadsAreEvents D A D.Disk }
+    ensures prefix { D.honest → D.records → DisksLeavePrefix D A D.Disk }
 {}

@@ -28,18 +28,18 @@ const LEAST_LIMIT: u16 = 4;
 
 fn main(rt: HostRuntime) -> ExitCode {
     for name in FILES {
-        if !is_held(&rt, name, LIMIT) {
+        if !play_file(&rt, name, LIMIT) {
             return ExitCode::FAILURE;
         }
     }
-    if !is_held(&rt, LEAST_FILE, LEAST_LIMIT) {
+    if !play_file(&rt, LEAST_FILE, LEAST_LIMIT) {
         return ExitCode::FAILURE;
     }
     ExitCode::SUCCESS
 }
 
 // Plays the scripts of a file, prints how many there are, and returns whether all of them hold.
-fn is_held<R: Files + Alloc + Print + Eprint>(rt: &R, name: &str, limit: u16) -> bool
+fn play_file<R: Files + Alloc + Print + Eprint>(rt: &R, name: &str, limit: u16) -> bool
 where
     R::A: Copy,
 {

@@ -42,12 +42,12 @@ fn opens<D: Disk, A: Allocator + Copy>(exec: &mut Exec<D, A>, wanted: &str) -> b
 }
 
 // Whether these sessions have requested service since, and whether there is something to flush.
-fn has_news<D: Disk, A: Allocator + Copy>(
+fn notifies<D: Disk, A: Allocator + Copy>(
     exec: &mut Exec<D, A>,
     wanted: &str,
     has_work: bool,
 ) -> bool {
-    let (asking, more) = exec.news();
+    let (asking, more) = exec.take_notifications();
     are(&asking, wanted) && more == has_work
 }
 
@@ -61,7 +61,7 @@ fn ticks<D: Disk, A: Allocator + Copy>(exec: &mut Exec<D, A>, wanted: &str) -> b
 }
 
 /// Whether the result of a device's step is the one that it states.
-pub fn is_done<D: Disk + Drop, A: Allocator + Copy>(
+pub fn device_step_holds<D: Disk + Drop, A: Allocator + Copy>(
     exec: &mut Exec<D, A>,
     doing: Doing,
     rest: &str,
@@ -73,7 +73,7 @@ pub fn is_done<D: Disk + Drop, A: Allocator + Copy>(
         Doing::Beside => beside(exec, rest) == Some(true),
         Doing::Idle => takes_none(exec, NoJob::Nothing),
         Doing::Tick => ticks(exec, rest),
-        Doing::Work => has_news(exec, rest, true),
-        Doing::Rest => has_news(exec, rest, false),
+        Doing::Work => notifies(exec, rest, true),
+        Doing::Rest => notifies(exec, rest, false),
     }
 }

@@ -21,7 +21,7 @@ fn given_back<D: Disk + Drop, A: Allocator + Copy>(
 }
 
 /// Whether a device expects the end of a job, and it ends the waits of these sessions.
-pub fn is_over<D: Disk + Drop, A: Allocator + Copy>(
+pub fn ends_waits<D: Disk + Drop, A: Allocator + Copy>(
     exec: &mut Exec<D, A>,
     finished: Finished<D, A>,
     wanted: &str,
@@ -32,7 +32,7 @@ pub fn is_over<D: Disk + Drop, A: Allocator + Copy>(
 /// Whether one job ends the waits of these sessions, or there is nothing to do and no session is given.
 pub fn flushes<D: Disk + Drop, A: Allocator + Copy>(exec: &mut Exec<D, A>, wanted: &str) -> bool {
     match exec.take() {
-        Ok(job) => is_over(exec, job.run(), wanted),
+        Ok(job) => ends_waits(exec, job.run(), wanted),
         Err(cause) => cause == NoJob::Nothing && wanted.is_empty(),
     }
 }
@@ -44,7 +44,7 @@ pub fn takes_none<D: Disk + Drop, A: Allocator + Copy>(
 ) -> bool {
     match exec.take() {
         Ok(job) => {
-            is_over(exec, job.run(), "");
+            ends_waits(exec, job.run(), "");
             false
         }
         Err(cause) => cause == wanted,
@@ -71,7 +71,7 @@ pub fn beside<D: Disk + Drop, A: Allocator + Copy>(
         return None;
     };
     let held = are_beside(exec, steps);
-    if is_over(exec, job.run(), "") {
+    if ends_waits(exec, job.run(), "") {
         Some(held)
     } else {
         None

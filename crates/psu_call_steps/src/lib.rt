@@ -48,5 +48,5 @@ mod unit_steps;
 mod words;
 
 pub use devices::{image, powered_on};
-pub use job_steps::{beside, is_over};
+pub use job_steps::{beside, ends_waits};
 pub use player::{StepFault, play, play_anew, step_holds};

@@ -9,7 +9,7 @@ use std::alloc::Allocator;
 
 /// A step of a session on locks.
 #[derive(Clone, Copy)]
-pub enum LockDeed {
+pub enum LockAction {
     Shares,
     Locks,
     Releases,
@@ -17,12 +17,12 @@ pub enum LockDeed {
 }
 
 /// Returns the step of a word.
-pub fn lock_deed_of(word: &str) -> Option<LockDeed> {
+pub fn lock_action_of(word: &str) -> Option<LockAction> {
     match word {
-        "shares" => Some(LockDeed::Shares),
-        "locks" => Some(LockDeed::Locks),
-        "releases" => Some(LockDeed::Releases),
-        "closes" => Some(LockDeed::Closes),
+        "shares" => Some(LockAction::Shares),
+        "locks" => Some(LockAction::Locks),
+        "releases" => Some(LockAction::Releases),
+        "closes" => Some(LockAction::Closes),
         _ => None,
     }
 }
@@ -101,18 +101,18 @@ fn closes<D: Disk, A: Allocator + Copy>(
 }
 
 /// Whether the result of an open session's step on locks is the one that it states.
-pub fn is_locked<D: Disk, A: Allocator + Copy>(
+pub fn lock_step_holds<D: Disk, A: Allocator + Copy>(
     exec: &mut Exec<D, A>,
     session: Session,
-    deed: LockDeed,
+    action: LockAction,
     rest: &str,
 ) -> bool
     requires { is_open exec.old.device session ≡ true }
 {
-    match deed {
-        LockDeed::Shares => shares(exec, session),
-        LockDeed::Locks => locks(exec, session, rest),
-        LockDeed::Releases => releases(exec, session, rest),
-        LockDeed::Closes => closes(exec, session, rest),
+    match action {
+        LockAction::Shares => shares(exec, session),
+        LockAction::Locks => locks(exec, session, rest),
+        LockAction::Releases => releases(exec, session, rest),
+        LockAction::Closes => closes(exec, session, rest),
     }
 }

@@ -1,5 +1,5 @@
 // Steps that are played, one after another.
-use crate::device_steps::{doing_of, is_done};
+use crate::device_steps::{device_step_holds, doing_of};
 use crate::devices::{image, powered_on};
 use crate::session_steps::session_step;
 use crate::sights::{is_seen, sight_of};
@@ -19,7 +19,7 @@ pub struct StepFault<'s> {
 fn changing_step<D: Disk + Drop, A: Allocator + Copy>(exec: &mut Exec<D, A>, step: &str) -> bool {
     let (word, rest) = parted(step);
     match doing_of(word) {
-        Some(doing) => is_done(exec, doing, rest),
+        Some(doing) => device_step_holds(exec, doing, rest),
         None => session_step(exec, step),
     }
 }

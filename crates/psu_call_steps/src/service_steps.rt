@@ -9,7 +9,7 @@ use std::alloc::Allocator;
 
 /// A step of a session.
 #[derive(Clone, Copy)]
-pub enum Deed {
+pub enum Action {
     Does,
     Fills,
     Settles,
@@ -21,16 +21,16 @@ pub enum Deed {
 }
 
 /// Returns the step of a word.
-pub fn deed_of(word: &str) -> Option<Deed> {
+pub fn action_of(word: &str) -> Option<Action> {
     match word {
-        "does" => Some(Deed::Does),
-        "fills" => Some(Deed::Fills),
-        "settles" => Some(Deed::Settles),
-        "asks" => Some(Deed::Asks),
-        "polls" => Some(Deed::Polls),
-        "sent" => Some(Deed::Sent),
-        "delivered" => Some(Deed::Delivered),
-        "clears" => Some(Deed::Clears),
+        "does" => Some(Action::Does),
+        "fills" => Some(Action::Fills),
+        "settles" => Some(Action::Settles),
+        "asks" => Some(Action::Asks),
+        "polls" => Some(Action::Polls),
+        "sent" => Some(Action::Sent),
+        "delivered" => Some(Action::Delivered),
+        "clears" => Some(Action::Clears),
         _ => None,
     }
 }
@@ -57,23 +57,23 @@ fn polls<D: Disk, A: Allocator + Copy>(
 }
 
 /// Whether the result of an open session's step is the one that it states.
-pub fn is_served<D: Disk, A: Allocator + Copy>(
+pub fn service_step_holds<D: Disk, A: Allocator + Copy>(
     exec: &mut Exec<D, A>,
     session: Session,
-    deed: Deed,
+    action: Action,
     rest: &str,
 ) -> bool
     requires { is_open exec.old.device session ≡ true }
 {
-    match deed {
-        Deed::Does => return are_done(exec, session, rest),
-        Deed::Fills => return fills(exec, session, rest),
-        Deed::Settles => return settles(exec, session, rest),
-        Deed::Asks => return asks(exec, session, rest),
-        Deed::Polls => return polls(exec, session, rest),
-        Deed::Sent => exec.sent(session),
-        Deed::Delivered => exec.delivered(session),
-        Deed::Clears => exec.clear(session),
+    match action {
+        Action::Does => return are_done(exec, session, rest),
+        Action::Fills => return fills(exec, session, rest),
+        Action::Settles => return settles(exec, session, rest),
+        Action::Asks => return asks(exec, session, rest),
+        Action::Polls => return polls(exec, session, rest),
+        Action::Sent => exec.sent(session),
+        Action::Delivered => exec.delivered(session),
+        Action::Clears => exec.clear(session),
     }
     true
 }

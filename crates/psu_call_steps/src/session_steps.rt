@@ -1,6 +1,6 @@
 // The steps of a session: a unit, or another step.
-use crate::lock_steps::{is_locked, lock_deed_of};
-use crate::service_steps::{deed_of, is_served};
+use crate::lock_steps::{lock_action_of, lock_step_holds};
+use crate::service_steps::{action_of, service_step_holds};
 use crate::unit_steps::executes;
 use crate::words::{parted, session};
 use psu_disk::Disk;
@@ -18,11 +18,11 @@ fn does<D: Disk, A: Allocator + Copy>(
         return false;
     }
     let (word, rest) = parted(doing);
-    if let Some(deed) = deed_of(word) {
-        return is_served(exec, session, deed, rest);
+    if let Some(action) = action_of(word) {
+        return service_step_holds(exec, session, action, rest);
     }
-    match lock_deed_of(word) {
-        Some(deed) => is_locked(exec, session, deed, rest),
+    match lock_action_of(word) {
+        Some(action) => lock_step_holds(exec, session, action, rest),
         None => false,
     }
 }

@@ -95,7 +95,7 @@ impl Client {
     }
 
     /// Reads the answer to a lock request or to a release.
-    pub fn is_told_of_lock(&mut self, control: u8) -> Result<(), Missed> {
+    pub fn expect_lock_response(&mut self, control: u8) -> Result<(), Missed> {
         comes(&mut self.other, bare(5, control))
     }
 
@@ -109,7 +109,7 @@ impl Client {
     pub fn share(&mut self) -> Result<(), Missed> {
         send(&mut self.other, &header(4, 1, 0, 1))?;
         send(&mut self.other, b"k")?;
-        self.is_told_of_lock(1)
+        self.expect_lock_response(1)
     }
 
     /// Sends a query that a lock holds back; no answer comes.
@@ -121,7 +121,7 @@ impl Client {
     /// Takes the exclusive lock, which no client has.
     pub fn lock(&mut self) -> Result<(), Missed> {
         self.want_lock(0)?;
-        self.is_told_of_lock(1)
+        self.expect_lock_response(1)
     }
 
     /// Requests the release of a lock, after the message of this number.
@@ -132,7 +132,7 @@ impl Client {
     /// Releases a lock; the answer is 1 for the exclusive one, 2 for the shared one, 3 where none was held.
     pub fn release(&mut self, control: u8) -> Result<(), Missed> {
         self.let_lock_go(self.last)?;
-        self.is_told_of_lock(control)
+        self.expect_lock_response(control)
     }
 
     /// Queries the locks: whether the exclusive lock is held, and how many clients hold one.

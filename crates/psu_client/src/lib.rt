@@ -2,8 +2,8 @@
 //! faults where something else is received than expected. It knows nothing of how the server is made.
 #![tactic(auto)]
 
+mod actions;
 mod client;
-mod deeds;
 mod joining;
 mod long_answer;
 mod missed;

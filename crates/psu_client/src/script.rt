@@ -30,8 +30,8 @@
 // | `a connects`, `a begins` | a connection, plain or of a session that is not joined |
 // | `a sends 48 53`, `a gets 48 53`, `a silent`, `a ends` | these steps on that connection |
 // | `pause`, `rest 700` | wait until the effects so far have settled; wait this many milliseconds |
+use crate::actions::{UNREAD, client_does, fails, number, parted, stream_does};
 use crate::client::Client;
-use crate::deeds::{UNREAD, client_does, fails, number, parted, stream_does};
 use crate::joining::{begun, connected, joined_again, joined_as, settle};
 use crate::missed::Missed;
 use std::alloc::Global;
@@ -202,11 +202,11 @@ impl<R: Net<Stream = TcpStream> + Clock + Copy> Cast<R> {
             settle(&self.rt);
             return Ok(());
         }
-        let (who, deed) = parted(step);
+        let (who, action) = parted(step);
         if who == "rest" {
-            return rests(&self.rt, deed);
+            return rests(&self.rt, action);
         }
-        let (word, rest) = parted(deed);
+        let (word, rest) = parted(action);
         match who.parse::<u8>() {
             Ok(session) => self.session_does(session, word, rest),
             Err(_) => self.connection_does(who, word, rest),

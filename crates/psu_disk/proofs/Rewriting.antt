@@ -3,7 +3,7 @@ use Rattle.std.proofs.Common.{◌≡◌, ◌⊎◌, inl, inr, ⊎_elim, ℕ, ◌
 use Rattle.std.proofs.lemmas.Bool.{cases_lt}
 use Rattle.std.proofs.lemmas.Bool.Decides.{nat_tests}
 use Rattle.psu_disk.specs.declared.touched.Span.{Span}
-use Rattle.psu_disk.specs.Disk.{DiskState, Left, Touches, IsFlagged, IsSynced, is_unsynced}
+use Rattle.psu_disk.specs.Disk.{DiskState, IsCrashImage, Touches, IsFlagged, IsSynced, is_unsynced}
 use Rattle.psu_disk.specs.Medium.{NoneMore, IsKept, KeepsRange}
 use Rattle.psu_disk.specs.Touched.{is_in, is_covered}
 use Rattle.psu_disk.specs.Ranges.{reads_left}
@@ -11,8 +11,8 @@ use Rattle.psu_disk.proofs.Covered.{covered_at, last_in, is_in_bounds}
 use Rattle.psu_disk.proofs.Images.{synced_only}
 
 -- after a sync each possible crash image is one from before it
-pub left_synced : (old new : DiskState) → IsSynced new → new.bytes ≡ old.bytes → (x : List ℕ) → Left new x → Left old x
-left_synced old new synced same x left = subst (Left old) (sym (synced_only new synced x left ∙ same)) (reads_left old)
+pub left_synced : (old new : DiskState) → IsSynced new → new.bytes ≡ old.bytes → (x : List ℕ) → IsCrashImage new x → IsCrashImage old x
+left_synced old new synced same x left = subst (IsCrashImage old) (sym (synced_only new synced x left ∙ same)) (reads_left old)
 
 -- a span that is not empty ends within the disk
 pub ends_inside : (spans : List Span) (i : ℕ) (d : Span) (size : ℕ) → ((k : ℕ) → is_covered spans k ≡ true → k < size) → i < length spans → (let span = get_or spans i d in span.low < span.high → span.high ≤ size)

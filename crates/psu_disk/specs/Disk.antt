@@ -26,13 +26,13 @@ abbrev pub is_unsynced : DiskState → ℕ → Bool
 is_unsynced disk k = slice_index_or disk.unsynced k false
 
 -- x has the disk's size, and is the same as the disk in each byte that isn't flagged
-pub record IsLeft (disk : DiskState) (x : List ℕ) : Type 0 where
+pub record AgreesWhereSynced (disk : DiskState) (x : List ℕ) : Type 0 where
   pub size : length x ≡ length disk.bytes
   pub same : (k : ℕ) → is_unsynced disk k ≡ false → slice_index x k ≡ slice_index disk.bytes k
 
 -- x is a possible crash image. (Folded: the proofs of the layers above use it without its definition.)
-unfoldable pub Left : DiskState → List ℕ → Type 0
-Left disk x = IsLeft disk x
+unfoldable pub IsCrashImage : DiskState → List ℕ → Type 0
+IsCrashImage disk x = AgreesWhereSynced disk x
 
 -- no byte is flagged
 abbrev pub IsSynced : DiskState → Type 0
@@ -50,7 +50,7 @@ pub record Touches (at n : ℕ) (old new : DiskState) : Type 0 where
 
 -- the only possible crash image is what is read
 abbrev pub Only : DiskState → Type 0
-Only disk = (x : List ℕ) → Left disk x → x ≡ disk.bytes
+Only disk = (x : List ℕ) → IsCrashImage disk x → x ≡ disk.bytes
 
 -- each possible crash image after a call is one from before the call, changed by this step
 abbrev pub Follows : (List ℕ → List ℕ → Type 0) → (List ℕ → Type 0) → (List ℕ → Type 0) → Type 0

@@ -1,6 +1,6 @@
 // A disk as the layers above see it: the bytes that a read returns, and the possible crash images.
 ghost use Rattle.std.specs.Prelude.{◌≡◌, ◌+◌, ◌≤◌, List, ℕ, length, OnOk, OnErr};
-ghost use Rattle.psu_disk.specs.Disk.{DiskState, Left, Range, Holds, SameBut, IsSynced, IsFlagged, Touches, Only, Follows, Elapses, HasCause};
+ghost use Rattle.psu_disk.specs.Disk.{DiskState, IsCrashImage, Range, Holds, SameBut, IsSynced, IsFlagged, Touches, Only, Follows, Elapses, HasCause};
 
 use crate::DiskFault;
 
@@ -13,7 +13,7 @@ pub trait Disk {
     ghost honest: { Type 0 };
 
     /// The premise of every clause on past moments: this kind of disk records them.
-    ghost tells: { Type 0 };
+    ghost records: { Type 0 };
 
     /// The number of bytes that the disk has.
     ghost extent: { Self → ℕ };
@@ -49,8 +49,8 @@ pub trait Disk {
 
         // Consequences, for the proofs of the layers above.
         ensures seen { honest → (state self.new).bytes ≡ (state self.old).bytes }
-        ensures left { honest → (x : List ℕ) → Left (state self.new) x → Left (state self.old) x }
-        ensures time { tells → Elapses (moment self.old) (moment self.new) (left_since self.old) (left_since self.new) (Left (state self.new)) };
+        ensures left { honest → (x : List ℕ) → IsCrashImage (state self.new) x → IsCrashImage (state self.old) x }
+        ensures time { records → Elapses (moment self.old) (moment self.new) (left_since self.old) (left_since self.new) (IsCrashImage (state self.new)) };
 
     /// Writes the bytes at `at`. From the start of the call until a successful sync, a power loss may leave any bytes
     /// in the range. After a failed write a read may return any bytes in the range; the bytes outside it are unchanged.
@@ -65,8 +65,8 @@ pub trait Disk {
 
         // Consequences of these, for the proofs of the layers above.
         ensures seen { honest → SameBut at (length bytes.now) (state self.old).bytes (state self.new).bytes }
-        ensures left { honest → Follows (SameBut at (length bytes.now)) (Left (state self.old)) (Left (state self.new)) }
-        ensures time { tells → Elapses (moment self.old) (moment self.new) (left_since self.old) (left_since self.new) (Left (state self.new)) };
+        ensures left { honest → Follows (SameBut at (length bytes.now)) (IsCrashImage (state self.old)) (IsCrashImage (state self.new)) }
+        ensures time { records → Elapses (moment self.old) (moment self.new) (left_since self.old) (left_since self.new) (IsCrashImage (state self.new)) };
 
     /// Makes the written bytes durable: after a successful sync a power loss leaves what a read returns. A failed sync
     /// changes nothing.
@@ -80,15 +80,15 @@ pub trait Disk {
 
         // Consequences of these, for the proofs of the layers above.
         ensures only { honest → OnOk result (Only (state self.new)) }
-        ensures left { honest → (x : List ℕ) → Left (state self.new) x → Left (state self.old) x }
-        ensures time { tells → Elapses (moment self.old) (moment self.new) (left_since self.old) (left_since self.new) (Left (state self.new)) };
+        ensures left { honest → (x : List ℕ) → IsCrashImage (state self.new) x → IsCrashImage (state self.old) x }
+        ensures time { records → Elapses (moment self.old) (moment self.new) (left_since self.old) (left_since self.new) (IsCrashImage (state self.new)) };
 
     /// The number of bytes in the state is the disk's size.
     ghost sized: { honest → (d : Self) → length (state d).bytes ≡ extent d };
 
     /// The possible crash images now are among those since any moment so far.
-    ghost counts_now: { tells → (d : Self) (t : ℕ) (x : List ℕ) → t ≤ moment d → Left (state d) x → left_since d t x };
+    ghost counts_now: { records → (d : Self) (t : ℕ) (x : List ℕ) → t ≤ moment d → IsCrashImage (state d) x → left_since d t x };
 
     /// The possible crash images since the current moment are those of now.
-    ghost only_now: { tells → (d : Self) (x : List ℕ) → left_since d (moment d) x → Left (state d) x };
+    ghost only_now: { records → (d : Self) (x : List ℕ) → left_since d (moment d) x → IsCrashImage (state d) x };
 }

@@ -1,5 +1,5 @@
 // A disk that fails after some calls, for tests of what a run that stops midway leaves, and of what one failure does.
-ghost use Rattle.psu_disk.specs.Disk.{Left, Range, Holds, SameBut, IsSynced, IsFlagged, Touches, Only, Follows, Elapses, HasCause};
+ghost use Rattle.psu_disk.specs.Disk.{IsCrashImage, Range, Holds, SameBut, IsSynced, IsFlagged, Touches, Only, Follows, Elapses, HasCause};
 ghost use Rattle.psu_disk.specs.Failing.{is_failing};
 ghost use Rattle.psu_disk.specs.declared.failing.Failing.TheVariants.{Always, Once};
 ghost use Rattle.std.specs.Prelude.{◌≡◌, ◌+◌, ◌≤◌, ◌^◌, ◌-◌, ◌↔◌, min, true, false, IsErr, List, ℕ, length, OnOk, OnErr};
@@ -88,7 +88,7 @@ impl<D: Disk> Disk for FailingDisk<D> {
 
     ghost honest = { D.honest };
 
-    ghost tells = { D.tells };
+    ghost records = { D.records };
 
     ghost extent = { λ f. D.extent f.inner };
 
@@ -121,8 +121,8 @@ impl<D: Disk> Disk for FailingDisk<D> {
         ensures bytes { D.honest → OnOk result (into.new ≡ Range at (length into.old) (D.state self.old.inner).bytes) }
         ensures state { D.honest → D.state self.new.inner ≡ D.state self.old.inner }
         ensures seen { D.honest → (D.state self.new.inner).bytes ≡ (D.state self.old.inner).bytes }
-        ensures left { D.honest → (x : List ℕ) → Left (D.state self.new.inner) x → Left (D.state self.old.inner) x }
-        ensures time { D.tells → Elapses (D.moment self.old.inner) (D.moment self.new.inner) (D.left_since self.old.inner) (D.left_since self.new.inner) (Left (D.state self.new.inner)) }
+        ensures left { D.honest → (x : List ℕ) → IsCrashImage (D.state self.new.inner) x → IsCrashImage (D.state self.old.inner) x }
+        ensures time { D.records → Elapses (D.moment self.old.inner) (D.moment self.new.inner) (D.left_since self.old.inner) (D.left_since self.new.inner) (IsCrashImage (D.state self.new.inner)) }
         ensures failing { self.new.failing ≡ self.old.failing }
         ensures passes { self.new.passes ≡ self.old.passes - 1 }
         // A call that is to fail isn't passed on.
@@ -142,8 +142,8 @@ impl<D: Disk> Disk for FailingDisk<D> {
         ensures flagged { D.honest → OnOk result (IsFlagged at (length bytes.now) (D.state self.new.inner)) }
         ensures state { D.honest → Touches at (length bytes.now) (D.state self.old.inner) (D.state self.new.inner) }
         ensures seen { D.honest → SameBut at (length bytes.now) (D.state self.old.inner).bytes (D.state self.new.inner).bytes }
-        ensures left { D.honest → Follows (SameBut at (length bytes.now)) (Left (D.state self.old.inner)) (Left (D.state self.new.inner)) }
-        ensures time { D.tells → Elapses (D.moment self.old.inner) (D.moment self.new.inner) (D.left_since self.old.inner) (D.left_since self.new.inner) (Left (D.state self.new.inner)) }
+        ensures left { D.honest → Follows (SameBut at (length bytes.now)) (IsCrashImage (D.state self.old.inner)) (IsCrashImage (D.state self.new.inner)) }
+        ensures time { D.records → Elapses (D.moment self.old.inner) (D.moment self.new.inner) (D.left_since self.old.inner) (D.left_since self.new.inner) (IsCrashImage (D.state self.new.inner)) }
         ensures failing { self.new.failing ≡ self.old.failing }
         ensures passes { self.new.passes ≡ self.old.passes - 1 }
         // A call that is to fail isn't passed on.
@@ -162,8 +162,8 @@ impl<D: Disk> Disk for FailingDisk<D> {
         ensures seen { D.honest → (D.state self.new.inner).bytes ≡ (D.state self.old.inner).bytes }
         ensures err { D.honest → OnErr result (D.state self.new.inner ≡ D.state self.old.inner) }
         ensures only { D.honest → OnOk result (Only (D.state self.new.inner)) }
-        ensures left { D.honest → (x : List ℕ) → Left (D.state self.new.inner) x → Left (D.state self.old.inner) x }
-        ensures time { D.tells → Elapses (D.moment self.old.inner) (D.moment self.new.inner) (D.left_since self.old.inner) (D.left_since self.new.inner) (Left (D.state self.new.inner)) }
+        ensures left { D.honest → (x : List ℕ) → IsCrashImage (D.state self.new.inner) x → IsCrashImage (D.state self.old.inner) x }
+        ensures time { D.records → Elapses (D.moment self.old.inner) (D.moment self.new.inner) (D.left_since self.old.inner) (D.left_since self.new.inner) (IsCrashImage (D.state self.new.inner)) }
         ensures failing { self.new.failing ≡ self.old.failing }
         ensures passes { self.new.passes ≡ self.old.passes - 1 }
         // A call that is to fail isn't passed on.

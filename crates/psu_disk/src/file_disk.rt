@@ -41,7 +41,7 @@ impl<F: FileCalls + Drop, A: Allocator + Drop> KeptDisk<SystemFile<F>, A> {
     {
         let file = system.create(path, size)?;
         let mut file = locked(file)?;
-        if make_last(system, path, &mut file).is_err() {
+        if make_durable(system, path, &mut file).is_err() {
             system.remove(path);
             return Err(OpenFault::NotOpened);
         }
@@ -90,7 +90,7 @@ fn locked<F: FileCalls + Drop>(mut file: F) -> Result<F, OpenFault>
 }
 
 // Fills a new file with zeros, and makes it and its name durable.
-fn make_last<F: FileCalls, S: FileSystem<F>>(
+fn make_durable<F: FileCalls, S: FileSystem<F>>(
     system: &mut S,
     path: &str,
     file: &mut F,

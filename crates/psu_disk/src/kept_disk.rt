@@ -1,7 +1,7 @@
 // A disk over a medium that may forget bytes at a failed sync. It keeps the ranges written since the last successful
 // sync. After a failed sync it writes their bytes again, as they read, before the next sync.
 ghost use Rattle.std.specs.Prelude.{◌≡◌, ℕ, ◌+◌, ◌^◌, ◌<◌, ◌≤◌, List, length, true, false, IfOk, OnOk, OnErr};
-ghost use Rattle.psu_disk.specs.Disk.{Left, IsFlagged, IsSynced, Only, Elapses, HasCause, Holds, Touches, SameBut, Follows, is_unsynced};
+ghost use Rattle.psu_disk.specs.Disk.{IsCrashImage, IsFlagged, IsSynced, Only, Elapses, HasCause, Holds, Touches, SameBut, Follows, is_unsynced};
 ghost use Rattle.psu_disk.specs.Medium.{NoneMore, IsKnown, IsKept};
 ghost use Rattle.psu_disk.specs.Touched.{is_in, is_covered};
 ghost use Rattle.std.proofs.Props.{props};
@@ -67,7 +67,7 @@ impl<M: Medium, A: Allocator> KeptDisk<M, A> {
         ensures state { M.honest → M.state self.new.medium ≡ M.state self.old.medium }
         ensures known { M.honest → OnOk result ((k : ℕ) → M.forgotten self.new.medium k ≡ false) }
         ensures works { M.works self.old.medium → self.old.written.full ≡ false → OnErr result ⊥ × M.works self.new.medium }
-        ensures time { M.honest → M.tells → Elapses (M.moment self.old.medium) (M.moment self.new.medium) (M.left_since self.old.medium) (M.left_since self.new.medium) (Left (M.state self.old.medium)) }
+        ensures time { M.honest → M.records → Elapses (M.moment self.old.medium) (M.moment self.new.medium) (M.left_since self.old.medium) (M.left_since self.new.medium) (IsCrashImage (M.state self.old.medium)) }
     {
         if !self.failed {
             return Ok(());
@@ -88,9 +88,9 @@ impl<M: Medium, A: Allocator> KeptDisk<M, A> {
         ensures seen { M.honest → (M.state self.new.medium).bytes ≡ (M.state self.old.medium).bytes }
         ensures err { M.honest → OnErr result (M.state self.new.medium ≡ M.state self.old.medium) }
         ensures only { M.honest → OnOk result (Only (M.state self.new.medium)) }
-        ensures left { M.honest → (x : List ℕ) → Left (M.state self.new.medium) x → Left (M.state self.old.medium) x }
+        ensures left { M.honest → (x : List ℕ) → IsCrashImage (M.state self.new.medium) x → IsCrashImage (M.state self.old.medium) x }
         ensures works { M.works self.old.medium → self.old.written.full ≡ false → OnErr result ⊥ × M.works self.new.medium }
-        ensures time { M.honest → M.tells → Elapses (M.moment self.old.medium) (M.moment self.new.medium) (M.left_since self.old.medium) (M.left_since self.new.medium) (Left (M.state self.new.medium)) }
+        ensures time { M.honest → M.records → Elapses (M.moment self.old.medium) (M.moment self.new.medium) (M.left_since self.old.medium) (M.left_since self.new.medium) (IsCrashImage (M.state self.new.medium)) }
     {
         self.recover()?;
         if self.medium.sync().is_err() {
@@ -123,7 +123,7 @@ fn write_again<M: Medium>(medium: &mut M, spans: &[Span]) -> Result<(), DiskFaul
     ensures none_more { M.honest → NoneMore (M.forgotten medium.old) (M.forgotten medium.new) }
     ensures known { M.honest → OnOk result ((k : ℕ) → is_covered spans.now k ≡ true → M.forgotten medium.new k ≡ false) }
     ensures works { M.works medium.old → OnErr result ⊥ × M.works medium.new }
-    ensures time { M.honest → M.tells → Elapses (M.moment medium.old) (M.moment medium.new) (M.left_since medium.old) (M.left_since medium.new) (Left (M.state medium.old)) }
+    ensures time { M.honest → M.records → Elapses (M.moment medium.old) (M.moment medium.new) (M.left_since medium.old) (M.left_since medium.new) (IsCrashImage (M.state medium.old)) }
 {
     for span in spans {
         write_span(medium, *span)?;
@@ -140,7 +140,7 @@ fn write_span<M: Medium>(medium: &mut M, span: Span) -> Result<(), DiskFault>
     ensures none_more { M.honest → NoneMore (M.forgotten medium.old) (M.forgotten medium.new) }
     ensures known { M.honest → OnOk result ((k : ℕ) → is_in span k ≡ true → M.forgotten medium.new k ≡ false) }
     ensures works { M.works medium.old → OnErr result ⊥ × M.works medium.new }
-    ensures time { M.honest → M.tells → Elapses (M.moment medium.old) (M.moment medium.new) (M.left_since medium.old) (M.left_since medium.new) (Left (M.state medium.old)) }
+    ensures time { M.honest → M.records → Elapses (M.moment medium.old) (M.moment medium.new) (M.left_since medium.old) (M.left_since medium.new) (IsCrashImage (M.state medium.old)) }
 {
     let mut at = span.low;
     while at < span.high {
@@ -161,7 +161,7 @@ fn write_piece<M: Medium>(medium: &mut M, at: u64, piece: &mut [u8]) -> Result<(
     ensures none_more { M.honest → NoneMore (M.forgotten medium.old) (M.forgotten medium.new) }
     ensures known { M.honest → OnOk result (IsKnown at (length piece.old) (M.forgotten medium.new)) }
     ensures works { M.works medium.old → OnErr result ⊥ × M.works medium.new }
-    ensures time { M.honest → M.tells → Elapses (M.moment medium.old) (M.moment medium.new) (M.left_since medium.old) (M.left_since medium.new) (Left (M.state medium.old)) }
+    ensures time { M.honest → M.records → Elapses (M.moment medium.old) (M.moment medium.new) (M.left_since medium.old) (M.left_since medium.new) (IsCrashImage (M.state medium.old)) }
 {
     medium.read(at, piece)?;
     medium.write(at, piece)
@@ -170,7 +170,7 @@ fn write_piece<M: Medium>(medium: &mut M, at: u64, piece: &mut [u8]) -> Result<(
 impl<M: Medium, A: Allocator> Disk for KeptDisk<M, A> {
     ghost honest = { M.honest };
 
-    ghost tells = { M.honest × M.tells };
+    ghost records = { M.honest × M.records };
 
     ghost extent = { λ d. M.extent d.medium };
 
@@ -210,8 +210,8 @@ impl<M: Medium, A: Allocator> Disk for KeptDisk<M, A> {
         ensures flagged { M.honest → OnOk result (IsFlagged at (length bytes.now) (M.state self.new.medium)) }
         ensures state { M.honest → Touches at (length bytes.now) (M.state self.old.medium) (M.state self.new.medium) }
         ensures seen { M.honest → SameBut at (length bytes.now) (M.state self.old.medium).bytes (M.state self.new.medium).bytes }
-        ensures left { M.honest → Follows (SameBut at (length bytes.now)) (Left (M.state self.old.medium)) (Left (M.state self.new.medium)) }
-        ensures time { M.honest × M.tells → Elapses (M.moment self.old.medium) (M.moment self.new.medium) (M.left_since self.old.medium) (M.left_since self.new.medium) (Left (M.state self.new.medium)) }
+        ensures left { M.honest → Follows (SameBut at (length bytes.now)) (IsCrashImage (M.state self.old.medium)) (IsCrashImage (M.state self.new.medium)) }
+        ensures time { M.honest × M.records → Elapses (M.moment self.old.medium) (M.moment self.new.medium) (M.left_since self.old.medium) (M.left_since self.new.medium) (IsCrashImage (M.state self.new.medium)) }
         ensures room { length self.old.written.spans.items < 1024 → self.new.written.full ≡ self.old.written.full }
     {
         let span = Span {
@@ -232,8 +232,8 @@ impl<M: Medium, A: Allocator> Disk for KeptDisk<M, A> {
         ensures seen { M.honest → (M.state self.new.medium).bytes ≡ (M.state self.old.medium).bytes }
         ensures err { M.honest → OnErr result (M.state self.new.medium ≡ M.state self.old.medium) }
         ensures only { M.honest → OnOk result (Only (M.state self.new.medium)) }
-        ensures left { M.honest → (x : List ℕ) → Left (M.state self.new.medium) x → Left (M.state self.old.medium) x }
-        ensures time { M.honest × M.tells → Elapses (M.moment self.old.medium) (M.moment self.new.medium) (M.left_since self.old.medium) (M.left_since self.new.medium) (Left (M.state self.new.medium)) }
+        ensures left { M.honest → (x : List ℕ) → IsCrashImage (M.state self.new.medium) x → IsCrashImage (M.state self.old.medium) x }
+        ensures time { M.honest × M.records → Elapses (M.moment self.old.medium) (M.moment self.new.medium) (M.left_since self.old.medium) (M.left_since self.new.medium) (IsCrashImage (M.state self.new.medium)) }
         ensures recovers { M.works self.old.medium → self.old.written.full ≡ false → OnErr result ⊥ × M.works self.new.medium }
     {
         let answer = self.settle();

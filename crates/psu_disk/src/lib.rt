@@ -13,8 +13,8 @@ mod medium;
 mod memory;
 mod open_fault;
 mod os_file;
+mod recording_disk;
 mod system_file;
-mod telling_disk;
 mod touched;
 mod written;
 
@@ -29,5 +29,5 @@ pub use medium::Medium;
 pub use memory::MemDisk;
 pub use open_fault::OpenFault;
 pub use os_file::{FileDisk, OsFile, OsFiles};
+pub use recording_disk::RecordingDisk;
 pub use system_file::SystemFile;
-pub use telling_disk::TellingDisk;

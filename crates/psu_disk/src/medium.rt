@@ -1,6 +1,6 @@
 // What a disk is built on: a file as an operating system with a page cache keeps it.
 ghost use Rattle.std.specs.Prelude.{◌≡◌, ◌+◌, ◌≤◌, List, ℕ, Bool, true, length, OnOk, OnErr};
-ghost use Rattle.psu_disk.specs.Disk.{DiskState, Left, Range, Holds, IsFlagged, Touches, Elapses, is_unsynced};
+ghost use Rattle.psu_disk.specs.Disk.{DiskState, IsCrashImage, Range, Holds, IsFlagged, Touches, Elapses, is_unsynced};
 ghost use Rattle.psu_disk.specs.Medium.{NoneMore, IsKnown, Settles};
 
 use crate::DiskFault;
@@ -15,7 +15,7 @@ pub trait Medium {
     ghost honest: { Type 0 };
 
     /// The premise of every clause on past moments: this kind of medium records them.
-    ghost tells: { Type 0 };
+    ghost records: { Type 0 };
 
     /// The number of bytes that the medium has.
     ghost extent: { Self → ℕ };
@@ -48,7 +48,7 @@ pub trait Medium {
         ensures state { honest → state self.new ≡ state self.old }
         ensures none_more { honest → NoneMore (forgotten self.old) (forgotten self.new) }
         ensures works { works self.old → OnErr result ⊥ × works self.new }
-        ensures time { tells → Elapses (moment self.old) (moment self.new) (left_since self.old) (left_since self.new) (Left (state self.new)) };
+        ensures time { records → Elapses (moment self.old) (moment self.new) (left_since self.old) (left_since self.new) (IsCrashImage (state self.new)) };
 
     /// Writes the bytes at `at`. From the start of the call on, a power loss may leave any bytes in the range. A write
     /// of what is read there already, to bytes that a power loss may change already, leaves the state unchanged,
@@ -64,7 +64,7 @@ pub trait Medium {
         ensures none_more { honest → NoneMore (forgotten self.old) (forgotten self.new) }
         ensures known { honest → OnOk result (IsKnown at (length bytes.now) (forgotten self.new)) }
         ensures works { works self.old → OnErr result ⊥ × works self.new }
-        ensures time { tells → Elapses (moment self.old) (moment self.new) (left_since self.old) (left_since self.new) (Left (state self.new)) };
+        ensures time { records → Elapses (moment self.old) (moment self.new) (left_since self.old) (left_since self.new) (IsCrashImage (state self.new)) };
 
     /// Makes the bytes durable that aren't forgotten. A failed sync may forget any byte that it was to make durable,
     /// and changes nothing else.
@@ -75,7 +75,7 @@ pub trait Medium {
         ensures none_more { honest → OnOk result (NoneMore (forgotten self.old) (forgotten self.new)) }
         ensures err { honest → OnErr result (state self.new ≡ state self.old) }
         ensures works { works self.old → OnErr result ⊥ × works self.new }
-        ensures time { tells → Elapses (moment self.old) (moment self.new) (left_since self.old) (left_since self.new) (Left (state self.new)) };
+        ensures time { records → Elapses (moment self.old) (moment self.new) (left_since self.old) (left_since self.new) (IsCrashImage (state self.new)) };
 
     /// The number of bytes in the state is the medium's size.
     ghost sized: { honest → (m : Self) → length (state m).bytes ≡ extent m };
@@ -84,8 +84,8 @@ pub trait Medium {
     ghost at_risk: { honest → (m : Self) (k : ℕ) → forgotten m k ≡ true → is_unsynced (state m) k ≡ true };
 
     /// The possible crash images now are among those since any moment so far.
-    ghost counts_now: { tells → (m : Self) (t : ℕ) (x : List ℕ) → t ≤ moment m → Left (state m) x → left_since m t x };
+    ghost counts_now: { records → (m : Self) (t : ℕ) (x : List ℕ) → t ≤ moment m → IsCrashImage (state m) x → left_since m t x };
 
     /// The possible crash images since the current moment are those of now.
-    ghost only_now: { tells → (m : Self) (x : List ℕ) → left_since m (moment m) x → Left (state m) x };
+    ghost only_now: { records → (m : Self) (x : List ℕ) → left_since m (moment m) x → IsCrashImage (state m) x };
 }

@@ -1,7 +1,7 @@
 // A disk in memory. It keeps the bytes that a read returns, the bytes that the last sync made durable, and a mark for
 // each unsynced byte.
 ghost use Rattle.std.specs.Prelude.{◌≡◌, ℕ, ◌+◌, ◌<◌, ◌≤◌, List, length, replicate, IsTrue, true, false, slice_index, slice_index_or, IfOk, IsOk, OnOk, OnErr};
-ghost use Rattle.psu_disk.specs.Disk.{Left, Range, Holds, SameBut, IsSynced, IsFlagged, Touches, Only, Follows, HasCause};
+ghost use Rattle.psu_disk.specs.Disk.{IsCrashImage, Range, Holds, SameBut, IsSynced, IsFlagged, Touches, Only, Follows, HasCause};
 ghost use Rattle.psu_disk.specs.Loss.{lost};
 ghost use Rattle.psu_disk.specs.Memory.{memory, marked};
 ghost use Rattle.psu_disk.specs.Touched.{is_in, IsKeptUp};
@@ -39,10 +39,10 @@ impl<A: Allocator + Copy> MemDisk<A> {
     }
 
     /// Simulates a power loss: the unsynced bytes become as chosen, and none is unsynced any more.
-    #[tactic(auto, unfolding(crate::specs::Disk::Left))]
+    #[tactic(auto, unfolding(crate::specs::Disk::IsCrashImage))]
     pub fn lose(&mut self, choice: Choice)
         ensures size { length self.new.bytes.items ≡ length self.old.bytes.items }
-        ensures left { Left (memory self.old.bytes.items self.old.unsynced.items) self.new.bytes.items }
+        ensures left { IsCrashImage (memory self.old.bytes.items self.old.unsynced.items) self.new.bytes.items }
         ensures synced { IsSynced (memory self.new.bytes.items self.new.unsynced.items) }
         ensures choice { (k : ℕ) → IsTrue (slice_index_or self.old.unsynced.items k false) → slice_index self.new.bytes.items k ≡ lost choice (slice_index self.old.synced.items k) (slice_index self.old.bytes.items k) }
         ensures made_sure { self.new.synced.items ≡ self.new.bytes.items }
@@ -118,7 +118,7 @@ impl<A: Allocator + Copy> Disk for MemDisk<A> {
 
     ghost honest = { Unit {0} };
 
-    ghost tells = { ⊥ };
+    ghost records = { ⊥ };
 
     ghost extent = { λ d. length d.bytes.items };
 
@@ -132,9 +132,9 @@ impl<A: Allocator + Copy> Disk for MemDisk<A> {
 
     ghost sized = { λ _ d. refl };
 
-    ghost counts_now = { λ tells. absurd tells };
+    ghost counts_now = { λ records. absurd records };
 
-    ghost only_now = { λ tells. absurd tells };
+    ghost only_now = { λ records. absurd records };
 
     fn size(&self) -> u64 {
         self.bytes.len() as u64
@@ -151,7 +151,7 @@ impl<A: Allocator + Copy> Disk for MemDisk<A> {
         ensures bytes { Unit {0} → OnOk result (into.new ≡ Range at (length into.old) self.old.bytes.items) }
         ensures state { Unit {0} → memory self.new.bytes.items self.new.unsynced.items ≡ memory self.old.bytes.items self.old.unsynced.items }
         ensures seen { Unit {0} → self.new.bytes.items ≡ self.old.bytes.items }
-        ensures left { Unit {0} → (x : List ℕ) → Left (memory self.new.bytes.items self.new.unsynced.items) x → Left (memory self.old.bytes.items self.old.unsynced.items) x }
+        ensures left { Unit {0} → (x : List ℕ) → IsCrashImage (memory self.new.bytes.items self.new.unsynced.items) x → IsCrashImage (memory self.old.bytes.items self.old.unsynced.items) x }
         // The call succeeds, and the bytes that the last sync made durable stay.
         ensures works { IsOk result }
         ensures made_sure { self.new.synced.items ≡ self.old.synced.items }
@@ -169,7 +169,7 @@ impl<A: Allocator + Copy> Disk for MemDisk<A> {
         ensures flagged { Unit {0} → OnOk result (IsFlagged at (length bytes.now) (memory self.new.bytes.items self.new.unsynced.items)) }
         ensures state { Unit {0} → Touches at (length bytes.now) (memory self.old.bytes.items self.old.unsynced.items) (memory self.new.bytes.items self.new.unsynced.items) }
         ensures seen { Unit {0} → SameBut at (length bytes.now) self.old.bytes.items self.new.bytes.items }
-        ensures left { Unit {0} → Follows (SameBut at (length bytes.now)) (Left (memory self.old.bytes.items self.old.unsynced.items)) (Left (memory self.new.bytes.items self.new.unsynced.items)) }
+        ensures left { Unit {0} → Follows (SameBut at (length bytes.now)) (IsCrashImage (memory self.old.bytes.items self.old.unsynced.items)) (IsCrashImage (memory self.new.bytes.items self.new.unsynced.items)) }
         // The call succeeds, and the bytes that the last sync made durable stay.
         ensures works { IsOk result }
         ensures made_sure { self.new.synced.items ≡ self.old.synced.items }
@@ -181,7 +181,7 @@ impl<A: Allocator + Copy> Disk for MemDisk<A> {
     }
 
     /// Its cost grows with the ranges written since the last sync.
-    #[tactic(auto, unfolding(crate::specs::Disk::Left))]
+    #[tactic(auto, unfolding(crate::specs::Disk::IsCrashImage))]
     fn sync(&mut self) -> Result<(), DiskFault>
         ensures extent { length self.new.bytes.items ≡ length self.old.bytes.items }
         ensures cause { HasCause 0 0 result }
@@ -189,7 +189,7 @@ impl<A: Allocator + Copy> Disk for MemDisk<A> {
         ensures seen { Unit {0} → self.new.bytes.items ≡ self.old.bytes.items }
         ensures err { Unit {0} → OnErr result (memory self.new.bytes.items self.new.unsynced.items ≡ memory self.old.bytes.items self.old.unsynced.items) }
         ensures only { Unit {0} → OnOk result (Only (memory self.new.bytes.items self.new.unsynced.items)) }
-        ensures left { Unit {0} → (x : List ℕ) → Left (memory self.new.bytes.items self.new.unsynced.items) x → Left (memory self.old.bytes.items self.old.unsynced.items) x }
+        ensures left { Unit {0} → (x : List ℕ) → IsCrashImage (memory self.new.bytes.items self.new.unsynced.items) x → IsCrashImage (memory self.old.bytes.items self.old.unsynced.items) x }
         // The call succeeds, and makes the bytes durable that a read returns.
         ensures works { IsOk result }
         ensures made_sure { self.new.synced.items ≡ self.old.bytes.items }

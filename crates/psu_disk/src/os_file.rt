@@ -50,7 +50,7 @@ impl FileCalls for OsFile {
 
     ghost at_risk = { λ keeps. absurd keeps };
 
-    ghost lasts = { λ keeps. absurd keeps };
+    ghost effect = { λ keeps. absurd keeps };
 
     ghost working = { λ _ _ _ works. absurd works };
 

@@ -31,7 +31,7 @@ impl<F: FileCalls> SystemFile<F> {
 impl<F: FileCalls> Medium for SystemFile<F> {
     ghost honest = { F.keeps };
 
-    ghost tells = { ⊥ };
+    ghost records = { ⊥ };
 
     ghost extent = { λ m. F.extent m.file };
 
@@ -49,9 +49,9 @@ impl<F: FileCalls> Medium for SystemFile<F> {
 
     ghost at_risk = { λ keeps m. F.at_risk keeps m.file };
 
-    ghost counts_now = { λ tells. absurd tells };
+    ghost counts_now = { λ records. absurd records };
 
-    ghost only_now = { λ tells. absurd tells };
+    ghost only_now = { λ records. absurd records };
 
     fn size(&self) -> u64 {
         self.file.size()

@@ -11,10 +11,10 @@ abbrev made : ℕ → List ℕ → List ℕ → Shown
 made line sent answered = record { line = line; sent = sent; answered = answered }
 
 -- a line that continues an example
-pub goes_on : {A : Type 0} (old new : Example A) (number : ℕ) (line : List ℕ) (lines : List (List ℕ)) → is_end line ≡ false
+pub continues : {A : Type 0} (old new : Example A) (number : ℕ) (line : List ℕ) (lines : List (List ℕ)) → is_end line ≡ false
     → new.line ≡ old.line → new.sent.items ≡ old.sent.items ++ sent_by line → new.answered.items ≡ old.answered.items ++ answered_by line
     → coming (Inside new) (number + 1) lines ≡ coming (Inside old) number (line ∷ lines)
-goes_on old new number line lines more at sent answered =
+continues old new number line lines more at sent answered =
     let rest = examples Where.Inside (number + 1) lines in
     let s = ap (λ (x : List ℕ). x ++ sent_in lines) sent ∙ append_assoc old.sent.items (sent_by line) (sent_in lines) in
     let a = ap (λ (x : List ℕ). x ++ answered_in lines) answered ∙ append_assoc old.answered.items (answered_by line) (answered_in lines) in

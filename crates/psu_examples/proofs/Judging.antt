@@ -10,9 +10,9 @@ use Rattle.psu_examples.specs.declared.example.Example.{Example}
 use Rattle.psu_examples.specs.declared.guide_fault.GuideFault.{GuideFault}
 
 -- a fault that is propagated
-pub passed : {A E : Type 0} (r : Result A E) (e : E) (P : E → Type 0) → IsErrAnd r (λ told. told ≡ e) → P e → IfErr r P
+pub passed : {A E : Type 0} (r : Result A E) (e : E) (P : E → Type 0) → IsErrAnd r (λ returned. returned ≡ e) → P e → IfErr r P
 passed (Ok x) e P is p = tt
-passed (Err told) e P is p = subst P (sym is) p
+passed (Err returned) e P is p = subst P (sym is) p
 
 -- the examples before one, it, and those after it
 around : {A : Type 0} (xs : List (Example A)) (i : ℕ) (x : Example A) → i < length xs → x ≡ get_or xs i x

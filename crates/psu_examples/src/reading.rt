@@ -38,7 +38,7 @@ impl<A: Allocator + Copy> Reading<A> {
     }
 
     // Reads the line with this number.
-    #[tactic(auto, using(crate::proofs::Coming::closes, crate::proofs::Coming::goes_on))]
+    #[tactic(auto, using(crate::proofs::Coming::closes, crate::proofs::Coming::continues))]
     fn take(&mut self, number: usize, line: &[u8]) -> Result<(), AllocError>
         ensures { OnOk result ((lines : List (List ℕ)) → map shown self.new.ended.items ++ coming self.new.place (number + 1) lines
             ≡ map shown self.old.ended.items ++ coming self.old.place number (line.now ∷ lines)) }
@@ -120,10 +120,10 @@ pub fn examples_of<A: Allocator + Copy>(
     let mut reading = Reading::new(alloc);
     let mut rest = guide;
     let mut number = 1;
-    while let Some((line, behind)) = next_line(rest) {
+    while let Some((line, after)) = next_line(rest) {
         reading.take(number, line)?;
         number += 1;
-        rest = behind;
+        rest = after;
     }
     let found = reading.finish(number, rest)?;
     Ok(found)

@@ -7,7 +7,7 @@ use Rattle.psu_hislip.specs.Answer.{AreParts, IsAnswer, IsAnswerCutAnywhere, IsP
 use Rattle.psu_hislip.specs.Frame.{frame_bytes}
 use Rattle.psu_hislip.specs.declared.message_type.MessageType.TheVariants.{Data}
 use Rattle.psu_messages.specs.Answers.{ends_text, text_sent}
-use Rattle.psu_messages.specs.Deeds.{Deed, Executed, Settled, Sent}
+use Rattle.psu_messages.specs.Effects.{Effect, Executed, Settled, Sent}
 use Rattle.psu_exchange.specs.Exchange.{Done, IsFramed, deeds, frames}
 use Rattle.psu_exchange.proofs.Splitting.{single, split}
 
@@ -17,7 +17,7 @@ PartsAreAnAnswer = (greatest size id : ℕ) (parts : List Part) (rest end : List
     → IsAnswerCutAnywhere greatest id (bytes_of parts ++ rest) (all_frames parts ++ end)
 
 -- a deed's frames have payloads of at most some size
-pub record Fits (greatest id : ℕ) (deed : Deed) (out : List ℕ) : Type 0 where
+pub record Fits (greatest id : ℕ) (deed : Effect) (out : List ℕ) : Type 0 where
   pub size : ℕ
   pub some : 0 < size
   pub small : size ≤ greatest
@@ -47,7 +47,7 @@ part_more greatest id first second out more (one, is, within, framed) (two, are,
   ap (λ (z : List ℕ). z ++ more) framed ∙ ap (λ (z : List ℕ). data_of id one ++ z) also ∙ sym (flat_map-append (λ (piece : List ℕ). frame_bytes Data 0 id piece) one two),
 )
 
-part_of : (greatest id : ℕ) (deed : Deed) (out : List ℕ) (rest : List Done) → Fits greatest id deed out → ends_text (deed ∷ deeds rest) ≡ false
+part_of : (greatest id : ℕ) (deed : Effect) (out : List ℕ) (rest : List Done) → Fits greatest id deed out → ends_text (deed ∷ deeds rest) ≡ false
     → (ends_text (deeds rest) ≡ false → IsPart greatest id (text_sent (deeds rest)) (frames rest)) → IsPart greatest id (text_sent (deed ∷ deeds rest)) (out ++ frames rest)
 part_of greatest id (Executed request reply) out rest f still more = subst (λ (z : List ℕ). IsPart greatest id (text_sent (deeds rest)) (z ++ frames rest)) (sym f.framed) (more still)
 part_of greatest id (Settled reply) out rest f still more = subst (λ (z : List ℕ). IsPart greatest id (text_sent (deeds rest)) (z ++ frames rest)) (sym f.framed) (more still)
@@ -76,7 +76,7 @@ ended law greatest id bytes out piece end part f =
     (subst (λ (z : List ℕ). IsAnswerCutAnywhere greatest id ((bytes ++ []) ++ piece) (z ++ end)) (append-nil out) (law greatest f.size id (one ∷ []) piece end are f.some f.small f.framed))
 
 -- a text with its last piece goes out as an answer
-pub whole : PartsAreAnAnswer → (greatest id : ℕ) (done : List Done) (before : List Deed) (piece : List ℕ) → EachFits greatest id done → deeds done ≡ before ++ Sent piece true ∷ [] → ends_text before ≡ false
+pub whole : PartsAreAnAnswer → (greatest id : ℕ) (done : List Done) (before : List Effect) (piece : List ℕ) → EachFits greatest id done → deeds done ≡ before ++ Sent piece true ∷ [] → ends_text before ≡ false
     → IsAnswerCutAnywhere greatest id (text_sent before ++ piece) (frames done)
 whole law greatest id done before piece f e still =
     let s = split (λ (d : Done). d.deed) done before (Sent piece true ∷ []) e in
@@ -84,8 +84,8 @@ whole law greatest id done before piece f e still =
     let is : done ≡ s.front ++ last.one ∷ [] = s.is ∙ ap (λ (z : List Done). s.front ++ z) last.is in
     let fit = both_fit greatest id s.front (last.one ∷ []) (subst (λ (z : List Done). EachFits greatest id z) is f) in
     let part : IsPart greatest id (text_sent before) (frames s.front)
-    = subst (λ (z : List Deed). IsPart greatest id (text_sent z) (frames s.front)) s.of_left (parts greatest id s.front fit.0 (ap ends_text s.of_left ∙ still)) in
-    let end : Fits greatest id (Sent piece true) last.one.frames = subst (λ (z : Deed). Fits greatest id z last.one.frames) last.same fit.1.0 in
+    = subst (λ (z : List Effect). IsPart greatest id (text_sent z) (frames s.front)) s.of_left (parts greatest id s.front fit.0 (ap ends_text s.of_left ∙ still)) in
+    let end : Fits greatest id (Sent piece true) last.one.frames = subst (λ (z : Effect). Fits greatest id z last.one.frames) last.same fit.1.0 in
     let all : frames done ≡ frames s.front ++ last.one.frames
     = ap frames is ∙ flat_map-append (λ (d : Done). d.frames) s.front (last.one ∷ []) ∙ ap (λ (z : List ℕ). frames s.front ++ z) (append-nil last.one.frames) in
     subst (λ (z : List ℕ). IsAnswerCutAnywhere greatest id (text_sent before ++ piece) z) (sym all) (ended law greatest id (text_sent before) (frames s.front) piece last.one.frames part end)

@@ -6,7 +6,7 @@ use Rattle.std.proofs.lemmas.List.Elements.{All-cons, All-nil}
 use Rattle.psu_hislip.specs.Answer.{answer_size}
 use Rattle.psu_hislip.specs.Core.{Core}
 use Rattle.psu_hislip.specs.declared.origin.Origin.{Origin}
-use Rattle.psu_messages.specs.Courses.{Comes}
+use Rattle.psu_messages.specs.Executions.{Reaches}
 use Rattle.psu_messages.specs.Messages.{OverIsMessages, SoFarIsMessages}
 use Rattle.psu_exchange.specs.Answered.{EachIsTold, IsAnswered, TakesAtMost, Weaves, pieces}
 use Rattle.psu_exchange.specs.Answered.Weaves.{Nothing, Reply, Piece}
@@ -48,7 +48,7 @@ turn_fits greatest origin [] later f = (tt, f)
 turn_fits greatest origin (d ∷ done) later f = let rest = turn_fits greatest origin done later f.1 in ((f.0, rest.0), rest.1)
 
 pub each_answered : PartsAreAnAnswer → OverIsMessages → SoFarIsMessages → (greatest : ℕ) (turns : List Turn) → AllFit greatest (flat_map happened turns)
-    → All (λ (turn : Turn). Comes turn.order.source (deeds turn.done) turn.course) turns → All (IsAnswered greatest) turns
+    → All (λ (turn : Turn). Reaches turn.order.source (deeds turn.done) turn.course) turns → All (IsAnswered greatest) turns
 each_answered law over so_far greatest [] f comes = All-nil (IsAnswered greatest)
 each_answered law over so_far greatest (turn ∷ turns) f comes =
     let fit = turn_fits greatest turn.order.origin turn.done (flat_map happened turns) f in

@@ -5,12 +5,12 @@ use Rattle.std.proofs.lemmas.List.Concat.{flat_map-append}
 use Rattle.std.proofs.lemmas.List.Folds.{flat_map-map}
 use Rattle.psu_hislip.specs.Action.{Act}
 use Rattle.psu_hislip.specs.Core.{IsCurrent}
-use Rattle.psu_hislip.specs.Runs.{Told, actions_of, begins_clear, clears_in, core_after, origins, started}
+use Rattle.psu_hislip.specs.Runs.{Arrival, actions_of, begins_clear, clears_in, core_after, origins, started}
 use Rattle.psu_hislip.specs.Stream.{IsStream, Received}
-use Rattle.psu_hislip.specs.Transmitted.{text_asked, transmissions}
+use Rattle.psu_hislip.specs.Transmitted.{action_text, transmissions}
 use Rattle.psu_hislip.specs.declared.origin.Origin.{Origin}
 use Rattle.psu_hislip.specs.declared.side.Side.TheVariants.{Sync, Async}
-use Rattle.psu_messages.specs.Deeds.{Deed}
+use Rattle.psu_messages.specs.Effects.{Effect}
 use Rattle.psu_exchange.specs.Answered.{AreTheStreams, text_in}
 use Rattle.psu_exchange.specs.Exchange.{IsExchange, Order, Turn, asked, order_in}
 use Rattle.psu_exchange.specs.Life.{Happening, Came, Did, came, came_on, told_by}
@@ -20,7 +20,7 @@ use Rattle.psu_exchange.specs.Life.{Happening, Came, Did, came, came_on, told_by
 abbrev pub text_of : Order → List (Option (List ℕ))
 text_of order = text_in order.source
 
-texts : (acts : List Act) → flat_map text_of (flat_map order_in acts) ≡ map text_asked (transmissions acts)
+texts : (acts : List Act) → flat_map text_of (flat_map order_in acts) ≡ map action_text (transmissions acts)
 texts [] = refl
 texts (Act.Send side bytes ∷ acts) = texts acts
 texts (Act.Execute o bytes ∷ acts) = ap (λ (z : List (Option (List ℕ))). Some bytes ∷ z) (texts acts)
@@ -36,7 +36,7 @@ texts (Act.Closed ∷ acts) = texts acts
 
 -- what was executed are the first of the transmissions that were asked for
 pub texts_executed : (session : ℕ) (sync async : List ℕ) (life : List Happening) (turns : List Turn) → (x : IsExchange session sync async life turns)
-    → map text_asked (transmissions (asked session life)) ≡ flat_map (λ (turn : Turn). text_in turn.order.source) turns ++ flat_map text_of x.waiting
+    → map action_text (transmissions (asked session life)) ≡ flat_map (λ (turn : Turn). text_in turn.order.source) turns ++ flat_map text_of x.waiting
 texts_executed session sync async life turns x =
     sym (texts (asked session life)) ∙ ap (λ (z : List Order). flat_map text_of z) x.in_order
     ∙ flat_map-append text_of (map (λ (turn : Turn). turn.order) turns) x.waiting
@@ -45,26 +45,26 @@ texts_executed session sync async life turns x =
 -- ---- device clears
 
 abbrev pub NoAnswerOfBefore : Type 0
-NoAnswerOfBefore = (session : ℕ) (before later : List Told) → 0 < clears_in later → length (before ++ later) < 2 ^ 64
+NoAnswerOfBefore = (session : ℕ) (before later : List Arrival) → 0 < clears_in later → length (before ++ later) < 2 ^ 64
     → All (λ o. IsCurrent (core_after (started session) (before ++ later)) o → ⊥) (origins (actions_of (started session) before))
 
-some_clear : (t : Told) (later : List Told) → begins_clear t ≡ true → 0 < clears_in (t ∷ later)
+some_clear : (t : Arrival) (later : List Arrival) → begins_clear t ≡ true → 0 < clears_in (t ∷ later)
 some_clear t later e = rw e (omega arith)
 
 pub none_of_before : NoAnswerOfBefore → (session : ℕ) (sync async : List ℕ) (life : List Happening) (turns : List Turn) → IsExchange session sync async life turns → length (came life) < 2 ^ 64
-    → (before between after : List Happening) (clear : Received) (origin : Origin) (deed : Deed) (frames : List ℕ)
+    → (before between after : List Happening) (clear : Received) (origin : Origin) (deed : Effect) (frames : List ℕ)
     → life ≡ before ++ Came Async clear ∷ (between ++ Did origin deed frames ∷ after) → begins_clear (record { side = Async; message = clear }) ≡ true
     → All (λ (o : Origin). o ≡ origin → ⊥) (origins (asked session before))
 none_of_before law session sync async life turns x few before between after clear origin deed frames is begins =
-    let t : Told = record { side = Async; message = clear } in
+    let t : Arrival = record { side = Async; message = clear } in
     let start : List Happening = before ++ Came Async clear ∷ between in
     let split : life ≡ start ++ Did origin deed frames ∷ after = is ∙ sym (append_assoc before (Came Async clear ∷ between) (Did origin deed frames ∷ after)) in
     let heard : came start ≡ came before ++ t ∷ came between = flat_map-append told_by before (Came Async clear ∷ between) in
     let long : came life ≡ came start ++ came (Did origin deed frames ∷ after) = ap came split ∙ flat_map-append told_by start (Did origin deed frames ∷ after) in
     let short : length (came before ++ t ∷ came between) < 2 ^ 64
-    = subst (λ (z : List Told). length z < 2 ^ 64) heard (omega (arith, few, ap length long, length-append (came start) (came (Did origin deed frames ∷ after)))) in
+    = subst (λ (z : List Arrival). length z < 2 ^ 64) heard (omega (arith, few, ap length long, length-append (came start) (came (Did origin deed frames ∷ after)))) in
     let current : IsCurrent (core_after (started session) (came before ++ t ∷ came between)) origin
-    = subst (λ (z : List Told). IsCurrent (core_after (started session) z) origin) heard (x.done start after origin deed frames split).current in
+    = subst (λ (z : List Arrival). IsCurrent (core_after (started session) z) origin) heard (x.done start after origin deed frames split).current in
     λ k d h same. law session (came before) (t ∷ came between) (some_clear t (came between) begins) short k d h
     (subst (λ (o : Origin). IsCurrent (core_after (started session) (came before ++ t ∷ came between)) o) (sym same) current)
 

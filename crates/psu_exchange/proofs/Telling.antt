@@ -4,8 +4,8 @@ use Rattle.std.proofs.lemmas.List.{append-nil}
 use Rattle.psu_hislip.specs.Answer.{IsAnswerCutAnywhere, IsPart}
 use Rattle.psu_answers.specs.Response.{are_some, end_of, joined, response}
 use Rattle.psu_messages.specs.Answers.{IsAnswered, answers, ends_text, text_sent}
-use Rattle.psu_messages.specs.Courses.{Comes, Course}
-use Rattle.psu_messages.specs.Deeds.{Deed, Sent}
+use Rattle.psu_messages.specs.Executions.{Reaches, Progress}
+use Rattle.psu_messages.specs.Effects.{Effect, Sent}
 use Rattle.psu_messages.specs.Messages.{AreMessages, AreSomeMessages, IsMessage, OverIsMessages, SoFarIsMessages}
 use Rattle.psu_messages.specs.Messages.AreMessages.{NoMessage, OneMore}
 use Rattle.psu_messages.specs.Units.{Source}
@@ -17,7 +17,7 @@ use Rattle.psu_exchange.proofs.Framing.{EachFits, PartsAreAnAnswer, both_fit, pa
 use Rattle.psu_exchange.proofs.Splitting.{none_mapped, split}
 
 -- the text of a message that is answered is its response
-response_is : (message : List Deed) (a : IsAnswered message) → (are_some (answers message) ≡ true) × (text_sent a.before ++ a.piece ≡ response (answers message))
+response_is : (message : List Effect) (a : IsAnswered message) → (are_some (answers message) ≡ true) × (text_sent a.before ++ a.piece ≡ response (answers message))
 response_is message a =
     let given : answers message ≡ answers a.before = ap answers a.ends ∙ answers_append a.before (Sent a.piece true ∷ []) ∙ append-nil (answers a.before) in
     let some : are_some (answers message) ≡ true = ap are_some given ∙ a.answered in
@@ -33,17 +33,17 @@ told_message law greatest id source from to message f m =
       | inr s ↦ inr (s.answers, silent greatest id (frames message) (subst (λ (z : List ℕ). IsPart greatest id z (frames message)) s.text (parts greatest id message f s.ends)))
     ]
 
-pub told_messages : PartsAreAnAnswer → (greatest id : ℕ) (source : Source) (units : ℕ) (all : List Deed) (done : List Done) → AreMessages source units all → deeds done ≡ all → EachFits greatest id done
+pub told_messages : PartsAreAnAnswer → (greatest id : ℕ) (source : Source) (units : ℕ) (all : List Effect) (done : List Done) → AreMessages source units all → deeds done ≡ all → EachFits greatest id done
     → AreTold greatest id source units done
 told_messages law greatest id source units all done NoMessage e f = subst (λ (z : List Done). AreTold greatest id source 0 z) (sym (none_mapped (λ (d : Done). d.deed) done e)) told.AreTold.NoMessage
-told_messages law greatest id source units all done (OneMore {from = from} {deeds = before} m to message is) e f =
+told_messages law greatest id source units all done (OneMore {from = from} {effects = before} m to message is) e f =
     let s = split (λ (d : Done). d.deed) done before message e in
     let fit = both_fit greatest id s.front s.back (subst (λ (z : List Done). EachFits greatest id z) s.is f) in
-    let here : IsMessage source from to (deeds s.back) = subst (λ (z : List Deed). IsMessage source from to z) (sym s.of_right) is in
+    let here : IsMessage source from to (deeds s.back) = subst (λ (z : List Effect). IsMessage source from to z) (sym s.of_right) is in
     subst (λ (z : List Done). AreTold greatest id source to z) (sym s.is)
     (told.AreTold.OneMore (told_messages law greatest id source from before s.front m s.of_left fit.0) to s.back here (told_message law greatest id source from to s.back fit.1 here))
 
-told_so_far : PartsAreAnAnswer → (greatest id : ℕ) (source : Source) (done : List Done) (c : Course) → AreSomeMessages source (deeds done) c.text → EachFits greatest id done → IsToldSoFar greatest id source done
+told_so_far : PartsAreAnAnswer → (greatest id : ℕ) (source : Source) (done : List Done) (c : Progress) → AreSomeMessages source (deeds done) c.text → EachFits greatest id done → IsToldSoFar greatest id source done
 told_so_far law greatest id source done c m f =
     let s = split (λ (d : Done). d.deed) done m.whole m.begun m.is in
     let fit = both_fit greatest id s.front s.back (subst (λ (z : List Done). EachFits greatest id z) s.is f) in
@@ -55,11 +55,11 @@ told_so_far law greatest id source done c m f =
       told = told_messages law greatest id source m.units m.whole s.front m.messages s.of_left fit.0;
       sent = text_sent (deeds s.back);
       rest = c.text.rest;
-      answered = ap (λ (z : List Deed). joined (answers z)) s.of_right ∙ sym m.text ∙ ap (λ (z : List Deed). text_sent z ++ c.text.rest) (sym s.of_right);
+      answered = ap (λ (z : List Effect). joined (answers z)) s.of_right ∙ sym m.text ∙ ap (λ (z : List Effect). text_sent z ++ c.text.rest) (sym s.of_right);
       parts = parts greatest id s.back fit.1 (ap ends_text s.of_right ∙ m.unended);
     }
 
-pub answered_turn : PartsAreAnAnswer → OverIsMessages → SoFarIsMessages → (greatest : ℕ) (turn : Turn) → Comes turn.order.source (deeds turn.done) turn.course → EachFits greatest turn.order.origin.id turn.done
+pub answered_turn : PartsAreAnAnswer → OverIsMessages → SoFarIsMessages → (greatest : ℕ) (turn : Turn) → Reaches turn.order.source (deeds turn.done) turn.course → EachFits greatest turn.order.origin.id turn.done
     → IsTurnAnswered greatest turn
 answered_turn law over so_far greatest turn comes f = record {
   whole = λ ended. told_messages law greatest turn.order.origin.id turn.order.source turn.course.standing.units (deeds turn.done) turn.done (over turn.order.source (deeds turn.done) turn.course comes ended) refl f;

@@ -5,7 +5,7 @@ use Rattle.std.specs.List.{list_any}
 use Rattle.psu_lex.specs.declared.scpi_error.ScpiError.TheVariants.{TooMuchData}
 use Rattle.psu_hislip.specs.Answer.{IsAnswerCutAnywhere, IsPart, answer_size}
 use Rattle.psu_hislip.specs.Core.{Core, IsCurrent}
-use Rattle.psu_hislip.specs.Runs.{Told, begins_clear, origins}
+use Rattle.psu_hislip.specs.Runs.{Arrival, begins_clear, origins}
 use Rattle.psu_hislip.specs.Stream.{IsStream, Received}
 use Rattle.psu_hislip.specs.Transmitted.{IsStretch, Stretch, Transmission, piece_in, pieces_of, run_of, text_kept}
 use Rattle.psu_hislip.specs.Transmitted.Piece.{More}
@@ -13,8 +13,8 @@ use Rattle.psu_hislip.specs.declared.origin.Origin.{Origin}
 use Rattle.psu_hislip.specs.declared.side.Side.TheVariants.{Sync, Async}
 use Rattle.psu_answers.specs.Response.{are_some, joined, response}
 use Rattle.psu_messages.specs.Answers.{answers}
-use Rattle.psu_messages.specs.Courses.{IsOver}
-use Rattle.psu_messages.specs.Deeds.{Deed}
+use Rattle.psu_messages.specs.Executions.{IsOver}
+use Rattle.psu_messages.specs.Effects.{Effect}
 use Rattle.psu_messages.specs.Messages.{IsMessage}
 use Rattle.psu_messages.specs.Units.{Fault, Source, Text}
 use Rattle.psu_exchange.specs.Exchange.{Done, IsExchange, Turn, asked, core_at, deeds, frames}
@@ -53,7 +53,7 @@ pub record IsAnswered (greatest : ℕ) (turn : Turn) : Type 0 where
 -- no payload that the client takes is ever longer, when something is done for a transmission
 abbrev pub TakesAtMost : ℕ → ℕ → List Happening → Type 0
 TakesAtMost greatest session life =
-    (before after : List Happening) (origin : Origin) (deed : Deed) (frames : List ℕ) → life ≡ before ++ Did origin deed frames ∷ after → answer_size (core_at session before).size ≤ greatest
+    (before after : List Happening) (origin : Origin) (deed : Effect) (frames : List ℕ) → life ≡ before ++ Did origin deed frames ∷ after → answer_size (core_at session before).size ≤ greatest
 
 -- An order that was begun and is not answered whole is the last, or a device clear or a FatalError has ended it.
 abbrev pub EachIsTold : ℕ → Core → List Turn → Type 0
@@ -86,7 +86,7 @@ NothingElseGoesOut = (session : ℕ) (sync async : List ℕ) (life : List Happen
 -- Behind an AsyncDeviceClear nothing is done for what came before it, and so nothing of it goes out behind that clear's DeviceClearAcknowledge. (Clears are counted modulo 2^64.)
 abbrev pub NothingOfBeforeAClear : Type 0
 NothingOfBeforeAClear = (session : ℕ) (sync async : List ℕ) (life : List Happening) (turns : List Turn) → IsExchange session sync async life turns → length (came life) < 2 ^ 64
-    → (before between after : List Happening) (clear : Received) (origin : Origin) (deed : Deed) (frames : List ℕ)
+    → (before between after : List Happening) (clear : Received) (origin : Origin) (deed : Effect) (frames : List ℕ)
     → life ≡ before ++ Came Async clear ∷ (between ++ Did origin deed frames ∷ after) → begins_clear (record { side = Async; message = clear }) ≡ true
     → All (λ o. o ≡ origin → ⊥) (origins (asked session before))
 
@@ -102,7 +102,7 @@ text_in (Fault error) = []
 -- clear cut off is none of them.
 abbrev pub TransmissionsAreTheClients : Type 0
 TransmissionsAreTheClients = (session : ℕ) (sync async : List ℕ) (life : List Happening) (turns : List Turn) → IsExchange session sync async life turns
-    → (stretches : List Stretch) (last : List Told) (whole : List Transmission) (rest : List (List ℕ)) → came life ≡ flat_map run_of stretches ++ last → All IsStretch stretches
+    → (stretches : List Stretch) (last : List Arrival) (whole : List Transmission) (rest : List (List ℕ)) → came life ≡ flat_map run_of stretches ++ last → All IsStretch stretches
     → list_any begins_clear last ≡ false → flat_map piece_in last ≡ flat_map pieces_of whole ++ map More rest → (core_at session life).failed ≡ false
     → (waiting : List (Option (List ℕ))) × (map text_kept (flat_map (λ (s : Stretch). s.whole) stretches ++ whole) ≡ flat_map (λ turn. text_in turn.order.source) turns ++ waiting)
 

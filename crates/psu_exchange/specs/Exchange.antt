@@ -9,8 +9,8 @@ use Rattle.psu_hislip.specs.Runs.{actions_of, core_after, origins, started}
 use Rattle.psu_hislip.specs.Stream.{IsStream, Received}
 use Rattle.psu_hislip.specs.declared.origin.Origin.{Origin}
 use Rattle.psu_hislip.specs.declared.side.Side.TheVariants.{Sync, Async}
-use Rattle.psu_messages.specs.Courses.{Comes, Course, IsOver}
-use Rattle.psu_messages.specs.Deeds.{Deed, Executed, Settled, Sent}
+use Rattle.psu_messages.specs.Executions.{Reaches, Progress, IsOver}
+use Rattle.psu_messages.specs.Effects.{Effect, Executed, Settled, Sent}
 use Rattle.psu_messages.specs.Units.{Fault, Source, Text}
 use Rattle.psu_exchange.specs.Life.{Happening, Did, came, came_on, done_in, replied}
 
@@ -40,16 +40,16 @@ orders session life = flat_map order_in (asked session life)
 
 -- a deed, and the frames that went out with it
 pub record Done : Type 0 where
-  pub deed : Deed
+  pub deed : Effect
   pub frames : List ℕ
 
 -- what was done for an order, and how far it has come with that
 pub record Turn : Type 0 where
   pub order : Order
   pub done : List Done
-  pub course : Course
+  pub course : Progress
 
-abbrev pub deeds : List Done → List Deed
+abbrev pub deeds : List Done → List Effect
 deeds done = map (λ d. d.deed) done
 
 abbrev pub frames : List Done → List ℕ
@@ -71,7 +71,7 @@ EachEnds core (turn ∷ next ∷ later) = HasEnded core turn × EachEnds core (n
 -- ---- what goes out
 
 -- the frames of a deed: those of a piece of an answer under the MessageID of its transmission, and for any other deed none
-abbrev pub IsFramed : ℕ → ℕ → Deed → List ℕ → Type 0
+abbrev pub IsFramed : ℕ → ℕ → Effect → List ℕ → Type 0
 IsFramed size id (Executed request reply) frames = frames ≡ []
 IsFramed size id (Settled reply) frames = frames ≡ []
 IsFramed size id (Sent text false) frames = IsPart size id text frames
@@ -79,14 +79,14 @@ IsFramed size id (Sent text true) frames = IsAnswer size id text frames
 
 -- What is done for an order is done behind the message that asked for it, and not behind a device clear or a FatalError that has ended it. Payloads are as long as the
 -- client takes them then.
-pub record IsDone (session : ℕ) (before : List Happening) (origin : Origin) (deed : Deed) (frames : List ℕ) : Type 0 where
+pub record IsDone (session : ℕ) (before : List Happening) (origin : Origin) (deed : Effect) (frames : List ℕ) : Type 0 where
   pub has_come : (first : List Origin) × (others : List Origin) × (origins (asked session before) ≡ first ++ origin ∷ others)
   pub current : IsCurrent (core_at session before) origin
   pub framed : IsFramed (answer_size (core_at session before).size) origin.id deed frames
 
 abbrev pub EachIsDone : ℕ → List Happening → Type 0
 EachIsDone session life =
-    (before after : List Happening) (origin : Origin) (deed : Deed) (frames : List ℕ) → life ≡ before ++ Did origin deed frames ∷ after → IsDone session before origin deed frames
+    (before after : List Happening) (origin : Origin) (deed : Effect) (frames : List ℕ) → life ≡ before ++ Did origin deed frames ∷ after → IsDone session before origin deed frames
 
 -- what the core gives to be sent on the synchronous channel as messages come
 abbrev pub reply_of : Act → List (List ℕ)
@@ -111,7 +111,7 @@ pub record IsExchange (session : ℕ) (sync async : List ℕ) (life : List Happe
   pub waiting : List Order
   pub in_order : orders session life ≡ map (λ turn. turn.order) turns ++ waiting
   pub turns_done : done_in life ≡ flat_map happened turns
-  pub courses : All (λ turn. Comes turn.order.source (deeds turn.done) turn.course) turns
+  pub courses : All (λ turn. Reaches turn.order.source (deeds turn.done) turn.course) turns
   pub ends : EachEnds (core_at session life) turns
   -- and what goes out are their answers and the core's replies
   pub done : EachIsDone session life

@@ -1,11 +1,11 @@
 -- What happens in a session, in the order in which it happens. Source: IVI-6.1 (the two channels of a session; what is sent on the synchronous one).
 use Rattle.std.specs.Prelude.{ℕ, List, [], ◌∷◌, flat_map}
 use Rattle.psu_hislip.specs.Stream.{Received}
-use Rattle.psu_hislip.specs.Runs.{Told}
+use Rattle.psu_hislip.specs.Runs.{Arrival}
 use Rattle.psu_hislip.specs.declared.origin.Origin.{Origin}
 use Rattle.psu_hislip.specs.declared.side.Side.{Side}
 use Rattle.psu_hislip.specs.declared.side.Side.TheVariants.{Sync, Async}
-use Rattle.psu_messages.specs.Deeds.{Deed}
+use Rattle.psu_messages.specs.Effects.{Effect}
 
 pub data Happening : Type 0 where
   -- a message comes on a channel, and the session's core is told of it
@@ -13,19 +13,19 @@ pub data Happening : Type 0 where
   -- what the core gave for the synchronous channel as a message came goes out
   Replied : List ℕ → Happening
   -- something is done for the transmission of an origin, and these frames go out with it
-  Did : Origin → Deed → List ℕ → Happening
+  Did : Origin → Effect → List ℕ → Happening
 
 -- the messages, as the core is told of them
-abbrev pub told_by : Happening → List Told
+abbrev pub told_by : Happening → List Arrival
 told_by (Came side message) = record { side = side; message = message } ∷ []
 told_by (Replied frames) = []
 told_by (Did origin deed frames) = []
 
-abbrev pub came : List Happening → List Told
+abbrev pub came : List Happening → List Arrival
 came life = flat_map told_by life
 
 -- the messages of one channel
-abbrev pub on : Side → Told → List Received
+abbrev pub on : Side → Arrival → List Received
 on side t = if_side side t.side t.message where
   if_side : Side → Side → Received → List Received
   if_side Sync Sync message = message ∷ []

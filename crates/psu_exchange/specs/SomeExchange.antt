@@ -10,8 +10,8 @@ use Rattle.psu_hislip.specs.declared.message_type.MessageType.TheVariants.{Async
 use Rattle.psu_hislip.specs.declared.origin.Origin.{Origin}
 use Rattle.psu_hislip.specs.declared.side.Side.TheVariants.{Sync, Async}
 use Rattle.psu_exec.specs.Device.{Reply, Answer}
-use Rattle.psu_messages.specs.Courses.{beginning, ended, tried}
-use Rattle.psu_messages.specs.Deeds.{Executed, Sent}
+use Rattle.psu_messages.specs.Executions.{beginning, ended, tried}
+use Rattle.psu_messages.specs.Effects.{Executed, Sent}
 use Rattle.psu_messages.specs.Units.{Fault, faulty}
 use Rattle.psu_exchange.specs.Exchange.{Done, Order, Turn}
 use Rattle.psu_exchange.specs.Life.{Happening, Came, Did}

@@ -1,6 +1,6 @@
 // Laws of a whole session.
 ghost use Rattle.std.specs.Prelude.{[], ◌∷◌};
-ghost use Rattle.psu_messages.specs.Courses.{IsOver};
+ghost use Rattle.psu_messages.specs.Executions.{IsOver};
 ghost use Rattle.psu_exchange.specs.Answered.{EachIsAnswered, MessagesAreTheStreams, NothingElseGoesOut, NothingOfBeforeAClear, TransmissionsAreTheClients};
 ghost use Rattle.psu_exchange.specs.Exchange.{IsExchange};
 ghost use Rattle.psu_exchange.specs.Readers.{ReadersGiveTheOrders};

@@ -15,7 +15,7 @@ use Rattle.psu_instrument.specs.declared.completion.Completion.{Completion}
 use Rattle.psu_exec.specs.Device.{Reply, Answer, Done, Error, Held, Later, State, Flush, MayMean, Step, AnswersCall, AnswersCalled, after_meant, called, followed, here, is_denied, is_later, is_whole, kept_unless, meant, refused, wants_memory, with_instrument}
 use Rattle.psu_exec.specs.Consistent.{IsConsistent}
 use Rattle.psu_exec.proofs.Answering.{comes_later, is_answered_now, is_held}
-use Rattle.psu_exec.proofs.Latching.{followed_same}
+use Rattle.psu_exec.proofs.RqsUpdates.{followed_same}
 use Rattle.psu_exec.proofs.Changes.{sound_after}
 
 -- ---- steps

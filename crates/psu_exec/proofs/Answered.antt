@@ -59,14 +59,14 @@ may_told s session request reply (inr (e, wanted)) text is = let bad = sym e ∙
 
 -- ---- units, and the ends of waits
 
-told_now : (s : State) (session : ℕ) (request : Request) (reply : Reply)
+reported_now : (s : State) (session : ℕ) (request : Request) (reply : Reply)
     → IsPutOff reply ⊎ ((is_later s session request ≡ false) × (IsCall reply ⊎ MayMean s.flush (meant (here s session) request.reading) reply)) → HasText reply
-told_now s session request reply (inl off) text is = absurd (subst IsPutOff is off)
-told_now s session request reply (inr (now, inl call)) text is = absurd (answer_is_no_call text (subst IsCall is call))
-told_now s session request reply (inr (now, inr may)) text is = may_told s session request reply may text is
+reported_now s session request reply (inl off) text is = absurd (subst IsPutOff is off)
+reported_now s session request reply (inr (now, inl call)) text is = absurd (answer_is_no_call text (subst IsCall is call))
+reported_now s session request reply (inr (now, inr may)) text is = may_told s session request reply may text is
 
 pub unit_has_text : (s : State) (session : ℕ) (request : Request) (reply : Reply) → MayAnswer s session request reply → HasText reply
-unit_has_text s session request reply may = told_now s session request reply (ways s session request reply may)
+unit_has_text s session request reply may = reported_now s session request reply (ways s session request reply may)
 
 until_told : (flushed : Bool) (c : Completion) → HasText (if flushed then answer_complete c else Parked)
 until_told true c text is = complete_told c text is

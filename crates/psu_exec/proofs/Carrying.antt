@@ -1,6 +1,6 @@
 -- The possible crash images of the disk that an end carries, and of the disk at a moment of a job.
 use Rattle.std.proofs.Common.{◌≡◌, ℕ, ◌≤◌, List, take, sym, ap, subst, ◌∙◌}
-use Rattle.psu_disk.specs.Disk.{Left, LeavesOnly}
+use Rattle.psu_disk.specs.Disk.{IsCrashImage, LeavesOnly}
 use Rattle.psu_disk.specs.declared.disk.Disk.{Ghosts}
 use Rattle.psu_map.specs.Map.{Item, IsSorted}
 use Rattle.psu_map.specs.Batch.{Edit, changed}
@@ -37,7 +37,7 @@ true_of {D} {A} {G} f (finished.Broken broken) k expected stands =
 true_of f (finished.Reopened store) k expected stands = stands.stands
 
 -- each possible crash image at a moment of a job represents the map before or the target, under the state's names
-pub still_either : {D : Type 0} (G : Ghosts D) → ((d : D) (t : ℕ) (x : List ℕ) → t ≤ Ghosts.moment G d → Left (Ghosts.state G d) x → Ghosts.left_since G d t x)
+pub still_either : {D : Type 0} (G : Ghosts D) → ((d : D) (t : ℕ) (x : List ℕ) → t ≤ Ghosts.moment G d → IsCrashImage (Ghosts.state G d) x → Ghosts.left_since G d t x)
     → (first mid last : D) (limit limit' : ℕ) (before before' goal goal' : List Item) → LeavesOnly (Ghosts.moment G) (Ghosts.left_since G) first last (IsEither limit before goal) → Ghosts.moment G first ≤ Ghosts.moment G mid
     → ((x : List ℕ) → Ghosts.left_since G mid (Ghosts.moment G first) x → Ghosts.left_since G last (Ghosts.moment G first) x) → limit' ≡ limit → before' ≡ before → goal' ≡ goal
     → EachIsEither (Ghosts.state G mid) limit' before' goal'

@@ -7,7 +7,7 @@ use Rattle.psu_instrument.specs.Meaning.{Meaning, Refuses, Does, Keeps, Complete
 use Rattle.psu_instrument.specs.declared.completion.Completion.{Completion}
 use Rattle.psu_instrument.specs.declared.completion.Completion.TheVariants as completion
 use Rattle.psu_exec.specs.Device.{Reply, Error, Parked, Held, Later, State, Flush, AnswersBeside, AnswersCalled, AnswersNow, MayAnswer, Step, after_unit, answer_call, answer_complete, answer_meant, called, here, is_denied, is_later, kept_unless, meant}
-use Rattle.psu_exec.proofs.Latching.{followed_same}
+use Rattle.psu_exec.proofs.RqsUpdates.{followed_same}
 
 not_kept : (o : Option ScpiError) (whole fitting : Bool) → Held ≡ kept_unless o whole fitting → ⊥
 not_kept (Some e) whole fitting h = cc

@@ -9,7 +9,7 @@ use Rattle.psu_map.specs.Batch.{Edit, changed}
 use Rattle.psu_outputs.specs.declared.output_settings.OutputSettings.{OutputSettings}
 use Rattle.psu_nv.specs.Commands.{settings_at}
 use Rattle.psu_nv.specs.Contents.{Contents, IsContents, enables_items, file_item, items_of, macros_items, recall_items, register_items, registers_items, user_items}
-use Rattle.psu_nv.proofs.Encoding.{front}
+use Rattle.psu_nv.proofs.Encoding.{prefix}
 use Rattle.psu_nv.proofs.Parts.{items_sorted, rest_of}
 use Rattle.psu_exec.specs.Batch.{assignment, batch, removal}
 use Rattle.psu_exec.proofs.Batches.{changed-batch}
@@ -46,10 +46,10 @@ map-push (i ∷ l) g = ap (λ (m : List Item). file_item i ∷ m) (map-push l g)
 one_edit : (f : Item → List Edit) (i : Item) → flat_map f (i ∷ []) ≡ f i
 one_edit f i = append-nil (f i)
 
-whole_map : (c : Contents) → (front c ++ map file_item c.files) ++ recall_items c.recall ≡ items_of c
+whole_map : (c : Contents) → (prefix c ++ map file_item c.files) ++ recall_items c.recall ≡ items_of c
 unfolding items_of
 whole_map c =
-    append_assoc (front c) (map file_item c.files) (recall_items c.recall)
+    append_assoc (prefix c) (map file_item c.files) (recall_items c.recall)
     ∙ append_assoc ((enables_items c.enables ++ registers_items 0 c.registers) ++ user_items c.user) (macros_items c.macros) (rest_of c)
     ∙ append_assoc (enables_items c.enables ++ registers_items 0 c.registers) (user_items c.user) (macros_items c.macros ++ rest_of c)
     ∙ append_assoc (enables_items c.enables) (registers_items 0 c.registers) (user_items c.user ++ (macros_items c.macros ++ rest_of c))
@@ -84,8 +84,8 @@ all_edits before c e0 e1 e2 e3 e4 e5 e6 first enables registers user macros file
     let two = registers ∙ more_edits f r e1 (enables_items c.enables) (registers_items 0 c.registers) one in
     let three = user ∙ more_edits f r e2 (enables_items c.enables ++ registers_items 0 c.registers) (user_items c.user) two in
     let four = macros ∙ more_edits f r e3 ((enables_items c.enables ++ registers_items 0 c.registers) ++ user_items c.user) (macros_items c.macros) three in
-    let five = files ∙ more_edits f r e4 (front c) (map file_item c.files) four in
-    recall ∙ more_edits f r e5 (front c ++ map file_item c.files) (recall_items c.recall) five ∙ ap (λ (l : List Item). r ++ flat_map f l) (whole_map c)
+    let five = files ∙ more_edits f r e4 (prefix c) (map file_item c.files) four in
+    recall ∙ more_edits f r e5 (prefix c ++ map file_item c.files) (recall_items c.recall) five ∙ ap (λ (l : List Item). r ++ flat_map f l) (whole_map c)
 
 pub edits_lead : (before : List Item) (c : Contents) (edits : List Edit) → IsContents c → IsSorted before → edits ≡ batch before (items_of c) → changed before edits ≡ items_of c
 edits_lead before c edits is sorted same = ap (changed before) same ∙ changed-batch before (items_of c) sorted (items_sorted c is.sorted)

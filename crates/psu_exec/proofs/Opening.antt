@@ -5,7 +5,7 @@ use Rattle.std.proofs.lemmas.Result.{IfOk-weaker}
 use Rattle.psu_exec.specs.Device.{place_of}
 use Rattle.psu_exec.specs.Device.{State, is_open}
 use Rattle.psu_exec.specs.Calls.{Opened, Allows, free_from, with_session, least_free}
-use Rattle.psu_exec.specs.Latches.{opened_mark}
+use Rattle.psu_exec.specs.ServiceStates.{opened_service_state}
 use Rattle.psu_exec.specs.Headline.{OpensTheLeast, PlacesAreApart}
 
 -- a place that is free: its number, and what is before it
@@ -63,7 +63,7 @@ opens_the_least s new = (
       let place : place_of session ≡ r.place = omega arith in
       let still : get_or s.volatile.open_now (place_of session) false ≡ false = rw place r.free in
       let set : get_or (slice_set s.volatile.open_now (place_of session) true) (place_of session) false ≡ true = rw place (set_there s.volatile.open_now r.place true r.inside) in
-      let then : is_open (with_session s session true (opened_mark s.volatile.instrument.status)) session ≡ true = at_place (slice_set s.volatile.open_now (place_of session) true) session true (omega arith) set in
+      let then : is_open (with_session s session true (opened_service_state s.volatile.instrument.status)) session ≡ true = at_place (slice_set s.volatile.open_now (place_of session) true) session true (omega arith) set in
       record {
         free = at_place s.volatile.open_now session false (omega arith) still;
         now_open = subst (λ (t : State). is_open t session ≡ true) (sym a.1) then;

@@ -6,23 +6,23 @@ use Rattle.psu_exec.specs.Batch.{batch}
 use Rattle.psu_exec.specs.Device.{Flush, State, target, is_broken}
 use Rattle.psu_exec.proofs.Giving.{FlushGives}
 use Rattle.psu_exec.specs.Calls.{IsExpected, ended}
-use Rattle.psu_exec.specs.Jobs.{finished_of, home_edits, home_goal, home_limit, home_map, home_of, is_home_whole}
-use Rattle.psu_exec.specs.declared.home.Home.{Home}
+use Rattle.psu_exec.specs.Jobs.{finished_of, idle_edits, idle_goal, idle_limit, idle_map, idle_store_of, is_idle_whole}
+use Rattle.psu_exec.specs.declared.idle_store.IdleStore.{IdleStore}
 use Rattle.psu_exec.specs.declared.ending.Ending.{Ending}
 use Rattle.psu_exec.specs.declared.ending.Ending.TheVariants as ending
 use Rattle.psu_exec.specs.declared.finished.End.{End}
 use Rattle.psu_exec.specs.declared.finished.End.TheVariants as finished
 
 -- the invariant of a store while no job is out
-pub record IsHome {D A : Type 0} {G : Ghosts D} (f : Flush) (home : Home D A G) : Type 0 where
-  pub holds : home_map home ≡ f.before
-  pub sized : home_limit home ≡ f.limit
-  pub kind : is_home_whole home ≡ not (is_broken f.store)
-  pub edits : home_edits (batch f.before (target f)) home ≡ batch f.before (target f)
-  pub goal : home_goal (target f) home ≡ target f
+pub record IsIdleStore {D A : Type 0} {G : Ghosts D} (f : Flush) (idle_store : IdleStore D A G) : Type 0 where
+  pub holds : idle_map idle_store ≡ f.before
+  pub sized : idle_limit idle_store ≡ f.limit
+  pub kind : is_idle_whole idle_store ≡ not (is_broken f.store)
+  pub edits : idle_edits (batch f.before (target f)) idle_store ≡ batch f.before (target f)
+  pub goal : idle_goal (target f) idle_store ≡ target f
 
-pub returned : {D A : Type 0} {G : Ghosts D} (f new : Flush) (end : End D A G) → IsExpected f (finished_of end) → FlushGives f (finished_of end) new → home_goal (target f) (home_of end) ≡ target f
-    → IsHome new (home_of end)
+pub returned : {D A : Type 0} {G : Ghosts D} (f new : Flush) (end : End D A G) → IsExpected f (finished_of end) → FlushGives f (finished_of end) new → idle_goal (target f) (idle_store_of end) ≡ target f
+    → IsIdleStore new (idle_store_of end)
 returned f new (finished.Stored store) expected is goal = rw is (record { holds = expected.1; sized = expected.0; kind = refl; edits = refl; goal = refl })
 returned f new (finished.Unstarted store edits unstarted.Memory) expected is goal = rw is (record { holds = expected.1; sized = expected.0; kind = refl; edits = refl; goal = refl })
 returned f new (finished.Unstarted store edits unstarted.Worn) expected is goal = rw is (record { holds = expected.1; sized = expected.0; kind = refl; edits = refl; goal = refl })
@@ -35,8 +35,8 @@ returned f new (finished.Reopened store) expected (inr is) goal = rw is.1 (recor
     before_is (inr e) = absurd (is.0 e)
 
 -- a store that is put into the place is the one there
-pub at_home : {D A : Type 0} {G : Ghosts D} (f : Flush) (place : Option (Home D A G)) (put own : Home D A G) → place ≡ Some put → put ≡ own → IsHome f own → (h : Home D A G) → place ≡ Some h → IsHome f h
-at_home f place put own here is home h at = let both = sym here ∙ at in subst (IsHome f) (sym is ∙ cc) home
+pub when_idle : {D A : Type 0} {G : Ghosts D} (f : Flush) (place : Option (IdleStore D A G)) (put own : IdleStore D A G) → place ≡ Some put → put ≡ own → IsIdleStore f own → (h : IdleStore D A G) → place ≡ Some h → IsIdleStore f h
+when_idle f place put own here is idle_store h at = let both = sym here ∙ at in subst (IsIdleStore f) (sym is ∙ cc) idle_store
 
 -- no job is out after a job has ended
 pub out_after : (s : State) (e : Ending) → (ended s e).flush.out ≡ false

@@ -232,8 +232,8 @@ pub keeps_from : (p : ChangedParts) (old other new : List Item) → old ≡ othe
 keeps_from p old other new e keeps = subst (λ (m : List Item). KeepsOthers p m new) e keeps
 
 -- while no job is out, the target of a whole store is its map
-pub at_home : (f : Flush) → IsConsistent f → f.out ≡ false → f.store ≡ Whole → target f ≡ f.before
-at_home f c home whole = ap (map_held f.before) (none f.held (c.out ∙ ap (λ (b : Bool). b || is_broken f.store) home ∙ ap is_broken whole))
+pub when_idle : (f : Flush) → IsConsistent f → f.out ≡ false → f.store ≡ Whole → target f ≡ f.before
+when_idle f c idle_store whole = ap (map_held f.before) (none f.held (c.out ∙ ap (λ (b : Bool). b || is_broken f.store) idle_store ∙ ap is_broken whole))
   where
     none : (held : Option Target) → is_some held ≡ false → held ≡ None
     none None e = refl

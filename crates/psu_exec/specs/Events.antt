@@ -2,7 +2,7 @@
 use Rattle.std.specs.Prelude.{◌≡◌, ℕ, ◌≤◌, List, [], true}
 use Rattle.psu_disk.specs.Disk.{DiskState, LeavesOnly}
 use Rattle.psu_map.specs.Map.{Item}
-use Rattle.psu_items.specs.Image.{EachStands, IsEither, EachIsEither}
+use Rattle.psu_items.specs.Image.{EachRepresents, IsEither, EachIsEither}
 use Rattle.psu_items.specs.Finding.{IsOldOrSame}
 use Rattle.psu_nv.specs.Contents.{Contents, IsContents, items_of, fits}
 use Rattle.psu_exec.specs.Device.{State, target, power_on}
@@ -29,7 +29,7 @@ RestartCallsHappen = (w : World) (disk : DiskState) → IsDown w.mode → Moves 
 
 -- A power-on with contents that each possible crash image of the disk represents is an event.
 abbrev pub RestartsHappen : Type 0
-RestartsHappen = (w : World) (limit : ℕ) (contents : Contents) → IsDown w.mode → IsContents contents → fits limit contents ≡ true → EachStands w.disk limit (items_of contents)
+RestartsHappen = (w : World) (limit : ℕ) (contents : Contents) → IsDown w.mode → IsContents contents → fits limit contents ≡ true → EachRepresents w.disk limit (items_of contents)
     → Happens w (Restart limit contents) (record { state = power_on limit contents; history = []; disk = w.disk; mode = Running; limit = limit; start = contents })
 
 -- If each crash image since a job began represents one of two maps, so does each possible crash image of the disk at

@@ -4,7 +4,7 @@ use Rattle.psu_disk.specs.Disk.{HasFailed}
 use Rattle.psu_disk.specs.declared.disk.Disk.{Ghosts}
 use Rattle.psu_map.specs.Map.{Item}
 use Rattle.psu_map.specs.Batch.{Edit, changed}
-use Rattle.psu_items.specs.Image.{EachIsEither, counting, number_in}
+use Rattle.psu_items.specs.Image.{EachIsEither, current_root, number_in}
 use Rattle.psu_items.specs.Outcome.{HasStored, IsUnchanged, HasBroken, IsStillBroken}
 use Rattle.psu_items.specs.Standing.{IsOnDisk, MapOn}
 use Rattle.psu_items.specs.declared.commit.UnstartedCause.TheVariants as unstarted
@@ -18,8 +18,8 @@ use Rattle.psu_items.specs.declared.broken.Broken.{Broken}
 use Rattle.psu_items.specs.declared.broken.BrokenCause.TheVariants as broken_cause
 use Rattle.psu_exec.specs.declared.finished.End.{End}
 use Rattle.psu_exec.specs.declared.finished.End.TheVariants as finished
-use Rattle.psu_exec.specs.declared.home.Home.{Home}
-use Rattle.psu_exec.specs.declared.home.Home.TheVariants as home
+use Rattle.psu_exec.specs.declared.idle_store.IdleStore.{IdleStore}
+use Rattle.psu_exec.specs.declared.idle_store.IdleStore.TheVariants as idle_store
 
 -- the result of a finished job, as data
 abbrev pub finished_of : {D A : Type 0} {G : Ghosts D} → End D A G → JobEnd
@@ -36,37 +36,37 @@ finished_disk (finished.Broken broken) = broken.disk
 finished_disk (finished.Reopened store) = store.disk
 
 -- the store once a job is given back
-abbrev pub home_of : {D A : Type 0} {G : Ghosts D} → End D A G → Home D A G
-home_of (finished.Stored store) = home.Whole store
-home_of (finished.Unstarted store batch cause) = home.Whole store
-home_of (finished.Broken broken) = home.Failed broken
-home_of (finished.Reopened store) = home.Whole store
+abbrev pub idle_store_of : {D A : Type 0} {G : Ghosts D} → End D A G → IdleStore D A G
+idle_store_of (finished.Stored store) = idle_store.Whole store
+idle_store_of (finished.Unstarted store batch cause) = idle_store.Whole store
+idle_store_of (finished.Broken broken) = idle_store.Failed broken
+idle_store_of (finished.Reopened store) = idle_store.Whole store
 
-abbrev pub home_disk : {D A : Type 0} {G : Ghosts D} → Home D A G → D
-home_disk (home.Whole store) = store.disk
-home_disk (home.Failed broken) = broken.disk
+abbrev pub idle_disk : {D A : Type 0} {G : Ghosts D} → IdleStore D A G → D
+idle_disk (idle_store.Whole store) = store.disk
+idle_disk (idle_store.Failed broken) = broken.disk
 
-abbrev pub home_map : {D A : Type 0} {G : Ghosts D} → Home D A G → List Item
-home_map (home.Whole store) = store.items
-home_map (home.Failed broken) = broken.before
+abbrev pub idle_map : {D A : Type 0} {G : Ghosts D} → IdleStore D A G → List Item
+idle_map (idle_store.Whole store) = store.items
+idle_map (idle_store.Failed broken) = broken.before
 
-abbrev pub home_limit : {D A : Type 0} {G : Ghosts D} → Home D A G → ℕ
-home_limit (home.Whole store) = store.limit
-home_limit (home.Failed broken) = broken.limit
+abbrev pub idle_limit : {D A : Type 0} {G : Ghosts D} → IdleStore D A G → ℕ
+idle_limit (idle_store.Whole store) = store.limit
+idle_limit (idle_store.Failed broken) = broken.limit
 
-abbrev pub is_home_whole : {D A : Type 0} {G : Ghosts D} → Home D A G → Bool
-is_home_whole (home.Whole store) = true
-is_home_whole (home.Failed broken) = false
+abbrev pub is_idle_whole : {D A : Type 0} {G : Ghosts D} → IdleStore D A G → Bool
+is_idle_whole (idle_store.Whole store) = true
+is_idle_whole (idle_store.Failed broken) = false
 
 -- the batch that a broken store was to be changed by, and the map that this leads to; for a whole store, the given
 -- one
-abbrev pub home_edits : {D A : Type 0} {G : Ghosts D} → List Edit → Home D A G → List Edit
-home_edits edits (home.Whole store) = edits
-home_edits edits (home.Failed broken) = broken.batch
+abbrev pub idle_edits : {D A : Type 0} {G : Ghosts D} → List Edit → IdleStore D A G → List Edit
+idle_edits edits (idle_store.Whole store) = edits
+idle_edits edits (idle_store.Failed broken) = broken.batch
 
-abbrev pub home_goal : {D A : Type 0} {G : Ghosts D} → List Item → Home D A G → List Item
-home_goal goal (home.Whole store) = goal
-home_goal goal (home.Failed broken) = changed broken.before broken.batch
+abbrev pub idle_goal : {D A : Type 0} {G : Ghosts D} → List Item → IdleStore D A G → List Item
+idle_goal goal (idle_store.Whole store) = goal
+idle_goal goal (idle_store.Failed broken) = changed broken.before broken.batch
 
 -- a job with its maps, as data
 abbrev pub job_data : {D A : Type 0} {G : Ghosts D} → Job D A G → JobData
@@ -78,9 +78,9 @@ job_disk (job.Commit planned) = planned.store.disk
 job_disk (job.Reopen reopening) = reopening.broken.disk
 
 -- the store of a job, as it was before the job was taken
-abbrev pub job_home : {D A : Type 0} {G : Ghosts D} → Job D A G → Home D A G
-job_home (job.Commit planned) = home.Whole planned.store
-job_home (job.Reopen reopening) = home.Failed reopening.broken
+abbrev pub job_store : {D A : Type 0} {G : Ghosts D} → Job D A G → IdleStore D A G
+job_store (job.Commit planned) = idle_store.Whole planned.store
+job_store (job.Reopen reopening) = idle_store.Failed reopening.broken
 
 -- the reply to a take
 abbrev pub taken_of : {D A : Type 0} {G : Ghosts D} → Result (Job D A G) NoJob → Taken
@@ -101,7 +101,7 @@ pub record HasReopened {D A : Type 0} {G : Ghosts D} (old : Broken D A G) (store
   pub items : (store.items ≡ old.before) ⊎ (store.items ≡ changed old.before old.batch)
   pub limit : store.limit ≡ old.limit
   pub failures : Ghosts.failures G store.disk ≡ Ghosts.failures G old.disk
-  pub number : Ghosts.honest G → store.number ≡ number_in (counting (Ghosts.state G old.disk).bytes) (Ghosts.state G old.disk).bytes
+  pub number : Ghosts.honest G → store.number ≡ number_in (current_root (Ghosts.state G old.disk).bytes) (Ghosts.state G old.disk).bytes
 
 -- The store is still broken. If its cause is a failed call of the disk, the count of failures shows it; otherwise no
 -- call failed.

@@ -2,7 +2,7 @@
 ghost use Rattle.std.specs.Prelude.{◌≡◌, ◌==◌, true, IfOk};
 ghost use Rattle.psu_nv.specs.Contents.{IsContents, fits};
 ghost use Rattle.psu_exec.specs.Device.{State, followed, is_open, power_on};
-ghost use Rattle.psu_exec.specs.Latches.{enabled_of};
+ghost use Rattle.psu_exec.specs.ServiceStates.{enabled_of};
 ghost use Rattle.psu_status.specs.Status.{first_request};
 ghost use Rattle.psu_exec.specs.Consistent.{IsConsistent};
 
@@ -11,8 +11,10 @@ mod locks;
 mod sessions;
 mod units;
 
-use crate::marks::{follow, no_mark};
-use crate::{ChangedParts, Condition, Contents, Enabled, LockTable, Mark, SESSIONS, Session, Wait};
+use crate::service_states::{follow, initial_service_state};
+use crate::{
+    ChangedParts, Condition, Contents, Enabled, LockTable, SESSIONS, ServiceState, Session, Wait,
+};
 use psu_instrument::Instrument;
 use psu_items::Plan;
 use std::alloc::{AllocError, Allocator};
@@ -37,7 +39,7 @@ pub struct Device<A: Allocator + Copy> {
     out: bool,
     waits: [Option<Wait>; SESSIONS],
     open_now: [bool; SESSIONS],
-    marks: [Mark; SESSIONS],
+    service_states: [ServiceState; SESSIONS],
     // In a box with its strings of locks, which are not to be moved with the device.
     locks: Box<LockTable, A>,
     instrument: Instrument,
@@ -50,7 +52,7 @@ impl<A: Allocator + Copy> Model for Device<A> {
     ghost Value = { State };
 
     ghost view = { λ d. record {
-      volatile = record { instrument = d.instrument; open_now = d.open_now; marks = d.marks; locks = d.locks.value };
+      volatile = record { instrument = d.instrument; open_now = d.open_now; service_states = d.service_states; locks = d.locks.value };
       flush = record { limit = d.limit; contents = d.contents; before = d.map.map; unflushed = d.unflushed; held = held_of d.held (changed d.map.map d.map.edits); store = d.store; out = d.out; waits = d.waits };
     } };
 
@@ -89,7 +91,7 @@ impl<A: Allocator + Copy> Device<A> {
             out: false,
             waits: [None; SESSIONS],
             open_now: [false; SESSIONS],
-            marks: [no_mark(); SESSIONS],
+            service_states: [initial_service_state(); SESSIONS],
             locks,
             instrument,
         })
@@ -143,12 +145,12 @@ impl<A: Allocator + Copy> Device<A> {
 
     // Updates the RQS bits of all sessions after a step that changed their enabled bits, which were `old` before it.
     fn follow(&mut self, old: Enabled)
-        ensures { (before : State) → old ≡ enabled_of before.volatile.instrument.status → before.volatile.marks ≡ self.old.volatile.marks → self.new ≡ followed before self.old }
+        ensures { (before : State) → old ≡ enabled_of before.volatile.instrument.status → before.volatile.service_states ≡ self.old.volatile.service_states → self.new ≡ followed before self.old }
     {
         let new = Enabled {
             read: self.instrument.enabled(false),
             unread: self.instrument.enabled(true),
         };
-        follow(&mut self.marks, old, new);
+        follow(&mut self.service_states, old, new);
     }
 }

@@ -9,7 +9,7 @@ pub struct Enabled {
 }
 
 impl Enabled {
-    ghost use Rattle.psu_exec.specs.Latches.{bits_of};
+    ghost use Rattle.psu_exec.specs.ServiceStates.{bits_of};
 
     /// The enabled bits of a session, by whether a response was sent that it has not read.
     pub fn bits(self, available: bool) -> u8

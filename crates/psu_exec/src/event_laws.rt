@@ -18,8 +18,8 @@ pub fn calls_are_events()
 /// What the postconditions of a job or of an opening state of every moment since its start holds after each of its
 /// disk calls.
 pub fn moments_are_events<D: Disk>()
-    ensures jobs { D.tells → MomentsAreEither D.moment D.left_since D.state }
-    ensures openings { D.tells → MomentsKeepMaps D.moment D.left_since D.state }
+    ensures jobs { D.records → MomentsAreEither D.moment D.left_since D.state }
+    ensures openings { D.records → MomentsKeepMaps D.moment D.left_since D.state }
 {}
 
 /// Reads from the disk. Whether the read succeeds or fails, the disk changes as an event may change it.

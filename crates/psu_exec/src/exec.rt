@@ -7,12 +7,12 @@ ghost use Rattle.psu_nv.specs.Contents.{Contents as Kept, items_of, IsContents, 
 ghost use Rattle.psu_exec.specs.Device.{power_on, is_denied, is_open, is_broken, target, wait_of, followed, State, Answer, Error, Held, Later, refused};
 ghost use Rattle.psu_status.specs.Status.{first_request, prescribed};
 ghost use Rattle.psu_exec.specs.Calls.{Allows};
-ghost use Rattle.psu_exec.specs.Calls.Entry.{Executed, Settled, Took, GaveBack, Opened, Closed, Cleared, Sent, Delivered, Queried, Fetched, Told, Locked, Released, Ticked, Informed, Due};
+ghost use Rattle.psu_exec.specs.Calls.Entry.{Executed, Settled, Took, GaveBack, Opened, Closed, Cleared, Sent, Delivered, Queried, Fetched, Notified, Locked, Released, Ticked, Informed, Due};
 ghost use Rattle.psu_locks.specs.Table.{FailsFirst, IsSettled};
 ghost use Rattle.psu_exec.specs.Consistent.{IsConsistent};
 ghost use Rattle.psu_exec.specs.Headline.{AreBad};
 ghost use Rattle.psu_exec.specs.Shown.{cause_of, outcome_of, over_of};
-ghost use Rattle.psu_exec.specs.Jobs.{home_edits, home_goal, home_map, home_limit, home_of, is_home_whole};
+ghost use Rattle.psu_exec.specs.Jobs.{idle_edits, idle_goal, idle_map, idle_limit, idle_store_of, is_idle_whole};
 ghost use Rattle.psu_lex.specs.declared.scpi_error.ScpiError.{ScpiError as AnyError};
 ghost use Rattle.psu_exec.specs.World.{asks_opc};
 ghost use Rattle.psu_instrument.specs.declared.completion.Completion.{Completion};
@@ -20,7 +20,7 @@ ghost use Rattle.psu_exec.specs.declared.wait.Wait.TheVariants.{Until};
 
 use crate::seal::Seal;
 use crate::{
-    Condition, Contents, Crowded, Device, End, Ended, Finished, Freed, Grant, Home, Info, Job,
+    Condition, Contents, Crowded, Device, End, Ended, Finished, Freed, Grant, IdleStore, Info, Job,
     Kind, LockRefusal, NoJob, Outcome, Planned, PowerCause, PowerFault, Reopening, Request,
     Session, Sessions, Stranger,
 };
@@ -35,19 +35,19 @@ use std::mem;
 pub struct Exec<D: Disk, A: Allocator + Copy> {
     alloc: A,
     device: Device<A>,
-    home: Option<Home<D, A>>,
-    ghost away: { device.flush.out ≡ is_none home },
-    pub ghost holds: { ForSome home (λ h. home_map h ≡ device.flush.before) },
-    pub ghost sized: { ForSome home (λ h. home_limit h ≡ device.flush.limit) },
-    ghost kind: { ForSome home (λ h. is_home_whole h ≡ not (is_broken device.flush.store)) },
-    ghost edits: { ForSome home (λ h. home_edits (batch device.flush.before (target device.flush)) h ≡ batch device.flush.before (target device.flush)) },
-    ghost goal: { ForSome home (λ h. home_goal (target device.flush) h ≡ target device.flush) },
+    idle_store: Option<IdleStore<D, A>>,
+    ghost away: { device.flush.out ≡ is_none idle_store },
+    pub ghost holds: { ForSome idle_store (λ h. idle_map h ≡ device.flush.before) },
+    pub ghost sized: { ForSome idle_store (λ h. idle_limit h ≡ device.flush.limit) },
+    ghost kind: { ForSome idle_store (λ h. is_idle_whole h ≡ not (is_broken device.flush.store)) },
+    ghost edits: { ForSome idle_store (λ h. idle_edits (batch device.flush.before (target device.flush)) h ≡ batch device.flush.before (target device.flush)) },
+    ghost goal: { ForSome idle_store (λ h. idle_goal (target device.flush) h ≡ target device.flush) },
 }
 
 impl<D: Disk, A: Allocator + Copy> Exec<D, A> {
-    ghost use Rattle.psu_exec.specs.Jobs.{finished_disk, finished_of, home_of, job_home, taken_of};
+    ghost use Rattle.psu_exec.specs.Jobs.{finished_disk, finished_of, idle_store_of, job_store, taken_of};
     ghost use Rattle.psu_exec.specs.World.{IsTrueOf};
-    ghost use Rattle.psu_exec.specs.declared.home.Home.TheVariants as at_home;
+    ghost use Rattle.psu_exec.specs.declared.idle_store.IdleStore.TheVariants as when_idle;
     ghost use Rattle.psu_exec.specs.Ends.{IsEnd};
 
     /// Powers on with the contents that the store holds. The registers are as IEEE 488.2 prescribes: only PON is set,
@@ -61,7 +61,7 @@ impl<D: Disk, A: Allocator + Copy> Exec<D, A> {
         ensures fitting { IfOk result (λ e. fits store.limit e.device.flush.contents ≡ true) }
         // As IEEE 488.2 prescribes: 96 exactly if the enables are kept with SRE bit 5 and ESE bit 7 set, else none.
         ensures request { IfOk result (λ e. first_request e.device.volatile.instrument.status ≡ prescribed e.device.flush.contents.enables) }
-        ensures home { IfOk result (λ e. e.home ≡ Some (at_home.Whole store)) }
+        ensures idle_store { IfOk result (λ e. e.idle_store ≡ Some (when_idle.Whole store)) }
 
         ensures back { IfErr result (λ f. f.store ≡ store) }
         ensures bad { IfErr result (λ f. f.cause ≡ PowerCause.BadItems → AreBad store.limit store.items) }
@@ -85,7 +85,7 @@ impl<D: Disk, A: Allocator + Copy> Exec<D, A> {
             Ok(device) => Ok(Exec {
                 alloc,
                 device,
-                home: Some(Home::Whole(store)),
+                idle_store: Some(IdleStore::Whole(store)),
             }),
             Err(AllocError) => Err(PowerFault {
                 cause: PowerCause::Memory,
@@ -98,7 +98,7 @@ impl<D: Disk, A: Allocator + Copy> Exec<D, A> {
     pub fn execute(&mut self, session: Session, request: &Request<'_>) -> Outcome<A>
         requires open { is_open self.old.device session ≡ true }
         ensures step { Allows self.old.device (Executed session request.now (outcome_of result)) self.new.device }
-        ensures home { self.new.home ≡ self.old.home }
+        ensures idle_store { self.new.idle_store ≡ self.old.idle_store }
 
         // Consequences of the step: `*OPC?` is answered only if no change is unflushed; no response is empty; an
         // error is reported and changes nothing else but the RQS bits that follow from it; a unit with the outcome
@@ -122,7 +122,7 @@ impl<D: Disk, A: Allocator + Copy> Exec<D, A> {
     pub fn settle(&mut self, session: Session) -> Outcome<A>
         requires open { is_open self.old.device session ≡ true }
         ensures step { Allows self.old.device (Settled session (outcome_of result)) self.new.device }
-        ensures home { self.new.home ≡ self.old.home }
+        ensures idle_store { self.new.idle_store ≡ self.old.idle_store }
 
         // Consequences of the step: the session keeps waiting only while a change is unflushed; its wait ends with 1
         // only if no change before it is unflushed; no response is empty; and an error is reported.
@@ -144,7 +144,7 @@ impl<D: Disk, A: Allocator + Copy> Exec<D, A> {
         ensures opened { IfOk result (λ session. Allows self.old.device (Opened (Some session)) self.new.device) }
         ensures open { IfOk result (λ session. is_open self.new.device session ≡ true) }
         ensures crowded { OnErr result (Allows self.old.device (Opened None) self.new.device) }
-        ensures home { self.new.home ≡ self.old.home }
+        ensures idle_store { self.new.idle_store ≡ self.old.idle_store }
     {
         self.device.open_session()
     }
@@ -154,7 +154,7 @@ impl<D: Disk, A: Allocator + Copy> Exec<D, A> {
     pub fn close_session(&mut self, session: Session) -> Sessions
         requires { is_open self.old.device session ≡ true }
         ensures step { Allows self.old.device (Closed session result) self.new.device }
-        ensures home { self.new.home ≡ self.old.home }
+        ensures idle_store { self.new.idle_store ≡ self.old.idle_store }
     {
         self.device.close_session(session)
     }
@@ -163,7 +163,7 @@ impl<D: Disk, A: Allocator + Copy> Exec<D, A> {
     pub fn sent(&mut self, session: Session)
         requires { is_open self.old.device session ≡ true }
         ensures step { Allows self.old.device (Sent session) self.new.device }
-        ensures home { self.new.home ≡ self.old.home }
+        ensures idle_store { self.new.idle_store ≡ self.old.idle_store }
     {
         self.device.sent(session);
     }
@@ -172,7 +172,7 @@ impl<D: Disk, A: Allocator + Copy> Exec<D, A> {
     pub fn delivered(&mut self, session: Session)
         requires { is_open self.old.device session ≡ true }
         ensures step { Allows self.old.device (Delivered session) self.new.device }
-        ensures home { self.new.home ≡ self.old.home }
+        ensures idle_store { self.new.idle_store ≡ self.old.idle_store }
     {
         self.device.delivered(session);
     }
@@ -181,7 +181,7 @@ impl<D: Disk, A: Allocator + Copy> Exec<D, A> {
     pub fn status(&mut self, session: Session) -> u8
         requires { is_open self.old.device session ≡ true }
         ensures step { Allows self.old.device (Queried session result) self.new.device }
-        ensures home { self.new.home ≡ self.old.home }
+        ensures idle_store { self.new.idle_store ≡ self.old.idle_store }
     {
         self.device.status(session)
     }
@@ -191,17 +191,17 @@ impl<D: Disk, A: Allocator + Copy> Exec<D, A> {
     pub fn requests(&mut self, session: Session) -> Option<u8>
         requires { is_open self.old.device session ≡ true }
         ensures step { Allows self.old.device (Fetched session result) self.new.device }
-        ensures home { self.new.home ≡ self.old.home }
+        ensures idle_store { self.new.idle_store ≡ self.old.idle_store }
     {
         self.device.requests(session)
     }
 
     /// Returns the open sessions that requested service since the last call, and whether a take would return a job.
-    pub fn news(&mut self) -> (Sessions, bool)
-        ensures step { Allows self.old.device (Told result.0 result.1) self.new.device }
-        ensures home { self.new.home ≡ self.old.home }
+    pub fn take_notifications(&mut self) -> (Sessions, bool)
+        ensures step { Allows self.old.device (Notified result.0 result.1) self.new.device }
+        ensures idle_store { self.new.idle_store ≡ self.old.idle_store }
     {
-        self.device.news()
+        self.device.take_notifications()
     }
 
     /// Requests a lock for an open session. `now` and `timeout` are in milliseconds. A request that can't be granted
@@ -215,7 +215,7 @@ impl<D: Disk, A: Allocator + Copy> Exec<D, A> {
     ) -> Result<Grant, LockRefusal>
         requires { is_open self.old.device session ≡ true }
         ensures step { Allows self.old.device (Locked session kind now timeout result) self.new.device }
-        ensures home { self.new.home ≡ self.old.home }
+        ensures idle_store { self.new.idle_store ≡ self.old.idle_store }
     {
         self.device.lock(session, kind, now, timeout)
     }
@@ -225,7 +225,7 @@ impl<D: Disk, A: Allocator + Copy> Exec<D, A> {
     pub fn release(&mut self, session: Session) -> Result<(Freed, Sessions), LockRefusal>
         requires { is_open self.old.device session ≡ true }
         ensures step { Allows self.old.device (Released session result) self.new.device }
-        ensures home { self.new.home ≡ self.old.home }
+        ensures idle_store { self.new.idle_store ≡ self.old.idle_store }
     {
         self.device.release(session)
     }
@@ -233,7 +233,7 @@ impl<D: Disk, A: Allocator + Copy> Exec<D, A> {
     /// Fails the lock requests whose timeout has expired, and returns their sessions, in order of arrival.
     pub fn tick(&mut self, now: u64) -> Sessions
         ensures step { Allows self.old.device (Ticked now result) self.new.device }
-        ensures home { self.new.home ≡ self.old.home }
+        ensures idle_store { self.new.idle_store ≡ self.old.idle_store }
     {
         self.device.tick(now)
     }
@@ -260,7 +260,7 @@ impl<D: Disk, A: Allocator + Copy> Exec<D, A> {
     pub fn clear(&mut self, session: Session)
         requires { is_open self.old.device session ≡ true }
         ensures step { Allows self.old.device (Cleared session) self.new.device }
-        ensures home { self.new.home ≡ self.old.home }
+        ensures idle_store { self.new.idle_store ≡ self.old.idle_store }
 
         // Consequences of the step: the precondition still holds, and no lock changes.
         ensures still_open { is_open self.new.device session ≡ true }
@@ -308,21 +308,21 @@ impl<D: Disk, A: Allocator + Copy> Exec<D, A> {
     /// Takes a job: one that commits the present contents to a whole store, or one that reopens a broken store.
     pub fn take(&mut self) -> Result<Job<D, A>, NoJob>
         ensures step { Allows self.old.device (Took (taken_of result)) self.new.device }
-        ensures job { IfOk result (λ job. self.old.home ≡ Some (job_home job)) }
-        ensures away { OnOk result (self.new.home ≡ None) }
+        ensures job { IfOk result (λ job. self.old.idle_store ≡ Some (job_store job)) }
+        ensures away { OnOk result (self.new.idle_store ≡ None) }
         ensures same { OnErr result (self.new.device ≡ self.old.device) }
-        ensures home { OnErr result (self.new.home ≡ self.old.home) }
+        ensures idle_store { OnErr result (self.new.idle_store ≡ self.old.idle_store) }
     {
         let batch = self.device.take()?;
-        match self.home.take() {
-            Some(Home::Whole(store)) => match batch {
+        match self.idle_store.take() {
+            Some(IdleStore::Whole(store)) => match batch {
                 Some(batch) => {
                     let planned = planned_of(self.alloc, store, batch);
                     return Ok(Job::Commit(planned));
                 }
                 None => unreachable!(),
             },
-            Some(Home::Failed(broken)) => return Ok(Job::Reopen(Reopening {
+            Some(IdleStore::Failed(broken)) => return Ok(Job::Reopen(Reopening {
                 alloc: self.alloc,
                 broken,
                 seal: Seal(()),
@@ -338,16 +338,16 @@ impl<D: Disk, A: Allocator + Copy> Exec<D, A> {
         // Each possible crash image of its disk represents the map that the result states; for a broken store, the
         // map before or the target.
         ensures stands { D.honest → OnOk result (IsTrueOf (target self.old.device.flush) (finished_of finished.end) (D.state (finished_disk finished.end))) }
-        ensures home { OnOk result (self.new.home ≡ Some (home_of finished.end)) }
+        ensures idle_store { OnOk result (self.new.idle_store ≡ Some (idle_store_of finished.end)) }
         ensures free { OnOk result (self.new.device.flush.out ≡ false) }
         ensures stranger { IfErr result (λ s. s.finished ≡ finished) }
-        ensures same { OnErr result (self.new.home ≡ self.old.home) }
+        ensures same { OnErr result (self.new.idle_store ≡ self.old.idle_store) }
     {
         let Some(ending) = self.device.ending_of(&finished.end) else {
             return Err(Stranger { finished });
         };
         self.device.end_job(ending);
-        bring_home(&mut self.home, home_after(finished));
+        put_store_back(&mut self.idle_store, idle_store_after(finished));
         Ok(self.device.sessions_over())
     }
 
@@ -358,17 +358,17 @@ impl<D: Disk, A: Allocator + Copy> Exec<D, A> {
         let Exec {
             alloc,
             device,
-            home,
+            idle_store,
         } = self;
-        match home {
-            Some(home) => match home {
-                Home::Whole(store) => Ended::Whole(store),
-                Home::Failed(broken) => Ended::Failed(broken),
+        match idle_store {
+            Some(idle_store) => match idle_store {
+                IdleStore::Whole(store) => Ended::Whole(store),
+                IdleStore::Failed(broken) => Ended::Failed(broken),
             },
             None => Ended::Out(Exec {
                 alloc,
                 device,
-                home: None,
+                idle_store: None,
             }),
         }
     }
@@ -398,25 +398,28 @@ fn planned_of<D: Disk, A: Allocator + Copy>(
 }
 
 // The store of a job that was given back.
-fn home_after<D: Disk, A: Allocator + Copy>(finished: Finished<D, A>) -> Home<D, A>
-    ensures { result ≡ home_of finished.end }
+fn idle_store_after<D: Disk, A: Allocator + Copy>(finished: Finished<D, A>) -> IdleStore<D, A>
+    ensures { result ≡ idle_store_of finished.end }
 {
     let Finished { end, seal } = finished;
     let Seal(_) = seal;
     match end {
-        End::Stored(store) => Home::Whole(store),
-        End::Unstarted(store, _, _) => Home::Whole(store),
-        End::Broken(broken) => Home::Failed(broken),
-        End::Reopened(store) => Home::Whole(store),
+        End::Stored(store) => IdleStore::Whole(store),
+        End::Unstarted(store, _, _) => IdleStore::Whole(store),
+        End::Broken(broken) => IdleStore::Failed(broken),
+        End::Reopened(store) => IdleStore::Whole(store),
     }
 }
 
 // Puts the store back into its place, which is empty.
-fn bring_home<D: Disk, A: Allocator + Copy>(place: &mut Option<Home<D, A>>, home: Home<D, A>)
+fn put_store_back<D: Disk, A: Allocator + Copy>(
+    place: &mut Option<IdleStore<D, A>>,
+    idle_store: IdleStore<D, A>,
+)
     requires { place.old ≡ None }
-    ensures { place.new ≡ Some home }
+    ensures { place.new ≡ Some idle_store }
 {
-    match mem::replace(place, Some(home)) {
+    match mem::replace(place, Some(idle_store)) {
         None => {}
         Some(_) => unreachable!(),
     }

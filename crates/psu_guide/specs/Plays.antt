@@ -1,7 +1,7 @@
 -- What the instrument answers to lines that are sent to it, in the words of a run.
 use Rattle.std.specs.Prelude.{◌≡◌, ⊤, ℕ, List, [], length, None, Some}
-use Rattle.psu_disk.specs.Disk.{DiskState, Left}
-use Rattle.psu_items.specs.Image.{EachStands, counting, number_in}
+use Rattle.psu_disk.specs.Disk.{DiskState, IsCrashImage}
+use Rattle.psu_items.specs.Image.{EachRepresents, current_root, number_in}
 use Rattle.psu_server.specs.Input.{IsTooLong}
 use Rattle.psu_server.specs.Results.{WritesRun}
 use Rattle.psu_server.specs.Reasons.{EndsFor}
@@ -13,8 +13,8 @@ use Rattle.psu_guide.specs.declared.play_fault.PlayFault.TheVariants.{Memory, Ru
 -- pages, and the current root has the number 1.
 pub record IsNew (disk : DiskState) : Type 0 where
   pub size : length disk.bytes ≡ 263168
-  pub stands : EachStands disk 256 []
-  pub first : (image : List ℕ) → Left disk image → number_in (counting image) image ≡ 1
+  pub represents : EachRepresents disk 256 []
+  pub first : (image : List ℕ) → IsCrashImage disk image → number_in (current_root image) image ≡ 1
 
 -- On a new image a run to which this is sent ends well and writes this text, and no call of its disk fails.
 pub record Plays (sent text : List ℕ) : Type 0 where
@@ -25,7 +25,7 @@ pub record Plays (sent text : List ℕ) : Type 0 where
 
 -- On a new image a run to which this is sent ends early for this cause, and no call of its disk fails. `rest` is what it
 -- did not read.
-pub record Stops (sent : List ℕ) (cause : RunCause) : Type 0 where
+pub record FailsWith (sent : List ℕ) (cause : RunCause) : Type 0 where
   pub disk : DiskState
   pub is_new : IsNew disk
   pub left : List ℕ
@@ -33,6 +33,6 @@ pub record Stops (sent : List ℕ) (cause : RunCause) : Type 0 where
   pub why : EndsFor disk.bytes 0 0 left (IsTooLong (Some sent) (Some rest) None None) cause
 
 -- Why a new instrument cannot answer. A contract cannot see that an allocation failed.
-abbrev pub GivesUp : List ℕ → PlayFault → Type 0
-GivesUp sent Memory = ⊤
-GivesUp sent (Run cause) = Stops sent cause
+abbrev pub CannotAnswer : List ℕ → PlayFault → Type 0
+CannotAnswer sent Memory = ⊤
+CannotAnswer sent (Run cause) = FailsWith sent cause

@@ -1,7 +1,7 @@
 //! Whether a guide holds.
 ghost use Rattle.std.specs.Prelude.{IfErr, IfOk};
 ghost use Rattle.psu_examples.specs.Held.{Holds, IsRefusal};
-ghost use Rattle.psu_guide.specs.Plays.{GivesUp, Plays};
+ghost use Rattle.psu_guide.specs.Plays.{CannotAnswer, Plays};
 
 use crate::play::NewInstrument;
 use crate::play_fault::PlayFault;
@@ -15,7 +15,7 @@ pub fn guide_held<A: Allocator + Copy>(
     guide: &[u8],
 ) -> Result<usize, GuideFault<A, PlayFault>>
     ensures held { IfOk result (λ count. Holds Plays guide.now count) }
-    ensures refused { IfErr result (λ fault. IsRefusal Plays GivesUp guide.now fault) }
+    ensures refused { IfErr result (λ fault. IsRefusal Plays CannotAnswer guide.now fault) }
 {
     examples_held(alloc, &NewInstrument, guide)
 }

@@ -3,7 +3,7 @@ ghost use Rattle.std.specs.Prelude.{IfErr, IfOk, IfSome, List, None, Some, [], â
 ghost use Rattle.psu_server.specs.Input.{IsTooLong};
 ghost use Rattle.psu_server.specs.Reasons.{EndsFor};
 ghost use Rattle.psu_server.specs.Results.{WritesRun};
-ghost use Rattle.psu_guide.specs.Plays.{GivesUp, IsNew, Plays};
+ghost use Rattle.psu_guide.specs.Plays.{CannotAnswer, IsNew, Plays};
 
 use crate::play_fault::PlayFault;
 use psu_disk::{Disk, MemDisk};
@@ -57,7 +57,7 @@ impl<A: Allocator + Copy> Player<A> for NewInstrument {
 
     ghost plays = { Plays };
 
-    ghost stops = { GivesUp };
+    ghost stops = { CannotAnswer };
 
     fn play(&self, alloc: A, sent: &[u8]) -> Result<Vec<u8, A>, PlayFault> {
         let Some(disk) = new_image(alloc) else {

@@ -6,8 +6,8 @@ use Rattle.psu_hislip.specs.Faults.{fatal_code, error_code}
 use Rattle.psu_hislip.specs.Stream.{Received}
 use Rattle.psu_hislip.specs.Stream.Received.{Frame, Oversize, BadHeader}
 use Rattle.psu_hislip.specs.Action.{Act}
-use Rattle.psu_hislip.specs.Core.{Core, told, reply, is_sync, is_begun, completes, takes, ill_formed, type_error, error, fatal, row, heeded, without_fault, outcome_of}
-use Rattle.psu_hislip.specs.Runs.{type_told, is_complete}
+use Rattle.psu_hislip.specs.Core.{Core, outcome_with, reply, is_sync, is_begun, completes, takes, ill_formed, type_error, error, fatal, row, heeded, without_fault, outcome_of}
+use Rattle.psu_hislip.specs.Runs.{received_type, is_complete}
 use Rattle.psu_hislip.specs.declared.header.Header.{Header}
 use Rattle.psu_hislip.specs.declared.side.Side.{Side}
 use Rattle.psu_hislip.specs.declared.side.Side.TheVariants.{Sync, Async}
@@ -19,12 +19,12 @@ use Rattle.psu_hislip.specs.declared.message_type.MessageType.TheVariants.{Fatal
 use Rattle.psu_hislip.proofs.Types.{code_of_type}
 
 pub data Cases (core : Core) (side : Side) (m : Received) : Type 0 where
-  Ended : core.failed ≡ true → outcome_of core side m ≡ told (Act.Closed ∷ []) core → Cases core side m
+  Ended : core.failed ≡ true → outcome_of core side m ≡ outcome_with (Act.Closed ∷ []) core → Cases core side m
   Fails : (code : FatalCode) → core.failed ≡ false
-      → outcome_of core side m ≡ told (reply side FatalError (fatal_code code) ∷ Act.Closed ∷ []) (record core { failed = true }) → Cases core side m
-  Discarded : core.failed ≡ false → is_begun core.clear ≡ true → is_sync side ≡ true → is_complete side (type_told m) ≡ false → outcome_of core side m ≡ told [] core → Cases core side m
-  Erroneous : (code : ErrorCode) → core.failed ≡ false → error side m ≡ Some code → outcome_of core side m ≡ told (reply side Error (error_code code) ∷ []) core → Cases core side m
-  Row : (type : MessageType) (h : Header) (payload : List ℕ) → core.failed ≡ false → m ≡ Frame h payload → type_told m ≡ Some type → error side m ≡ None → takes side type ≡ true
+      → outcome_of core side m ≡ outcome_with (reply side FatalError (fatal_code code) ∷ Act.Closed ∷ []) (record core { failed = true }) → Cases core side m
+  Discarded : core.failed ≡ false → is_begun core.clear ≡ true → is_sync side ≡ true → is_complete side (received_type m) ≡ false → outcome_of core side m ≡ outcome_with [] core → Cases core side m
+  Erroneous : (code : ErrorCode) → core.failed ≡ false → error side m ≡ Some code → outcome_of core side m ≡ outcome_with (reply side Error (error_code code) ∷ []) core → Cases core side m
+  Row : (type : MessageType) (h : Header) (payload : List ℕ) → core.failed ≡ false → m ≡ Frame h payload → received_type m ≡ Some type → error side m ≡ None → takes side type ≡ true
       → (is_sync side && is_begun core.clear && not (is_complete side (Some type))) ≡ false → outcome_of core side m ≡ row core type h payload → Cases core side m
 
 both : (a b : Bool) → (a && b) ≡ true → (a ≡ true) × (b ≡ true)
@@ -45,7 +45,7 @@ not_complete_type Async h e o t = refl
 not_complete_type Sync h e None t = refl
 not_complete_type Sync h e (Some type) t = sym (completes_type type h t) ∙ not_true (h.kind == code_of DeviceClearComplete) e
 
-is_not_complete : (side : Side) (m : Received) → not (completes m) ≡ true → is_complete side (type_told m) ≡ false
+is_not_complete : (side : Side) (m : Received) → not (completes m) ≡ true → is_complete side (received_type m) ≡ false
 is_not_complete side (Frame h p) e = not_complete_type side h e (type_of h.kind) refl
 is_not_complete Sync (Oversize h) e = refl
 is_not_complete Sync BadHeader e = refl
@@ -137,7 +137,7 @@ has_error Sync h p code e (Some DeviceClearComplete) t = absurd (cc (good_frame 
 has_error Async h p code e (Some AsyncDeviceClear) t = absurd (cc (good_frame Async AsyncDeviceClear h p t refl))
 has_error side h p code e o t = refl
 
-pub erroneous : (side : Side) (m : Received) (code : ErrorCode) → error side m ≡ Some code → is_good side (type_told m) ≡ false
+pub erroneous : (side : Side) (m : Received) (code : ErrorCode) → error side m ≡ Some code → is_good side (received_type m) ≡ false
 erroneous side (Frame h p) code e = has_error side h p code e (type_of h.kind) refl
 erroneous Sync (Oversize h) code e = refl
 erroneous Async (Oversize h) code e = refl

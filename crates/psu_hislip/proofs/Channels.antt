@@ -6,7 +6,7 @@ use Rattle.psu_hislip.specs.Header.{header_bytes, Fits}
 use Rattle.psu_hislip.specs.Stream.{Received, IsStream, received}
 use Rattle.psu_hislip.specs.Stream.Received.{Frame, Oversize, BadHeader}
 use Rattle.psu_hislip.specs.Channel.{Awaited, Follows, Moves, Fed}
-use Rattle.psu_hislip.specs.Channel.Awaited.{Begun, Passing, Ended}
+use Rattle.psu_hislip.specs.Channel.Awaited.{Partial, Passing, Ended}
 use Rattle.psu_hislip.specs.Rest.{awaited, IsRest, IsCutOf, all_received, given}
 use Rattle.psu_hislip.specs.declared.message.Message.{Message}
 use Rattle.psu_hislip.specs.declared.rest.Rest.{Rest}
@@ -36,20 +36,20 @@ none_begun h p f short small BadHeader more s = absurd (s.1 (header_begins h p))
 
 -- ---- steps
 
-pub moves_bad : (bytes : List ℕ) → length bytes ≡ 16 → take 2 bytes ≢ 72 ∷ 83 ∷ [] → Moves (Begun bytes) [] (BadHeader ∷ []) Ended
+pub moves_bad : (bytes : List ℕ) → length bytes ≡ 16 → take 2 bytes ≢ 72 ∷ 83 ∷ [] → Moves (Partial bytes) [] (BadHeader ∷ []) Ended
 moves_bad bytes n bad more later e =
     ([], (omega (arith, length-append bytes more), (λ b. bad (sym (take-append-le 2 bytes more (omega (arith, n))) ∙ b)), refl), subst (IsStream []) (sym e) (none_short [] (omega arith)))
 
-pub moves_oversize : (h : Header) → Fits h → 65536 < h.length → Moves (Begun (header_bytes h)) [] (Oversize h ∷ []) (Passing h.length)
+pub moves_oversize : (h : Header) → Fits h → 65536 < h.length → Moves (Partial (header_bytes h)) [] (Oversize h ∷ []) (Passing h.length)
 moves_oversize h f big more later (inl w) =
     ([], (f, big, (more, ap (λ (z : List ℕ). header_bytes h ++ z) (sym (append-nil more)), inr (w.0, refl))), subst (IsStream []) (sym w.1) (none_short [] (omega arith)))
 moves_oversize h f big more later (inr w) =
     (w.1, (f, big, (w.0, ap (λ (z : List ℕ). header_bytes h ++ z) w.2, inl w.3)), w.4)
 
-pub moves_frame : (h : Header) (p : List ℕ) → Fits h → length p ≡ h.length → h.length ≤ 65536 → Moves (Begun (header_bytes h ++ p)) [] (Frame h p ∷ []) (Begun [])
+pub moves_frame : (h : Header) (p : List ℕ) → Fits h → length p ≡ h.length → h.length ≤ 65536 → Moves (Partial (header_bytes h ++ p)) [] (Frame h p ∷ []) (Partial [])
 moves_frame h p f n small more later s = (more, (f, append_assoc (header_bytes h) p more, n, small), s)
 
-pub moves_begun : (bytes part : List ℕ) → Moves (Begun bytes) part [] (Begun (bytes ++ part))
+pub moves_begun : (bytes part : List ℕ) → Moves (Partial bytes) part [] (Partial (bytes ++ part))
 moves_begun bytes part more later s = subst (λ (z : List ℕ). IsStream z later) (append_assoc bytes part more) s
 
 pub moves_passing : (n : ℕ) (part : List ℕ) → length part < n → Moves (Passing n) part [] (Passing (n - length part))
@@ -57,7 +57,7 @@ moves_passing n part short more later (inl w) = inl (omega (arith, length-append
 moves_passing n part short more later (inr w) =
     inr (part ++ w.0, w.1, ap (λ (z : List ℕ). part ++ z) w.2 ∙ sym (append_assoc part w.0 w.1), omega (arith, length-append part w.0, w.3), w.4)
 
-pub moves_passed : (n : ℕ) (part : List ℕ) → length part ≡ n → Moves (Passing n) part [] (Begun [])
+pub moves_passed : (n : ℕ) (part : List ℕ) → length part ≡ n → Moves (Passing n) part [] (Partial [])
 moves_passed n part e more later s = inr (part, more, refl, e, s)
 
 pub moves_ended : (part : List ℕ) → Moves Ended part [] Ended
@@ -92,12 +92,12 @@ settled (rest.Payload h p) k = subst (λ (z : List ℕ). IsStream z []) (sym (ap
 settled (rest.Passing n) some = inl (some, refl)
 settled rest.Ended some = refl
 
-pub fed_none : Fed (Begun []) [] []
-fed_none = (none_short [] (omega arith), moves_none (Begun []))
+pub fed_none : Fed (Partial []) [] []
+fed_none = (none_short [] (omega arith), moves_none (Partial []))
 
 pub fed_on : (r s : Awaited) (stream piece : List ℕ) (before ms : List Received) → Follows s [] [] → Moves r piece ms s → Fed r stream before → Fed s (stream ++ piece) (before ++ ms)
 fed_on r s stream piece before ms quiet m f =
-    let all = moves_then (Begun []) r s stream piece before ms f.1 m in (
+    let all = moves_then (Partial []) r s stream piece before ms f.1 m in (
       subst (λ (z : List ℕ). IsStream z (before ++ ms)) (append-nil (stream ++ piece))
           (subst (λ (z : List Received). IsStream ((stream ++ piece) ++ []) z) (append-nil (before ++ ms)) (all [] [] quiet)),
       all,
@@ -178,7 +178,7 @@ fed_cut r s before after stream piece gave none quiet cut f =
     let same : cut.0 ≡ after = sym (cut.1 ∙ ap (λ z. z ++ cut.0) none) in
     fed_on r s stream piece gave (all_received after) quiet (subst (λ z. Moves r piece (all_received z) s) same cut.2) f
 
-pub payload_awaited : {A : Type 0} (r : Rest A) (h : Header) (p : Vec ℕ A) (now : Awaited) → r ≡ rest.Payload h p → awaited r ≡ now → now ≡ Begun (header_bytes h ++ p.items)
+pub payload_awaited : {A : Type 0} (r : Rest A) (h : Header) (p : Vec ℕ A) (now : Awaited) → r ≡ rest.Payload h p → awaited r ≡ now → now ≡ Partial (header_bytes h ++ p.items)
 payload_awaited r h p now is view = sym view ∙ ap awaited is
 
 pub payload_rest : {A : Type 0} (r : Rest A) (h : Header) (p : Vec ℕ A) → r ≡ rest.Payload h p → IsRest r → Fits h × (length p.items < h.length) × (h.length ≤ 65536)
@@ -186,18 +186,18 @@ payload_rest r h p is good = subst IsRest is good
 
 -- a part of a payload
 pub fed_part : {A : Type 0} (h : Header) (p part next : List ℕ) (messages : List (Message A)) (stream : List ℕ) (gave : List Received) → next ≡ p ++ part → messages ≡ [] → Fits h
-    → length (p ++ part) < h.length → h.length ≤ 65536 → Fed (Begun (header_bytes h ++ p)) stream gave
-    → Fed (Begun (header_bytes h ++ next)) (stream ++ part) (gave ++ all_received messages)
+    → length (p ++ part) < h.length → h.length ≤ 65536 → Fed (Partial (header_bytes h ++ p)) stream gave
+    → Fed (Partial (header_bytes h ++ next)) (stream ++ part) (gave ++ all_received messages)
 fed_part h p part next messages stream gave e none fits short small f =
-    let old = Begun (header_bytes h ++ p) in
-    let moves = subst (λ (z : List ℕ). Moves old part [] (Begun z)) (append_assoc (header_bytes h) p part) (moves_begun (header_bytes h ++ p) part) in
+    let old = Partial (header_bytes h ++ p) in
+    let moves = subst (λ (z : List ℕ). Moves old part [] (Partial z)) (append_assoc (header_bytes h) p part) (moves_begun (header_bytes h ++ p) part) in
     let quiet = subst (λ (z : List ℕ). IsStream z []) (sym (append-nil (header_bytes h ++ (p ++ part)))) (none_begun h (p ++ part) fits short small) in
-    subst (λ (z : List ℕ). Fed (Begun (header_bytes h ++ z)) (stream ++ part) (gave ++ all_received messages)) (sym e)
-    (fed_on old (Begun (header_bytes h ++ (p ++ part))) stream part gave (all_received messages) quiet
-    (subst (λ z. Moves old part (all_received z) (Begun (header_bytes h ++ (p ++ part)))) (sym none) moves) f)
+    subst (λ (z : List ℕ). Fed (Partial (header_bytes h ++ z)) (stream ++ part) (gave ++ all_received messages)) (sym e)
+    (fed_on old (Partial (header_bytes h ++ (p ++ part))) stream part gave (all_received messages) quiet
+    (subst (λ z. Moves old part (all_received z) (Partial (header_bytes h ++ (p ++ part)))) (sym none) moves) f)
 
 moves_payload : (h : Header) (p part : List ℕ) → Fits h → length (p ++ part) ≡ h.length → h.length ≤ 65536
-    → Moves (Begun (header_bytes h ++ p)) part (Frame h (p ++ part) ∷ []) (Begun [])
+    → Moves (Partial (header_bytes h ++ p)) part (Frame h (p ++ part) ∷ []) (Partial [])
 moves_payload h p part fits n small more later s =
     (more, (fits, append_assoc (header_bytes h) p (part ++ more) ∙ ap (λ (z : List ℕ). header_bytes h ++ z) (sym (append_assoc p part more)), n, small), s)
 
@@ -208,16 +208,16 @@ put_first xs before none more m first n b e =
 
 -- the end of a payload, followed by the messages after it
 pub fed_whole : {A : Type 0} (h : Header) (p piece : List ℕ) (wanted : ℕ) (s : Awaited) (head : List ℕ) (none before after : List (Message A)) (m first : Message A) (stream : List ℕ) (gave : List Received)
-    → head ≡ [] → none ≡ [] → before ≡ none ++ m ∷ [] → IsCutOf before (Begun head) (take (length piece - wanted) (drop wanted piece)) after s
+    → head ≡ [] → none ≡ [] → before ≡ none ++ m ∷ [] → IsCutOf before (Partial head) (take (length piece - wanted) (drop wanted piece)) after s
     → received first ≡ Frame h (p ++ take wanted piece) → Fits h → length p < h.length → h.length ≤ 65536 → wanted ≡ h.length - length p → wanted ≤ length piece
-    → Follows s [] [] → Fed (Begun (header_bytes h ++ p)) stream gave → Fed s (stream ++ piece) (gave ++ all_received (set after 0 first))
+    → Follows s [] [] → Fed (Partial (header_bytes h ++ p)) stream gave → Fed s (stream ++ piece) (gave ++ all_received (set after 0 first))
 fed_whole h p piece wanted s head none before after m first stream gave begins empty pushed cut is fits short small want long quiet f =
-    let old = Begun (header_bytes h ++ p) in
+    let old = Partial (header_bytes h ++ p) in
     let part = take wanted piece in
     let rest = take (length piece - wanted) (drop wanted piece) in
-    let moves = subst (λ (z : List ℕ). Moves (Begun z) rest (all_received cut.0) s) begins cut.2 in
+    let moves = subst (λ (z : List ℕ). Moves (Partial z) rest (all_received cut.0) s) begins cut.2 in
     let n : length (p ++ part) ≡ h.length = omega (arith, length-append p part, length-take-le wanted piece long) in
-    let whole = moves_then old (Begun []) s part rest (Frame h (p ++ part) ∷ []) (all_received cut.0) (moves_payload h p part fits n small) moves in
+    let whole = moves_then old (Partial []) s part rest (Frame h (p ++ part) ∷ []) (all_received cut.0) (moves_payload h p part fits n small) moves in
     let named = subst (λ (z : Received). Moves old (part ++ rest) (z ∷ all_received cut.0) s) (sym is) whole in
     let all = subst (λ (z : List ℕ). Moves old z (received first ∷ all_received cut.0) s)
     (ap (λ (z : List ℕ). part ++ z) (whole_tail piece wanted) ∙ take-append-drop wanted piece) named in

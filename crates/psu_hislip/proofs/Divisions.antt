@@ -2,7 +2,7 @@
 use Rattle.std.proofs.Common.{◌≡◌, ℕ, ◌+◌, List, [], ◌∷◌, ◌++◌, length, refl, sym, ap, ◌∙◌, subst, arith, inl, inr, length-append, take}
 use Rattle.psu_hislip.specs.declared.header.Header.{Header}
 use Rattle.psu_hislip.specs.Header.{header_bytes}
-use Rattle.psu_hislip.specs.Stream.{Received, Stands, IsStream}
+use Rattle.psu_hislip.specs.Stream.{Received, StartsWith, IsStream}
 use Rattle.psu_hislip.specs.Stream.Received.{Frame, Oversize, BadHeader}
 use Rattle.psu_hislip.proofs.Headers.{header_begins, same_header}
 
@@ -22,7 +22,7 @@ long h k e = ap (λ (z : Header). z.length) e
 begins_both : (h : Header) (bytes rest : List ℕ) → bytes ≡ header_bytes h ++ rest → (take 2 bytes ≡ 72 ∷ 83 ∷ [])
 begins_both h bytes rest e = ap (take 2) e ∙ header_begins h rest
 
-same_message : (m n : Received) (bytes x y : List ℕ) → Stands m bytes x → Stands n bytes y → (m ≡ n) × (x ≡ y)
+same_message : (m n : Received) (bytes x y : List ℕ) → StartsWith m bytes x → StartsWith n bytes y → (m ≡ n) × (x ≡ y)
 same_message (Frame h p) (Frame k q) bytes x y s t =
     let same = same_header h k (p ++ x) (q ++ y) s.0 t.0 (sym s.1 ∙ t.1) in
     let front = same_front p q x y (omega (arith, long h k same.0, s.2, t.2)) same.1 in

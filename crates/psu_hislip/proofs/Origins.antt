@@ -6,7 +6,7 @@ use Rattle.std.proofs.lemmas.List.Elements.{filter-append, All-nil, All-cons, Al
 use Rattle.psu_hislip.specs.Action.{Act}
 use Rattle.psu_hislip.specs.Transmission.{executed, added}
 use Rattle.psu_hislip.specs.Core.{Core, Outcome, reply, is_sync, takes, row, delivered, is_delivered, origin}
-use Rattle.psu_hislip.specs.Runs.{Told, outcome, actions_of, core_after, type_told, is_clear, begins_clear, origin_of, origins, clears_in}
+use Rattle.psu_hislip.specs.Runs.{Arrival, outcome, actions_of, core_after, received_type, is_clear, begins_clear, origin_of, origins, clears_in}
 use Rattle.psu_hislip.specs.declared.header.Header.{Header}
 use Rattle.psu_hislip.specs.declared.origin.Origin.{Origin}
 use Rattle.psu_hislip.specs.declared.side.Side.{Side}
@@ -45,12 +45,12 @@ pub sync_no_clear : (side : Side) (o : Option MessageType) → is_sync side ≡ 
 sync_no_clear Sync o e = refl
 sync_no_clear Async o e = absurd (cc)
 
-pub message_clears : (core : Core) (t : Told) → (outcome core t).core.failed ≡ false → Cases core t.side t.message → (outcome core t).core.clears ≡ counted (begins_clear t) core.clears
+pub message_clears : (core : Core) (t : Arrival) → (outcome core t).core.failed ≡ false → Cases core t.side t.message → (outcome core t).core.clears ≡ counted (begins_clear t) core.clears
 message_clears core t e (Ended f o) = absurd (ends_badly _ _ o f e)
 message_clears core t e (Fails code f o) = absurd (ends_badly _ _ o refl e)
-message_clears core t e (Discarded f b s c o) = ap (λ (z : Outcome). z.core.clears) o ∙ ap (λ b. counted b core.clears) (sym (sync_no_clear t.side (type_told t.message) s))
+message_clears core t e (Discarded f b s c o) = ap (λ (z : Outcome). z.core.clears) o ∙ ap (λ b. counted b core.clears) (sym (sync_no_clear t.side (received_type t.message) s))
 message_clears core t e (Erroneous code f n o) =
-    ap (λ (z : Outcome). z.core.clears) o ∙ ap (λ b. counted b core.clears) (sym (no_clear t.side (type_told t.message) (erroneous t.side t.message code n)))
+    ap (λ (z : Outcome). z.core.clears) o ∙ ap (λ b. counted b core.clears) (sym (no_clear t.side (received_type t.message) (erroneous t.side t.message code n)))
 message_clears core t e (Row type h p f m i n k g o) =
     ap (λ (z : Outcome). z.core.clears) o ∙ row_clears core t.side type h p k ∙ ap (λ z. counted (is_clear t.side z) core.clears) (sym i)
 
@@ -58,11 +58,11 @@ count_on : (b : Bool) (x n m k : ℕ) → x < 2 ^ 64 → n ≡ counted b x → (
 count_on true x n m k small e = (omega (arith, e), λ h. omega (arith, e, h, small))
 count_on false x n m k small e = (omega (arith, e, small), λ h. omega (arith, e, h, small))
 
-clears_cons : (t : Told) (ts : List Told) (b : Bool) → begins_clear t ≡ b → clears_in (t ∷ ts) ≡ (if b then 1 else 0) + clears_in ts
+clears_cons : (t : Arrival) (ts : List Arrival) (b : Bool) → begins_clear t ≡ b → clears_in (t ∷ ts) ≡ (if b then 1 else 0) + clears_in ts
 clears_cons t ts true e = rw e (omega arith)
 clears_cons t ts false e = rw e (omega arith)
 
-pub run_clears : (core : Core) (ts : List Told) → core.clears < 2 ^ 64 → (core_after core ts).failed ≡ false → (core_after core ts).clears ≡ (core.clears + clears_in ts) % 2 ^ 64
+pub run_clears : (core : Core) (ts : List Arrival) → core.clears < 2 ^ 64 → (core_after core ts).failed ≡ false → (core_after core ts).clears ≡ (core.clears + clears_in ts) % 2 ^ 64
 run_clears core [] small e = omega (arith, small)
 run_clears core (t ∷ ts) small e =
     let next = (outcome core t).core in
@@ -107,7 +107,7 @@ row_origins core Async AsyncDeviceClear h p k = inl refl
 row_origins core Async AsyncStatusQuery h p k = inl refl
 row_origins core side type h p k = absurd (cc)
 
-message_origins : (core : Core) (t : Told) → Cases core t.side t.message → IsAtMostOne core (origins (outcome core t).actions)
+message_origins : (core : Core) (t : Arrival) → Cases core t.side t.message → IsAtMostOne core (origins (outcome core t).actions)
 message_origins core t (Ended f o) = inl (ap (λ (z : Outcome). origins z.actions) o)
 message_origins core t (Fails code f o) = inl (ap (λ (z : Outcome). origins z.actions) o)
 message_origins core t (Discarded f b s c o) = inl (ap (λ (z : Outcome). origins z.actions) o)
@@ -118,21 +118,21 @@ at_most : (core : Core) (xs : List Origin) (P : Origin → Type 0) → IsAtMostO
 at_most core xs P (inl e) f = subst (λ (z : List Origin). All P z) (sym e) (All-nil P)
 at_most core xs P (inr w) f = subst (λ (z : List Origin). All P z) (sym w.1) (All-cons P (origin core w.0) [] (f w.0) (All-nil P))
 
-clears_append : (xs ys : List Told) → clears_in (xs ++ ys) ≡ clears_in xs + clears_in ys
-clears_append xs ys = ap (λ (z : List Told). length z) (filter-append begins_clear xs ys) ∙ length-append (filter begins_clear xs) (filter begins_clear ys)
+clears_append : (xs ys : List Arrival) → clears_in (xs ++ ys) ≡ clears_in xs + clears_in ys
+clears_append xs ys = ap (λ (z : List Arrival). length z) (filter-append begins_clear xs ys) ∙ length-append (filter begins_clear xs) (filter begins_clear ys)
 
 some_of : (b : Bool) (n k m : ℕ) → n ≡ (if b then 1 else 0) + k → k ≤ m → n ≤ 1 + m
 some_of true n k m e h = omega (arith, e, h)
 some_of false n k m e h = omega (arith, e, h)
 
-at_most_all : (ts : List Told) → clears_in ts ≤ length ts
+at_most_all : (ts : List Arrival) → clears_in ts ≤ length ts
 at_most_all [] = omega arith
 at_most_all (t ∷ ts) = let h = some_of (begins_clear t) (clears_in (t ∷ ts)) (clears_in ts) (length ts) (clears_cons t ts (begins_clear t) refl) (at_most_all ts) in omega (arith, h)
 
 differs : (x n m : ℕ) → x < 2 ^ 64 → 0 < n → n < 2 ^ 64 → m ≡ (x + n) % 2 ^ 64 → x ≢ m
 differs x n m small some few e same = absurd (omega (arith, small, some, few, e, same))
 
-pub none_current : (core : Core) (before later : List Told) → core.clears < 2 ^ 64 → (core_after core (before ++ later)).failed ≡ false → 0 < clears_in later → length (before ++ later) < 2 ^ 64
+pub none_current : (core : Core) (before later : List Arrival) → core.clears < 2 ^ 64 → (core_after core (before ++ later)).failed ≡ false → 0 < clears_in later → length (before ++ later) < 2 ^ 64
     → All (λ o. o.clears ≢ (core_after core (before ++ later)).clears) (origins (actions_of core before))
 none_current core [] later small e some few = All-nil (λ (o : Origin). o.clears ≢ (core_after core later).clears)
 none_current core (t ∷ ts) later small e some few =

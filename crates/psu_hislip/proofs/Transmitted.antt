@@ -10,15 +10,15 @@ use Rattle.psu_hislip.specs.Stream.Received.{Frame}
 use Rattle.psu_hislip.specs.Action.{Act}
 use Rattle.psu_hislip.specs.Transmission.{executed, added, all_added}
 use Rattle.psu_hislip.specs.Core.{Core, Outcome, reply, is_begun, after_complete, takes, row, delivered, is_delivered, origin}
-use Rattle.psu_hislip.specs.Runs.{Told, outcome, actions_of, core_after, type_told, is_clear, begins_clear}
-use Rattle.psu_hislip.specs.Transmitted.{Piece, piece_of, piece_told, piece_in, Transmission, pieces_of, asked, is_transmission, transmissions}
+use Rattle.psu_hislip.specs.Runs.{Arrival, outcome, actions_of, core_after, received_type, is_clear, begins_clear}
+use Rattle.psu_hislip.specs.Transmitted.{Piece, piece_of, received_piece, piece_in, Transmission, pieces_of, action_for, is_transmission, transmissions}
 use Rattle.psu_hislip.specs.Transmitted.Piece.{More, Last}
 use Rattle.psu_hislip.specs.declared.header.Header.{Header}
 use Rattle.psu_hislip.specs.declared.origin.Origin.{Origin}
 use Rattle.psu_hislip.specs.declared.side.Side.{Side}
 use Rattle.psu_hislip.specs.declared.side.Side.TheVariants.{Sync, Async}
 use Rattle.psu_hislip.specs.declared.device_clear.DeviceClear.{DeviceClear}
-use Rattle.psu_hislip.specs.declared.device_clear.DeviceClear.TheVariants.{Idle, Begun, Early}
+use Rattle.psu_hislip.specs.declared.device_clear.DeviceClear.TheVariants.{Idle, InProgress, Early}
 use Rattle.psu_hislip.specs.declared.message_type.MessageType.{MessageType}
 use Rattle.psu_hislip.specs.declared.message_type.MessageType.TheVariants.{AsyncLock, AsyncLockResponse, Data, DataEnd, DeviceClearComplete, AsyncRemoteLocalControl, Trigger, AsyncMaximumMessageSize, AsyncInitialize, AsyncDeviceClear, AsyncStatusQuery, AsyncLockInfo}
 use Rattle.psu_hislip.proofs.Transmissions.{whole_transmission}
@@ -31,8 +31,8 @@ use Rattle.psu_hislip.proofs.Cases.Cases.{Ended, Fails, Discarded, Erroneous, Ro
 
 -- how pieces change the bytes so far, and the actions of the transmissions
 pub data Adds (clears : ℕ) (old new : Option (List ℕ)) (pieces : List Piece) (actions : List Act) : Type 0 where
-  Silent : pieces ≡ [] → new ≡ old → transmissions actions ≡ [] → Adds clears old new pieces actions
-  Goes : (payload : List ℕ) → pieces ≡ More payload ∷ [] → new ≡ added old payload → transmissions actions ≡ [] → Adds clears old new pieces actions
+  Unchanged : pieces ≡ [] → new ≡ old → transmissions actions ≡ [] → Adds clears old new pieces actions
+  Extends : (payload : List ℕ) → pieces ≡ More payload ∷ [] → new ≡ added old payload → transmissions actions ≡ [] → Adds clears old new pieces actions
   Ends : (id : ℕ) (payload : List ℕ) → pieces ≡ Last id payload ∷ [] → new ≡ Some [] → transmissions actions ≡ executed (record { id = id; clears = clears }) (added old payload) ∷ []
       → Adds clears old new pieces actions
 
@@ -56,12 +56,12 @@ locked_none false false timeout string = refl
 
 still_open : (c : DeviceClear) → is_begun c ≡ false → is_begun (after_complete c) ≡ false
 still_open Idle e = refl
-still_open Begun e = refl
+still_open InProgress e = refl
 still_open Early e = refl
 
 row_step : (core : Core) (side : Side) (type : MessageType) (h : Header) (p : List ℕ) → takes side type ≡ true → is_begun core.clear ≡ false → is_clear side (Some type) ≡ false
     → Step core (piece_of side (Some type) h p) (row core type h p)
-row_step core Sync Data h p k b c = record { clears = refl; taken = refl; adds = Goes p refl refl (read_none (is_delivered h)) }
+row_step core Sync Data h p k b c = record { clears = refl; taken = refl; adds = Extends p refl refl (read_none (is_delivered h)) }
 row_step core Sync DataEnd h p k b c = record {
   clears = refl;
   taken = refl;
@@ -70,15 +70,15 @@ row_step core Sync DataEnd h p k b c = record {
       ∙ ap (λ (z : List Act). z ++ transmissions (executed (origin core h) (added core.transmission p) ∷ [])) (read_none (is_delivered h))
       ∙ one_executed (origin core h) (added core.transmission p));
 }
-row_step core Sync Trigger h p k b c = record { clears = refl; taken = refl; adds = Silent refl refl refl }
-row_step core Sync DeviceClearComplete h p k b c = record { clears = refl; taken = still_open core.clear b; adds = Silent refl refl refl }
-row_step core Async AsyncInitialize h p k b c = record { clears = refl; taken = b; adds = Silent refl refl refl }
-row_step core Async AsyncLock h p k b c = record { clears = refl; taken = b; adds = Silent refl refl (locked_none _ _ h.parameter p) }
-row_step core Async AsyncLockInfo h p k b c = record { clears = refl; taken = b; adds = Silent refl refl refl }
-row_step core Async AsyncRemoteLocalControl h p k b c = record { clears = refl; taken = b; adds = Silent refl refl refl }
-row_step core Async AsyncMaximumMessageSize h p k b c = record { clears = refl; taken = b; adds = Silent refl refl refl }
+row_step core Sync Trigger h p k b c = record { clears = refl; taken = refl; adds = Unchanged refl refl refl }
+row_step core Sync DeviceClearComplete h p k b c = record { clears = refl; taken = still_open core.clear b; adds = Unchanged refl refl refl }
+row_step core Async AsyncInitialize h p k b c = record { clears = refl; taken = b; adds = Unchanged refl refl refl }
+row_step core Async AsyncLock h p k b c = record { clears = refl; taken = b; adds = Unchanged refl refl (locked_none _ _ h.parameter p) }
+row_step core Async AsyncLockInfo h p k b c = record { clears = refl; taken = b; adds = Unchanged refl refl refl }
+row_step core Async AsyncRemoteLocalControl h p k b c = record { clears = refl; taken = b; adds = Unchanged refl refl refl }
+row_step core Async AsyncMaximumMessageSize h p k b c = record { clears = refl; taken = b; adds = Unchanged refl refl refl }
 row_step core Async AsyncDeviceClear h p k b c = absurd (cc)
-row_step core Async AsyncStatusQuery h p k b c = record { clears = refl; taken = b; adds = Silent refl refl refl }
+row_step core Async AsyncStatusQuery h p k b c = record { clears = refl; taken = b; adds = Unchanged refl refl refl }
 row_step core side type h p k b c = absurd (cc)
 
 no_piece_of : (side : Side) (o : Option MessageType) (h : Header) (p : List ℕ) → is_good side o ≡ false → piece_of side o h p ≡ []
@@ -87,22 +87,22 @@ no_piece_of Sync (Some DataEnd) h p e = absurd (cc)
 no_piece_of Sync o h p e = refl
 no_piece_of Async o h p e = refl
 
-no_piece : (side : Side) (m : Received) → is_good side (type_told m) ≡ false → piece_told side m ≡ []
+no_piece : (side : Side) (m : Received) → is_good side (received_type m) ≡ false → received_piece side m ≡ []
 no_piece side (Frame h p) e = no_piece_of side (type_of h.kind) h p e
 no_piece side (Received.Oversize h) e = refl
 no_piece side Received.BadHeader e = refl
 
-piece_is : (t : Told) (type : MessageType) (h : Header) (p : List ℕ) → t.message ≡ Frame h p → type_told t.message ≡ Some type → piece_of t.side (Some type) h p ≡ piece_in t
+piece_is : (t : Arrival) (type : MessageType) (h : Header) (p : List ℕ) → t.message ≡ Frame h p → received_type t.message ≡ Some type → piece_of t.side (Some type) h p ≡ piece_in t
 piece_is t type h p m i =
-    ap (λ z. piece_of t.side z h p) (sym i ∙ ap type_told m) ∙ ap (λ z. piece_told t.side z) (sym m)
+    ap (λ z. piece_of t.side z h p) (sym i ∙ ap received_type m) ∙ ap (λ z. received_piece t.side z) (sym m)
 
-message_step : (core : Core) (t : Told) → (outcome core t).core.failed ≡ false → is_begun core.clear ≡ false → begins_clear t ≡ false → Cases core t.side t.message → Step core (piece_in t) (outcome core t)
+message_step : (core : Core) (t : Arrival) → (outcome core t).core.failed ≡ false → is_begun core.clear ≡ false → begins_clear t ≡ false → Cases core t.side t.message → Step core (piece_in t) (outcome core t)
 message_step core t e b c (Ended f o) = absurd (ends_badly _ _ o f e)
 message_step core t e b c (Fails code f o) = absurd (ends_badly _ _ o refl e)
 message_step core t e b c (Discarded f d s n o) = absurd (cc)
 message_step core t e b c (Erroneous code f n o) =
     subst (λ (z : Outcome). Step core (piece_in t) z) (sym o)
-    (record { clears = refl; taken = b; adds = Silent (no_piece t.side t.message (erroneous t.side t.message code n)) refl refl })
+    (record { clears = refl; taken = b; adds = Unchanged (no_piece t.side t.message (erroneous t.side t.message code n)) refl refl })
 message_step core t e b c (Row type h p f m i n k g o) =
     subst (λ (z : Outcome). Step core (piece_in t) z) (sym o)
     (subst (λ (z : List Piece). Step core z (row core type h p)) (piece_is t type h p m i)
@@ -167,39 +167,39 @@ all_added-push : (start : Option (List ℕ)) (acc : List (List ℕ)) (p : List �
 all_added-push start [] p = refl
 all_added-push start (q ∷ acc) p = all_added-push (added start q) acc p
 
-moved : (acc : List (List ℕ)) (p : List ℕ) (x : List Piece) → map More (acc ++ p ∷ []) ++ x ≡ map More acc ++ (More p ∷ x)
-moved acc p x = ap (λ z. z ++ x) (map-append More acc (p ∷ [])) ∙ append_assoc (map More acc) (More p ∷ []) x
+regrouped : (acc : List (List ℕ)) (p : List ℕ) (x : List Piece) → map More (acc ++ p ∷ []) ++ x ≡ map More acc ++ (More p ∷ x)
+regrouped acc p x = ap (λ z. z ++ x) (map-append More acc (p ∷ [])) ∙ append_assoc (map More acc) (More p ∷ []) x
 
 -- what the rest of the run asks for, whatever precedes it
 abbrev Again : Core → List Piece → List Act → Type 0
 Again next pieces acts =
     (acc : List (List ℕ)) (trs : List Transmission) (rest : List (List ℕ)) → next.transmission ≡ all_added (Some []) acc
-    → map More acc ++ pieces ≡ flat_map pieces_of trs ++ map More rest → transmissions acts ≡ map (asked next.clears) trs
+    → map More acc ++ pieces ≡ flat_map pieces_of trs ++ map More rest → transmissions acts ≡ map (action_for next.clears) trs
 
 run_step : (core next : Core) (first later : List Act) (one pieces : List Piece) (acc : List (List ℕ)) (trs : List Transmission) (rest : List (List ℕ))
     → core.transmission ≡ all_added (Some []) acc → next.clears ≡ core.clears → map More acc ++ (one ++ pieces) ≡ flat_map pieces_of trs ++ map More rest
-    → Adds core.clears core.transmission next.transmission one first → Again next pieces later → transmissions first ++ transmissions later ≡ map (asked core.clears) trs
-run_step core next first later one pieces acc trs rest begun same e (Silent none kept quiet) again =
+    → Adds core.clears core.transmission next.transmission one first → Again next pieces later → transmissions first ++ transmissions later ≡ map (action_for core.clears) trs
+run_step core next first later one pieces acc trs rest begun same e (Unchanged none kept quiet) again =
     ap (λ (z : List Act). z ++ transmissions later) quiet
     ∙ again acc trs rest (kept ∙ begun) (ap (λ z. map More acc ++ (z ++ pieces)) (sym none) ∙ e)
-    ∙ ap (λ z. map (asked z) trs) same
-run_step core next first later one pieces acc trs rest begun same e (Goes p is adds quiet) again =
+    ∙ ap (λ z. map (action_for z) trs) same
+run_step core next first later one pieces acc trs rest begun same e (Extends p is adds quiet) again =
     ap (λ (z : List Act). z ++ transmissions later) quiet
     ∙ again (acc ++ p ∷ []) trs rest (adds ∙ ap (λ z. added z p) begun ∙ sym (all_added-push (Some []) acc p))
-    (moved acc p pieces ∙ ap (λ z. map More acc ++ (z ++ pieces)) (sym is) ∙ e)
-    ∙ ap (λ z. map (asked z) trs) same
+    (regrouped acc p pieces ∙ ap (λ z. map More acc ++ (z ++ pieces)) (sym is) ∙ e)
+    ∙ ap (λ z. map (action_for z) trs) same
 run_step core next first later one pieces acc trs rest begun same e (Ends id p is empty asks) again =
     let split = first_whole acc id p pieces trs rest (ap (λ z. map More acc ++ (z ++ pieces)) (sym is) ∙ e) in
     let o : Origin = record { id = id; clears = core.clears } in
-    let here : transmissions first ≡ asked core.clears (whole acc id p) ∷ [] =
+    let here : transmissions first ≡ action_for core.clears (whole acc id p) ∷ [] =
     asks ∙ ap (λ z. executed o (added z p) ∷ []) begun ∙ ap (λ z. z ∷ []) (whole_transmission o acc p) in
-    let more : transmissions later ≡ map (asked core.clears) split.0 = again [] split.0 rest empty split.2 ∙ ap (λ z. map (asked z) split.0) same in
-    ap (λ (z : List Act). z ++ transmissions later) here ∙ ap (λ (z : List Act). asked core.clears (whole acc id p) ∷ z) more ∙ ap (λ z. map (asked core.clears) z) (sym split.1)
+    let more : transmissions later ≡ map (action_for core.clears) split.0 = again [] split.0 rest empty split.2 ∙ ap (λ z. map (action_for z) split.0) same in
+    ap (λ (z : List Act). z ++ transmissions later) here ∙ ap (λ (z : List Act). action_for core.clears (whole acc id p) ∷ z) more ∙ ap (λ z. map (action_for core.clears) z) (sym split.1)
 
-pub run_transmissions : (core : Core) (ts : List Told) → (core_after core ts).failed ≡ false → is_begun core.clear ≡ false → list_any begins_clear ts ≡ false
+pub run_transmissions : (core : Core) (ts : List Arrival) → (core_after core ts).failed ≡ false → is_begun core.clear ≡ false → list_any begins_clear ts ≡ false
     → Again core (flat_map piece_in ts) (actions_of core ts)
 run_transmissions core [] good b none acc trs rest begun e =
-    ap (λ z. map (asked core.clears) z) (sym (none_whole acc rest trs (sym (append-nil (map More acc)) ∙ e)))
+    ap (λ z. map (action_for core.clears) z) (sym (none_whole acc rest trs (sym (append-nil (map More acc)) ∙ e)))
 run_transmissions core (t ∷ ts) good b none acc trs rest begun e =
     let next = (outcome core t).core in
     let clear = neither (begins_clear t) (list_any begins_clear ts) none in

@@ -14,7 +14,7 @@ use Rattle.psu_hislip.specs.declared.origin.Origin.{Origin}
 use Rattle.psu_hislip.specs.declared.side.Side.{Side}
 use Rattle.psu_hislip.specs.declared.side.Side.TheVariants.{Sync, Async}
 use Rattle.psu_hislip.specs.declared.device_clear.DeviceClear.{DeviceClear}
-use Rattle.psu_hislip.specs.declared.device_clear.DeviceClear.TheVariants.{Idle, Begun, Early}
+use Rattle.psu_hislip.specs.declared.device_clear.DeviceClear.TheVariants.{Idle, InProgress, Early}
 use Rattle.psu_hislip.specs.declared.fatal_code.FatalCode.{FatalCode}
 use Rattle.psu_hislip.specs.declared.fatal_code.FatalCode.TheVariants.{PoorlyFormedHeader, ChannelsNotJoined, InvalidInitialization}
 use Rattle.psu_hislip.specs.declared.error_code.ErrorCode.{ErrorCode}
@@ -39,8 +39,8 @@ pub record Outcome : Type 0 where
   pub actions : List Act
   pub core : Core
 
-abbrev pub told : List Act → Core → Outcome
-told actions core = record { actions = actions; core = core }
+abbrev pub outcome_with : List Act → Core → Outcome
+outcome_with actions core = record { actions = actions; core = core }
 
 -- a message without parameter and payload
 abbrev pub reply : Side → MessageType → ℕ → Act
@@ -116,30 +116,30 @@ delivered h = if is_delivered h then Act.Delivered ∷ [] else []
 
 abbrev pub is_begun : DeviceClear → Bool
 is_begun Idle = false
-is_begun Begun = true
+is_begun InProgress = true
 is_begun Early = false
 
 -- AsyncDeviceClear begins a device clear, unless its DeviceClearComplete was received already
 abbrev pub after_begin : DeviceClear → DeviceClear
-after_begin Idle = Begun
-after_begin Begun = Begun
+after_begin Idle = InProgress
+after_begin InProgress = InProgress
 after_begin Early = Idle
 
 -- DeviceClearComplete ends a device clear, or is remembered
 abbrev pub after_complete : DeviceClear → DeviceClear
-after_complete Begun = Idle
+after_complete InProgress = Idle
 after_complete Idle = Early
 after_complete Early = Early
 
 -- AsyncDeviceClear drops the transmission
 abbrev pub cleared : Core → Outcome
 cleared core =
-    told (Act.Clear ∷ reply Async AsyncDeviceClearAcknowledge 0 ∷ [])
+    outcome_with (Act.Clear ∷ reply Async AsyncDeviceClearAcknowledge 0 ∷ [])
     (record core { transmission = Some []; clear = after_begin core.clear; clears = (core.clears + 1) % 2 ^ 64 })
 
 -- DeviceClearComplete is acknowledged whenever it arrives
 abbrev pub completed : Core → Outcome
-completed core = told (reply Sync DeviceClearAcknowledge 0 ∷ []) (record core { clear = after_complete core.clear })
+completed core = outcome_with (reply Sync DeviceClearAcknowledge 0 ∷ []) (record core { clear = after_complete core.clear })
 
 abbrev pub completes : Received → Bool
 completes (Received.Frame h payload) = h.kind == code_of DeviceClearComplete
@@ -149,7 +149,7 @@ completes Received.BadHeader = false
 -- during a device clear every message on the synchronous channel is discarded except the one that completes it
 abbrev pub unless_discarded : Core → Side → Received → Outcome → Outcome
 unless_discarded core side message outcome =
-    if is_sync side && is_begun core.clear && not (completes message) then told [] core else outcome
+    if is_sync side && is_begun core.clear && not (completes message) then outcome_with [] core else outcome
 
 -- # The rows of the types
 
@@ -164,7 +164,7 @@ abbrev pub own_size : List ℕ
 own_size = 0 ∷ 0 ∷ 0 ∷ 0 ∷ 0 ∷ 1 ∷ 0 ∷ 0 ∷ []
 
 abbrev pub joining : Core → Outcome
-joining core = told (reply Async AsyncInitializeResponse 0 ∷ []) (record core { joined = true })
+joining core = outcome_with (reply Async AsyncInitializeResponse 0 ∷ []) (record core { joined = true })
 
 abbrev pub origin : Core → Header → Origin
 origin core h = record { id = h.parameter; clears = core.clears }
@@ -178,51 +178,51 @@ abbrev pub gone_on : Core → Option (List ℕ) → Core
 gone_on core transmission = record core { transmission = transmission; clear = Idle }
 
 abbrev pub triggered : Core → Header → Outcome
-triggered core h = told (Act.Trigger (origin core h) ∷ []) (gone_on core core.transmission)
+triggered core h = outcome_with (Act.Trigger (origin core h) ∷ []) (gone_on core core.transmission)
 
 -- the client's maximum message size, in big-endian byte order
 abbrev pub sized : Core → List ℕ → Outcome
 sized core size =
-    told (Act.Send Async (frame_bytes AsyncMaximumMessageSizeResponse 0 0 own_size) ∷ []) (record core { size = Some (from_be_bytes w64 size) })
+    outcome_with (Act.Send Async (frame_bytes AsyncMaximumMessageSizeResponse 0 0 own_size) ∷ []) (record core { size = Some (from_be_bytes w64 size) })
 
 abbrev pub row : Core → MessageType → Header → List ℕ → Outcome
 row core AsyncInitialize h payload = joining core
-row core Data h payload = told (delivered h) (gone_on core (added core.transmission payload))
+row core Data h payload = outcome_with (delivered h) (gone_on core (added core.transmission payload))
 row core DataEnd h payload =
-    told (delivered h ++ executed (origin core h) (added core.transmission payload) ∷ []) (gone_on core (Some []))
+    outcome_with (delivered h ++ executed (origin core h) (added core.transmission payload) ∷ []) (gone_on core (Some []))
 row core Trigger h payload = triggered core h
 row core DeviceClearComplete h payload = completed core
 row core AsyncDeviceClear h payload = cleared core
-row core AsyncLock h payload = told (locked h payload ∷ []) core
-row core AsyncLockInfo h payload = told (Act.Info ∷ []) core
-row core AsyncRemoteLocalControl h payload = told (reply Async AsyncRemoteLocalResponse 0 ∷ []) core
+row core AsyncLock h payload = outcome_with (locked h payload ∷ []) core
+row core AsyncLockInfo h payload = outcome_with (Act.Info ∷ []) core
+row core AsyncRemoteLocalControl h payload = outcome_with (reply Async AsyncRemoteLocalResponse 0 ∷ []) core
 row core AsyncMaximumMessageSize h payload = sized core payload
-row core AsyncStatusQuery h payload = told (Act.Status (is_delivered h) ∷ []) core
-row core type h payload = told [] core
+row core AsyncStatusQuery h payload = outcome_with (Act.Status (is_delivered h) ∷ []) core
+row core type h payload = outcome_with [] core
 
 -- # A message
 
 abbrev pub heeded : Core → Option MessageType → Header → List ℕ → Outcome
-heeded core None h payload = told [] core
+heeded core None h payload = outcome_with [] core
 heeded core (Some type) h payload = row core type h payload
 
 abbrev pub without_fault : Core → Received → Outcome
 without_fault core (Received.Frame h payload) = heeded core (type_of h.kind) h payload
-without_fault core (Received.Oversize h) = told [] core
-without_fault core Received.BadHeader = told [] core
+without_fault core (Received.Oversize h) = outcome_with [] core
+without_fault core Received.BadHeader = outcome_with [] core
 
 -- a message with an error is answered by Error and ignored
 abbrev pub unless_error : Core → Side → Option ErrorCode → Outcome → Outcome
 unless_error core side None outcome = outcome
-unless_error core side (Some code) outcome = told (reply side Error (error_code code) ∷ []) core
+unless_error core side (Some code) outcome = outcome_with (reply side Error (error_code code) ∷ []) core
 
 -- a fatal fault ends the session
 abbrev pub unless_fatal : Core → Side → Option FatalCode → Outcome → Outcome
 unless_fatal core side None outcome = outcome
-unless_fatal core side (Some code) outcome = told (reply side FatalError (fatal_code code) ∷ Act.Closed ∷ []) (record core { failed = true })
+unless_fatal core side (Some code) outcome = outcome_with (reply side FatalError (fatal_code code) ∷ Act.Closed ∷ []) (record core { failed = true })
 
 abbrev pub outcome_of : Core → Side → Received → Outcome
 outcome_of core side message =
-    if core.failed then told (Act.Closed ∷ []) core
+    if core.failed then outcome_with (Act.Closed ∷ []) core
     else unless_fatal core side (fatal core side message)
     (unless_discarded core side message (unless_error core side (error side message) (without_fault core message)))

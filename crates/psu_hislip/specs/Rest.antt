@@ -3,14 +3,14 @@ use Rattle.std.specs.Prelude.{◌≡◌, ℕ, ◌<◌, ◌≤◌, ⊤, List, [],
 use Rattle.psu_hislip.specs.Header.{header_bytes, Fits}
 use Rattle.psu_hislip.specs.Stream.{Received, received}
 use Rattle.psu_hislip.specs.Channel.{Awaited, Moves}
-use Rattle.psu_hislip.specs.Channel.Awaited.{Begun, Passing, Ended}
+use Rattle.psu_hislip.specs.Channel.Awaited.{Partial, Passing, Ended}
 use Rattle.psu_hislip.specs.declared.message.Message.{Message}
 use Rattle.psu_hislip.specs.declared.rest.Rest.{Rest}
 use Rattle.psu_hislip.specs.declared.rest.Rest.TheVariants as rest
 
 abbrev pub awaited : {A : Type 0} → Rest A → Awaited
-awaited (rest.Header head) = Begun head.items
-awaited (rest.Payload h payload) = Begun (header_bytes h ++ payload.items)
+awaited (rest.Header head) = Partial head.items
+awaited (rest.Payload h payload) = Partial (header_bytes h ++ payload.items)
 awaited (rest.Passing n) = Passing n
 awaited rest.Ended = Ended
 

@@ -15,44 +15,44 @@ use Rattle.psu_hislip.specs.declared.message_type.MessageType.{MessageType}
 use Rattle.psu_hislip.specs.declared.message_type.MessageType.TheVariants.{FatalError, Error, Data, DataEnd, Trigger, AsyncLock, AsyncLockResponse, DeviceClearComplete, DeviceClearAcknowledge, AsyncRemoteLocalControl, AsyncRemoteLocalResponse, AsyncMaximumMessageSize, AsyncMaximumMessageSizeResponse, AsyncInitialize, AsyncInitializeResponse, AsyncDeviceClear, AsyncStatusQuery, AsyncStatusResponse, AsyncDeviceClearAcknowledge, AsyncLockInfo, AsyncLockInfoResponse}
 
 -- a message and the channel on which it was received
-pub record Told : Type 0 where
+pub record Arrival : Type 0 where
   pub side : Side
   pub message : Received
 
-abbrev pub outcome : Core → Told → Outcome
+abbrev pub outcome : Core → Arrival → Outcome
 outcome core t = outcome_of core t.side t.message
 
 -- the actions of a run, and the core after it
-abbrev pub actions_of : Core → List Told → List Act
+abbrev pub actions_of : Core → List Arrival → List Act
 actions_of core [] = []
 actions_of core (t ∷ ts) = (outcome core t).actions ++ actions_of (outcome core t).core ts
 
-abbrev pub core_after : Core → List Told → Core
+abbrev pub core_after : Core → List Arrival → Core
 core_after core [] = core
 core_after core (t ∷ ts) = core_after (outcome core t).core ts
 
 -- # Messages by their types
 
-abbrev pub type_told : Received → Option MessageType
-type_told (Frame h payload) = type_of h.kind
-type_told (Oversize h) = None
-type_told BadHeader = None
+abbrev pub received_type : Received → Option MessageType
+received_type (Frame h payload) = type_of h.kind
+received_type (Oversize h) = None
+received_type BadHeader = None
 
 -- AsyncDeviceClear begins a device clear
 abbrev pub is_clear : Side → Option MessageType → Bool
 is_clear Async (Some AsyncDeviceClear) = true
 is_clear side type = false
 
-abbrev pub begins_clear : Told → Bool
-begins_clear t = is_clear t.side (type_told t.message)
+abbrev pub begins_clear : Arrival → Bool
+begins_clear t = is_clear t.side (received_type t.message)
 
 -- DeviceClearComplete completes a device clear
 abbrev pub is_complete : Side → Option MessageType → Bool
 is_complete Sync (Some DeviceClearComplete) = true
 is_complete side type = false
 
-abbrev pub completes_clear : Told → Bool
-completes_clear t = is_complete t.side (type_told t.message)
+abbrev pub completes_clear : Arrival → Bool
+completes_clear t = is_complete t.side (received_type t.message)
 
 -- Data, DataEnd and Trigger
 abbrev pub is_input : Side → Option MessageType → Bool
@@ -61,13 +61,13 @@ is_input Sync (Some DataEnd) = true
 is_input Sync (Some Trigger) = true
 is_input side type = false
 
-abbrev pub brings_input : Told → Bool
-brings_input t = is_input t.side (type_told t.message)
+abbrev pub brings_input : Arrival → Bool
+brings_input t = is_input t.side (received_type t.message)
 
 -- a run has a DeviceClearComplete, and no Data, DataEnd or Trigger after its last one
-abbrev pub EndsComplete : List Told → Type 0
+abbrev pub EndsComplete : List Arrival → Type 0
 EndsComplete run =
-    (earlier : List Told) × (complete : Told) × (since : List Told) × (run ≡ earlier ++ complete ∷ since) × (completes_clear complete ≡ true)
+    (earlier : List Arrival) × (complete : Arrival) × (since : List Arrival) × (run ≡ earlier ++ complete ∷ since) × (completes_clear complete ≡ true)
     × (list_any brings_input since ≡ false)
 
 -- # What is executed
@@ -84,7 +84,7 @@ executions actions = filter is_execution actions
 -- # Closed sessions
 
 -- each message gives Closed alone
-abbrev pub AreClosed : Core → List Told → Type 0
+abbrev pub AreClosed : Core → List Arrival → Type 0
 AreClosed core ts = actions_of core ts ≡ replicate (length ts) Act.Closed
 
 -- # Responses
@@ -134,8 +134,8 @@ abbrev pub unless_faulty : Option ErrorCode → List Answer → List Answer
 unless_faulty None answers = answers
 unless_faulty (Some code) answers = []
 
-abbrev pub answers_due : Told → List Answer
-answers_due t = unless_faulty (error t.side t.message) (due t.side (type_told t.message))
+abbrev pub answers_due : Arrival → List Answer
+answers_due t = unless_faulty (error t.side t.message) (due t.side (received_type t.message))
 
 -- # Origins
 
@@ -148,7 +148,7 @@ origin_of action = []
 abbrev pub origins : List Act → List Origin
 origins actions = flat_map origin_of actions
 
-abbrev pub clears_in : List Told → ℕ
+abbrev pub clears_in : List Arrival → ℕ
 clears_in ts = length (filter begins_clear ts)
 
 -- a session of which only the synchronous channel is established

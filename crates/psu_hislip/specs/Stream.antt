@@ -15,18 +15,18 @@ pub data Received : Type 0 where
 
 -- The bytes begin with the message, and more follows it. An oversize frame counts as a message once its header is
 -- complete; its payload is skipped as it arrives. After a bad header everything is skipped.
-abbrev pub Stands : Received → List ℕ → List ℕ → Type 0
-Stands (Frame h payload) bytes more =
+abbrev pub StartsWith : Received → List ℕ → List ℕ → Type 0
+StartsWith (Frame h payload) bytes more =
     Fits h × (bytes ≡ header_bytes h ++ (payload ++ more)) × (length payload ≡ h.length) × (h.length ≤ 65536)
-Stands (Oversize h) bytes more =
+StartsWith (Oversize h) bytes more =
     Fits h × (65536 < h.length) × ((passed : List ℕ) × (bytes ≡ header_bytes h ++ (passed ++ more))
     × ((length passed ≡ h.length) ⊎ ((length passed < h.length) × (more ≡ []))))
-Stands BadHeader bytes more = (16 ≤ length bytes) × (take 2 bytes ≢ 72 ∷ 83 ∷ []) × (more ≡ [])
+StartsWith BadHeader bytes more = (16 ≤ length bytes) × (take 2 bytes ≢ 72 ∷ 83 ∷ []) × (more ≡ [])
 
 -- the bytes are these messages concatenated, followed by a rest that does not begin with a message
 abbrev pub IsStream : List ℕ → List Received → Type 0
-IsStream bytes [] = (m : Received) (more : List ℕ) → Stands m bytes more → ⊥
-IsStream bytes (m ∷ ms) = (more : List ℕ) × Stands m bytes more × IsStream more ms
+IsStream bytes [] = (m : Received) (more : List ℕ) → StartsWith m bytes more → ⊥
+IsStream bytes (m ∷ ms) = (more : List ℕ) × StartsWith m bytes more × IsStream more ms
 
 -- a message of the code, with its payload as a list
 abbrev pub received : {A : Type 0} → rust.Message A → Received

@@ -5,7 +5,7 @@ ghost use Rattle.psu_hislip.specs.Channel.{Awaited, Fed};
 ghost use Rattle.psu_hislip.specs.Rest.{awaited, all_received, IsRest};
 
 use crate::Message;
-use crate::cut::Cut;
+use crate::decoded::Decoded;
 use crate::rest::Rest;
 use arrayvec::ArrayVec;
 use std::alloc::{AllocError, Allocator};
@@ -49,7 +49,7 @@ impl<A: Allocator + Copy> Channel<A> {
     {
         let mut messages = Vec::new(self.alloc);
         if let Some(rest) = self.rest.copied() {
-            let cut = Cut::take(self.alloc, messages, rest, piece)?;
+            let cut = Decoded::take(self.alloc, messages, rest, piece)?;
             self.rest = cut.rest;
             return Ok(cut.messages);
         }
@@ -65,7 +65,7 @@ impl<A: Allocator + Copy> Channel<A> {
         // more.
         messages.push(Message::Frame(*header, Vec::new(self.alloc)))?;
         let rest = Rest::Header(ArrayVec::new());
-        let mut cut = Cut::take(self.alloc, messages, rest, &piece[wanted..])?;
+        let mut cut = Decoded::take(self.alloc, messages, rest, &piece[wanted..])?;
         payload.extend_from_slice(&piece[..wanted])?;
         let header = *header;
         let payload = mem::replace(payload, Vec::new(self.alloc));

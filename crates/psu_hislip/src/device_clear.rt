@@ -6,7 +6,7 @@ pub enum DeviceClear {
     /// No device clear is under way.
     Idle,
     /// AsyncDeviceClear was received: what arrives on the synchronous channel is discarded, except DeviceClearComplete.
-    Begun,
+    InProgress,
     /// DeviceClearComplete was received while no clear waited for it, and no Data, DataEnd or Trigger was received
     /// since.
     Early,

@@ -6,7 +6,7 @@
 mod action;
 mod answer;
 mod channel;
-mod cut;
+mod decoded;
 mod device_clear;
 mod error_code;
 mod fatal_code;

@@ -17,10 +17,10 @@ use psu_locks::{Freed, Grant, Info, LockRefusal};
 
 /// Returns the response to an AsyncLock that requests a lock, or `None` while the request waits. A request that waited
 /// is answered as Granted or Failed once its wait ends.
-pub fn lock_response(asked: Result<Grant, LockRefusal>) -> Option<Header>
-    ensures { result ≡ lock_response asked }
+pub fn lock_response(outcome: Result<Grant, LockRefusal>) -> Option<Header>
+    ensures { result ≡ lock_response outcome }
 {
-    let control = match asked {
+    let control = match outcome {
         Ok(Grant::Granted) => 1,
         Ok(Grant::Failed) => 0,
         Ok(Grant::Queued) => return None,

@@ -183,7 +183,7 @@ impl<A: Allocator + Copy> SessionCore<A> {
         ensures { result ≡ (is_sync side && is_begun self.now.clear && not (completes (received message.now))) }
     {
         side == Side::Sync
-            && self.clear == DeviceClear::Begun
+            && self.clear == DeviceClear::InProgress
             && !matches!(message, Message::Frame(header, _) if header.kind == MessageType::DeviceClearComplete.code())
     }
 
@@ -241,7 +241,7 @@ impl<A: Allocator + Copy> SessionCore<A> {
         self.transmission.clear();
         self.clear = match self.clear {
             DeviceClear::Early => DeviceClear::Idle,
-            _ => DeviceClear::Begun,
+            _ => DeviceClear::InProgress,
         };
         self.clears = self.clears.wrapping_add(1);
         Ok(actions)
@@ -255,7 +255,7 @@ impl<A: Allocator + Copy> SessionCore<A> {
         let kind = MessageType::DeviceClearAcknowledge;
         let actions = one(self.alloc, reply(self.alloc, Side::Sync, kind, 0)?)?;
         self.clear = match self.clear {
-            DeviceClear::Begun => DeviceClear::Idle,
+            DeviceClear::InProgress => DeviceClear::Idle,
             _ => DeviceClear::Early,
         };
         Ok(actions)

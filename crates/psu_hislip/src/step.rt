@@ -1,7 +1,7 @@
 // One step through a stream.
 ghost use Rattle.std.specs.Prelude.{◌≡◌, ℕ, ◌<◌, ◌≤◌, [], ◌++◌, List, length, take, IfOk};
 ghost use Rattle.psu_hislip.specs.Channel.{Moves};
-ghost use Rattle.psu_hislip.specs.Channel.Awaited.{Begun, Passing};
+ghost use Rattle.psu_hislip.specs.Channel.Awaited.{Partial, Passing};
 ghost use Rattle.psu_hislip.specs.Header.{header_bytes, Fits};
 ghost use Rattle.psu_hislip.specs.Rest.{awaited, given, IsRest};
 
@@ -32,7 +32,7 @@ fn headed<A: Allocator + Copy>(
 ) -> Result<Step<A>, AllocError>
     ensures used { IfOk result (λ step. step.used ≡ used) }
     ensures rest { IfOk result (λ step. IsRest step.rest) }
-    ensures moves { IfOk result (λ step. Moves (Begun bytes.now) [] (given step.message) (awaited step.rest)) }
+    ensures moves { IfOk result (λ step. Moves (Partial bytes.now) [] (given step.message) (awaited step.rest)) }
 {
     let Some(header) = Header::read(bytes) else {
         return Ok(Step {
@@ -73,7 +73,7 @@ fn header<A: Allocator + Copy>(
     requires some { 0 < length piece.now }
     ensures used { IfOk result (λ step. (0 < step.used) × (step.used ≤ length piece.now)) }
     ensures rest { IfOk result (λ step. IsRest step.rest) }
-    ensures moves { IfOk result (λ step. Moves (Begun head.items) (take step.used piece.now) (given step.message) (awaited step.rest)) }
+    ensures moves { IfOk result (λ step. Moves (Partial head.items) (take step.used piece.now) (given step.message) (awaited step.rest)) }
 {
     let mut head = head;
     let used = piece.len().min(16 - head.len());
@@ -100,7 +100,7 @@ fn payload<A: Allocator + Copy>(
     requires some { 0 < length piece.now }
     ensures used { IfOk result (λ step. (0 < step.used) × (step.used ≤ length piece.now)) }
     ensures rest { IfOk result (λ step. IsRest step.rest) }
-    ensures moves { IfOk result (λ step. Moves (Begun (header_bytes header ++ payload.items)) (take step.used piece.now) (given step.message) (awaited step.rest)) }
+    ensures moves { IfOk result (λ step. Moves (Partial (header_bytes header ++ payload.items)) (take step.used piece.now) (given step.message) (awaited step.rest)) }
 {
     let mut payload = payload;
     let wanted = header.length as usize - payload.len();

@@ -15,7 +15,7 @@ const MOST: usize = 65_536;
 pub struct Transmission<A: Allocator + Copy> {
     alloc: A,
     bytes: Vec<u8, A>,
-    is_over: bool,
+    is_too_long: bool,
 }
 
 impl<A: Allocator + Copy> Model for Transmission<A> {
@@ -23,7 +23,7 @@ impl<A: Allocator + Copy> Model for Transmission<A> {
 
     ghost Value = { Option (List ℕ) };
 
-    ghost view = { λ t. if t.is_over then None else Some t.bytes.items };
+    ghost view = { λ t. if t.is_too_long then None else Some t.bytes.items };
 
     ghost invariant = { λ t. length t.bytes.items ≤ 65536 };
 }
@@ -36,7 +36,7 @@ impl<A: Allocator + Copy> Transmission<A> {
         Transmission {
             alloc,
             bytes: Vec::new(alloc),
-            is_over: false,
+            is_too_long: false,
         }
     }
 
@@ -45,9 +45,9 @@ impl<A: Allocator + Copy> Transmission<A> {
         ensures ok { OnOk result (self.new ≡ added self.old payload.now) }
         ensures err { OnErr result (self.new ≡ self.old) }
     {
-        if self.is_over || payload.len() > MOST - self.bytes.len() {
+        if self.is_too_long || payload.len() > MOST - self.bytes.len() {
             self.bytes = Vec::new(self.alloc);
-            self.is_over = true;
+            self.is_too_long = true;
             return Ok(());
         }
         self.bytes.extend_from_slice(payload)
@@ -57,7 +57,7 @@ impl<A: Allocator + Copy> Transmission<A> {
     pub fn executed(&self, origin: Origin, payload: &[u8]) -> Result<Action<A>, AllocError>
         ensures { IfOk result (λ action. act action ≡ executed origin (added self.now payload.now)) }
     {
-        if self.is_over || payload.len() > MOST - self.bytes.len() {
+        if self.is_too_long || payload.len() > MOST - self.bytes.len() {
             return Ok(Action::TooMuch(origin));
         }
         let mut bytes = Vec::with_capacity(self.alloc, self.bytes.len() + payload.len())?;
@@ -71,6 +71,6 @@ impl<A: Allocator + Copy> Transmission<A> {
         ensures { self.new ≡ Some [] }
     {
         self.bytes = Vec::new(self.alloc);
-        self.is_over = false;
+        self.is_too_long = false;
     }
 }

@@ -57,7 +57,7 @@ impl<R: Clock + Copy> Hold<R> {
     }
 
     /// Waits until the flusher is held.
-    pub fn is_held(&self) -> Result<(), Missed> {
+    pub fn wait_until_held(&self) -> Result<(), Missed> {
         let is_held = came_true(&self.rt, &self.state.is_held);
         holds(is_held, "the flusher is held")
     }

@@ -6,5 +6,5 @@ mod play;
 mod server;
 
 pub use hold::Hold;
-pub use play::{Untrue, plays};
+pub use play::{Mismatch, plays};
 pub use server::{formatted, new_disk, new_served, removed, served, served_disk};

@@ -24,7 +24,7 @@ use std::thread::Threads;
 
 /// A line of a script whose step failed, and why.
 #[derive(Clone, Copy, Debug)]
-pub struct Untrue {
+pub struct Mismatch {
     pub line: &'static str,
     pub missed: Missed,
 }
@@ -84,7 +84,7 @@ where
 impl<R: Net<Stream = TcpStream> + Clock + Copy> Stage<R> {
     fn step(&mut self, line: &str) -> Result<(), Missed> {
         match line {
-            "flusher held" => self.hold.is_held(),
+            "flusher held" => self.hold.wait_until_held(),
             "flusher goes" => self.hold.let_go(),
             _ => self.cast.step(line),
         }
@@ -123,7 +123,7 @@ where
 }
 
 /// Plays scripts; returns the line whose step failed, and why.
-pub fn plays<R>(rt: R, alloc: Global, scripts: &'static str) -> Result<(), Untrue>
+pub fn plays<R>(rt: R, alloc: Global, scripts: &'static str) -> Result<(), Mismatch>
 where
     R: Net<Listener = TcpListener, Stream = TcpStream>
         + Files<File = File>
@@ -144,12 +144,12 @@ where
             continue;
         }
         if let Err(missed) = take(&mut stage, rt, alloc, line) {
-            return Err(Untrue { line, missed });
+            return Err(Mismatch { line, missed });
         }
     }
     match stage {
         Some(_) => Ok(()),
-        None => Err(Untrue {
+        None => Err(Mismatch {
             line: scripts,
             missed: Missed::Ground("a heading"),
         }),

@@ -29,13 +29,13 @@ use Rattle.psu_tree.specs.declared.queries.Query.{Query}
 use Rattle.psu_tree.specs.declared.queries.Query.TheVariants as query
 use Rattle.psu_tree.specs.declared.values.Transfer.TheVariants as transfer
 use Rattle.psu_instrument.specs.Commands.{meaning, query_means}
-use Rattle.psu_instrument.specs.Common.{flag_asked, enables_asked}
+use Rattle.psu_instrument.specs.Common.{flag_queried, enables_queried}
 use Rattle.psu_instrument.specs.Files.{read_unless}
 use Rattle.psu_instrument.specs.Instrument.{Instrument, with_supplies}
-use Rattle.psu_instrument.specs.Macros.{body_asked}
+use Rattle.psu_instrument.specs.Macros.{body_queried}
 use Rattle.psu_instrument.specs.Meaning.{Situation, Meaning, Refuses, Does, Keeps, leaves}
 use Rattle.psu_instrument.specs.Nonvolatile.{IsRefusedOrKept}
-use Rattle.psu_instrument.specs.Supplies.{asked, level_asked, level_of, set, switch_of}
+use Rattle.psu_instrument.specs.Supplies.{queried, level_queried, level_of, set, switch_of}
 
 -- ---- commands that are not nonvolatile
 
@@ -49,46 +49,46 @@ either : (b : Bool) (m n : Meaning) → ((change : nv.Command) → m ≡ Keeps c
 either true m n first second change e = first change e
 either false m n first second change e = second change e
 
-enables_told : (s : Situation) (which : Enable) (change : nv.Command) → enables_asked s which ≡ Keeps change → ⊥
-enables_told s enable.EventStatus change e = cc
-enables_told s enable.ServiceRequest change e = cc
+enables_keep_nothing : (s : Situation) (which : Enable) (change : nv.Command) → enables_queried s which ≡ Keeps change → ⊥
+enables_keep_nothing s enable.EventStatus change e = cc
+enables_keep_nothing s enable.ServiceRequest change e = cc
 
-flag_told : (s : Situation) (which : Flag) (change : nv.Command) → flag_asked s which ≡ Keeps change → ⊥
-flag_told s flag.PowerOnClear change e = cc
-flag_told s flag.Macros change e = cc
-flag_told s flag.Protection change e = cc
-flag_told s flag.Recall change e = cc
+flag_keeps_nothing : (s : Situation) (which : Flag) (change : nv.Command) → flag_queried s which ≡ Keeps change → ⊥
+flag_keeps_nothing s flag.PowerOnClear change e = cc
+flag_keeps_nothing s flag.Macros change e = cc
+flag_keeps_nothing s flag.Protection change e = cc
+flag_keeps_nothing s flag.Recall change e = cc
 
-query_told : (s : Situation) (asks : Query) (change : nv.Command) → query_means s asks ≡ Keeps change → ⊥
-query_told s query.Identification change e = cc
-query_told s query.SelfTest change e = cc
-query_told s query.OperationComplete change e = cc
-query_told s query.EventStatus change e = cc
-query_told s query.StatusByte change e = cc
-query_told s (query.Enable which) change e = enables_told s which change e
-query_told s (query.Flag which) change e = flag_told s which change e
-query_told s query.UserData change e = cc
-query_told s query.Labels change e = cc
-query_told s query.NextError change e = cc
-query_told s query.ErrorCount change e = cc
-query_told s query.Version change e = cc
-query_told s (query.Event group) change e = cc
-query_told s (query.Condition group) change e = cc
-query_told s (query.Filter group which) change e = cc
-query_told s query.Catalog change e = cc
+query_keeps_nothing : (s : Situation) (asks : Query) (change : nv.Command) → query_means s asks ≡ Keeps change → ⊥
+query_keeps_nothing s query.Identification change e = cc
+query_keeps_nothing s query.SelfTest change e = cc
+query_keeps_nothing s query.OperationComplete change e = cc
+query_keeps_nothing s query.EventStatus change e = cc
+query_keeps_nothing s query.StatusByte change e = cc
+query_keeps_nothing s (query.Enable which) change e = enables_keep_nothing s which change e
+query_keeps_nothing s (query.Flag which) change e = flag_keeps_nothing s which change e
+query_keeps_nothing s query.UserData change e = cc
+query_keeps_nothing s query.Labels change e = cc
+query_keeps_nothing s query.NextError change e = cc
+query_keeps_nothing s query.ErrorCount change e = cc
+query_keeps_nothing s query.Version change e = cc
+query_keeps_nothing s (query.Event group) change e = cc
+query_keeps_nothing s (query.Condition group) change e = cc
+query_keeps_nothing s (query.Filter group which) change e = cc
+query_keeps_nothing s query.Catalog change e = cc
 
-output_told : (s : Situation) (asks : OutputQuery) (o : Output) (change : nv.Command) → asked s asks o ≡ Keeps change → ⊥
-output_told s output_query.State o change e = cc
-output_told s output_query.Protection o change e = cc
-output_told s output_query.Tripped o change e = cc
-output_told s output_query.Voltage o change e = cc
-output_told s output_query.Current o change e = cc
-output_told s output_query.Load o change e = cc
+output_keeps_nothing : (s : Situation) (asks : OutputQuery) (o : Output) (change : nv.Command) → queried s asks o ≡ Keeps change → ⊥
+output_keeps_nothing s output_query.State o change e = cc
+output_keeps_nothing s output_query.Protection o change e = cc
+output_keeps_nothing s output_query.Tripped o change e = cc
+output_keeps_nothing s output_query.Voltage o change e = cc
+output_keeps_nothing s output_query.Current o change e = cc
+output_keeps_nothing s output_query.Load o change e = cc
 
-level_told : (s : Situation) (which : Level) (o : Output) (end : Option Extreme) (change : nv.Command) → level_asked s which o end ≡ Keeps change → ⊥
-level_told s which o None change e = cc
-level_told s which o (Some extreme.Least) change e = cc
-level_told s which o (Some extreme.Greatest) change e = cc
+level_keeps_nothing : (s : Situation) (which : Level) (o : Output) (end : Option Extreme) (change : nv.Command) → level_queried s which o end ≡ Keeps change → ⊥
+level_keeps_nothing s which o None change e = cc
+level_keeps_nothing s which o (Some extreme.Least) change e = cc
+level_keeps_nothing s which o (Some extreme.Greatest) change e = cc
 
 thing_set : (s : Situation) (o : Output) (thing : Setting) (change : nv.Command) → set s o thing ≡ Keeps change → ⊥
 thing_set s o thing =
@@ -96,13 +96,13 @@ thing_set s o thing =
     (either (any_conflicts s.instrument.supplies (after_set (all_settings s.instrument.supplies) o thing)) _ _ (refused SettingsConflict)
     (done None (with_supplies s.instrument (with_all s.instrument.supplies (after_set (all_settings s.instrument.supplies) o thing)))))
 
-body_told : (s : Situation) (found : Option (List ℕ)) (change : nv.Command) → body_asked s found ≡ Keeps change → ⊥
-body_told s None change e = cc
-body_told s (Some body) change e = cc
+body_keeps_nothing : (s : Situation) (found : Option (List ℕ)) (change : nv.Command) → body_queried s found ≡ Keeps change → ⊥
+body_keeps_nothing s None change e = cc
+body_keeps_nothing s (Some body) change e = cc
 
-file_told : (s : Situation) (name : List ℕ) (found : Option ScpiError) (change : nv.Command) → read_unless s name found ≡ Keeps change → ⊥
-file_told s name None change e = cc
-file_told s name (Some error) change e = cc
+file_keeps_nothing : (s : Situation) (name : List ℕ) (found : Option ScpiError) (change : nv.Command) → read_unless s name found ≡ Keeps change → ⊥
+file_keeps_nothing s name None change e = cc
+file_keeps_nothing s name (Some error) change e = cc
 
 -- the enables are nonvolatile while the flag is false
 while_false : (enables : Option (ℕ × ℕ)) (kept change : nv.Command) (i : Instrument) → cond (is_some enables) (Keeps kept) (leaves i) ≡ Keeps change → not (is_none enables) ≡ true
@@ -116,8 +116,8 @@ kept_are_nonvolatile s (command.Action action.OperationComplete) change e = cc
 kept_are_nonvolatile s (command.Action action.Wait) change e = cc
 kept_are_nonvolatile s (command.Action action.PurgeMacros) change e = refl
 kept_are_nonvolatile s (command.Action action.PresetStatus) change e = cc
-kept_are_nonvolatile s (command.Query asks) change e = absurd (query_told s asks change e)
-kept_are_nonvolatile s (command.OutputQuery asks output) change e = absurd (output_told s asks _ change e)
+kept_are_nonvolatile s (command.Query asks) change e = absurd (query_keeps_nothing s asks change e)
+kept_are_nonvolatile s (command.OutputQuery asks output) change e = absurd (output_keeps_nothing s asks _ change e)
 kept_are_nonvolatile s (command.ClearTrip output) change e = cc
 kept_are_nonvolatile s (command.Enable enable.EventStatus bits) change e = while_false s.contents.enables _ change _ e
 kept_are_nonvolatile s (command.Enable enable.ServiceRequest bits) change e = while_false s.contents.enables _ change _ e
@@ -130,14 +130,14 @@ kept_are_nonvolatile s (command.Register on_register.Save number) change e = ref
 kept_are_nonvolatile s (command.Register on_register.Recall number) change e = absurd (either _ _ _ (refused _) (done _ _) change e)
 kept_are_nonvolatile s (command.Load output milliohms) change e = absurd (either _ _ _ (done _ _) (refused _) change e)
 kept_are_nonvolatile s (command.Level which output n) change e = absurd (thing_set s output (level_of which n) change e)
-kept_are_nonvolatile s (command.LevelQuery which output end) change e = absurd (level_told s which _ end change e)
+kept_are_nonvolatile s (command.LevelQuery which output end) change e = absurd (level_keeps_nothing s which _ end change e)
 kept_are_nonvolatile s (command.Switch which output on) change e = absurd (thing_set s output (switch_of which on) change e)
 kept_are_nonvolatile s (command.UserData bytes) change e = refl
 kept_are_nonvolatile s (command.Define label body) change e = refl
-kept_are_nonvolatile s (command.Macro on_macro.Ask label) change e = absurd (body_told s _ change e)
+kept_are_nonvolatile s (command.Macro on_macro.Ask label) change e = absurd (body_keeps_nothing s _ change e)
 kept_are_nonvolatile s (command.Macro on_macro.Remove label) change e = refl
 kept_are_nonvolatile s (command.Contents name bytes) change e = refl
-kept_are_nonvolatile s (command.File on_file.Ask name) change e = absurd (file_told s _ _ change e)
+kept_are_nonvolatile s (command.File on_file.Ask name) change e = absurd (file_keeps_nothing s _ _ change e)
 kept_are_nonvolatile s (command.File on_file.Delete name) change e = refl
 kept_are_nonvolatile s (command.Names what from to) change e = refl
 kept_are_nonvolatile s (command.StateFile way number name) change e = refl

@@ -30,13 +30,13 @@ use Rattle.psu_tree.specs.declared.queries.Query.{Query}
 use Rattle.psu_tree.specs.declared.queries.Query.TheVariants as query
 use Rattle.psu_tree.specs.declared.values.Transfer.TheVariants as transfer
 use Rattle.psu_instrument.specs.Commands.{meaning, query_means}
-use Rattle.psu_instrument.specs.Common.{choice, flag_asked, enables_asked, identity}
+use Rattle.psu_instrument.specs.Common.{choice, flag_queried, enables_queried, identity}
 use Rattle.psu_instrument.specs.Files.{read_unless}
 use Rattle.psu_instrument.specs.Instrument.{Instrument}
-use Rattle.psu_instrument.specs.Macros.{body_asked, labels_text}
+use Rattle.psu_instrument.specs.Macros.{body_queried, labels_text}
 use Rattle.psu_instrument.specs.Meaning.{Situation, Meaning, Refuses, Does, Keeps, Completes, says, says_fixed}
 use Rattle.psu_instrument.specs.Reporting.{error_text}
-use Rattle.psu_instrument.specs.Supplies.{asked, level_asked, level_of, set, switch_of}
+use Rattle.psu_instrument.specs.Supplies.{queried, level_queried, level_of, set, switch_of}
 use Rattle.psu_instrument.specs.declared.completion.Completion.{Completion}
 
 -- ---- texts
@@ -80,8 +80,8 @@ some_labels (label ∷ labels) e = cc
 abbrev HasText : Meaning → Type 0
 HasText m = (text : List ℕ) (new : Instrument) → m ≡ Does (Some text) new → text ≢ []
 
-told : (given : List ℕ) (i : Instrument) → given ≢ [] → HasText (Does (Some given) i)
-told given i some text new e = subst (λ (z : List ℕ). z ≢ []) (let is : given ≡ text = cc in is) some
+has_text : (given : List ℕ) (i : Instrument) → given ≢ [] → HasText (Does (Some given) i)
+has_text given i some text new e = subst (λ (z : List ℕ). z ≢ []) (let is : given ≡ text = cc in is) some
 
 silent : (i : Instrument) → HasText (Does None i)
 silent i text new e = cc
@@ -100,67 +100,67 @@ either true m n first second = first
 either false m n first second = second
 
 number : (s : Situation) (n : ℕ) → HasText (says s n)
-number s n = told (decimal n) s.instrument (some_digit n)
+number s n = has_text (decimal n) s.instrument (some_digit n)
 
 thousandths : (s : Situation) (n : ℕ) → HasText (says_fixed s n)
-thousandths s n = told (fixed3_text (pos n)) s.instrument (some_fixed n)
+thousandths s n = has_text (fixed3_text (pos n)) s.instrument (some_fixed n)
 
 block : (s : Situation) (bytes : List ℕ) → HasText (Does (Some (definite_text bytes)) s.instrument)
-block s bytes = told (definite_text bytes) s.instrument (λ e. cc)
+block s bytes = has_text (definite_text bytes) s.instrument (λ e. cc)
 
-enables_told : (s : Situation) (which : Enable) → HasText (enables_asked s which)
-enables_told s enable.EventStatus = number s _
-enables_told s enable.ServiceRequest = number s _
+enables_have_text : (s : Situation) (which : Enable) → HasText (enables_queried s which)
+enables_have_text s enable.EventStatus = number s _
+enables_have_text s enable.ServiceRequest = number s _
 
-flag_told : (s : Situation) (which : Flag) → HasText (flag_asked s which)
-flag_told s flag.PowerOnClear = number s _
-flag_told s flag.Macros = number s _
-flag_told s flag.Protection = number s _
-flag_told s flag.Recall = told _ _ (some_choice s.contents.recall)
+flag_has_text : (s : Situation) (which : Flag) → HasText (flag_queried s which)
+flag_has_text s flag.PowerOnClear = number s _
+flag_has_text s flag.Macros = number s _
+flag_has_text s flag.Protection = number s _
+flag_has_text s flag.Recall = has_text _ _ (some_choice s.contents.recall)
 
-query_told : (s : Situation) (asks : Query) → HasText (query_means s asks)
-query_told s query.Identification = told identity s.instrument (λ e. cc)
-query_told s query.SelfTest = number s 0
-query_told s query.OperationComplete = completes _
-query_told s query.EventStatus = told _ _ (some_digit _)
-query_told s query.StatusByte = number s _
-query_told s (query.Enable which) = enables_told s which
-query_told s (query.Flag which) = flag_told s which
-query_told s query.UserData = block s _
-query_told s query.Labels = told _ _ (some_labels _)
-query_told s query.NextError = told _ _ (some_error _)
-query_told s query.ErrorCount = number s _
-query_told s query.Version = told _ s.instrument (λ e. cc)
-query_told s (query.Event group) = told _ _ (some_digit _)
-query_told s (query.Condition group) = number s _
-query_told s (query.Filter group which) = number s _
-query_told s query.Catalog = told _ s.instrument (before _ _ (some_digit _))
+query_has_text : (s : Situation) (asks : Query) → HasText (query_means s asks)
+query_has_text s query.Identification = has_text identity s.instrument (λ e. cc)
+query_has_text s query.SelfTest = number s 0
+query_has_text s query.OperationComplete = completes _
+query_has_text s query.EventStatus = has_text _ _ (some_digit _)
+query_has_text s query.StatusByte = number s _
+query_has_text s (query.Enable which) = enables_have_text s which
+query_has_text s (query.Flag which) = flag_has_text s which
+query_has_text s query.UserData = block s _
+query_has_text s query.Labels = has_text _ _ (some_labels _)
+query_has_text s query.NextError = has_text _ _ (some_error _)
+query_has_text s query.ErrorCount = number s _
+query_has_text s query.Version = has_text _ s.instrument (λ e. cc)
+query_has_text s (query.Event group) = has_text _ _ (some_digit _)
+query_has_text s (query.Condition group) = number s _
+query_has_text s (query.Filter group which) = number s _
+query_has_text s query.Catalog = has_text _ s.instrument (before _ _ (some_digit _))
 
-output_told : (s : Situation) (asks : OutputQuery) (o : Output) → HasText (asked s asks o)
-output_told s output_query.State o = number s _
-output_told s output_query.Protection o = number s _
-output_told s output_query.Tripped o = number s _
-output_told s output_query.Voltage o = thousandths s _
-output_told s output_query.Current o = thousandths s _
-output_told s output_query.Load o = number s _
+output_has_text : (s : Situation) (asks : OutputQuery) (o : Output) → HasText (queried s asks o)
+output_has_text s output_query.State o = number s _
+output_has_text s output_query.Protection o = number s _
+output_has_text s output_query.Tripped o = number s _
+output_has_text s output_query.Voltage o = thousandths s _
+output_has_text s output_query.Current o = thousandths s _
+output_has_text s output_query.Load o = number s _
 
-level_told : (s : Situation) (which : Level) (o : Output) (end : Option Extreme) → HasText (level_asked s which o end)
-level_told s which o None = thousandths s _
-level_told s which o (Some extreme.Least) = thousandths s 0
-level_told s which o (Some extreme.Greatest) = thousandths s _
+level_has_text : (s : Situation) (which : Level) (o : Output) (end : Option Extreme) → HasText (level_queried s which o end)
+level_has_text s which o None = thousandths s _
+level_has_text s which o (Some extreme.Least) = thousandths s 0
+level_has_text s which o (Some extreme.Greatest) = thousandths s _
 
 thing_set : (s : Situation) (o : Output) (thing : Setting) → HasText (set s o thing)
 thing_set s o thing =
     either (not (is_in_range thing)) _ _ (refuses _)
     (either (any_conflicts s.instrument.supplies (after_set (all_settings s.instrument.supplies) o thing)) _ _ (refuses _) (silent _))
 
-body_told : (s : Situation) (found : Option (List ℕ)) → HasText (body_asked s found)
-body_told s None = refuses _
-body_told s (Some body) = block s body
+body_has_text : (s : Situation) (found : Option (List ℕ)) → HasText (body_queried s found)
+body_has_text s None = refuses _
+body_has_text s (Some body) = block s body
 
-file_told : (s : Situation) (name : List ℕ) (found : Option ScpiError) → HasText (read_unless s name found)
-file_told s name None = block s _
-file_told s name (Some error) = refuses error
+file_has_text : (s : Situation) (name : List ℕ) (found : Option ScpiError) → HasText (read_unless s name found)
+file_has_text s name None = block s _
+file_has_text s name (Some error) = refuses error
 
 pub each_answer_has_text : (s : Situation) (given : Command) → HasText (meaning s given)
 each_answer_has_text s (command.Action action.ClearStatus) = silent _
@@ -169,8 +169,8 @@ each_answer_has_text s (command.Action action.OperationComplete) = completes _
 each_answer_has_text s (command.Action action.Wait) = completes _
 each_answer_has_text s (command.Action action.PurgeMacros) = keeps _
 each_answer_has_text s (command.Action action.PresetStatus) = silent _
-each_answer_has_text s (command.Query asks) = query_told s asks
-each_answer_has_text s (command.OutputQuery asks output) = output_told s asks _
+each_answer_has_text s (command.Query asks) = query_has_text s asks
+each_answer_has_text s (command.OutputQuery asks output) = output_has_text s asks _
 each_answer_has_text s (command.ClearTrip output) = silent _
 each_answer_has_text s (command.Enable enable.EventStatus bits) = either (is_some s.contents.enables) _ _ (keeps _) (silent _)
 each_answer_has_text s (command.Enable enable.ServiceRequest bits) = either (is_some s.contents.enables) _ _ (keeps _) (silent _)
@@ -183,14 +183,14 @@ each_answer_has_text s (command.Register on_register.Save number) = either (nat_
 each_answer_has_text s (command.Register on_register.Recall number) = either (nat_le 100 number) _ _ (refuses _) (silent _)
 each_answer_has_text s (command.Load output milliohms) = either _ _ _ (silent _) (refuses _)
 each_answer_has_text s (command.Level which output n) = thing_set s output (level_of which n)
-each_answer_has_text s (command.LevelQuery which output end) = level_told s which _ end
+each_answer_has_text s (command.LevelQuery which output end) = level_has_text s which _ end
 each_answer_has_text s (command.Switch which output on) = thing_set s output (switch_of which on)
 each_answer_has_text s (command.UserData bytes) = either (nat_lt 63 (length bytes)) _ _ (refuses _) (either s.instrument.protected _ _ (refuses _) (keeps _))
 each_answer_has_text s (command.Define label body) = keeps _
-each_answer_has_text s (command.Macro on_macro.Ask label) = body_told s _
+each_answer_has_text s (command.Macro on_macro.Ask label) = body_has_text s _
 each_answer_has_text s (command.Macro on_macro.Remove label) = keeps _
 each_answer_has_text s (command.Contents name bytes) = either (nat_lt 32768 (length bytes)) _ _ (refuses _) (keeps _)
-each_answer_has_text s (command.File on_file.Ask name) = file_told s _ _
+each_answer_has_text s (command.File on_file.Ask name) = file_has_text s _ _
 each_answer_has_text s (command.File on_file.Delete name) = keeps _
 each_answer_has_text s (command.Names on_names.Copy from to) = keeps _
 each_answer_has_text s (command.Names on_names.Move from to) = keeps _

@@ -33,9 +33,9 @@ enabled s enable.EventStatus bits = if is_some s.contents.enables then Keeps (Ev
 enabled s enable.ServiceRequest bits = if is_some s.contents.enables then Keeps (ServiceEnable bits) else leaves (with_sre s.instrument bits)
 
 -- `*ESE?`, `*SRE?`
-abbrev pub enables_asked : Situation → Enable → Meaning
-enables_asked s enable.EventStatus = says s s.instrument.status.ese
-enables_asked s enable.ServiceRequest = says s s.instrument.status.sre
+abbrev pub enables_queried : Situation → Enable → Meaning
+enables_queried s enable.EventStatus = says s s.instrument.status.ese
+enables_queried s enable.ServiceRequest = says s s.instrument.status.sre
 
 -- `*ESR?`, which clears what it reads
 abbrev pub event_status : Situation → Meaning
@@ -64,11 +64,11 @@ abbrev pub choice : Bool → List ℕ
 choice recall = if recall then codes "RCL0" else codes "RST"
 
 -- `*PSC?`, `*EMC?`, `DIAGnostic:PUD:PROTect?`, `OUTPut:PON:STATe?`
-abbrev pub flag_asked : Situation → Flag → Meaning
-flag_asked s flag.PowerOnClear = says s (digit (is_none s.contents.enables))
-flag_asked s flag.Macros = says s (digit s.instrument.expands)
-flag_asked s flag.Protection = says s (digit s.instrument.protected)
-flag_asked s flag.Recall = answers s (choice s.contents.recall)
+abbrev pub flag_queried : Situation → Flag → Meaning
+flag_queried s flag.PowerOnClear = says s (digit (is_none s.contents.enables))
+flag_queried s flag.Macros = says s (digit s.instrument.expands)
+flag_queried s flag.Protection = says s (digit s.instrument.protected)
+flag_queried s flag.Recall = answers s (choice s.contents.recall)
 
 -- ---- settings
 

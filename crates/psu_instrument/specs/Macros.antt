@@ -19,13 +19,13 @@ abbrev pub defined : Situation → Option (List ℕ) → List ℕ → Meaning
 defined s label body = Keeps (DefineMacro (text_of label) body)
 
 -- a macro's body as response data; an undefined macro has none
-abbrev pub body_asked : Situation → Option (List ℕ) → Meaning
-body_asked s None = Refuses MacroHeaderNotFound
-body_asked s (Some body) = answers s (definite_text body)
+abbrev pub body_queried : Situation → Option (List ℕ) → Meaning
+body_queried s None = Refuses MacroHeaderNotFound
+body_queried s (Some body) = answers s (definite_text body)
 
 -- `*GMC?`, `*RMC`
 abbrev pub on_label : Situation → OnMacro → Option (List ℕ) → Meaning
-on_label s on_macro.Ask label = body_asked s (body_at s.contents.macros (text_of label))
+on_label s on_macro.Ask label = body_queried s (body_at s.contents.macros (text_of label))
 on_label s on_macro.Remove label = Keeps (RemoveMacro (text_of label))
 
 -- `*PMC`

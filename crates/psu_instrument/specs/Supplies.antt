@@ -48,10 +48,10 @@ level_set supply level.Current = supply.settings.current.0
 level_set supply level.Protection = supply.settings.level.0
 
 -- `VOLTage?` and the other level queries: the setting, or an end of its range
-abbrev pub level_asked : Situation → Level → Output → Option Extreme → Meaning
-level_asked s which o None = says_fixed s (level_set (supply s o) which)
-level_asked s which o (Some extreme.Least) = says_fixed s 0
-level_asked s which o (Some extreme.Greatest) = says_fixed s (greatest_of which)
+abbrev pub level_queried : Situation → Level → Output → Option Extreme → Meaning
+level_queried s which o None = says_fixed s (level_set (supply s o) which)
+level_queried s which o (Some extreme.Least) = says_fixed s 0
+level_queried s which o (Some extreme.Greatest) = says_fixed s (greatest_of which)
 
 -- `OUTPut`, `VOLTage:PROTection:STATe`
 abbrev pub switch_of : Switch → Bool → Setting
@@ -74,10 +74,10 @@ abbrev pub measured_of : Supply → Measured
 measured_of supply = measured supply.settings supply.load.0
 
 -- `OUTPut?`, `VOLTage:PROTection:STATe?` and `:TRIPped?`, `MEASure:VOLTage?` and `:CURRent?`, `SIMulation:LOAD?`
-abbrev pub asked : Situation → OutputQuery → Output → Meaning
-asked s query.State o = let supply = supply s o in says s (digit supply.settings.on)
-asked s query.Protection o = let supply = supply s o in says s (digit supply.settings.protection)
-asked s query.Tripped o = let supply = supply s o in says s (digit supply.tripped)
-asked s query.Voltage o = let measured = measured_of (supply s o) in says_fixed s measured.voltage.0
-asked s query.Current o = let measured = measured_of (supply s o) in says_fixed s measured.current.0
-asked s query.Load o = let supply = supply s o in says s supply.load.0
+abbrev pub queried : Situation → OutputQuery → Output → Meaning
+queried s query.State o = let supply = supply s o in says s (digit supply.settings.on)
+queried s query.Protection o = let supply = supply s o in says s (digit supply.settings.protection)
+queried s query.Tripped o = let supply = supply s o in says s (digit supply.tripped)
+queried s query.Voltage o = let measured = measured_of (supply s o) in says_fixed s measured.voltage.0
+queried s query.Current o = let measured = measured_of (supply s o) in says_fixed s measured.current.0
+queried s query.Load o = let supply = supply s o in says s supply.load.0

@@ -4,7 +4,7 @@ ghost use Rattle.psu_nv.specs.Contents.{Contents as Kept};
 ghost use Rattle.psu_instrument.specs.Commands.{action_means, meaning, query_means, register_means};
 ghost use Rattle.psu_instrument.specs.Meaning.{ActsAs, situation};
 
-use crate::common::{IDENTITY, told};
+use crate::common::{IDENTITY, flag_response};
 use crate::files::{catalog_text, macro_moved, on_name, on_two, state_moved, stored};
 use crate::macros::{labels_text, on_label, text_of};
 use crate::supplies::{level_of, switch_of};

@@ -4,7 +4,7 @@ ghost use Rattle.psu_nv.specs.Contents.{Contents as Kept};
 ghost use Rattle.psu_outputs.specs.Outputs.{restored};
 ghost use Rattle.psu_outputs.specs.Settings.{reset};
 ghost use Rattle.psu_status.specs.Status.{cleared};
-ghost use Rattle.psu_instrument.specs.Common.{choice, digit, enabled, enables_asked, event_status, flag_asked, flagged, recalled, saved, user_data};
+ghost use Rattle.psu_instrument.specs.Common.{choice, digit, enabled, enables_queried, event_status, flag_queried, flagged, recalled, saved, user_data};
 ghost use Rattle.psu_instrument.specs.Instrument.{with_supplies};
 ghost use Rattle.psu_instrument.specs.Meaning.{ActsAs, situation};
 
@@ -19,7 +19,7 @@ use std::alloc::{AllocError, Allocator};
 pub(crate) const IDENTITY: &[u8] = b"EXAMPLE,PSU4,0,1.0";
 
 // Returns a flag as response data.
-pub(crate) fn told<A: Allocator + Copy>(alloc: A, on: bool) -> Result<Bytes<A>, AllocError>
+pub(crate) fn flag_response<A: Allocator + Copy>(alloc: A, on: bool) -> Result<Bytes<A>, AllocError>
     ensures { IfOk result (λ text. text ≡ decimal (digit on)) }
 {
     if on { whole(alloc, 1) } else { whole(alloc, 0) }
@@ -119,7 +119,7 @@ impl Instrument {
         alloc: A,
         which: Enable,
     ) -> Result<Act<'c, A>, ScpiError>
-        ensures { (limit : ℕ) (contents : Kept) (available : Bool) → ActsAs (enables_asked (situation limit contents self.now available) which) self.now result self.now }
+        ensures { (limit : ℕ) (contents : Kept) (available : Bool) → ActsAs (enables_queried (situation limit contents self.now available) which) self.now result self.now }
     {
         match which {
             Enable::EventStatus => Ok(Act::Answer(whole(alloc, self.status.ese() as u64)?)),
@@ -134,12 +134,15 @@ impl Instrument {
         contents: &Contents<A>,
         which: Flag,
     ) -> Result<Act<'c, A>, ScpiError>
-        ensures { (limit : ℕ) (available : Bool) → ActsAs (flag_asked (situation limit contents.now self.now available) which) self.now result self.now }
+        ensures { (limit : ℕ) (available : Bool) → ActsAs (flag_queried (situation limit contents.now self.now available) which) self.now result self.now }
     {
         match which {
-            Flag::PowerOnClear => Ok(Act::Answer(told(alloc, contents.enables().is_none())?)),
-            Flag::Macros => Ok(Act::Answer(told(alloc, self.expands)?)),
-            Flag::Protection => Ok(Act::Answer(told(alloc, self.protected)?)),
+            Flag::PowerOnClear => Ok(Act::Answer(flag_response(
+                alloc,
+                contents.enables().is_none(),
+            )?)),
+            Flag::Macros => Ok(Act::Answer(flag_response(alloc, self.expands)?)),
+            Flag::Protection => Ok(Act::Answer(flag_response(alloc, self.protected)?)),
             Flag::Recall => Ok(Act::Answer(choice(alloc, contents.recall())?)),
         }
     }

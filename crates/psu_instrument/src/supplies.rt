@@ -5,9 +5,9 @@ ghost use Rattle.psu_outputs.specs.Outputs.{restored, supply_of, with_supply, wi
 ghost use Rattle.psu_tree.specs.Commands.{greatest_of};
 ghost use Rattle.psu_instrument.specs.Instrument.{with_supplies};
 ghost use Rattle.psu_instrument.specs.Meaning.{ActsAs, situation};
-ghost use Rattle.psu_instrument.specs.Supplies.{asked, level_asked, level_of, level_set, load, set, switch_of};
+ghost use Rattle.psu_instrument.specs.Supplies.{queried, level_queried, level_of, level_set, load, set, switch_of};
 
-use crate::common::told;
+use crate::common::flag_response;
 use crate::{Act, Instrument};
 use psu_lex::{ScpiError, fixed3, whole};
 use psu_outputs::{Milliamperes, Milliohms, Millivolts, Output, Setting, Settings};
@@ -115,7 +115,7 @@ impl Instrument {
         output: Output,
         extreme: Option<Extreme>,
     ) -> Result<Act<'c, A>, ScpiError>
-        ensures { (limit : ℕ) (contents : Kept) (available : Bool) → ActsAs (level_asked (situation limit contents self.now available) level output extreme) self.now result self.now }
+        ensures { (limit : ℕ) (contents : Kept) (available : Bool) → ActsAs (level_queried (situation limit contents self.now available) level output extreme) self.now result self.now }
     {
         match extreme {
             None => Ok(Act::Answer(fixed3(alloc, self.level_set(level, output) as i64)?)),
@@ -131,15 +131,18 @@ impl Instrument {
         query: OutputQuery,
         output: Output,
     ) -> Result<Act<'c, A>, ScpiError>
-        ensures { (limit : ℕ) (contents : Kept) (available : Bool) → ActsAs (asked (situation limit contents self.now available) query output) self.now result self.now }
+        ensures { (limit : ℕ) (contents : Kept) (available : Bool) → ActsAs (queried (situation limit contents self.now available) query output) self.now result self.now }
     {
         let outputs = &self.outputs;
         match query {
-            OutputQuery::State => Ok(Act::Answer(told(alloc, outputs.settings(output).on)?)),
+            OutputQuery::State => Ok(Act::Answer(flag_response(
+                alloc,
+                outputs.settings(output).on,
+            )?)),
             OutputQuery::Protection => {
-                Ok(Act::Answer(told(alloc, outputs.settings(output).protection)?))
+                Ok(Act::Answer(flag_response(alloc, outputs.settings(output).protection)?))
             }
-            OutputQuery::Tripped => Ok(Act::Answer(told(alloc, outputs.trip(output))?)),
+            OutputQuery::Tripped => Ok(Act::Answer(flag_response(alloc, outputs.trip(output))?)),
             OutputQuery::Voltage => {
                 Ok(Act::Answer(fixed3(alloc, outputs.measure(output).voltage.0 as i64)?))
             }

@@ -1,6 +1,6 @@
 -- A commit, as its callers see it.
 use Rattle.std.proofs.Common.{◌≡◌, inl, inr, true, false, ℕ, List, sym, ◌∙◌, ap, subst}
-use Rattle.psu_disk.specs.Disk.{Left, Follows, LeavesOnly, HasFailed}
+use Rattle.psu_disk.specs.Disk.{IsCrashImage, Follows, LeavesOnly, HasFailed}
 use Rattle.psu_disk.specs.Moments.{started, weaken}
 use Rattle.psu_disk.specs.declared.disk.Disk.{Ghosts}
 use Rattle.psu_map.specs.Map.{Item}
@@ -9,7 +9,7 @@ use Rattle.psu_pages.specs.declared.pages.Pages.{Pages}
 use Rattle.psu_pages.specs.declared.root.Root.{Root}
 use Rattle.psu_pages.specs.Outcome.{HasSameRoots}
 use Rattle.psu_pages.specs.Writing.{Reaches}
-use Rattle.psu_items.specs.Writing.{SameBehind}
+use Rattle.psu_items.specs.Writing.{SameAfterPool}
 use Rattle.psu_items.specs.Image.{shown_in, IsEither, IsEitherRoot}
 use Rattle.psu_items.specs.Standing.{MapOn, ShowsMap, on_pages}
 use Rattle.psu_items.proofs.Standing.{pages_as}
@@ -18,14 +18,14 @@ pub not_true : false ≡ true → ⊥
 not_true e = cc
 
 -- no call of the disk is made
-pub none_run : {D A : Type 0} {G : Ghosts D} (pages : Pages D A G) (m target : List Item) → ShowsMap pages m → Ghosts.honest G → ((x : List ℕ) → Ghosts.left_since G pages.disk (Ghosts.moment G pages.disk) x → Left (Ghosts.state G pages.disk) x)
+pub none_run : {D A : Type 0} {G : Ghosts D} (pages : Pages D A G) (m target : List Item) → ShowsMap pages m → Ghosts.honest G → ((x : List ℕ) → Ghosts.left_since G pages.disk (Ghosts.moment G pages.disk) x → IsCrashImage (Ghosts.state G pages.disk) x)
     → LeavesOnly (Ghosts.moment G) (Ghosts.left_since G) pages.disk pages.disk (IsEitherRoot pages.version pages.number pages.limit m target)
 none_run {D} {A} {G} pages m target shows h only_now = started (Ghosts.moment G) (Ghosts.left_since G) pages.disk (IsEitherRoot pages.version pages.number pages.limit m target) (λ x s. inl (pages_as pages m shows h x (only_now x s)))
 
 -- without the version and the number
 pub to_either : (version number limit : ℕ) (before target : List Item) (x : List ℕ) → IsEitherRoot version number limit before target x → IsEither limit before target x
-to_either version number limit before target x (inl was) = inl was.stands
-to_either version number limit before target x (inr is) = inr is.stands
+to_either version number limit before target x (inl was) = inl was.represents
+to_either version number limit before target x (inr is) = inr is.represents
 
 pub either_run : {D : Type 0} (G : Ghosts D) (version number limit : ℕ) (before target : List Item) (old last : D) → LeavesOnly (Ghosts.moment G) (Ghosts.left_since G) old last (IsEitherRoot version number limit before target)
     → LeavesOnly (Ghosts.moment G) (Ghosts.left_since G) old last (IsEither limit before target)
@@ -46,8 +46,8 @@ failed_back {D} {A} {G} pages m seen mid last out is first second failed =
     subst (λ (d : D). HasFailed (Ghosts.failures G d) (Ghosts.failures G out)) (first ∙ ap (λ (s : MapOn D). s.disk) is) (subst (λ (d : D). HasFailed (Ghosts.failures G mid) (Ghosts.failures G d)) (sym second) failed)
 
 -- a disk that is returned
-pub left_out : {D : Type 0} (G : Ghosts D) (last out : D) (x : List ℕ) → out ≡ last → Left (Ghosts.state G out) x → Left (Ghosts.state G last) x
-left_out {D} G last out x is left = subst (λ (d : D). Left (Ghosts.state G d) x) is left
+pub left_out : {D : Type 0} (G : Ghosts D) (last out : D) (x : List ℕ) → out ≡ last → IsCrashImage (Ghosts.state G out) x → IsCrashImage (Ghosts.state G last) x
+left_out {D} G last out x is left = subst (λ (d : D). IsCrashImage (Ghosts.state G d) x) is left
 
 module _ {D A : Type 0} {G : Ghosts D} (old new : Pages D A G) (roots : HasSameRoots old new) where
   pub still_shows : (m : List Item) → ShowsMap old m → ShowsMap new m
@@ -64,11 +64,11 @@ module _ {D A : Type 0} {G : Ghosts D} (old new : Pages D A G) (roots : HasSameR
       seen d version limit number = record { disk = d; limit = limit; version = version; number = number; items = m }
 
   -- nothing after the pool changes, compared with the pages before
-  pub behind_back : (last : D) → Follows (SameBehind new.limit) (Left (Ghosts.state G new.disk)) (Left (Ghosts.state G last)) → Follows (SameBehind old.limit) (Left (Ghosts.state G old.disk)) (Left (Ghosts.state G last))
-  behind_back last follows = subst (λ (d : D). Follows (SameBehind old.limit) (Left (Ghosts.state G d)) (Left (Ghosts.state G last))) roots.disk (subst (λ (n : ℕ). Follows (SameBehind n) (Left (Ghosts.state G new.disk)) (Left (Ghosts.state G last))) roots.limit follows)
+  pub after_pool_back : (last : D) → Follows (SameAfterPool new.limit) (IsCrashImage (Ghosts.state G new.disk)) (IsCrashImage (Ghosts.state G last)) → Follows (SameAfterPool old.limit) (IsCrashImage (Ghosts.state G old.disk)) (IsCrashImage (Ghosts.state G last))
+  after_pool_back last follows = subst (λ (d : D). Follows (SameAfterPool old.limit) (IsCrashImage (Ghosts.state G d)) (IsCrashImage (Ghosts.state G last))) roots.disk (subst (λ (n : ℕ). Follows (SameAfterPool n) (IsCrashImage (Ghosts.state G new.disk)) (IsCrashImage (Ghosts.state G last))) roots.limit follows)
 
-  pub behind_time_back : (last : D) → LeavesOnly (Ghosts.moment G) (Ghosts.left_since G) new.disk last (Reaches (SameBehind new.limit) (Left (Ghosts.state G new.disk))) → LeavesOnly (Ghosts.moment G) (Ghosts.left_since G) old.disk last (Reaches (SameBehind old.limit) (Left (Ghosts.state G old.disk)))
-  behind_time_back last run = subst (λ (d : D). LeavesOnly (Ghosts.moment G) (Ghosts.left_since G) d last (Reaches (SameBehind old.limit) (Left (Ghosts.state G d)))) roots.disk (subst (λ (n : ℕ). LeavesOnly (Ghosts.moment G) (Ghosts.left_since G) new.disk last (Reaches (SameBehind n) (Left (Ghosts.state G new.disk)))) roots.limit run)
+  pub after_pool_time_back : (last : D) → LeavesOnly (Ghosts.moment G) (Ghosts.left_since G) new.disk last (Reaches (SameAfterPool new.limit) (IsCrashImage (Ghosts.state G new.disk))) → LeavesOnly (Ghosts.moment G) (Ghosts.left_since G) old.disk last (Reaches (SameAfterPool old.limit) (IsCrashImage (Ghosts.state G old.disk)))
+  after_pool_time_back last run = subst (λ (d : D). LeavesOnly (Ghosts.moment G) (Ghosts.left_since G) d last (Reaches (SameAfterPool old.limit) (IsCrashImage (Ghosts.state G d)))) roots.disk (subst (λ (n : ℕ). LeavesOnly (Ghosts.moment G) (Ghosts.left_since G) new.disk last (Reaches (SameAfterPool n) (IsCrashImage (Ghosts.state G new.disk)))) roots.limit run)
 
   module _ (m made target : List Item) (is : made ≡ target) where
     abbrev Renews : Pages D A G → List Item → List ℕ → Type 0

@@ -9,7 +9,7 @@ use Rattle.psu_pages.specs.Image.{gate, Head, IsHead, bytes_in, value_in, heads_
 use Rattle.std.proofs.lemmas.List.{length-take}
 use Rattle.std.proofs.Math.Nat.{min-le_left}
 use Rattle.psu_map.specs.Map.{Item, get, without, cost, Before, IsSorted}
-use Rattle.psu_items.specs.Image.{counting, listed, shown_in, HasNoRoot, HasOtherVersion, HasReadableRoot, Stands}
+use Rattle.psu_items.specs.Image.{current_root, listed, shown_in, HasNoRoot, HasOtherVersion, HasReadableRoot, Represents}
 use Rattle.psu_map.proofs.Keys.{before_not_same}
 use Rattle.psu_map.proofs.Maps.{get-without, all_own}
 
@@ -62,10 +62,10 @@ all_found : (map items js : List Item) → ((k : List ℕ) → get map k ≡ get
 all_found map items [] same own = tt
 all_found map items (j ∷ js) same own = (sym (same j.key) ∙ own.0, all_found map items js same own.1)
 
-pub stands_within : (image : List ℕ) (limit : ℕ) (map : List Item) → Stands image limit map → cost map ≤ limit
-stands_within image limit map stands =
-    let root = counting image in
-    let holds = stands.holds in
+pub represents_within : (image : List ℕ) (limit : ℕ) (map : List Item) → Represents image limit map → cost map ≤ limit
+represents_within image limit map represents =
+    let root = current_root image in
+    let holds = represents.holds in
     let shows = holds.shows in
     let fewer = map_cost map (shown_in root image) holds.sorted (all_found map (shown_in root image) map holds.items (all_own map holds.sorted)) in
     let named = listed_cost image (heads_in root image) shows.heads in
@@ -74,11 +74,11 @@ stands_within image limit map stands =
 
 -- ---- why an image isn't refused
 
-pub stands_readable : (image : List ℕ) (limit : ℕ) (map : List Item) → Stands image limit map → HasReadableRoot image
-stands_readable image limit map stands =
-    let shows = stands.holds.shows in
+pub represents_readable : (image : List ℕ) (limit : ℕ) (map : List Item) → Represents image limit map → HasReadableRoot image
+represents_readable image limit map represents =
+    let shows = represents.holds.shows in
     record {
-      counts = stands.counts;
+      current = represents.current;
       words = record {
         marked = shows.marked;
         version = shows.version;
@@ -93,9 +93,9 @@ open_root : (root : Root) (image : List ℕ) → gate root image ≡ 165 → (ga
 open_root First image is shut = shut.0 is
 open_root Second image is shut = shut.1 is
 
-pub stands_rooted : (image : List ℕ) (limit : ℕ) (map : List Item) → Stands image limit map → HasNoRoot image → ⊥
-stands_rooted image limit map stands (inl short) = let shows = stands.holds.shows in omega (arith, short, shows.room, shows.limit_least)
-stands_rooted image limit map stands (inr shut) = open_root (counting image) image stands.counts.open_gate shut
+pub represents_rooted : (image : List ℕ) (limit : ℕ) (map : List Item) → Represents image limit map → HasNoRoot image → ⊥
+represents_rooted image limit map represents (inl short) = let shows = represents.holds.shows in omega (arith, short, shows.room, shows.limit_least)
+represents_rooted image limit map represents (inr shut) = open_root (current_root image) image represents.current.open_gate shut
 
-pub stands_by_version : (image : List ℕ) (limit : ℕ) (map : List Item) → Stands image limit map → HasOtherVersion image → ⊥
-stands_by_version image limit map stands other = other.version stands.holds.shows.version
+pub represents_by_version : (image : List ℕ) (limit : ℕ) (map : List Item) → Represents image limit map → HasOtherVersion image → ⊥
+represents_by_version image limit map represents other = other.version represents.holds.shows.version

@@ -73,10 +73,10 @@ module _ {A : Type 0} where
 
   -- a place after all heads
   place_more : (at : ℕ) (heads : List Head) (place : ℕ) (places : List ℕ) → at + length heads ≤ place → slots at heads (places ++ place ∷ []) ≡ slots at heads places
-  place_more at [] place places behind = refl
-  place_more at (head ∷ heads) place places behind =
-      ap (λ (b : Bool). slot head b ∷ slots (at + 1) heads (places ++ place ∷ [])) (other_there at place places (λ same. omega (arith, same, behind)))
-      ∙ ap (λ (l : List (Slot A)). slot head (is_there at places) ∷ l) (place_more (at + 1) heads place places (omega (arith, behind)))
+  place_more at [] place places after = refl
+  place_more at (head ∷ heads) place places after =
+      ap (λ (b : Bool). slot head b ∷ slots (at + 1) heads (places ++ place ∷ [])) (other_there at place places (λ same. omega (arith, same, after)))
+      ∙ ap (λ (l : List (Slot A)). slot head (is_there at places) ∷ l) (place_more (at + 1) heads place places (omega (arith, after)))
 
   module _ (heads : List Head) (places : List ℕ) (there : AllByRecursion (λ (place : ℕ). place < length heads) places) (s : Slot A) where
     none : 0 + length heads ≡ length heads

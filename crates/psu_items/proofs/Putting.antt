@@ -9,15 +9,15 @@ use Rattle.psu_map.specs.Capacity.{IsMapOf}
 use Rattle.psu_pages.specs.declared.pages.Pages.{Pages}
 use Rattle.psu_pages.specs.Image.{Head, other, head_at, keys}
 use Rattle.psu_pages.specs.Outcome.{HasSameHeads, HasPublished}
-use Rattle.psu_pages.specs.Shown.{item_in, items_in, BearsEither}
+use Rattle.psu_pages.specs.Shown.{item_in, items_in, EncodesEither}
 use Rattle.psu_pages.specs.Shown as shown
 use Rattle.psu_pages.specs.Writing.{IsWritten}
-use Rattle.psu_items.specs.Image.{as_item, listed, shown_in, StandsAs, IsEitherRoot}
+use Rattle.psu_items.specs.Image.{as_item, listed, shown_in, RepresentsAs, IsEitherRoot}
 use Rattle.psu_items.specs.Standing.{ShowsMap}
 use Rattle.psu_items.specs.declared.slot.Slot.{Slot}
 use Rattle.psu_items.specs.Layout.{heads_of, keys_in, value_at, StandsWritten}
-use Rattle.psu_items.proofs.Standing.{bears_as}
-use Rattle.psu_items.proofs.Taking.{BearsOf}
+use Rattle.psu_items.proofs.Standing.{encodes_as}
+use Rattle.psu_items.proofs.Taking.{EncodesPages}
 use Rattle.psu_items.proofs.Writing.{listed_is}
 
 pub length-keys_in : (items : List Item) → length (keys_in items) ≡ length items
@@ -53,16 +53,16 @@ module _ {D A : Type 0} {G : Ghosts D} (old mid : Pages D A G) (before target : 
   abbrev Renews : List ℕ → Type 0
   Renews = IsEitherRoot old.version old.number old.limit before target
 
-  pub from_bears : (x : List ℕ) → BearsOf old x → Renews x
-  from_bears x bears = inl (bears_as old.root old.version old.limit old.number old.heads.items (items_in old.root (Ghosts.state G old.disk).bytes) before x shows.sorted (shows.holds h) bears)
+  pub from_encodes : (x : List ℕ) → EncodesPages old x → Renews x
+  from_encodes x encodes = inl (encodes_as old.root old.version old.limit old.number old.heads.items (items_in old.root (Ghosts.state G old.disk).bytes) before x shows.sorted (shows.holds h) encodes)
 
-  pub run_one : LeavesOnly (Ghosts.moment G) (Ghosts.left_since G) old.disk mid.disk (BearsOf old) → LeavesOnly (Ghosts.moment G) (Ghosts.left_since G) old.disk mid.disk Renews
-  run_one run = weaken (Ghosts.moment G) (Ghosts.left_since G) old.disk mid.disk (BearsOf old) Renews run from_bears
+  pub run_one : LeavesOnly (Ghosts.moment G) (Ghosts.left_since G) old.disk mid.disk (EncodesPages old) → LeavesOnly (Ghosts.moment G) (Ghosts.left_since G) old.disk mid.disk Renews
+  run_one run = weaken (Ghosts.moment G) (Ghosts.left_since G) old.disk mid.disk (EncodesPages old) Renews run from_encodes
 
   module _ (same : HasSameHeads old mid) (items : items_in mid.root (Ghosts.state G mid.disk).bytes ≡ items_in old.root (Ghosts.state G old.disk).bytes) (sorted : IsSorted target)
       (heads : List Head) (are : listed (Ghosts.state G mid.disk).bytes heads ≡ target) where
     abbrev Switches : List ℕ → Type 0
-    Switches = BearsEither (other mid.root) mid.version mid.limit mid.number mid.heads.items (items_in mid.root (Ghosts.state G mid.disk).bytes) heads (map (item_in (Ghosts.state G mid.disk).bytes) heads)
+    Switches = EncodesEither (other mid.root) mid.version mid.limit mid.number mid.heads.items (items_in mid.root (Ghosts.state G mid.disk).bytes) heads (map (item_in (Ghosts.state G mid.disk).bytes) heads)
 
     of_target : IsMapOf target (listed (Ghosts.state G mid.disk).bytes heads)
     of_target k = ap (λ (m : List Item). get m k) (sym are)
@@ -72,27 +72,27 @@ module _ {D A : Type 0} {G : Ghosts D} (old mid : Pages D A G) (before target : 
 
     pub from_either : (x : List ℕ) → Switches x → Renews x
     from_either x either = subst (λ (n : ℕ). IsEitherRoot n old.number old.limit before target x) same.version (subst (λ (n : ℕ). IsEitherRoot mid.version n old.limit before target x) same.number (subst (λ (n : ℕ). IsEitherRoot mid.version mid.number n before target x) same.limit (⊎_elim
-        (λ bears. inl (bears_as (other (other mid.root)) mid.version mid.limit mid.number mid.heads.items (items_in mid.root (Ghosts.state G mid.disk).bytes) before x shows.sorted of_before bears))
-        (λ bears. inr (bears_as (other mid.root) 2 mid.limit (mid.number + 1) heads (map (item_in (Ghosts.state G mid.disk).bytes) heads) target x sorted of_target bears))
+        (λ encodes. inl (encodes_as (other (other mid.root)) mid.version mid.limit mid.number mid.heads.items (items_in mid.root (Ghosts.state G mid.disk).bytes) before x shows.sorted of_before encodes))
+        (λ encodes. inr (encodes_as (other mid.root) 2 mid.limit (mid.number + 1) heads (map (item_in (Ghosts.state G mid.disk).bytes) heads) target x sorted of_target encodes))
         either)))
 
-    pub run_two : (new : D) → LeavesOnly (Ghosts.moment G) (Ghosts.left_since G) old.disk mid.disk (BearsOf old) → LeavesOnly (Ghosts.moment G) (Ghosts.left_since G) mid.disk new Switches → LeavesOnly (Ghosts.moment G) (Ghosts.left_since G) old.disk new Renews
+    pub run_two : (new : D) → LeavesOnly (Ghosts.moment G) (Ghosts.left_since G) old.disk mid.disk (EncodesPages old) → LeavesOnly (Ghosts.moment G) (Ghosts.left_since G) mid.disk new Switches → LeavesOnly (Ghosts.moment G) (Ghosts.left_since G) old.disk new Renews
     run_two new first second = and_then (Ghosts.moment G) (Ghosts.left_since G) old.disk mid.disk new Renews Switches (run_one first) second from_either
 
     module _ (two : Pages D A G) (published : HasPublished mid two heads) (limit_is : two.limit ≡ mid.limit) (now : items_in two.root (Ghosts.state G two.disk).bytes ≡ map (item_in (Ghosts.state G mid.disk).bytes) heads) where
       of_two : IsMapOf target (map as_item (items_in two.root (Ghosts.state G two.disk).bytes))
       of_two = subst (λ (is : List shown.Item). IsMapOf target (map as_item is)) (sym now) of_target
 
-      pub from_two : (x : List ℕ) → BearsOf two x → Renews x
-      from_two x bears = inr (
-          subst (λ (n : ℕ). StandsAs 2 n x old.limit target) (published.number ∙ ap (λ (n : ℕ). n + 1) same.number)
-          (subst (λ (n : ℕ). StandsAs n two.number x old.limit target) published.version
-          (subst (λ (n : ℕ). StandsAs two.version two.number x n target) (limit_is ∙ same.limit)
-          (bears_as two.root two.version two.limit two.number two.heads.items (items_in two.root (Ghosts.state G two.disk).bytes) target x sorted of_two bears))))
+      pub from_two : (x : List ℕ) → EncodesPages two x → Renews x
+      from_two x encodes = inr (
+          subst (λ (n : ℕ). RepresentsAs 2 n x old.limit target) (published.number ∙ ap (λ (n : ℕ). n + 1) same.number)
+          (subst (λ (n : ℕ). RepresentsAs n two.number x old.limit target) published.version
+          (subst (λ (n : ℕ). RepresentsAs two.version two.number x n target) (limit_is ∙ same.limit)
+          (encodes_as two.root two.version two.limit two.number two.heads.items (items_in two.root (Ghosts.state G two.disk).bytes) target x sorted of_two encodes))))
 
-      pub run_three : (new : D) → LeavesOnly (Ghosts.moment G) (Ghosts.left_since G) old.disk mid.disk (BearsOf old) → LeavesOnly (Ghosts.moment G) (Ghosts.left_since G) mid.disk two.disk Switches
-          → LeavesOnly (Ghosts.moment G) (Ghosts.left_since G) two.disk new (BearsOf two) → LeavesOnly (Ghosts.moment G) (Ghosts.left_since G) old.disk new Renews
-      run_three new first second third = and_then (Ghosts.moment G) (Ghosts.left_since G) old.disk two.disk new Renews (BearsOf two) (run_two two.disk first second) third from_two
+      pub run_three : (new : D) → LeavesOnly (Ghosts.moment G) (Ghosts.left_since G) old.disk mid.disk (EncodesPages old) → LeavesOnly (Ghosts.moment G) (Ghosts.left_since G) mid.disk two.disk Switches
+          → LeavesOnly (Ghosts.moment G) (Ghosts.left_since G) two.disk new (EncodesPages two) → LeavesOnly (Ghosts.moment G) (Ghosts.left_since G) old.disk new Renews
+      run_three new first second third = and_then (Ghosts.moment G) (Ghosts.left_since G) old.disk two.disk new Renews (EncodesPages two) (run_two two.disk first second) third from_two
 
 -- the items that the root shows after the last step
 pub shown_last : {D A : Type 0} {G : Ghosts D} (mid two last : Pages D A G) (target : List Item) (heads : List Head) → listed (Ghosts.state G mid.disk).bytes heads ≡ target

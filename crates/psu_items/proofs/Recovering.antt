@@ -6,7 +6,7 @@ use Rattle.std.proofs.lemmas.Bool.Decides.{not_from_Decides}
 use Rattle.std.proofs.lemmas.Slice.Eq.{bytes_eq-Decides, slice_eq-Decides}
 use Rattle.std.proofs.Math.Logic.{∥∥₁_elim}
 use Rattle.std.specs.Cmp.Lexicographic.{pointwise}
-use Rattle.psu_disk.specs.Disk.{DiskState, Left}
+use Rattle.psu_disk.specs.Disk.{DiskState, IsCrashImage}
 use Rattle.psu_disk.specs.Ranges.{reads_left}
 use Rattle.psu_pages.specs.declared.open_cause.OpenCause.{OpenCause}
 use Rattle.psu_pages.specs.declared.open_cause.OpenCause.TheVariants as Unopened
@@ -16,15 +16,15 @@ use Rattle.psu_pages.specs.declared.root.Root.{Root}
 use Rattle.psu_pages.specs.Single.{Shows-IsProp}
 use Rattle.psu_pages.proofs.Choosing.{some_root}
 use Rattle.psu_items.specs.declared.broken.BrokenCause.TheVariants.{Strange}
-use Rattle.psu_items.specs.Image.{counting, RootHolds, Stands, IsEither, EachIsEither, IsRefusal}
+use Rattle.psu_items.specs.Image.{current_root, RootHolds, Represents, IsEither, EachIsEither, IsRefusal}
 use Rattle.psu_items.specs.Recovering.{broken_cause}
-use Rattle.psu_items.proofs.Standing.{one_stands}
+use Rattle.psu_items.proofs.Standing.{represents_one}
 
 RootHolds-IsProp : (root : Root) (image : List ℕ) (limit : ℕ) (m : List Item) → IsProp (RootHolds root image limit m)
 RootHolds-IsProp root image limit m = hlevel (props, Shows-IsProp, IsSorted-IsProp)
 
-Stands-IsProp : (image : List ℕ) (limit : ℕ) (m : List Item) → IsProp (Stands image limit m)
-Stands-IsProp image limit m = hlevel (props, RootHolds-IsProp)
+Represents-IsProp : (image : List ℕ) (limit : ℕ) (m : List Item) → IsProp (Represents image limit m)
+Represents-IsProp image limit m = hlevel (props, RootHolds-IsProp)
 
 same_item : Item → Item → Bool
 same_item i j = bytes_eq i.key j.key && bytes_eq i.value j.value
@@ -56,21 +56,21 @@ either : (limit : ℕ) (before target : List Item) (x : List ℕ) → ∥ IsEith
 either limit before target x h = elim (cases_Bool (pointwise same_item before target)) [
   | inl one ↦
       let same : before ≡ target = (maps_Decide before target).0 one in
-      inl (∥∥₁_elim h (Stands-IsProp x limit before) (⊎_elim (λ s. s) (λ s. subst (λ (m : List Item). Stands x limit m) (sym same) s)))
+      inl (∥∥₁_elim h (Represents-IsProp x limit before) (⊎_elim (λ s. s) (λ s. subst (λ (m : List Item). Represents x limit m) (sym same) s)))
   | inr two ↦
       let apart : before ≡ target → ⊥ = not_from_Decides (pointwise same_item before target) (maps_Decide before target) two in
-      ∥∥₁_elim h (sum_prop (Stands-IsProp x limit before) (Stands-IsProp x limit target) (λ p q. apart (let one = one_stands limit limit before target x p q in one.1))) (λ e. e)
+      ∥∥₁_elim h (sum_prop (Represents-IsProp x limit before) (Represents-IsProp x limit target) (λ p q. apart (let one = represents_one limit limit before target x p q in one.1))) (λ e. e)
 ]
 
 -- what holds of a broken store, taken from its ghost field
-pub each_either : (disk : DiskState) (limit : ℕ) (before target : List Item) → ((x : List ℕ) → Left disk x → ∥ IsEither limit before target x ∥₁) → EachIsEither disk limit before target
+pub each_either : (disk : DiskState) (limit : ℕ) (before target : List Item) → ((x : List ℕ) → IsCrashImage disk x → ∥ IsEither limit before target x ∥₁) → EachIsEither disk limit before target
 each_either disk limit before target h x l = either limit before target x (h x l)
 
 -- an image that represents a map is refused only for a failed call or an allocation failure
-unrefused : (x : List ℕ) (limit : ℕ) (m : List Item) (cause : OpenCause) → Stands x limit m → IsRefusal x cause → broken_cause cause ≡ Strange → ⊥
+unrefused : (x : List ℕ) (limit : ℕ) (m : List Item) (cause : OpenCause) → Represents x limit m → IsRefusal x cause → broken_cause cause ≡ Strange → ⊥
 unrefused x limit m Unopened.Device st refusal strange = cc
-unrefused x limit m Unopened.NoRoot st refusal strange = some_root x (counting x) (omega (arith, st.holds.shows.room)) st.counts.open_gate refusal
-unrefused x limit m Unopened.BadRoot st refusal strange = refusal.none_stands limit m st
+unrefused x limit m Unopened.NoRoot st refusal strange = some_root x (current_root x) (omega (arith, st.holds.shows.room)) st.current.open_gate refusal
+unrefused x limit m Unopened.BadRoot st refusal strange = refusal.represents_none limit m st
 unrefused x limit m Unopened.BadVersion st refusal strange = refusal.version st.holds.shows.version
 unrefused x limit m Unopened.Memory st refusal strange = cc
 
@@ -79,6 +79,6 @@ not_strange disk limit before target cause all refusal strange =
     ⊎_elim (λ st. unrefused disk.bytes limit before cause st refusal strange) (λ st. unrefused disk.bytes limit target cause st refusal strange) (all disk.bytes (reads_left disk))
 
 -- the map found is one of the two, where the second was computed from the batch
-pub one_found : (disk : DiskState) (limit found_limit : ℕ) (before target made found : List Item) → made ≡ target → EachIsEither disk limit before target → Stands disk.bytes found_limit found → (found_limit ≡ limit) × ((found ≡ before) ⊎ (found ≡ made))
-one_found disk limit found_limit before target made found is all stood =
-    ⊎_elim (λ st. let one = one_stands found_limit limit found before disk.bytes stood st in (one.0, inl one.1)) (λ st. let one = one_stands found_limit limit found target disk.bytes stood st in (one.0, inr (one.1 ∙ sym is))) (all disk.bytes (reads_left disk))
+pub one_found : (disk : DiskState) (limit found_limit : ℕ) (before target made found : List Item) → made ≡ target → EachIsEither disk limit before target → Represents disk.bytes found_limit found → (found_limit ≡ limit) × ((found ≡ before) ⊎ (found ≡ made))
+one_found disk limit found_limit before target made found is all represented =
+    ⊎_elim (λ st. let one = represents_one found_limit limit found before disk.bytes represented st in (one.0, inl one.1)) (λ st. let one = represents_one found_limit limit found target disk.bytes represented st in (one.0, inr (one.1 ∙ sym is))) (all disk.bytes (reads_left disk))

@@ -2,14 +2,14 @@
 use Rattle.std.proofs.Common.{◌≡◌, ℕ, ◌+◌, ◌*◌, ◌≤◌, List, [], ◌∷◌, length, map, Some, sym, ◌∙◌, ap, subst, arith, length-append}
 use Rattle.std.specs.List.{AllByRecursion}
 use Rattle.std.proofs.lemmas.List.{length-take-le}
-use Rattle.psu_disk.specs.Disk.{Left}
+use Rattle.psu_disk.specs.Disk.{IsCrashImage}
 use Rattle.psu_disk.specs.Ranges.{length-range}
 use Rattle.psu_disk.specs.declared.disk.Disk.{Ghosts}
-use Rattle.psu_pages.specs.Image.{Head, IsHead, IsInPool, counting, heads_in, page_in, bytes_in, value_in, pages_of}
-use Rattle.psu_pages.specs.Shown.{items_in, Bears}
+use Rattle.psu_pages.specs.Image.{Head, IsHead, IsInPool, current_root, heads_in, page_in, bytes_in, value_in, pages_of}
+use Rattle.psu_pages.specs.Shown.{items_in, Encodes}
 use Rattle.psu_pages.specs.declared.pages.Pages.{Pages}
 use Rattle.psu_pages.specs.declared.root.Root.{Root}
-use Rattle.psu_pages.proofs.Bearing.{counting_is}
+use Rattle.psu_pages.proofs.Encoding.{current_root_is}
 use Rattle.psu_pages.proofs.Lists.{all_at}
 use Rattle.psu_map.specs.Map.{Item, get}
 use Rattle.psu_map.specs.Batch.{Edit}
@@ -31,18 +31,18 @@ bytes_long limit x (page ∷ pages) room pool =
 value_long : (limit : ℕ) (x : List ℕ) (head : Head) → 512 * (2 + 2 * limit) ≤ length x → IsHead head → AllByRecursion (IsInPool limit) (pages_of head) → head.size ≡ length (value_in x head)
 value_long limit x head room is pool = sym (length-take-le head.size (bytes_in x head.pages) (omega (arith, is.count, bytes_long limit x head.pages room pool.1)))
 
-module _ {D A : Type 0} {G : Ghosts D} (h : Ghosts.honest G) (pages : Pages D A G) (m : List Item) (shows : ShowsMap pages m) (x : List ℕ) (left : Left (Ghosts.state G pages.disk) x) where
-  abbrev bears : Bears pages.root pages.version pages.limit pages.number pages.heads.items (items_in pages.root (Ghosts.state G pages.disk).bytes) x
-  bears = pages.bears h (surely pages.standing shows.one) x left
+module _ {D A : Type 0} {G : Ghosts D} (h : Ghosts.honest G) (pages : Pages D A G) (m : List Item) (shows : ShowsMap pages m) (x : List ℕ) (left : IsCrashImage (Ghosts.state G pages.disk) x) where
+  abbrev encodes : Encodes pages.root pages.version pages.limit pages.number pages.heads.items (items_in pages.root (Ghosts.state G pages.disk).bytes) x
+  encodes = pages.encodes h (surely pages.standing shows.one) x left
 
-  heads_are : heads_in (counting x) x ≡ pages.heads.items
-  heads_are = ap (λ (r : Root). heads_in r x) (counting_is pages.root x bears.counts) ∙ bears.says.heads_are
+  heads_are : heads_in (current_root x) x ≡ pages.heads.items
+  heads_are = ap (λ (r : Root). heads_in r x) (current_root_is pages.root x encodes.current) ∙ encodes.has_contents.heads_are
 
   shown_are : (key : List ℕ) → get m key ≡ get (listed x pages.heads.items) key
-  shown_are key = shows.holds h key ∙ ap (λ is. get (map as_item is) key) (sym bears.says.items_are) ∙ ap (λ (hs : List Head). get (listed x hs) key) bears.says.heads_are
+  shown_are key = shows.holds h key ∙ ap (λ is. get (map as_item is) key) (sym encodes.has_contents.items_are) ∙ ap (λ (hs : List Head). get (listed x hs) key) encodes.has_contents.heads_are
 
   -- a head that the root names
-  module _ (head : Head) (one : IsOneOf (heads_in (counting x) x) head) where
+  module _ (head : Head) (one : IsOneOf (heads_in (current_root x) x) head) where
     one_held : IsOneOf pages.heads.items head
     one_held = subst (λ (hs : List Head). IsOneOf hs head) heads_are one
 
@@ -52,7 +52,7 @@ module _ {D A : Type 0} {G : Ghosts D} (h : Ghosts.honest G) (pages : Pages D A 
     one_size : head.size ≡ length (value_in x head)
     one_size =
         let is : IsHead head = subst IsHead one_held.2 (all_at IsHead pages.heads.items one_held.0 head one_held.1 pages.roster.each) in
-        value_long pages.limit x head bears.says.shows.room is (one_all (IsInPool pages.limit) pages.heads.items head one_held pages.roster.pool)
+        value_long pages.limit x head encodes.has_contents.shows.room is (one_all (IsInPool pages.limit) pages.heads.items head one_held pages.roster.pool)
 
 -- the heads that a commit keeps
 module _ {D A : Type 0} {G : Ghosts D} (h : Ghosts.honest G) (old new : Pages D A G) (m target : List Item) (before : ShowsMap old m) (after : ShowsMap new target) where

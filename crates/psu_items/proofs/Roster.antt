@@ -13,7 +13,7 @@ use Rattle.psu_pages.specs.Free.{is_free, AreClaimed, IsRoster}
 use Rattle.psu_pages.specs.Shown.{item_of}
 use Rattle.psu_pages.proofs.Lists.{all_at, all_map}
 use Rattle.psu_pages.proofs.Taken.{key_differs}
-use Rattle.psu_pages.proofs.Bearing.{heads_there}
+use Rattle.psu_pages.proofs.Encoding.{heads_there}
 use Rattle.psu_items.specs.Image.{listed}
 use Rattle.psu_items.specs.Standing.{ShowsMap}
 use Rattle.psu_items.specs.declared.slot.Slot.{Slot}
@@ -138,10 +138,10 @@ module _ {D A : Type 0} {G : Ghosts D} (pages : Pages D A G) (before target : Li
         one_stands s is old =
             let image = (Ghosts.state G pages.disk).bytes in
             let heads = pages.heads.items in
-            let bears = pages.bears h (surely pages.standing shows.one) image (reads_left (Ghosts.state G pages.disk)) in
+            let encodes = pages.encodes h (surely pages.standing shows.one) image (reads_left (Ghosts.state G pages.disk)) in
             let one = is.kept old in
             let value : get (listed image heads) s.head.key ≡ Some (value_in image s.head) = subst (λ (hd : Head). get (listed image heads) hd.key ≡ Some (value_in image hd)) one.2 (listed_value image heads one.0 s.head one.1 pages.roster.distinct) in
-            let map_of : IsMapOf before (listed image heads) = subst (λ (hs : List Head). IsMapOf before (listed image hs)) bears.says.heads_are (shows.holds h) in
+            let map_of : IsMapOf before (listed image heads) = subst (λ (hs : List Head). IsMapOf before (listed image hs)) encodes.has_contents.heads_are (shows.holds h) in
             let same : had (value_in image s.head) ≡ had (value_at target s.head.key) = sym value ∙ sym (map_of s.head.key) ∙ is.stands old ∙ is.has in
-            let there : head_at image s.head.at ≡ s.head = subst (λ (hd : Head). head_at image hd.at ≡ hd) one.2 (all_at (λ (hd : Head). head_at image hd.at ≡ hd) heads one.0 s.head one.1 (heads_there pages.root image heads bears.says.heads_are)) in
+            let there : head_at image s.head.at ≡ s.head = subst (λ (hd : Head). head_at image hd.at ≡ hd) one.2 (all_at (λ (hd : Head). head_at image hd.at ≡ hd) heads one.0 s.head one.1 (heads_there pages.root image heads encodes.has_contents.heads_are)) in
             record { head_is = there; item_is = ap (item_of s.head.key) (had_is (value_in image s.head) (value_at target s.head.key) same) }

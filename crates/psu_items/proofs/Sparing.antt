@@ -34,7 +34,7 @@ module _ {D A : Type 0} {G : Ghosts D} (old new : Pages D A G) where
       let heads = ap (λ v. v.items) closed.heads in
       let none : IsNone (taken old.heads.items) page = subst (λ (hs : List Head). IsNone (taken hs) page) heads not_head in
       let mine : IsInPool old.limit page = subst (λ (n : ℕ). IsInPool n page) limit pool in
-      let given : IsNone (taken old.heads.items) page → is_free new.free page ≡ true = apply (λ (p : ℕ). IsNone (taken old.heads.items) p → is_free new.free p ≡ true) page (taken old.older.items) (λ not_older n. closed.free.others page not_older ∙ spare page mine n not_older) closed.free.given_up in
+      let given : IsNone (taken old.heads.items) page → is_free new.free page ≡ true = apply (λ (p : ℕ). IsNone (taken old.heads.items) p → is_free new.free p ≡ true) page (taken old.older.items) (λ not_older n. closed.free.others page not_older ∙ spare page mine n not_older) closed.free.released in
       given none
 
   -- a root that names the heads of slots is published

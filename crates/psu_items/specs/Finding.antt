@@ -1,26 +1,26 @@
 -- The images that are possible after an opening, and why one is refused.
 use Rattle.std.specs.Prelude.{◌≡◌, ℕ, ◌⊎◌, List}
-use Rattle.psu_disk.specs.Disk.{DiskState, Left, SameBut}
+use Rattle.psu_disk.specs.Disk.{DiskState, IsCrashImage, SameBut}
 use Rattle.psu_map.specs.Map.{Item}
 use Rattle.psu_pages.specs.declared.open_cause.OpenCause.{OpenCause}
 use Rattle.psu_pages.specs.declared.open_cause.OpenCause.TheVariants.{Device, Memory}
 use Rattle.psu_pages.specs.declared.page_fault.PageFault.{PageFault}
 use Rattle.psu_pages.specs.declared.page_fault.PageFault.TheVariants as unread
 use Rattle.psu_pages.specs.declared.root.Root.{Root}
-use Rattle.psu_pages.specs.Image.{other, gate_at, Counts}
-use Rattle.psu_items.specs.Image.{counting, number_in, RootHolds}
+use Rattle.psu_pages.specs.Image.{other, gate_at, IsCurrent}
+use Rattle.psu_items.specs.Image.{current_root, number_in, RootHolds}
 
 -- the root that is current in y is current in x, with the same number and, where it holds a map there, with that map;
 -- of all bytes only the gate of the other root may differ
 pub record SameRoots (y x : List ℕ) : Type 0 where
-  pub counts : (root : Root) → Counts root y → Counts root x
-  pub numbers : (root : Root) → Counts root y → number_in root x ≡ number_in root y
-  pub holds : (root : Root) → Counts root y → (limit : ℕ) (map : List Item) → RootHolds root y limit map → RootHolds root x limit map
-  pub but : SameBut (gate_at (other (counting y))) 1 y x
+  pub current : (root : Root) → IsCurrent root y → IsCurrent root x
+  pub numbers : (root : Root) → IsCurrent root y → number_in root x ≡ number_in root y
+  pub holds : (root : Root) → IsCurrent root y → (limit : ℕ) (map : List Item) → RootHolds root y limit map → RootHolds root x limit map
+  pub but : SameBut (gate_at (other (current_root y))) 1 y x
 
 -- an image is one from before, or the root that was current when it was read is current in it
 abbrev pub IsOldOrSame : DiskState → List ℕ → Type 0
-IsOldOrSame old image = Left old image ⊎ SameRoots old.bytes image
+IsOldOrSame old image = IsCrashImage old image ⊎ SameRoots old.bytes image
 
 -- why a disk is not opened, by why its pages are not read; reading claims no pages
 abbrev pub IsUnread : PageFault → OpenCause → Type 0

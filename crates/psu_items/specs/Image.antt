@@ -1,6 +1,6 @@
 -- The map that the bytes of an image represent, of version 1 or 2: the items that the current root shows.
 use Rattle.std.specs.Prelude.{◌≡◌, ℕ, ◌+◌, ◌⊎◌, List, map, ⊤}
-use Rattle.psu_disk.specs.Disk.{DiskState, Left}
+use Rattle.psu_disk.specs.Disk.{DiskState, IsCrashImage}
 use Rattle.psu_map.specs.Map.{Item, item_of, IsSorted}
 use Rattle.psu_map.specs.Capacity.{IsMapOf}
 use Rattle.psu_pages.specs.declared.open_cause.OpenCause.{OpenCause}
@@ -23,8 +23,8 @@ abbrev pub shown_in : Root → List ℕ → List Item
 shown_in root image = map as_item (shown.items_in root image)
 
 -- the current root, its number and its version
-abbrev pub counting : List ℕ → Root
-counting = pages.counting
+abbrev pub current_root : List ℕ → Root
+current_root = pages.current_root
 
 abbrev pub number_in : Root → List ℕ → ℕ
 number_in = pages.number_in
@@ -51,42 +51,42 @@ abbrev pub HasOtherVersion : List ℕ → Type 0
 HasOtherVersion = finding.HasOtherVersion
 
 -- The current root holds the map: the image represents the map.
-pub record Stands (image : List ℕ) (limit : ℕ) (map : List Item) : Type 0 where
-  pub counts : pages.Counts (counting image) image
-  pub holds : RootHolds (counting image) image limit map
+pub record Represents (image : List ℕ) (limit : ℕ) (map : List Item) : Type 0 where
+  pub current : pages.IsCurrent (current_root image) image
+  pub holds : RootHolds (current_root image) image limit map
 
 -- each possible crash image represents the map
-abbrev pub EachStands : DiskState → ℕ → List Item → Type 0
-EachStands disk limit map = (image : List ℕ) → Left disk image → Stands image limit map
+abbrev pub EachRepresents : DiskState → ℕ → List Item → Type 0
+EachRepresents disk limit map = (image : List ℕ) → IsCrashImage disk image → Represents image limit map
 
 -- the image represents one of two maps
 abbrev pub IsEither : ℕ → List Item → List Item → List ℕ → Type 0
-IsEither limit before target image = Stands image limit before ⊎ Stands image limit target
+IsEither limit before target image = Represents image limit before ⊎ Represents image limit target
 
 -- each possible crash image represents one of two maps
 abbrev pub EachIsEither : DiskState → ℕ → List Item → List Item → Type 0
-EachIsEither disk limit before target = (image : List ℕ) → Left disk image → IsEither limit before target image
+EachIsEither disk limit before target = (image : List ℕ) → IsCrashImage disk image → IsEither limit before target image
 
 -- The current root holds the map, and has this version and this number.
-pub record StandsAs (version number : ℕ) (image : List ℕ) (limit : ℕ) (map : List Item) : Type 0 where
-  pub stands : Stands image limit map
-  pub version_is : version_in (counting image) image ≡ version
-  pub number_is : number_in (counting image) image ≡ number
+pub record RepresentsAs (version number : ℕ) (image : List ℕ) (limit : ℕ) (map : List Item) : Type 0 where
+  pub represents : Represents image limit map
+  pub version_is : version_in (current_root image) image ≡ version
+  pub number_is : number_in (current_root image) image ≡ number
 
 -- a possible crash image of a commit: it represents the map before, under the version and the number that it had, or
 -- the target, as version 2 and under the next number
 abbrev pub IsEitherRoot : ℕ → ℕ → ℕ → List Item → List Item → List ℕ → Type 0
-IsEitherRoot version number limit before target image = StandsAs version number image limit before ⊎ StandsAs 2 (number + 1) image limit target
+IsEitherRoot version number limit before target image = RepresentsAs version number image limit before ⊎ RepresentsAs 2 (number + 1) image limit target
 
 abbrev pub EachIsEitherRoot : DiskState → ℕ → ℕ → ℕ → List Item → List Item → Type 0
-EachIsEitherRoot disk version number limit before target = (image : List ℕ) → Left disk image → IsEitherRoot version number limit before target image
+EachIsEitherRoot disk version number limit before target = (image : List ℕ) → IsCrashImage disk image → IsEitherRoot version number limit before target image
 
 -- there are two roots, at least one with an open gate, and the image represents no map; the cause is not an unsupported
 -- version
 pub record HasBadRoot (image : List ℕ) : Type 0 where
   pub some_root : HasNoRoot image → ⊥
   pub same_version : HasOtherVersion image → ⊥
-  pub none_stands : (limit : ℕ) (map : List Item) → Stands image limit map → ⊥
+  pub represents_none : (limit : ℕ) (map : List Item) → Represents image limit map → ⊥
 
 -- The cause for which an image is refused. A failed disk call and an allocation failure imply nothing about the image.
 abbrev pub IsRefusal : List ℕ → OpenCause → Type 0

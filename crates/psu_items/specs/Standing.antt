@@ -1,6 +1,6 @@
 -- A store as its callers see it, and what its pages hold.
 use Rattle.std.specs.Prelude.{◌≡◌, ℕ, List, true}
-use Rattle.psu_disk.specs.Disk.{DiskState, Left}
+use Rattle.psu_disk.specs.Disk.{DiskState, IsCrashImage}
 use Rattle.psu_disk.specs.declared.disk.Disk.{Ghosts}
 use Rattle.psu_map.specs.Map.{Item, IsSorted}
 use Rattle.psu_map.specs.Capacity.{IsMapOf}
@@ -8,7 +8,7 @@ use Rattle.psu_pages.specs.Free.{is_free}
 use Rattle.psu_pages.specs.Image.{Head, IsInPool, IsNone, taken}
 use Rattle.psu_pages.specs.declared.pages.Pages.{Pages}
 use Rattle.psu_pages.specs.declared.standing.Standing.TheVariants.{One}
-use Rattle.psu_items.specs.Image.{EachStands, counting, number_in, version_in, shown_in}
+use Rattle.psu_items.specs.Image.{EachRepresents, current_root, number_in, version_in, shown_in}
 
 -- a map on a disk: how many pages it may take, and the version and the number of the current root
 pub record MapOn (D : Type 0) : Type 0 where
@@ -20,9 +20,9 @@ pub record MapOn (D : Type 0) : Type 0 where
 
 -- each possible crash image of the store's disk represents its map, under its version and its number
 pub record IsOnDisk {D : Type 0} (state : D → DiskState) (store : MapOn D) : Type 0 where
-  pub stands : EachStands (state store.disk) store.limit store.items
-  pub numbered : (image : List ℕ) → Left (state store.disk) image → number_in (counting image) image ≡ store.number
-  pub versioned : (image : List ℕ) → Left (state store.disk) image → version_in (counting image) image ≡ store.version
+  pub represents : EachRepresents (state store.disk) store.limit store.items
+  pub numbered : (image : List ℕ) → IsCrashImage (state store.disk) image → number_in (current_root image) image ≡ store.number
+  pub versioned : (image : List ℕ) → IsCrashImage (state store.disk) image → version_in (current_root image) image ≡ store.version
 
 -- the store that callers see, of a map on pages
 abbrev pub on_pages : {D A : Type 0} {G : Ghosts D} → Pages D A G → List Item → MapOn D

@@ -1,8 +1,8 @@
 //! A store whose disk failed in a commit.
 ghost use Rattle.std.specs.Prelude.{◌≡◌, ◌≢◌, ◌⊎◌, ◌↔◌, ◌≤◌, List, ℕ, IsTrue, IfOk, IfErr, OnErr};
-ghost use Rattle.psu_disk.specs.Disk.{HasFailed, Left, LeavesOnly};
+ghost use Rattle.psu_disk.specs.Disk.{HasFailed, IsCrashImage, LeavesOnly};
 ghost use Rattle.psu_map.specs.Batch.{changed};
-ghost use Rattle.psu_items.specs.Image.{EachIsEither, IsEither, counting, number_in};
+ghost use Rattle.psu_items.specs.Image.{EachIsEither, IsEither, current_root, number_in};
 ghost use Rattle.psu_items.specs.Finding.{IsOldOrSame};
 ghost use Rattle.psu_items.specs.Recovering.{broken_cause};
 ghost use Rattle.psu_items.specs.Recovered.{recovered_disk};
@@ -47,7 +47,7 @@ pub struct Broken<D: Disk, A: Allocator + Copy> {
     pub(crate) before: Items<A>,
     pub(crate) batch: Batch<A>,
     pub(crate) cause: BrokenCause,
-    ghost either: { D.honest → (image : List ℕ) → Left (D.state disk) image → ∥ IsEither limit before (changed before batch) image ∥₁ },
+    ghost either: { D.honest → (image : List ℕ) → IsCrashImage (D.state disk) image → ∥ IsEither limit before (changed before batch) image ∥₁ },
 }
 
 impl<D: Disk, A: Allocator + Copy> Broken<D, A> {
@@ -56,7 +56,7 @@ impl<D: Disk, A: Allocator + Copy> Broken<D, A> {
     /// The map before the commit.
     pub fn before(&self) -> &Items<A>
         ensures value { result.now ≡ self.now.before }
-        ensures stands { D.honest → EachIsEither (D.state self.now.disk) self.now.limit self.now.before (changed self.now.before self.now.batch) }
+        ensures represents { D.honest → EachIsEither (D.state self.now.disk) self.now.limit self.now.before (changed self.now.before self.now.batch) }
     {
         &self.before
     }
@@ -87,21 +87,21 @@ impl<D: Disk, A: Allocator + Copy> Broken<D, A> {
     pub fn reopen(self, alloc: A) -> Result<Store<D, A>, Broken<D, A>>
         ensures found { IfOk result (λ store. ((store.items ≡ self.before) ⊎ (store.items ≡ changed self.before self.batch)) × (store.limit ≡ self.limit)) }
         ensures same { IfErr result (IsStillBroken self) }
-        ensures stands { D.honest → IfOk result (λ store. IsOnDisk D.state store) }
+        ensures represents { D.honest → IfOk result (λ store. IsOnDisk D.state store) }
         ensures left { D.honest → IfErr result (λ broken. EachIsEither (D.state broken.disk) broken.limit broken.before (changed broken.before broken.batch)) }
         ensures works { IfOk result (λ store. D.failures store.disk ≡ D.failures self.disk) }
         ensures later { D.failures self.disk ≤ D.failures (reopened_disk result) }
         ensures device { IfErr result (λ broken. broken.cause ≡ Device → HasFailed (D.failures self.disk) (D.failures broken.disk)) }
         ensures strange { D.honest → IfErr result (λ broken. broken.cause ≢ Strange) }
         ensures quiet { IfErr result (λ broken. broken.cause ≢ Device → D.failures broken.disk ≡ D.failures self.disk) }
-        ensures number { D.honest → IfOk result (λ store. store.number ≡ number_in (counting (D.state self.disk).bytes) (D.state self.disk).bytes) }
+        ensures number { D.honest → IfOk result (λ store. store.number ≡ number_in (current_root (D.state self.disk).bytes) (D.state self.disk).bytes) }
         ensures extent { D.extent (reopened_disk result) ≡ D.extent self.disk }
-        ensures time { D.honest → D.tells
+        ensures time { D.honest → D.records
             → LeavesOnly D.moment D.left_since self.disk (reopened_disk result) (IsEither self.limit self.before (changed self.before self.batch)) }
 
         // Only the gate of the older root is written.
-        ensures images { D.honest → (image : List ℕ) → Left (D.state (reopened_disk result)) image → IsOldOrSame (D.state self.disk) image }
-        ensures moments { D.honest → D.tells → LeavesOnly D.moment D.left_since self.disk (reopened_disk result) (IsOldOrSame (D.state self.disk)) }
+        ensures images { D.honest → (image : List ℕ) → IsCrashImage (D.state (reopened_disk result)) image → IsOldOrSame (D.state self.disk) image }
+        ensures moments { D.honest → D.records → LeavesOnly D.moment D.left_since self.disk (reopened_disk result) (IsOldOrSame (D.state self.disk)) }
     {
         let Broken {
             disk,
@@ -134,7 +134,7 @@ impl<D: Disk, A: Allocator + Copy> Broken<D, A> {
     /// Returns the disk, as the failed commit left it.
     pub fn into_disk(self) -> D
         ensures value { result ≡ self.disk }
-        ensures stands { D.honest → EachIsEither (D.state result) self.limit self.before (changed self.before self.batch) }
+        ensures represents { D.honest → EachIsEither (D.state result) self.limit self.before (changed self.before self.batch) }
     {
         self.disk
     }
@@ -157,16 +157,16 @@ fn recover<D: Disk, A: Allocator + Copy>(
 ) -> Result<Store<D, A>, Unfound<D>>
     ensures found { IfOk result (λ store. (store.items ≡ before.now) ⊎ (store.items ≡ target.now)) }
     ensures limit { IfOk result (λ store. store.limit ≡ limit) }
-    ensures stands { D.honest → IfOk result (λ store. IsOnDisk D.state store) }
+    ensures represents { D.honest → IfOk result (λ store. IsOnDisk D.state store) }
     ensures works { IfOk result (λ store. D.failures store.disk ≡ D.failures disk) }
     ensures later { D.failures disk ≤ D.failures (recovered_disk result) }
     ensures device { IfErr result (λ e. e.cause ≡ Device → HasFailed (D.failures disk) (D.failures e.disk)) }
     ensures quiet { IfErr result (λ e. e.cause ≢ Device → D.failures e.disk ≡ D.failures disk) }
     ensures strange { D.honest → EachIsEither (D.state disk) limit before.now target.now → IfErr result (λ e. e.cause ≢ Strange) }
-    ensures number { D.honest → IfOk result (λ store. store.number ≡ number_in (counting (D.state disk).bytes) (D.state disk).bytes) }
+    ensures number { D.honest → IfOk result (λ store. store.number ≡ number_in (current_root (D.state disk).bytes) (D.state disk).bytes) }
     ensures extent { D.extent (recovered_disk result) ≡ D.extent disk }
-    ensures images { D.honest → (image : List ℕ) → Left (D.state (recovered_disk result)) image → IsOldOrSame (D.state disk) image }
-    ensures moments { D.honest → D.tells → LeavesOnly D.moment D.left_since disk (recovered_disk result) (IsOldOrSame (D.state disk)) }
+    ensures images { D.honest → (image : List ℕ) → IsCrashImage (D.state (recovered_disk result)) image → IsOldOrSame (D.state disk) image }
+    ensures moments { D.honest → D.records → LeavesOnly D.moment D.left_since disk (recovered_disk result) (IsOldOrSame (D.state disk)) }
 {
     match Store::open(alloc, disk) {
         Ok(store) => match one_of(store, limit, before, target) {

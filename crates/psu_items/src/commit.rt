@@ -1,12 +1,12 @@
 //! One step of a store: from a map to the map after a batch.
 ghost use Rattle.std.specs.Prelude.{◌≡◌, ◌+◌, ◌≤◌, ◌^◌, ◌↔◌, List, ℕ, IsTrue, IfOk};
-ghost use Rattle.psu_disk.specs.Disk.{Left, Follows, LeavesOnly};
+ghost use Rattle.psu_disk.specs.Disk.{IsCrashImage, Follows, LeavesOnly};
 ghost use Rattle.psu_pages.specs.Writing.{Reaches};
 ghost use Rattle.psu_map.specs.Capacity.{CanHold};
 ghost use Rattle.psu_map.specs.Batch.{changed};
-ghost use Rattle.psu_items.specs.Image.{EachStands, EachIsEither, IsEither, EachIsEitherRoot, IsEitherRoot};
+ghost use Rattle.psu_items.specs.Image.{EachRepresents, EachIsEither, IsEither, EachIsEitherRoot, IsEitherRoot};
 ghost use Rattle.psu_items.specs.Standing.{IsOnDisk};
-ghost use Rattle.psu_items.specs.Writing.{SameBehind, EachKeepsHeads};
+ghost use Rattle.psu_items.specs.Writing.{SameAfterPool, EachKeepsHeads};
 
 use crate::renew::{Unwritten, renew};
 use crate::{Broken, BrokenCause, Store};
@@ -49,25 +49,25 @@ impl<D: Disk, A: Allocator + Copy> Store<D, A> {
         ensures worn { 2 ^ 64 ≤ self.number + 1 → IsWorn result }
         ensures broken { IfBroken result (HasBroken self batch) }
         ensures extent { D.extent (disk_of result) ≡ D.extent self.disk }
-        ensures stands_stored { D.honest → IfStored result (λ store. IsOnDisk D.state store) }
-        ensures stands_unstarted { D.honest → IfUnstarted result (λ store _ _. IsOnDisk D.state store) }
-        ensures left_stored { D.honest → IfStored result (λ store. EachStands (D.state store.disk) self.limit (changed self.items batch)) }
+        ensures represents_stored { D.honest → IfStored result (λ store. IsOnDisk D.state store) }
+        ensures represents_unstarted { D.honest → IfUnstarted result (λ store _ _. IsOnDisk D.state store) }
+        ensures left_stored { D.honest → IfStored result (λ store. EachRepresents (D.state store.disk) self.limit (changed self.items batch)) }
         ensures left_broken { D.honest → IfBroken result (λ broken. EachIsEither (D.state broken.disk) self.limit self.items (changed self.items batch)) }
-        ensures time { D.honest → D.tells
+        ensures time { D.honest → D.records
             → LeavesOnly D.moment D.left_since self.disk (disk_of result) (IsEither self.limit self.items (changed self.items batch)) }
 
         // At each moment each possible crash image represents the map before, under its version and its number, or the
         // map after the batch, as version 2 and under the next number.
         ensures roots { D.honest → EachIsEitherRoot (D.state (disk_of result)) self.version self.number self.limit self.items (changed self.items batch) }
-        ensures roots_time { D.honest → D.tells
+        ensures roots_time { D.honest → D.records
             → LeavesOnly D.moment D.left_since self.disk (disk_of result) (IsEitherRoot self.version self.number self.limit self.items (changed self.items batch)) }
 
         // Items that no edit changes keep their pages.
         ensures heads { D.honest → IfStored result (λ store. EachKeepsHeads batch (D.state self.disk) (D.state store.disk)) }
 
         // After the roots and the pool, each possible crash image has the bytes of one from before.
-        ensures behind { D.honest → Follows (SameBehind self.limit) (Left (D.state self.disk)) (Left (D.state (disk_of result))) }
-        ensures behind_time { D.honest → D.tells → LeavesOnly D.moment D.left_since self.disk (disk_of result) (Reaches (SameBehind self.limit) (Left (D.state self.disk))) }
+        ensures after_pool { D.honest → Follows (SameAfterPool self.limit) (IsCrashImage (D.state self.disk)) (IsCrashImage (D.state (disk_of result))) }
+        ensures after_pool_time { D.honest → D.records → LeavesOnly D.moment D.left_since self.disk (disk_of result) (Reaches (SameAfterPool self.limit) (IsCrashImage (D.state self.disk))) }
     {
         if self.is_worn() {
             return Commit::Unstarted(self, batch, UnstartedCause::Worn);

@@ -21,7 +21,7 @@ impl<D: Disk, A: Allocator + Copy> Store<D, A> {
         requires limit_most { limit ≤ 480 }
         requires room { 512 * (2 + 2 * limit) ≤ D.extent disk }
         ensures fresh { IfOk result (λ store. (store.items ≡ []) × (store.limit ≡ limit) × (store.version ≡ 2) × (store.number ≡ 1)) }
-        ensures stands { D.honest → IfOk result (λ store. IsOnDisk D.state store) }
+        ensures represents { D.honest → IfOk result (λ store. IsOnDisk D.state store) }
         ensures extent { D.extent (formatted_disk result) ≡ D.extent disk }
         ensures works { IfOk result (λ store. D.failures store.disk ≡ D.failures disk) }
         ensures later { D.failures disk ≤ D.failures (formatted_disk result) }

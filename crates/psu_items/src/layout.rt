@@ -49,7 +49,7 @@ pub fn lay_out<D: Disk, A: Allocator + Copy>(
     match fill(alloc, pages, target, &mut layout) {
         Ok(()) => Ok(layout),
         Err(AllocError) => {
-            give_up(pages, layout);
+            release(pages, layout);
             Err(AllocError)
         }
     }
@@ -159,7 +159,7 @@ fn add_place<A: Allocator + Copy>(places: &mut Vec<usize, A>, place: usize)
 }
 
 // Frees the pages of the heads that were planned.
-fn give_up<D: Disk, A: Allocator + Copy>(pages: &mut Pages<D, A>, mut layout: Layout<A>)
+fn release<D: Disk, A: Allocator + Copy>(pages: &mut Pages<D, A>, mut layout: Layout<A>)
     requires planned { AllByRecursion (λ (slot : SlotOf A). slot.is_new ≡ true → IsPlanned pages.old slot.head) (slots_of layout) }
     requires apart { AreApart (taken (heads_of (slots_of layout))) }
     requires kept { AllByRecursion (λ (slot : SlotOf A). slot.is_new ≡ false → IsOneOf pages.old.heads.items slot.head) (slots_of layout) }

@@ -1,18 +1,18 @@
 //! The part of a commit that writes.
 ghost use Rattle.std.specs.Prelude.{◌≡◌, ◌≢◌, ◌+◌, ◌<◌, ◌≤◌, ◌^◌, ◌++◌, ◌∷◌, [], true, false, Some, List, ℕ, length, OnOk, IfErr, vec_len, vec_capacity};
 ghost use Rattle.std.specs.List.{AllByRecursion};
-ghost use Rattle.psu_disk.specs.Disk.{Left, Follows, LeavesOnly, HasFailed};
+ghost use Rattle.psu_disk.specs.Disk.{IsCrashImage, Follows, LeavesOnly, HasFailed};
 ghost use Rattle.psu_map.specs.Map.{Item, get, IsSorted};
 ghost use Rattle.psu_pages.specs.Free.{AreClaimed, IsRoster};
 ghost use Rattle.psu_pages.specs.Image.{AreApart, AreClear, IsInPool, keys, pages_of, taken, Head as HeadOf};
 ghost use Rattle.psu_pages.specs.Outcome.{IsPlanned, HasSameHeads};
-ghost use Rattle.psu_pages.specs.Shown.{items_in, Bears};
+ghost use Rattle.psu_pages.specs.Shown.{items_in, Encodes};
 ghost use Rattle.psu_pages.specs.Writing.{IsWritten, Reaches};
 ghost use Rattle.psu_items.specs.Image.{IsEitherRoot, EachIsEitherRoot};
 ghost use Rattle.psu_items.specs.Layout.{heads_of, keys_in, slots_of, value_at, IsSized, StandsWritten};
 ghost use Rattle.psu_items.specs.Standing.{AreSpare, IsSpare, ShowsMap};
 ghost use Rattle.psu_map.specs.Target.{aimed};
-ghost use Rattle.psu_items.specs.Writing.{SameBehind};
+ghost use Rattle.psu_items.specs.Writing.{SameAfterPool};
 ghost use Rattle.psu_items.specs.declared.slot.Slot.{Slot as SlotOf};
 ghost use Rattle.psu_pages.specs.declared.page_fault.PageFault.TheVariants.{Device};
 ghost use Rattle.psu_pages.specs.declared.standing.Standing.TheVariants.{One, Unsure};
@@ -52,9 +52,9 @@ pub fn put<D: Disk, A: Allocator + Copy>(
     ensures number { OnOk result (pages.new.number ≡ pages.old.number + 1) }
     ensures heads { OnOk result (pages.new.heads.items ≡ heads_of (slots_of layout)) }
     ensures left { D.honest → (before : List Item) → ShowsMap pages.old before → EachIsEitherRoot (D.state pages.new.disk) pages.old.version pages.old.number pages.old.limit before (aimed target.now) }
-    ensures time { D.honest → D.tells → (before : List Item) → ShowsMap pages.old before → LeavesOnly D.moment D.left_since pages.old.disk pages.new.disk (IsEitherRoot pages.old.version pages.old.number pages.old.limit before (aimed target.now)) }
-    ensures behind { D.honest → Follows (SameBehind pages.old.limit) (Left (D.state pages.old.disk)) (Left (D.state pages.new.disk)) }
-    ensures behind_time { D.honest → D.tells → LeavesOnly D.moment D.left_since pages.old.disk pages.new.disk (Reaches (SameBehind pages.old.limit) (Left (D.state pages.old.disk))) }
+    ensures time { D.honest → D.records → (before : List Item) → ShowsMap pages.old before → LeavesOnly D.moment D.left_since pages.old.disk pages.new.disk (IsEitherRoot pages.old.version pages.old.number pages.old.limit before (aimed target.now)) }
+    ensures after_pool { D.honest → Follows (SameAfterPool pages.old.limit) (IsCrashImage (D.state pages.old.disk)) (IsCrashImage (D.state pages.new.disk)) }
+    ensures after_pool_time { D.honest → D.records → LeavesOnly D.moment D.left_since pages.old.disk pages.new.disk (Reaches (SameAfterPool pages.old.limit) (IsCrashImage (D.state pages.old.disk))) }
 {
     write_heads(pages, target, &layout)?;
     pages.publish_root(layout.heads)?;
@@ -83,12 +83,12 @@ fn write_heads<D: Disk, A: Allocator + Copy>(
     ensures written { D.honest → AllByRecursion (StandsWritten (D.state pages.old.disk).bytes (aimed target.now)) (slots_of layout.now)
         → OnOk result (AllByRecursion (λ (slot : SlotOf A). IsWritten (D.state pages.new.disk).bytes slot.head (value_at (aimed target.now) slot.head.key)) (slots_of layout.now)) }
     ensures shown { D.honest → items_in pages.new.root (D.state pages.new.disk).bytes ≡ items_in pages.old.root (D.state pages.old.disk).bytes }
-    ensures left { D.honest → (image : List ℕ) → Left (D.state pages.new.disk) image
-        → Bears pages.old.root pages.old.version pages.old.limit pages.old.number pages.old.heads.items (items_in pages.old.root (D.state pages.old.disk).bytes) image }
-    ensures time { D.honest → D.tells → LeavesOnly D.moment D.left_since pages.old.disk pages.new.disk
-        (Bears pages.old.root pages.old.version pages.old.limit pages.old.number pages.old.heads.items (items_in pages.old.root (D.state pages.old.disk).bytes)) }
-    ensures behind { D.honest → Follows (SameBehind pages.old.limit) (Left (D.state pages.old.disk)) (Left (D.state pages.new.disk)) }
-    ensures behind_time { D.honest → D.tells → LeavesOnly D.moment D.left_since pages.old.disk pages.new.disk (Reaches (SameBehind pages.old.limit) (Left (D.state pages.old.disk))) }
+    ensures left { D.honest → (image : List ℕ) → IsCrashImage (D.state pages.new.disk) image
+        → Encodes pages.old.root pages.old.version pages.old.limit pages.old.number pages.old.heads.items (items_in pages.old.root (D.state pages.old.disk).bytes) image }
+    ensures time { D.honest → D.records → LeavesOnly D.moment D.left_since pages.old.disk pages.new.disk
+        (Encodes pages.old.root pages.old.version pages.old.limit pages.old.number pages.old.heads.items (items_in pages.old.root (D.state pages.old.disk).bytes)) }
+    ensures after_pool { D.honest → Follows (SameAfterPool pages.old.limit) (IsCrashImage (D.state pages.old.disk)) (IsCrashImage (D.state pages.new.disk)) }
+    ensures after_pool_time { D.honest → D.records → LeavesOnly D.moment D.left_since pages.old.disk pages.new.disk (Reaches (SameAfterPool pages.old.limit) (IsCrashImage (D.state pages.old.disk))) }
 {
     for place in &layout.unwritten {
         write_head(pages, target, &layout.heads[*place])?;
@@ -117,12 +117,12 @@ fn write_head<D: Disk, A: Allocator + Copy>(
     ensures others { D.honest → (other : HeadOf) (its : List ℕ) → IsWritten (D.state pages.old.disk).bytes other its → AllByRecursion (IsInPool pages.old.limit) (pages_of other)
         → AreClear (pages_of head.now) (pages_of other) → IsWritten (D.state pages.new.disk).bytes other its }
     ensures shown { D.honest → items_in pages.new.root (D.state pages.new.disk).bytes ≡ items_in pages.old.root (D.state pages.old.disk).bytes }
-    ensures left { D.honest → (image : List ℕ) → Left (D.state pages.new.disk) image
-        → Bears pages.old.root pages.old.version pages.old.limit pages.old.number pages.old.heads.items (items_in pages.old.root (D.state pages.old.disk).bytes) image }
-    ensures time { D.honest → D.tells → LeavesOnly D.moment D.left_since pages.old.disk pages.new.disk
-        (Bears pages.old.root pages.old.version pages.old.limit pages.old.number pages.old.heads.items (items_in pages.old.root (D.state pages.old.disk).bytes)) }
-    ensures behind { D.honest → Follows (SameBehind pages.old.limit) (Left (D.state pages.old.disk)) (Left (D.state pages.new.disk)) }
-    ensures behind_time { D.honest → D.tells → LeavesOnly D.moment D.left_since pages.old.disk pages.new.disk (Reaches (SameBehind pages.old.limit) (Left (D.state pages.old.disk))) }
+    ensures left { D.honest → (image : List ℕ) → IsCrashImage (D.state pages.new.disk) image
+        → Encodes pages.old.root pages.old.version pages.old.limit pages.old.number pages.old.heads.items (items_in pages.old.root (D.state pages.old.disk).bytes) image }
+    ensures time { D.honest → D.records → LeavesOnly D.moment D.left_since pages.old.disk pages.new.disk
+        (Encodes pages.old.root pages.old.version pages.old.limit pages.old.number pages.old.heads.items (items_in pages.old.root (D.state pages.old.disk).bytes)) }
+    ensures after_pool { D.honest → Follows (SameAfterPool pages.old.limit) (IsCrashImage (D.state pages.old.disk)) (IsCrashImage (D.state pages.new.disk)) }
+    ensures after_pool_time { D.honest → D.records → LeavesOnly D.moment D.left_since pages.old.disk pages.new.disk (Reaches (SameAfterPool pages.old.limit) (IsCrashImage (D.state pages.old.disk))) }
 {
     let Some(value) = target.get(head.key()) else {
         unreachable!()

@@ -1,6 +1,6 @@
 //! The items of the heads that a root names.
 ghost use Rattle.std.specs.Prelude.{◌≡◌, ◌≢◌, ◌+◌, ◌≤◌, ◌<◌, List, ℕ, length, drop, OnOk, IfOk, IfErr, IsErrOf};
-ghost use Rattle.psu_disk.specs.Disk.{Left, LeavesOnly, HasFailed};
+ghost use Rattle.psu_disk.specs.Disk.{IsCrashImage, LeavesOnly, HasFailed};
 ghost use Rattle.psu_map.specs.Capacity.{IsMapOf};
 ghost use Rattle.psu_pages.specs.Outcome.{HasSameHeads};
 ghost use Rattle.psu_items.specs.Image.{listed};
@@ -27,8 +27,8 @@ pub fn read_items<D: Disk, A: Allocator + Copy>(
     ensures same { HasSameHeads pages.old pages.new }
     ensures standing { pages.new.standing ≡ pages.old.standing }
     ensures seen { D.honest → (D.state pages.new.disk).bytes ≡ (D.state pages.old.disk).bytes }
-    ensures left { D.honest → (x : List ℕ) → Left (D.state pages.new.disk) x → Left (D.state pages.old.disk) x }
-    ensures time { D.honest → D.tells → LeavesOnly D.moment D.left_since pages.old.disk pages.new.disk (Left (D.state pages.old.disk)) }
+    ensures left { D.honest → (x : List ℕ) → IsCrashImage (D.state pages.new.disk) x → IsCrashImage (D.state pages.old.disk) x }
+    ensures time { D.honest → D.records → LeavesOnly D.moment D.left_since pages.old.disk pages.new.disk (IsCrashImage (D.state pages.old.disk)) }
 {
     let mut items = Items::new(alloc);
     let mut at = pages.heads().len();
@@ -58,8 +58,8 @@ fn read_item<D: Disk, A: Allocator + Copy>(
     ensures same { HasSameHeads pages.old pages.new }
     ensures standing { pages.new.standing ≡ pages.old.standing }
     ensures seen { D.honest → (D.state pages.new.disk).bytes ≡ (D.state pages.old.disk).bytes }
-    ensures left { D.honest → (x : List ℕ) → Left (D.state pages.new.disk) x → Left (D.state pages.old.disk) x }
-    ensures time { D.honest → D.tells → LeavesOnly D.moment D.left_since pages.old.disk pages.new.disk (Left (D.state pages.old.disk)) }
+    ensures left { D.honest → (x : List ℕ) → IsCrashImage (D.state pages.new.disk) x → IsCrashImage (D.state pages.old.disk) x }
+    ensures time { D.honest → D.records → LeavesOnly D.moment D.left_since pages.old.disk pages.new.disk (IsCrashImage (D.state pages.old.disk)) }
 {
     let head = pages.heads()[at].share()?;
     let value = pages.load(alloc, &head)?;

@@ -1,6 +1,6 @@
 //! The writing of the map after a batch, with its allocations first.
 ghost use Rattle.std.specs.Prelude.{◌≡◌, ◌+◌, ◌<◌, ◌≤◌, ◌^◌, OnOk, IsErrOf};
-ghost use Rattle.psu_disk.specs.Disk.{Left, Follows, LeavesOnly, HasFailed};
+ghost use Rattle.psu_disk.specs.Disk.{IsCrashImage, Follows, LeavesOnly, HasFailed};
 ghost use Rattle.psu_pages.specs.Outcome.{HasSameRoots};
 ghost use Rattle.psu_pages.specs.Writing.{Reaches};
 ghost use Rattle.psu_map.specs.Capacity.{CanHold};
@@ -8,7 +8,7 @@ ghost use Rattle.psu_map.specs.Batch.{changed};
 ghost use Rattle.psu_items.specs.Image.{EachIsEitherRoot, IsEitherRoot};
 ghost use Rattle.psu_items.specs.Layout.{HaveKept};
 ghost use Rattle.psu_items.specs.Standing.{KeepsMap};
-ghost use Rattle.psu_items.specs.Writing.{SameBehind};
+ghost use Rattle.psu_items.specs.Writing.{SameAfterPool};
 ghost use Rattle.psu_items.specs.declared.renew.Unwritten.TheVariants.{Memory, Device};
 
 use crate::layout::lay_out;
@@ -49,9 +49,9 @@ pub fn renew<D: Disk, A: Allocator + Copy>(
     ensures same { IsErrOf result Memory → HasSameRoots pages.old pages.new × KeepsMap pages.new before.now }
     ensures device { IsErrOf result Device → HasFailed (D.failures pages.old.disk) (D.failures pages.new.disk) }
     ensures left { D.honest → EachIsEitherRoot (D.state pages.new.disk) pages.old.version pages.old.number pages.old.limit before.now (changed before.now batch.now) }
-    ensures time { D.honest → D.tells → LeavesOnly D.moment D.left_since pages.old.disk pages.new.disk (IsEitherRoot pages.old.version pages.old.number pages.old.limit before.now (changed before.now batch.now)) }
-    ensures behind { D.honest → Follows (SameBehind pages.old.limit) (Left (D.state pages.old.disk)) (Left (D.state pages.new.disk)) }
-    ensures behind_time { D.honest → D.tells → LeavesOnly D.moment D.left_since pages.old.disk pages.new.disk (Reaches (SameBehind pages.old.limit) (Left (D.state pages.old.disk))) }
+    ensures time { D.honest → D.records → LeavesOnly D.moment D.left_since pages.old.disk pages.new.disk (IsEitherRoot pages.old.version pages.old.number pages.old.limit before.now (changed before.now batch.now)) }
+    ensures after_pool { D.honest → Follows (SameAfterPool pages.old.limit) (IsCrashImage (D.state pages.old.disk)) (IsCrashImage (D.state pages.new.disk)) }
+    ensures after_pool_time { D.honest → D.records → LeavesOnly D.moment D.left_since pages.old.disk pages.new.disk (Reaches (SameAfterPool pages.old.limit) (IsCrashImage (D.state pages.old.disk))) }
 {
     let Ok(target) = Target::of(alloc, before, batch) else {
         return Err(Unwritten::Memory);

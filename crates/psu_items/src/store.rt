@@ -1,7 +1,7 @@
 //! A store between commits: a map on a disk.
 ghost use Rattle.std.specs.Prelude.{◌≡◌, ◌+◌, ◌*◌, ◌≤◌, [], List, ℕ, IfOk, IfErr};
-ghost use Rattle.psu_disk.specs.Disk.{Left, HasFailed};
-ghost use Rattle.psu_items.specs.Image.{counting, number_in, version_in, EachStands};
+ghost use Rattle.psu_disk.specs.Disk.{IsCrashImage, HasFailed};
+ghost use Rattle.psu_items.specs.Image.{current_root, number_in, version_in, EachRepresents};
 
 use psu_disk::Disk;
 use psu_map::Items;
@@ -30,7 +30,7 @@ impl<D: Disk, A: Allocator + Copy> Store<D, A> {
     /// The map.
     pub fn items(&self) -> &Items<A>
         ensures value { result.now ≡ self.now.items }
-        ensures stands { D.honest → EachStands (D.state self.now.disk) self.now.limit self.now.items }
+        ensures represents { D.honest → EachRepresents (D.state self.now.disk) self.now.limit self.now.items }
     {
         &self.items
     }
@@ -47,7 +47,7 @@ impl<D: Disk, A: Allocator + Copy> Store<D, A> {
     /// The number of the current root. Each commit increases it by 1.
     pub fn number(&self) -> u64
         ensures value { result ≡ self.now.number }
-        ensures stands { D.honest → (image : List ℕ) → Left (D.state self.now.disk) image → number_in (counting image) image ≡ result }
+        ensures represents { D.honest → (image : List ℕ) → IsCrashImage (D.state self.now.disk) image → number_in (current_root image) image ≡ result }
     {
         self.pages.number()
     }
@@ -55,7 +55,7 @@ impl<D: Disk, A: Allocator + Copy> Store<D, A> {
     /// The version of the current root: 1, or 2, which each commit writes.
     pub fn version(&self) -> u16
         ensures value { result ≡ self.now.version }
-        ensures stands { D.honest → (image : List ℕ) → Left (D.state self.now.disk) image → version_in (counting image) image ≡ result }
+        ensures represents { D.honest → (image : List ℕ) → IsCrashImage (D.state self.now.disk) image → version_in (current_root image) image ≡ result }
     {
         self.pages.version()
     }
@@ -63,8 +63,8 @@ impl<D: Disk, A: Allocator + Copy> Store<D, A> {
     /// Returns the disk, with the map on it.
     pub fn into_disk(self) -> D
         ensures value { result ≡ self.disk }
-        ensures stands { D.honest → EachStands (D.state result) self.limit self.items }
-        ensures number { D.honest → (image : List ℕ) → Left (D.state result) image → number_in (counting image) image ≡ self.number }
+        ensures represents { D.honest → EachRepresents (D.state result) self.limit self.items }
+        ensures number { D.honest → (image : List ℕ) → IsCrashImage (D.state result) image → number_in (current_root image) image ≡ self.number }
     {
         self.pages.into_disk()
     }

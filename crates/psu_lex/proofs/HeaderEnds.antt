@@ -56,14 +56,14 @@ reaches_joint several begun text at lt h r = reaches_on several begun false text
 -- ---- where it stops
 
 -- a header ends after k bytes, or the text is not a header
-record Stops (several begun : Bool) (rest : List ℕ) (k : ℕ) : Type 0 where
+record EndsAfter (several begun : Bool) (rest : List ℕ) (k : ℕ) : Type 0 where
   test : is_path several begun (run is_dark rest) ≡ (begun && is_apart (drop k rest))
   front : is_apart (drop k rest) ≡ true → take k rest ≡ run is_dark rest
   back : is_apart (drop k rest) ≡ true → drop k rest ≡ left is_dark rest
 
-stops_ask : (several begun : Bool) (xs : List ℕ) → Stops several begun (63 ∷ xs) 1
-stops_ask several begun [] = record { test = refl; front = λ h. refl; back = λ h. refl }
-stops_ask several begun (y ∷ ys) = elim (cases_Bool (is_white y)) [
+ends_ask : (several begun : Bool) (xs : List ℕ) → EndsAfter several begun (63 ∷ xs) 1
+ends_ask several begun [] = record { test = refl; front = λ h. refl; back = λ h. refl }
+ends_ask several begun (y ∷ ys) = elim (cases_Bool (is_white y)) [
   | inl t ↦ record { test = rw t refl; front = λ h. rw t refl; back = λ h. rw t refl }
   | inr f ↦ record { test = rw f refl; front = λ h. absurd (both (is_white y) h f); back = λ h. absurd (both (is_white y) h f) }
 ]
@@ -76,8 +76,8 @@ with_false : (b : Bool) → false ≡ (b && false)
 with_false true = refl
 with_false false = refl
 
-stops_other : (several begun : Bool) (x : ℕ) (xs : List ℕ) → (x == 63) ≡ false → is_part begun x ≡ false → joins begun several x ≡ false → Stops several begun (x ∷ xs) 0
-stops_other several begun x xs a p j = elim (cases_Bool (is_white x)) [
+ends_other : (several begun : Bool) (x : ℕ) (xs : List ℕ) → (x == 63) ≡ false → is_part begun x ≡ false → joins begun several x ≡ false → EndsAfter several begun (x ∷ xs) 0
+ends_other several begun x xs a p j = elim (cases_Bool (is_white x)) [
   | inl t ↦ record { test = rw t (with_true begun); front = λ h. rw t refl; back = λ h. rw t refl }
   | inr f ↦ record { test = rw f (rw (a, j, p) (with_false begun)); front = λ h. absurd (both (is_white x) h f); back = λ h. absurd (both (is_white x) h f) }
 ]
@@ -87,7 +87,7 @@ pub record Ended (several begun : Bool) (text : List ℕ) (end : ℕ) : Type 0 w
   pub front : is_apart (drop end text) ≡ true → take end text ≡ run is_dark text
   pub back : is_apart (drop end text) ≡ true → drop end text ≡ left is_dark text
 
-ended_at : (several begun : Bool) (text : List ℕ) (at k : ℕ) → Reaches several begun text at → Stops several begun (drop at text) k → Ended several begun text (at + k)
+ended_at : (several begun : Bool) (text : List ℕ) (at k : ℕ) → Reaches several begun text at → EndsAfter several begun (drop at text) k → Ended several begun text (at + k)
 ended_at several begun text at k r s =
     let later : drop (at + k) text ≡ drop k (drop at text) = drop-add at k text in
     let open_at = λ (h : is_apart (drop (at + k) text) ≡ true). subst (λ (z : List ℕ). is_apart z ≡ true) later h in
@@ -106,10 +106,10 @@ ended several begun text at end lt e p j r =
     elim (cases_Bool (x == 63)) [
       | inl t ↦
           let asks : drop at text ≡ 63 ∷ later = cut ∙ ap (λ (z : ℕ). z ∷ later) (eqb-true x 63 t) in
-          subst (Ended several begun text) (sym (e ∙ rw t refl)) (ended_at several begun text at 1 r (subst (λ (z : List ℕ). Stops several begun z 1) (sym asks) (stops_ask several begun later)))
+          subst (Ended several begun text) (sym (e ∙ rw t refl)) (ended_at several begun text at 1 r (subst (λ (z : List ℕ). EndsAfter several begun z 1) (sym asks) (ends_ask several begun later)))
       | inr f ↦
           let here : at + 0 ≡ at = omega arith in
-          subst (Ended several begun text) (here ∙ sym (e ∙ rw f refl)) (ended_at several begun text at 0 r (subst (λ (z : List ℕ). Stops several begun z 0) (sym cut) (stops_other several begun x later f p j)))
+          subst (Ended several begun text) (here ∙ sym (e ∙ rw f refl)) (ended_at several begun text at 0 r (subst (λ (z : List ℕ). EndsAfter several begun z 0) (sym cut) (ends_other several begun x later f p j)))
     ]
 
 pub ends_there : (several begun : Bool) (text : List ℕ) (end : ℕ) → Ended several begun text end → begun ≡ true → is_apart (drop end text) ≡ true → EndsDark (is_path several false) text end

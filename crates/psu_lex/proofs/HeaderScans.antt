@@ -4,8 +4,8 @@ use Rattle.std.proofs.lemmas.Bool.{not-true, eqb-true, and_parts, cases_Bool}
 use Rattle.std.proofs.lemmas.Bool.Decides.{nat_tests}
 use Rattle.psu_lex.specs.Bytes.{is_letter}
 use Rattle.psu_lex.specs.Syntax.{is_name_byte, all_name, is_node, all_nodes, behind, ask_text, mark_text, Header, IsHeader, SpellsHeader, header_text, path_text}
-use Rattle.psu_lex.specs.declared.mark.Mark.{Mark}
-use Rattle.psu_lex.specs.declared.mark.Mark.TheVariants.{Star, Colon, Bare}
+use Rattle.psu_lex.specs.declared.header_mark.HeaderMark.{HeaderMark}
+use Rattle.psu_lex.specs.declared.header_mark.HeaderMark.TheVariants.{Star, Colon, Bare}
 use Rattle.psu_lex.specs.SyntaxScan.{is_empty, joins, is_part, is_path, is_header, mark_of, behind_mark, ends_asking, without_ask}
 use Rattle.psu_lex.specs.NumberScan.{run, left}
 use Rattle.psu_lex.proofs.Runs.{same_head, same_tail, both, every, leads, run_at, left_at, every_head, every_tail, every_append, every_more}
@@ -28,9 +28,9 @@ empty_is : (xs : List ℕ) → is_empty xs ≡ true → xs ≡ []
 empty_is [] h = refl
 empty_is (x ∷ xs) h = absurd (cc (h))
 
-asked : (several begun : Bool) (x : ℕ) (xs : List ℕ) → x ≡ 63 → (begun && is_empty xs) ≡ true → Rest several begun (x ∷ xs)
-asked several true x xs e h = ([], [], true, refl, refl, (λ f. refl), ap (λ (z : ℕ). z ∷ xs) e ∙ ap (λ (z : List ℕ). 63 ∷ z) (empty_is xs h))
-asked several false x xs e h = absurd (cc (h))
+with_question : (several begun : Bool) (x : ℕ) (xs : List ℕ) → x ≡ 63 → (begun && is_empty xs) ≡ true → Rest several begun (x ∷ xs)
+with_question several true x xs e h = ([], [], true, refl, refl, (λ f. refl), ap (λ (z : ℕ). z ∷ xs) e ∙ ap (λ (z : List ℕ). 63 ∷ z) (empty_is xs h))
+with_question several false x xs e h = absurd (cc (h))
 
 joined : (several begun : Bool) (x : ℕ) (xs : List ℕ) → joins begun several x ≡ true → Rest several false xs → Rest several begun (x ∷ xs)
 joined true true x xs h (node, nodes, asks, n, ns, one, e) =
@@ -47,7 +47,7 @@ path_out : (several begun : Bool) (text : List ℕ) → is_path several begun te
 path_out several true [] h = ([], [], false, refl, refl, (λ f. refl), refl)
 path_out several false [] h = absurd (cc (h))
 path_out several begun (x ∷ xs) h = elim (cases_Bool (x == 63)) [
-  | inl t ↦ asked several begun x xs (eqb-true x 63 t) (rw t at h)
+  | inl t ↦ with_question several begun x xs (eqb-true x 63 t) (rw t at h)
   | inr f ↦ elim (cases_Bool (joins begun several x)) [
     | inl j ↦ joined several begun x xs j (path_out several false xs (rw (f, j) at h))
     | inr g ↦ elim (cases_Bool (is_part begun x)) [
@@ -128,7 +128,7 @@ bare_in : (node rest : List ℕ) → is_node node ≡ true → is_header (node +
 bare_in [] rest h = absurd (cc (h))
 bare_in (x ∷ node) rest h = let plain = bare_first x ((and_parts (is_letter x) (all_name node) h).0) in rw (plain.0, plain.1) refl
 
-header_at : (mark : Mark) (asks : Bool) (node : List ℕ) (nodes : List (List ℕ)) → is_node node ≡ true → all_nodes nodes ≡ true → (mark ≡ Star → nodes ≡ [])
+header_at : (mark : HeaderMark) (asks : Bool) (node : List ℕ) (nodes : List (List ℕ)) → is_node node ≡ true → all_nodes nodes ≡ true → (mark ≡ Star → nodes ≡ [])
     → is_header (mark_text mark ++ (node ++ (behind nodes ++ ask_text asks))) ≡ true
 header_at Star asks node nodes n ns one = path_in false asks node nodes n ns (λ f. one refl)
 header_at Colon asks node nodes n ns one = path_in true asks node nodes n ns (λ f. absurd (cc (f)))
@@ -173,18 +173,18 @@ same_behind (n ∷ ns) (m ∷ ms) a b h k e =
     let later = same_behind ns ms a b p.1 q.1 front.1 in
     (cc (front.0, later.0), later.1)
 
-pub mark_is : (mark : Mark) (node rest : List ℕ) → is_node node ≡ true → mark_of (mark_text mark ++ (node ++ rest)) ≡ mark
+pub mark_is : (mark : HeaderMark) (node rest : List ℕ) → is_node node ≡ true → mark_of (mark_text mark ++ (node ++ rest)) ≡ mark
 mark_is Star node rest h = refl
 mark_is Colon node rest h = refl
 mark_is Bare [] rest h = absurd (cc (h))
 mark_is Bare (x ∷ node) rest h = let plain = bare_first x ((and_parts (is_letter x) (all_name node) h).0) in rw (plain.0, plain.1) refl
 
-behind_is : (mark : Mark) (text : List ℕ) → behind_mark mark (mark_text mark ++ text) ≡ text
+behind_is : (mark : HeaderMark) (text : List ℕ) → behind_mark mark (mark_text mark ++ text) ≡ text
 behind_is Star text = refl
 behind_is Colon text = refl
 behind_is Bare text = refl
 
-abbrev made : Mark → List ℕ → List (List ℕ) → Bool → Header
+abbrev made : HeaderMark → List ℕ → List (List ℕ) → Bool → Header
 made mark node nodes asks = record { mark = mark; node = node; nodes = nodes; asks = asks }
 
 pub one_header : (h g : Header) → IsHeader h → IsHeader g → header_text h ≡ header_text g → h ≡ g
@@ -193,10 +193,10 @@ one_header h g p q e =
     let gs = behind g.nodes ++ ask_text g.asks in
     let mark : h.mark ≡ g.mark = sym (mark_is h.mark h.node hs p.node) ∙ ap mark_of e ∙ mark_is g.mark g.node gs q.node in
     let body : h.node ++ hs ≡ g.node ++ gs
-    = sym (behind_is g.mark (h.node ++ hs)) ∙ ap (behind_mark g.mark) (ap (λ (z : Mark). mark_text z ++ (h.node ++ hs)) (sym mark) ∙ e) ∙ behind_is g.mark (g.node ++ gs) in
+    = sym (behind_is g.mark (h.node ++ hs)) ∙ ap (behind_mark g.mark) (ap (λ (z : HeaderMark). mark_text z ++ (h.node ++ hs)) (sym mark) ∙ e) ∙ behind_is g.mark (g.node ++ gs) in
     let front = same_node h.node g.node hs gs p.node q.node (behind_leads h.nodes h.asks) (behind_leads g.nodes g.asks) body in
     let later = same_behind h.nodes g.nodes h.asks g.asks p.nodes q.nodes front.1 in
-    ap (λ (z : Mark). made z h.node h.nodes h.asks) mark ∙ ap (λ (z : List ℕ). made g.mark z h.nodes h.asks) front.0
+    ap (λ (z : HeaderMark). made z h.node h.nodes h.asks) mark ∙ ap (λ (z : List ℕ). made g.mark z h.nodes h.asks) front.0
     ∙ ap (λ (z : List (List ℕ)). made g.mark g.node z h.asks) later.0 ∙ ap (made g.mark g.node g.nodes) later.1
 
 -- ---- the last byte
@@ -237,7 +237,7 @@ ask_every : (test : ℕ → Bool) (asks : Bool) → test 63 ≡ true → every t
 ask_every test true a = rw a refl
 ask_every test false a = refl
 
-mark_every : (test : ℕ → Bool) (mark : Mark) → test 42 ≡ true → test 58 ≡ true → every test (mark_text mark) ≡ true
+mark_every : (test : ℕ → Bool) (mark : HeaderMark) → test 42 ≡ true → test 58 ≡ true → every test (mark_text mark) ≡ true
 mark_every test Star s c = rw s refl
 mark_every test Colon s c = rw c refl
 mark_every test Bare s c = refl
@@ -265,14 +265,14 @@ cut_end path false = append-nil path
 
 -- ---- in the form of the code
 
-pub parts_shown : (shown : rust.Header) (text body : List ℕ) (mark : Mark) (asks : Bool) (h : Header) → IsHeader h → text ≡ header_text h → mark ≡ mark_of text → body ≡ behind_mark mark text
+pub parts_shown : (shown : rust.Header) (text body : List ℕ) (mark : HeaderMark) (asks : Bool) (h : Header) → IsHeader h → text ≡ header_text h → mark ≡ mark_of text → body ≡ behind_mark mark text
     → asks ≡ ends_asking body → shown.text.now ≡ text → shown.mark ≡ mark → shown.nodes.now ≡ without_ask asks body → shown.asks ≡ asks → ShowsHeader shown h
 parts_shown shown text body mark asks h is e m b a st sm sn sa =
     let path = path_text h in
     let rest = path ++ ask_text h.asks in
     let whole : text ≡ mark_text h.mark ++ rest = e ∙ ap (λ (z : List ℕ). mark_text h.mark ++ z) (sym (append_assoc h.node (behind h.nodes) (ask_text h.asks))) in
     let marked : mark ≡ h.mark = m ∙ ap mark_of e ∙ mark_is h.mark h.node (behind h.nodes ++ ask_text h.asks) is.node in
-    let found : body ≡ rest = b ∙ ap (λ (z : Mark). behind_mark z text) marked ∙ ap (behind_mark h.mark) whole ∙ behind_is h.mark rest in
+    let found : body ≡ rest = b ∙ ap (λ (z : HeaderMark). behind_mark z text) marked ∙ ap (behind_mark h.mark) whole ∙ behind_is h.mark rest in
     let asking : asks ≡ h.asks = a ∙ ap ends_asking found ∙ asked_end path h.asks (path_plain h is) in
     let cut : without_ask asks body ≡ path = ap (λ (z : Bool). without_ask z body) asking ∙ ap (without_ask h.asks) found ∙ cut_end path h.asks in
     record { text = st ∙ e; mark = sm ∙ marked; nodes = sn ∙ cut; asks = sa ∙ asking }

@@ -65,9 +65,9 @@ pub string_ends : (q : ℕ) (next : List ℕ) → starts q next ≡ false → af
 string_ends q [] f = refl
 string_ends q (x ∷ next) f = rw f refl
 
-pub goes_on : (q : ℕ) (next : List ℕ) → starts q next ≡ true → after_string true q next ≡ after_string false q (drop 1 next)
-goes_on q [] h = absurd (cc (h))
-goes_on q (x ∷ next) h = rw h refl
+pub string_continues : (q : ℕ) (next : List ℕ) → starts q next ≡ true → after_string true q next ≡ after_string false q (drop 1 next)
+string_continues q [] h = absurd (cc (h))
+string_continues q (x ∷ next) h = rw h refl
 
 pub string_in : (bytes rest : List ℕ) (q n : ℕ) → bytes ≡ q ∷ rest → (q ≡ 35 → ⊥) → is_quote q ≡ true → after_string false q rest ≡ Some (drop n rest) → after_piece bytes ≡ Some (drop (1 + n) bytes)
 string_in bytes rest q n e f h s =

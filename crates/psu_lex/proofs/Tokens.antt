@@ -6,7 +6,7 @@ use Rattle.std.proofs.lemmas.List.{append-nil}
 use Rattle.std.proofs.Math.Seq.{take-append_seam}
 use Rattle.std.proofs.lemmas.Option.{some_pair_parts}
 use Rattle.psu_lex.specs.Bytes.{is_closed, opens, separates}
-use Rattle.psu_lex.specs.Message.{Piece, spelling, opens_first, IsWhole, Token, text_of, Stands, Reads, HasNoPiece, IsMessage, Part, units_of}
+use Rattle.psu_lex.specs.Message.{Piece, spelling, opens_first, IsWhole, Token, text_of, IsValidBefore, Reads, HasNoPiece, IsMessage, Part, units_of}
 use Rattle.psu_lex.specs.Message.Piece.{Quoted, Counted, Open}
 use Rattle.psu_lex.specs.Message.Token.{Byte, Separator, Whole, Faulty}
 use Rattle.psu_lex.specs.Scan.{after_piece}
@@ -38,7 +38,7 @@ faulty f text (Some more) e n = elim (cases_Bool (f more)) [
   | inr g ↦ rw g refl
 ]
 
-next_is : (f : List ℕ → Bool) (token : Token) (more : List ℕ) → Stands f token more → next_token f (text_of token ++ more) ≡ Some (token, more)
+next_is : (f : List ℕ → Bool) (token : Token) (more : List ℕ) → IsValidBefore f token more → next_token f (text_of token ++ more) ≡ Some (token, more)
 next_is f (Byte b) more (s, o) = rw (o, s) refl
 next_is f (Separator b) more s =
     let plain : opens b ≡ false = grind (arith, nat_tests, s) in

@@ -130,33 +130,33 @@ some_value text places = elim (cases_Bool (is_number text)) [
 -- ---- a list
 
 -- whether a list may continue with this text
-abbrev GoesOn : List ℕ → Type 0
-GoesOn tail = ((more : List Datum) × TailLists tail more) ⊎ ((more : List Datum) → TailLists tail more → ⊥)
+abbrev TailDecided : List ℕ → Type 0
+TailDecided tail = ((more : List Datum) × TailLists tail more) ⊎ ((more : List Datum) → TailLists tail more → ⊥)
 
 no_comma : (x : ℕ) (text : List ℕ) (more : List Datum) → (x == 44) ≡ false → TailLists (x ∷ text) more → ⊥
 no_comma x text [] f l = absurd (cc (l))
 no_comma x text (d ∷ more) f (rest, e, l) = eqb-false x 44 f (same_head x 44 _ _ e)
 
-next_goes : (x : ℕ) (text : List ℕ) (r : Option (Datum × List ℕ)) → x ≡ 44 → datum_at text ≡ r → ((tail : List ℕ) → length tail ≤ length text → GoesOn tail) → GoesOn (x ∷ text)
-next_goes x text None c e again = inr (λ more l. no_tail (x ∷ text) text more (ap (λ (z : ℕ). z ∷ text) c) e l)
-next_goes x text (Some (d, tail)) c e again =
+next_decided : (x : ℕ) (text : List ℕ) (r : Option (Datum × List ℕ)) → x ≡ 44 → datum_at text ≡ r → ((tail : List ℕ) → length tail ≤ length text → TailDecided tail) → TailDecided (x ∷ text)
+next_decided x text None c e again = inr (λ more l. no_tail (x ∷ text) text more (ap (λ (z : ℕ). z ∷ text) c) e l)
+next_decided x text (Some (d, tail)) c e again =
     let comma = ap (λ (z : ℕ). z ∷ text) c in
     elim (again tail (tail_shorter text tail d e)) [
       | inl m ↦ inl (d ∷ m.0, (text, comma, lists_in text tail d m.0 e m.1))
       | inr none ↦ inr (λ more l. let r = tail_rest (x ∷ text) text tail d more comma e l in none r.others r.listed)
     ]
 
-goes_on : (n : ℕ) (tail : List ℕ) → length tail ≤ n → GoesOn tail
-goes_on n [] le = inl ([], refl)
-goes_on zero (x ∷ text) le = absurd (omega (arith, le))
-goes_on (suc n) (x ∷ text) le = elim (cases_Bool (x == 44)) [
-  | inl t ↦ next_goes x text (datum_at text) (eqb-true x 44 t) refl (λ tail shorter. goes_on n tail (omega (arith, le, shorter)))
+tail_decided : (n : ℕ) (tail : List ℕ) → length tail ≤ n → TailDecided tail
+tail_decided n [] le = inl ([], refl)
+tail_decided zero (x ∷ text) le = absurd (omega (arith, le))
+tail_decided (suc n) (x ∷ text) le = elim (cases_Bool (x == 44)) [
+  | inl t ↦ next_decided x text (datum_at text) (eqb-true x 44 t) refl (λ tail shorter. tail_decided n tail (omega (arith, le, shorter)))
   | inr f ↦ inr (λ more l. no_comma x text more f l)
 ]
 
 list_from : (text : List ℕ) (r : Option (Datum × List ℕ)) → all_white text ≡ false → datum_at text ≡ r → ((list : List Datum) × Lists text list) ⊎ ((list : List Datum) → Lists text list → ⊥)
 list_from text None f e = inr (λ list l. no_list text list f e l)
-list_from text (Some (d, tail)) f e = elim (goes_on (length tail) tail (omega arith)) [
+list_from text (Some (d, tail)) f e = elim (tail_decided (length tail) tail (omega arith)) [
   | inl m ↦ inl (d ∷ m.0, lists_in text tail d m.0 e m.1)
   | inr none ↦ inr (λ list l. let r = rest_of text tail d list e l in none r.others r.listed)
 ]

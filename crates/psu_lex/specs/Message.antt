@@ -64,17 +64,17 @@ opens_first [] = false
 opens_first (x ∷ xs) = opens x
 
 -- the token is valid when followed by `more`
-abbrev pub Stands : (List ℕ → Bool) → Token → List ℕ → Type 0
-Stands may_follow (Byte b) more = (separates b ≡ false) × (opens b ≡ false)
-Stands may_follow (Separator b) more = separates b ≡ true
-Stands may_follow (Whole piece) more = IsWhole piece more × (may_follow more ≡ true)
-Stands may_follow (Faulty text) more = (more ≡ []) × (opens_first text ≡ true) × HasNoPiece may_follow text
+abbrev pub IsValidBefore : (List ℕ → Bool) → Token → List ℕ → Type 0
+IsValidBefore may_follow (Byte b) more = (separates b ≡ false) × (opens b ≡ false)
+IsValidBefore may_follow (Separator b) more = separates b ≡ true
+IsValidBefore may_follow (Whole piece) more = IsWhole piece more × (may_follow more ≡ true)
+IsValidBefore may_follow (Faulty text) more = (more ≡ []) × (opens_first text ≡ true) × HasNoPiece may_follow text
 
 -- the bytes are these tokens concatenated
 abbrev pub Reads : (List ℕ → Bool) → List ℕ → List Token → Type 0
 Reads may_follow bytes [] = bytes ≡ []
 Reads may_follow bytes (token ∷ tokens) =
-    (more : List ℕ) × (bytes ≡ text_of token ++ more) × Stands may_follow token more × Reads may_follow more tokens
+    (more : List ℕ) × (bytes ≡ text_of token ++ more) × IsValidBefore may_follow token more × Reads may_follow more tokens
 
 -- ---- units
 

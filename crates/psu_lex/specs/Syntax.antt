@@ -9,8 +9,8 @@ use Rattle.psu_lex.specs.Message.Token.{Byte}
 use Rattle.psu_lex.specs.declared.data.DatumClass.{DatumClass}
 use Rattle.psu_lex.specs.declared.data.DatumClass.TheVariants.{Numeric, Character, String, Block}
 use Rattle.psu_lex.specs.declared.data.Datum as rust
-use Rattle.psu_lex.specs.declared.mark.Mark.{Mark}
-use Rattle.psu_lex.specs.declared.mark.Mark.TheVariants.{Star, Colon, Bare}
+use Rattle.psu_lex.specs.declared.header_mark.HeaderMark.{HeaderMark}
+use Rattle.psu_lex.specs.declared.header_mark.HeaderMark.TheVariants.{Star, Colon, Bare}
 use Rattle.psu_lex.specs.declared.scpi_error.ScpiError.{ScpiError}
 use Rattle.psu_lex.specs.declared.scpi_error.ScpiError.TheVariants.{InvalidCharacter, InvalidStringData, InvalidBlockData, SyntaxError}
 use Rattle.psu_lex.specs.declared.unit.UnitFault.{UnitFault}
@@ -35,14 +35,14 @@ abbrev pub all_nodes : List (List ℕ) → Bool
 all_nodes [] = true
 all_nodes (n ∷ ns) = is_node n && all_nodes ns
 
-abbrev pub mark_text : Mark → List ℕ
+abbrev pub mark_text : HeaderMark → List ℕ
 mark_text Star = 42 ∷ []
 mark_text Colon = 58 ∷ []
 mark_text Bare = []
 
 -- the mark, the first node, the nodes after it, and whether the header ends with `?`
 pub record Header : Type 0 where
-  pub mark : Mark
+  pub mark : HeaderMark
   pub node : List ℕ
   pub nodes : List (List ℕ)
   pub asks : Bool

@@ -6,8 +6,8 @@ use Rattle.psu_lex.specs.Scan.{after_piece}
 use Rattle.psu_lex.specs.Syntax.{is_name_byte, is_node, Datum}
 use Rattle.psu_lex.specs.declared.data.DatumClass.{DatumClass}
 use Rattle.psu_lex.specs.declared.data.DatumClass.TheVariants.{Numeric, Character, String, Block}
-use Rattle.psu_lex.specs.declared.mark.Mark.{Mark}
-use Rattle.psu_lex.specs.declared.mark.Mark.TheVariants.{Star, Colon, Bare}
+use Rattle.psu_lex.specs.declared.header_mark.HeaderMark.{HeaderMark}
+use Rattle.psu_lex.specs.declared.header_mark.HeaderMark.TheVariants.{Star, Colon, Bare}
 
 -- ---- headers
 
@@ -52,15 +52,15 @@ abbrev pub behind_ask : List ℕ → ℕ → ℕ
 behind_ask text at = if slice_index text at == 63 then at + 1 else at
 
 -- the mark that the first byte denotes
-abbrev pub mark_at : ℕ → Mark
+abbrev pub mark_at : ℕ → HeaderMark
 mark_at b = if b == 42 then Star else (if b == 58 then Colon else Bare)
 
-abbrev pub mark_of : List ℕ → Mark
+abbrev pub mark_of : List ℕ → HeaderMark
 mark_of [] = Bare
 mark_of (x ∷ xs) = mark_at x
 
 -- the text after a mark
-abbrev pub behind_mark : Mark → List ℕ → List ℕ
+abbrev pub behind_mark : HeaderMark → List ℕ → List ℕ
 behind_mark Star text = drop 1 text
 behind_mark Colon text = drop 1 text
 behind_mark Bare text = text

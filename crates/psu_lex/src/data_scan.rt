@@ -177,7 +177,7 @@ pub fn next_of(tail: &[u8]) -> Option<Found<'_>>
 
 /// Whether a list may continue with this text after a datum: the text is empty, or is a `,` followed by data separated
 /// by `,`.
-fn goes_on(tail: &[u8]) -> bool
+fn is_list_tail(tail: &[u8]) -> bool
     requires { is_parted tail.now ≡ true }
     ensures yes { result ≡ true → (others : List DatumData) × TailLists tail.now others }
     ensures no { result ≡ false → (others : List DatumData) → TailLists tail.now others → ⊥ }
@@ -201,7 +201,7 @@ fn is_list(text: &[u8], found: &Option<Found<'_>>) -> bool
 {
     match found {
         None => is_blank(text),
-        Some(first) => goes_on(first.tail),
+        Some(first) => is_list_tail(first.tail),
     }
 }
 

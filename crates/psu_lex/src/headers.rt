@@ -8,7 +8,7 @@ ghost use Rattle.psu_lex.specs.Syntax.{Header as Parts, IsHeader, header_text, i
 
 use crate::class::is_white;
 use crate::pieces::{after, begins, front};
-use crate::{Header, Mark};
+use crate::{Header, HeaderMark};
 
 /// Whether another node follows a node.
 fn joins(several: bool, byte: u8) -> bool
@@ -134,26 +134,26 @@ pub fn header_end(text: &[u8]) -> Option<usize>
 }
 
 /// Returns the mark that the text begins with.
-fn mark_of(text: &[u8]) -> Mark
+fn mark_of(text: &[u8]) -> HeaderMark
     ensures { result ≡ mark_of text.now }
 {
     if begins(text, b'*') {
-        return Mark::Star;
+        return HeaderMark::Star;
     }
     if begins(text, b':') {
-        return Mark::Colon;
+        return HeaderMark::Colon;
     }
-    Mark::Bare
+    HeaderMark::Bare
 }
 
 /// Returns the text after its mark.
-fn behind_mark(text: &[u8], mark: Mark) -> &[u8]
+fn behind_mark(text: &[u8], mark: HeaderMark) -> &[u8]
     requires { mark ≡ mark_of text.now }
     ensures { result.now ≡ behind_mark mark text.now }
 {
     match mark {
-        Mark::Star | Mark::Colon => after(text, 1),
-        Mark::Bare => text,
+        HeaderMark::Star | HeaderMark::Colon => after(text, 1),
+        HeaderMark::Bare => text,
     }
 }
 

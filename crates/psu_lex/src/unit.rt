@@ -1,5 +1,5 @@
 // A unit of a message: its text, its fault, and its parts.
-use crate::{Data, Mark, ScpiError};
+use crate::{Data, HeaderMark, ScpiError};
 
 /// The fault of a unit: the first of its strings and blocks that is not whole.
 #[derive(Clone, Copy, Debug, PartialEq, Eq)]
@@ -42,7 +42,7 @@ pub struct Header<'a> {
     /// The header as written, with its mark and its `?`.
     pub text: &'a [u8],
     /// The mark that it begins with.
-    pub mark: Mark,
+    pub mark: HeaderMark,
     /// Its nodes, separated by `:`.
     pub nodes: &'a [u8],
     /// Whether it ends with `?`.

@@ -5,7 +5,7 @@ use Rattle.std.specs.List.{fold}
 use Rattle.std.proofs.Math.Nat.{min-le_left, min-le_right}
 use Rattle.std.proofs.lemmas.Bool.Decides.{nat_tests}
 use Rattle.psu_locks.specs.declared.request.Request.{Request}
-use Rattle.psu_locks.specs.Locks.{failed_at, is_over}
+use Rattle.psu_locks.specs.Locks.{failed_at, is_expired}
 use Rattle.psu_locks.specs.Table.{FailsFirst, next_deadline}
 
 abbrev deadlines : List Request → List ℕ
@@ -13,7 +13,7 @@ deadlines rs = map (λ (r : Request). r.deadline) rs
 
 -- the sessions whose requests fail, where the first one does or doesn't
 abbrev failed_with : Bool → ℕ → Request → List Request → List ℕ
-failed_with b now r rs = map (λ (q : Request). q.session) (cond b (r ∷ filter (is_over now) rs) (filter (is_over now) rs))
+failed_with b now r rs = map (λ (q : Request). q.session) (cond b (r ∷ filter (is_expired now) rs) (filter (is_expired now) rs))
 
 under : (a : ℕ) (rs : List Request) → fold min a (deadlines rs) ≤ a
 under a [] = omega arith

@@ -132,14 +132,14 @@ without h session freed.Exclusive = with_exclusive h None
 without h session freed.Shared = with_sharer h session false
 
 -- the request has reached its deadline and fails
-abbrev pub is_over : ℕ → Request → Bool
-is_over now request = nat_le request.deadline now
+abbrev pub is_expired : ℕ → Request → Bool
+is_expired now request = nat_le request.deadline now
 
 abbrev pub failed_at : ℕ → List Request → List ℕ
-failed_at now requests = map (λ r. r.session) (filter (is_over now) requests)
+failed_at now requests = map (λ r. r.session) (filter (is_expired now) requests)
 
 abbrev pub still_waiting : ℕ → List Request → List Request
-still_waiting now requests = filter (λ r. not (is_over now r)) requests
+still_waiting now requests = filter (λ r. not (is_expired now r)) requests
 
 -- all locks of a session are released
 abbrev pub without_session : Holders → ℕ → Holders

@@ -1,10 +1,10 @@
 // A transmission between two tries.
 ghost use Rattle.std.specs.Prelude.{◌≡◌};
-ghost use Rattle.psu_messages.specs.Courses.{beginning};
-ghost use Rattle.psu_messages.specs.Shown.{course_of};
+ghost use Rattle.psu_messages.specs.Executions.{beginning};
+ghost use Rattle.psu_messages.specs.Shown.{progress_of};
 
 use psu_hislip::Origin;
-use psu_messages::Course;
+use psu_messages::Progress;
 use psu_sessions::Input;
 use std::alloc::Global;
 
@@ -13,7 +13,7 @@ use std::alloc::Global;
 pub struct Begun {
     pub origin: Origin,
     pub input: Input<Global>,
-    pub course: Course<Global>,
+    pub course: Progress<Global>,
 }
 
 impl Begun {
@@ -21,12 +21,12 @@ impl Begun {
     pub fn new(alloc: Global, origin: Origin, input: Input<Global>) -> Begun
         ensures origin { result.origin ≡ origin }
         ensures input { result.input ≡ input }
-        ensures course { course_of result.course ≡ beginning }
+        ensures course { progress_of result.course ≡ beginning }
     {
         Begun {
             origin,
             input,
-            course: Course::new(alloc),
+            course: Progress::new(alloc),
         }
     }
 }

@@ -3,10 +3,10 @@ use Rattle.std.proofs.Common.{◌≡◌, ℕ, min, ◌+◌, ◌<◌, ◌≤◌, 
 use Rattle.psu_lex.specs.Message.{Part, IsMessage, parts, part}
 use Rattle.psu_lex.specs.declared.unit.Unit as rust
 use Rattle.psu_tree.specs.declared.unit_request.Request.{Request}
-use Rattle.psu_answers.specs.Gathered.{Text}
-use Rattle.psu_messages.specs.Deeds.{Deed}
+use Rattle.psu_answers.specs.ResponseBuffer.{Text}
+use Rattle.psu_messages.specs.Effects.{Effect}
 use Rattle.psu_messages.specs.Units.{Source, IsRequest, Leads, path_at}
-use Rattle.psu_messages.specs.Courses.{Goes}
+use Rattle.psu_messages.specs.Executions.{Advances}
 use Rattle.psu_messages.specs.Stepping.{plain, within}
 use Rattle.psu_messages.specs.Turns.{IsInside}
 use Rattle.psu_messages.proofs.Going.{leaves}
@@ -27,6 +27,6 @@ inside_at body units list before rest at done i filler from path next request ar
     (part (slice_index_or rest i filler), unit_at true body units list rest at i (at + i) filler path next request are same back fewer refl leads reads)
 
 -- all units of an expansion are done
-pub leaves_all : {X : Type 0} (does : X → Deed → X → Type 0) (source : Source) (was : X) (place : ℕ) (body : List ℕ) (done : ℕ) (parked : Bool) (text : Text) (units : List Part) (list : List rust.Unit) → IsMessage body units → parts list ≡ units
-    → length list ≤ done → Goes does source was (within place body done parked text) was (plain (place + 1) false text)
+pub leaves_all : {X : Type 0} (does : X → Effect → X → Type 0) (source : Source) (was : X) (place : ℕ) (body : List ℕ) (done : ℕ) (parked : Bool) (text : Text) (units : List Part) (list : List rust.Unit) → IsMessage body units → parts list ≡ units
+    → length list ≤ done → Advances does source was (within place body done parked text) was (plain (place + 1) false text)
 leaves_all does source was place body done parked text units list are same all = leaves does source was (within place body done parked text) (body, done, refl, refl, behind_all body units list done are same all)

@@ -7,16 +7,16 @@ use Rattle.psu_tree.specs.declared.unit_request.Request.{Request}
 use Rattle.psu_exec.specs.Shown.{outcome_of}
 use Rattle.psu_exec.specs.declared.outcome.Outcome.{Outcome}
 use Rattle.psu_exec.specs.declared.outcome.Outcome.TheVariants as outcome
-use Rattle.psu_answers.specs.Gathered.{Text}
-use Rattle.psu_messages.specs.Deeds.{Deed, Sent}
+use Rattle.psu_answers.specs.ResponseBuffer.{Text}
+use Rattle.psu_messages.specs.Effects.{Effect, Sent}
 use Rattle.psu_messages.specs.Units as units
 use Rattle.psu_messages.specs.Units.{Source, Fault, Asks, EndsMessage, HasNone, IsBetween, IsBehind, IsRequest, IsUnit, Leads, path_at}
-use Rattle.psu_messages.specs.Courses.{Closes, Course, Goes, IsNext, NextUnit, ended}
-use Rattle.psu_messages.specs.Courses.Comes.{Ends}
-use Rattle.psu_messages.specs.Shown.{body_of, course, course_of, inside_of}
+use Rattle.psu_messages.specs.Executions.{Closes, Progress, Advances, IsNext, NextUnit, ended}
+use Rattle.psu_messages.specs.Executions.Reaches.{Ends}
+use Rattle.psu_messages.specs.Shown.{body_of, progress, progress_of, inside_of}
 use Rattle.psu_messages.specs.Turns.{is_expansion}
 use Rattle.psu_messages.specs.Stepping.{plain, within}
-use Rattle.psu_messages.specs.declared.course.Course.{Course as Rust}
+use Rattle.psu_messages.specs.declared.progress.Progress.{Progress as Rust}
 use Rattle.psu_messages.specs.declared.expansion.Expansion.{Expansion}
 use Rattle.psu_messages.proofs.Going.{one, stay}
 use Rattle.psu_messages.proofs.Inside.{begins_at}
@@ -37,14 +37,14 @@ ends_all bytes place inside (list, are, all) =
     let none : drop place list ≡ [] = grind (arith, common_steps) in
     (list, are, subst (λ (z : List Part). IsBetween inside z) (sym none) tt)
 
-pub closes : {X : Type 0} (does : X → Deed → X → Type 0) (source : Source) (was now : X) (c : Course) (text : Text) → EndsMessage source c.standing.units c.standing.inside → Closes does was c.text now text → Goes does source was c now (course c.standing c.expansion text)
+pub closes : {X : Type 0} (does : X → Effect → X → Type 0) (source : Source) (was now : X) (c : Progress) (text : Text) → EndsMessage source c.standing.units c.standing.inside → Closes does was c.text now text → Advances does source was c now (progress c.standing c.expansion text)
 closes does source was now c text ends (inl (unanswered, same, is)) =
-    subst (λ (z : Text). Goes does source was c now (course c.standing c.expansion z)) (sym is) (stay does source was now c same)
+    subst (λ (z : Text). Advances does source was c now (progress c.standing c.expansion z)) (sym is) (stay does source was now c same)
 closes does source was now c text ends (inr (answered, grows, is)) =
-    subst (λ (z : Text). Goes does source was c now (course c.standing c.expansion z)) (sym is)
+    subst (λ (z : Text). Advances does source was c now (progress c.standing c.expansion z)) (sym is)
     (one does source was now c (ended c) (Sent (c.text.rest ++ 10 ∷ []) true) grows (λ before b. Ends b (record { ends = ends; answered = answered })))
 
-pub closed : {X : Type 0} (does : X → Deed → X → Type 0) (was now : X) (old new : Text) → Closes does was old now new → new.answered ≡ false
+pub closed : {X : Type 0} (does : X → Effect → X → Type 0) (was now : X) (old new : Text) → Closes does was old now new → new.answered ≡ false
 closed does was now old new (inl (unanswered, same, is)) = ap (λ (z : Text). z.answered) is ∙ unanswered
 closed does was now old new (inr (answered, grows, is)) = ap (λ (z : Text). z.answered) is
 
@@ -64,26 +64,26 @@ pub without : {T : Type 0} (x : Option T) → is_some x ≡ false → x ≡ None
 without None e = refl
 without (Some y) e = absurd (cc (e))
 
-pub to_plain : {A X : Type 0} (does : X → Deed → X → Type 0) (source : Source) (was now : X) (c : Course) (units : ℕ) (expansion : Option (Expansion A)) (parked : Bool) (text : Text) → expansion ≡ None → Goes does source was c now (plain units parked text)
-    → Goes does source was c now (course (record { units = units; inside = inside_of expansion; parked = parked }) (body_of expansion) text)
-to_plain {A} does source was now c units expansion parked text none goes =
-    subst (λ (z : Option (Expansion A)). Goes does source was c now (course (record { units = units; inside = inside_of z; parked = parked }) (body_of z) text)) (sym none) goes
+pub to_plain : {A X : Type 0} (does : X → Effect → X → Type 0) (source : Source) (was now : X) (c : Progress) (units : ℕ) (expansion : Option (Expansion A)) (parked : Bool) (text : Text) → expansion ≡ None → Advances does source was c now (plain units parked text)
+    → Advances does source was c now (progress (record { units = units; inside = inside_of expansion; parked = parked }) (body_of expansion) text)
+to_plain {A} does source was now c units expansion parked text none advances =
+    subst (λ (z : Option (Expansion A)). Advances does source was c now (progress (record { units = units; inside = inside_of z; parked = parked }) (body_of z) text)) (sym none) advances
 
 -- there is one
-pub from_within : {A X : Type 0} (does : X → Deed → X → Type 0) (source : Source) (was now : X) (d : Course) (units : ℕ) (expansion : Option (Expansion A)) (some : Expansion A) (parked : Bool) (text : Text) → expansion ≡ Some some
-    → Goes does source was (within units some.body some.done parked text) now d → Goes does source was (course (record { units = units; inside = inside_of expansion; parked = parked }) (body_of expansion) text) now d
-from_within {A} does source was now d units expansion some parked text is goes =
-    subst (λ (z : Option (Expansion A)). Goes does source was (course (record { units = units; inside = inside_of z; parked = parked }) (body_of z) text) now d) (sym is) goes
+pub from_within : {A X : Type 0} (does : X → Effect → X → Type 0) (source : Source) (was now : X) (d : Progress) (units : ℕ) (expansion : Option (Expansion A)) (some : Expansion A) (parked : Bool) (text : Text) → expansion ≡ Some some
+    → Advances does source was (within units some.body some.done parked text) now d → Advances does source was (progress (record { units = units; inside = inside_of expansion; parked = parked }) (body_of expansion) text) now d
+from_within {A} does source was now d units expansion some parked text is advances =
+    subst (λ (z : Option (Expansion A)). Advances does source was (progress (record { units = units; inside = inside_of z; parked = parked }) (body_of z) text) now d) (sym is) advances
 
 -- an outcome that isn't an expansion
-pub tells_plain : {A : Type 0} (o : Outcome A) → ((body : List ℕ) → o ≡ outcome.Expand body → ⊥) → is_expansion (outcome_of o) ≡ false
-tells_plain outcome.Done none = refl
-tells_plain (outcome.Answer text) none = refl
-tells_plain (outcome.Error error) none = refl
-tells_plain (outcome.Expand body) none = absurd (none body refl)
-tells_plain outcome.Parked none = refl
-tells_plain outcome.Held none = refl
-tells_plain outcome.Later none = refl
+pub adds_plain : {A : Type 0} (o : Outcome A) → ((body : List ℕ) → o ≡ outcome.Expand body → ⊥) → is_expansion (outcome_of o) ≡ false
+adds_plain outcome.Done none = refl
+adds_plain (outcome.Answer text) none = refl
+adds_plain (outcome.Error error) none = refl
+adds_plain (outcome.Expand body) none = absurd (none body refl)
+adds_plain outcome.Parked none = refl
+adds_plain outcome.Held none = refl
+adds_plain outcome.Later none = refl
 
 -- ---- the turn of a unit
 
@@ -94,7 +94,7 @@ no_expansion : {A : Type 0} (expansion : Option (Expansion A)) → inside_of exp
 no_expansion None e = refl
 no_expansion (Some some) e = absurd (cc (e))
 
-pub turn_next : {A : Type 0} (source : Source) (c : Rust A) (units : ℕ) (request : Request) (first : Bool) → c.units ≡ units → Asks source units request first → (first ≡ true → c.expansion ≡ None → c.gathered.answered ≡ false) → NextUnit source (course_of c) request
+pub turn_next : {A : Type 0} (source : Source) (c : Rust A) (units : ℕ) (request : Request) (first : Bool) → c.units ≡ units → Asks source units request first → (first ≡ true → c.expansion ≡ None → c.gathered.answered ≡ false) → NextUnit source (progress_of c) request
 turn_next source c units request first same asks clear =
     (first, subst (λ (z : ℕ). Asks source z request first) (sym same) asks, λ f none. clear f (no_expansion c.expansion none))
 

@@ -6,15 +6,15 @@ use Rattle.psu_lex.specs.Message.{Part, IsMessage}
 use Rattle.psu_lex.specs.declared.scpi_error.ScpiError.{ScpiError}
 use Rattle.psu_tree.specs.declared.unit_request.Request.{Request}
 use Rattle.psu_exec.specs.Device.{Reply, Done, Answer, Error, Expand, Parked, Held, Later}
-use Rattle.psu_answers.specs.Gathered.{Text}
+use Rattle.psu_answers.specs.ResponseBuffer.{Text}
 use Rattle.psu_messages.specs.Standing.{Standing}
 use Rattle.psu_messages.specs.declared.need.Need.{Need}
 use Rattle.psu_messages.specs.declared.need.Need.TheVariants.{Flush, Lock, Room, Memory}
-use Rattle.psu_messages.specs.Deeds.{Deed, Executed, Settled, Sent, IsTry, is_memory, needs}
+use Rattle.psu_messages.specs.Effects.{Effect, Executed, Settled, Sent, IsTry, is_memory, needs}
 use Rattle.psu_messages.specs.Units as units
 use Rattle.psu_messages.specs.Units.{Asks, Fault, HasNone, IsBehind, IsUnit, Source}
-use Rattle.psu_messages.specs.Courses.{Comes, Course, IsOver, NextAt, expansion_after, standing_after}
-use Rattle.psu_messages.specs.Courses.Comes.{Begins, Tries, Leaves, Sends, Ends}
+use Rattle.psu_messages.specs.Executions.{Reaches, Progress, IsOver, NextAt, expansion_after, standing_after}
+use Rattle.psu_messages.specs.Executions.Reaches.{Begins, Tries, Leaves, Sends, Ends}
 use Rattle.psu_messages.specs.Turns.{Ended, InsideDone, IsAsked, IsInside, Tried, UnitsDone, accepts, acts, is_expansion}
 use Rattle.psu_messages.specs.Turns.Tried.{Untried, Again}
 use Rattle.psu_messages.specs.Turns.InsideDone.{NoneInside, OneInside}
@@ -38,22 +38,22 @@ pub no_ask : OneList → (source : Source) (place : ℕ) (request : Request) →
 no_ask one (units.Text bytes) place request none (first, (p, unit, e)) = no_unit one false bytes place p request none unit
 no_ask one (Fault error) place request none (first, (zero_place, is, e)) = omega arith
 
-pub untried : (Is : Request → Type 0) (deeds : List Deed) (parked : Bool) → ((request : Request) → Is request → ⊥) → Tried Is deeds parked → deeds ≡ []
-untried Is deeds parked nobody Untried = refl
-untried Is deeds parked nobody (Again t request is deed reply need try e) = absurd (nobody request is)
+pub untried : (Is : Request → Type 0) (effects : List Effect) (parked : Bool) → ((request : Request) → Is request → ⊥) → Tried Is effects parked → effects ≡ []
+untried Is effects parked nobody Untried = refl
+untried Is effects parked nobody (Again t request is effect reply need try e) = absurd (nobody request is)
 
 -- ---- lists of effects
 
-pub acts_append : (xs ys : List Deed) → acts (xs ++ ys) ≡ acts xs ++ acts ys
+pub acts_append : (xs ys : List Effect) → acts (xs ++ ys) ≡ acts xs ++ acts ys
 acts_append [] ys = refl
-acts_append (Executed request reply ∷ xs) ys = ap (λ (l : List Deed). Executed request reply ∷ l) (acts_append xs ys)
-acts_append (Settled reply ∷ xs) ys = ap (λ (l : List Deed). Settled reply ∷ l) (acts_append xs ys)
+acts_append (Executed request reply ∷ xs) ys = ap (λ (l : List Effect). Executed request reply ∷ l) (acts_append xs ys)
+acts_append (Settled reply ∷ xs) ys = ap (λ (l : List Effect). Settled reply ∷ l) (acts_append xs ys)
 acts_append (Sent text last ∷ xs) ys = acts_append xs ys
 
-pub acts_sent : (xs : List Deed) (text : List ℕ) (last : Bool) → acts xs ≡ acts (xs ++ Sent text last ∷ [])
+pub acts_sent : (xs : List Effect) (text : List ℕ) (last : Bool) → acts xs ≡ acts (xs ++ Sent text last ∷ [])
 acts_sent xs text last = sym (acts_append xs (Sent text last ∷ []) ∙ append-nil (acts xs))
 
-pub acts_one : (parked : Bool) (request : Request) (deed : Deed) (reply : Reply) → IsTry parked request deed reply → acts (deed ∷ []) ≡ deed ∷ []
+pub acts_one : (parked : Bool) (request : Request) (effect : Effect) (reply : Reply) → IsTry parked request effect reply → acts (effect ∷ []) ≡ effect ∷ []
 acts_one false request (Executed other answer) reply is = refl
 acts_one false request (Settled answer) reply none = absurd none
 acts_one false request (Sent text last) reply none = absurd none
@@ -61,24 +61,24 @@ acts_one true request (Executed other answer) reply none = absurd none
 acts_one true request (Settled answer) reply is = refl
 acts_one true request (Sent text last) reply none = absurd none
 
-acts_try : (deeds front part : List Deed) (parked : Bool) (request : Request) (deed : Deed) (reply : Reply) → IsTry parked request deed reply → acts deeds ≡ front ++ part → acts (deeds ++ deed ∷ []) ≡ front ++ (part ++ deed ∷ [])
-acts_try deeds front part parked request deed reply try is =
-    acts_append deeds (deed ∷ []) ∙ ap (λ (l : List Deed). acts deeds ++ l) (acts_one parked request deed reply try) ∙ ap (λ (l : List Deed). l ++ deed ∷ []) is ∙ append_assoc front part (deed ∷ [])
+acts_try : (effects front part : List Effect) (parked : Bool) (request : Request) (effect : Effect) (reply : Reply) → IsTry parked request effect reply → acts effects ≡ front ++ part → acts (effects ++ effect ∷ []) ≡ front ++ (part ++ effect ∷ [])
+acts_try effects front part parked request effect reply try is =
+    acts_append effects (effect ∷ []) ∙ ap (λ (l : List Effect). acts effects ++ l) (acts_one parked request effect reply try) ∙ ap (λ (l : List Effect). l ++ effect ∷ []) is ∙ append_assoc front part (effect ∷ [])
 
 -- ---- the progress of the units
 
-pub record Outside (Asked : ℕ → Request → Type 0) (from : ℕ) (all : List Deed) (place : ℕ) (parked : Bool) : Type 0 where
-  pub done : List Deed
-  pub part : List Deed
+pub record Outside (Asked : ℕ → Request → Type 0) (from : ℕ) (all : List Effect) (place : ℕ) (parked : Bool) : Type 0 where
+  pub done : List Effect
+  pub part : List Effect
   pub is : all ≡ done ++ part
   pub whole : UnitsDone Asked from place done
   pub tries : Tried (Asked place) part parked
 
-pub record Within (Asked : ℕ → Request → Type 0) (from : ℕ) (all : List Deed) (place : ℕ) (parked : Bool) (expansion : Option (List ℕ)) (next : ℕ) : Type 0 where
-  pub done : List Deed
-  pub unit : List Deed
-  pub inner : List Deed
-  pub part : List Deed
+pub record Within (Asked : ℕ → Request → Type 0) (from : ℕ) (all : List Effect) (place : ℕ) (parked : Bool) (expansion : Option (List ℕ)) (next : ℕ) : Type 0 where
+  pub done : List Effect
+  pub unit : List Effect
+  pub inner : List Effect
+  pub part : List Effect
   pub body : List ℕ
   pub is : all ≡ (done ++ (unit ++ inner)) ++ part
   pub whole : UnitsDone Asked from place done
@@ -87,125 +87,125 @@ pub record Within (Asked : ℕ → Request → Type 0) (from : ℕ) (all : List 
   pub within : InsideDone body next inner
   pub tries : Tried (IsInside body next) part parked
 
-abbrev pub At : (ℕ → Request → Type 0) → ℕ → List Deed → ℕ → Bool → Option (List ℕ) → Option ℕ → Type 0
+abbrev pub At : (ℕ → Request → Type 0) → ℕ → List Effect → ℕ → Bool → Option (List ℕ) → Option ℕ → Type 0
 At Asked from all place parked expansion None = Outside Asked from all place parked
 At Asked from all place parked expansion (Some next) = Within Asked from all place parked expansion next
 
-ended : (Is : Request → Type 0) (part : List Deed) (parked : Bool) (request : Request) (deed : Deed) (reply : Reply) → Tried Is part parked → Is request → IsTry parked request deed reply → needs parked reply ≡ None → Ended Is (part ++ deed ∷ []) reply
-ended Is part parked request deed reply t is try e = record { tries = part; parked = parked; tried = t; request = request; is = is; deed = deed; last = try; ends = e; all = refl }
+ended : (Is : Request → Type 0) (part : List Effect) (parked : Bool) (request : Request) (effect : Effect) (reply : Reply) → Tried Is part parked → Is request → IsTry parked request effect reply → needs parked reply ≡ None → Ended Is (part ++ effect ∷ []) reply
+ended Is part parked request effect reply t is try e = record { tries = part; parked = parked; tried = t; request = request; is = is; effect = effect; last = try; ends = e; all = refl }
 
 -- ---- a try outside
 
-stays_outside : (Asked : ℕ → Request → Type 0) (from : ℕ) (deeds : List Deed) (place : ℕ) (parked : Bool) (request : Request) (deed : Deed) (reply : Reply) (need : Need) → Outside Asked from (acts deeds) place parked → Asked place request → IsTry parked request deed reply
-    → needs parked reply ≡ Some need → Outside Asked from (acts (deeds ++ deed ∷ [])) place (accepts parked reply)
-stays_outside Asked from deeds place parked request deed reply need o asks try e = record {
+stays_outside : (Asked : ℕ → Request → Type 0) (from : ℕ) (effects : List Effect) (place : ℕ) (parked : Bool) (request : Request) (effect : Effect) (reply : Reply) (need : Need) → Outside Asked from (acts effects) place parked → Asked place request → IsTry parked request effect reply
+    → needs parked reply ≡ Some need → Outside Asked from (acts (effects ++ effect ∷ [])) place (accepts parked reply)
+stays_outside Asked from effects place parked request effect reply need o asks try e = record {
   done = o.done;
-  part = o.part ++ deed ∷ [];
-  is = acts_try deeds o.done o.part parked request deed reply try o.is;
+  part = o.part ++ effect ∷ [];
+  is = acts_try effects o.done o.part parked request effect reply try o.is;
   whole = o.whole;
-  tries = Again o.tries request asks deed reply need try e;
+  tries = Again o.tries request asks effect reply need try e;
 }
 
-passes_outside : (Asked : ℕ → Request → Type 0) (from : ℕ) (deeds : List Deed) (place : ℕ) (parked : Bool) (request : Request) (deed : Deed) (reply : Reply) → Outside Asked from (acts deeds) place parked → Asked place request → IsTry parked request deed reply
-    → needs parked reply ≡ None → is_expansion reply ≡ false → Outside Asked from (acts (deeds ++ deed ∷ [])) (place + 1) false
-passes_outside Asked from deeds place parked request deed reply o asks try e plain =
-    let next : UnitsDone Asked from (place + 1) (o.done ++ (o.part ++ deed ∷ [])) = Plain o.whole (o.part ++ deed ∷ []) reply (ended (Asked place) o.part parked request deed reply o.tries asks try e) plain in
+passes_outside : (Asked : ℕ → Request → Type 0) (from : ℕ) (effects : List Effect) (place : ℕ) (parked : Bool) (request : Request) (effect : Effect) (reply : Reply) → Outside Asked from (acts effects) place parked → Asked place request → IsTry parked request effect reply
+    → needs parked reply ≡ None → is_expansion reply ≡ false → Outside Asked from (acts (effects ++ effect ∷ [])) (place + 1) false
+passes_outside Asked from effects place parked request effect reply o asks try e plain =
+    let next : UnitsDone Asked from (place + 1) (o.done ++ (o.part ++ effect ∷ [])) = Plain o.whole (o.part ++ effect ∷ []) reply (ended (Asked place) o.part parked request effect reply o.tries asks try e) plain in
     record {
-      done = o.done ++ (o.part ++ deed ∷ []);
+      done = o.done ++ (o.part ++ effect ∷ []);
       part = [];
-      is = acts_try deeds o.done o.part parked request deed reply try o.is ∙ sym (append-nil (o.done ++ (o.part ++ deed ∷ [])));
+      is = acts_try effects o.done o.part parked request effect reply try o.is ∙ sym (append-nil (o.done ++ (o.part ++ effect ∷ [])));
       whole = next;
       tries = Untried;
     }
 
-fails_outside : (Asked : ℕ → Request → Type 0) (from : ℕ) (deeds : List Deed) (place : ℕ) (parked : Bool) (expansion : Option (List ℕ)) (request : Request) (deed : Deed) (error : ScpiError) (short : Bool) → Outside Asked from (acts deeds) place parked
-    → Asked place request → IsTry parked request deed (Error error) → parked && is_memory error ≡ short
-    → (let s : Standing = if short then record { units = place; inside = None; parked = parked } else record { units = place + 1; inside = None; parked = false } in At Asked from (acts (deeds ++ deed ∷ [])) s.units s.parked expansion s.inside)
-fails_outside Asked from deeds place parked expansion request deed error true o asks try e =
-    stays_outside Asked from deeds place parked request deed (Error error) Memory o asks try (ap (λ (b : Bool). (let n : Option Need = if b then Some Memory else None in n)) e)
-fails_outside Asked from deeds place parked expansion request deed error false o asks try e =
-    passes_outside Asked from deeds place parked request deed (Error error) o asks try (ap (λ (b : Bool). (let n : Option Need = if b then Some Memory else None in n)) e) refl
+fails_outside : (Asked : ℕ → Request → Type 0) (from : ℕ) (effects : List Effect) (place : ℕ) (parked : Bool) (expansion : Option (List ℕ)) (request : Request) (effect : Effect) (error : ScpiError) (short : Bool) → Outside Asked from (acts effects) place parked
+    → Asked place request → IsTry parked request effect (Error error) → parked && is_memory error ≡ short
+    → (let s : Standing = if short then record { units = place; inside = None; parked = parked } else record { units = place + 1; inside = None; parked = false } in At Asked from (acts (effects ++ effect ∷ [])) s.units s.parked expansion s.inside)
+fails_outside Asked from effects place parked expansion request effect error true o asks try e =
+    stays_outside Asked from effects place parked request effect (Error error) Memory o asks try (ap (λ (b : Bool). (let n : Option Need = if b then Some Memory else None in n)) e)
+fails_outside Asked from effects place parked expansion request effect error false o asks try e =
+    passes_outside Asked from effects place parked request effect (Error error) o asks try (ap (λ (b : Bool). (let n : Option Need = if b then Some Memory else None in n)) e) refl
 
-pub try_outside : (Asked : ℕ → Request → Type 0) (from : ℕ) (deeds : List Deed) (place : ℕ) (parked : Bool) (expansion : Option (List ℕ)) (request : Request) (deed : Deed) (reply : Reply) → Outside Asked from (acts deeds) place parked → Asked place request
-    → IsTry parked request deed reply
-    → (let s : Standing = standing_after (record { units = place; inside = None; parked = parked }) reply in At Asked from (acts (deeds ++ deed ∷ [])) s.units s.parked (expansion_after None expansion reply) s.inside)
-try_outside Asked from deeds place parked expansion request deed Done o asks try = passes_outside Asked from deeds place parked request deed Done o asks try refl refl
-try_outside Asked from deeds place parked expansion request deed (Answer text) o asks try = passes_outside Asked from deeds place parked request deed (Answer text) o asks try refl refl
-try_outside Asked from deeds place parked expansion request deed (Error error) o asks try = fails_outside Asked from deeds place parked expansion request deed error (parked && is_memory error) o asks try refl
-try_outside Asked from deeds place parked expansion request deed (Expand body) o asks try = record {
+pub try_outside : (Asked : ℕ → Request → Type 0) (from : ℕ) (effects : List Effect) (place : ℕ) (parked : Bool) (expansion : Option (List ℕ)) (request : Request) (effect : Effect) (reply : Reply) → Outside Asked from (acts effects) place parked → Asked place request
+    → IsTry parked request effect reply
+    → (let s : Standing = standing_after (record { units = place; inside = None; parked = parked }) reply in At Asked from (acts (effects ++ effect ∷ [])) s.units s.parked (expansion_after None expansion reply) s.inside)
+try_outside Asked from effects place parked expansion request effect Done o asks try = passes_outside Asked from effects place parked request effect Done o asks try refl refl
+try_outside Asked from effects place parked expansion request effect (Answer text) o asks try = passes_outside Asked from effects place parked request effect (Answer text) o asks try refl refl
+try_outside Asked from effects place parked expansion request effect (Error error) o asks try = fails_outside Asked from effects place parked expansion request effect error (parked && is_memory error) o asks try refl
+try_outside Asked from effects place parked expansion request effect (Expand body) o asks try = record {
   done = o.done;
-  unit = o.part ++ deed ∷ [];
+  unit = o.part ++ effect ∷ [];
   inner = [];
   part = [];
   body = body;
-  is = acts_try deeds o.done o.part parked request deed (Expand body) try o.is ∙ ap (λ (l : List Deed). o.done ++ l) (sym (append-nil (o.part ++ deed ∷ []))) ∙ sym (append-nil (o.done ++ ((o.part ++ deed ∷ []) ++ [])));
+  is = acts_try effects o.done o.part parked request effect (Expand body) try o.is ∙ ap (λ (l : List Effect). o.done ++ l) (sym (append-nil (o.part ++ effect ∷ []))) ∙ sym (append-nil (o.done ++ ((o.part ++ effect ∷ []) ++ [])));
   whole = o.whole;
   stands = refl;
-  first = ended (Asked place) o.part parked request deed (Expand body) o.tries asks try refl;
+  first = ended (Asked place) o.part parked request effect (Expand body) o.tries asks try refl;
   within = NoneInside;
   tries = Untried;
 }
-try_outside Asked from deeds place parked expansion request deed Parked o asks try = stays_outside Asked from deeds place parked request deed Parked Flush o asks try refl
-try_outside Asked from deeds place parked expansion request deed Held o asks try = stays_outside Asked from deeds place parked request deed Held Lock o asks try refl
-try_outside Asked from deeds place parked expansion request deed Later o asks try = stays_outside Asked from deeds place parked request deed Later Room o asks try refl
+try_outside Asked from effects place parked expansion request effect Parked o asks try = stays_outside Asked from effects place parked request effect Parked Flush o asks try refl
+try_outside Asked from effects place parked expansion request effect Held o asks try = stays_outside Asked from effects place parked request effect Held Lock o asks try refl
+try_outside Asked from effects place parked expansion request effect Later o asks try = stays_outside Asked from effects place parked request effect Later Room o asks try refl
 
 -- ---- a try in an expansion
 
-stays_within : (Asked : ℕ → Request → Type 0) (from : ℕ) (deeds : List Deed) (place : ℕ) (parked : Bool) (expansion : Option (List ℕ)) (next : ℕ) (request : Request) (deed : Deed) (reply : Reply) (need : Need) → (w : Within Asked from (acts deeds) place parked expansion next)
-    → IsInside w.body next request → IsTry parked request deed reply → needs parked reply ≡ Some need → Within Asked from (acts (deeds ++ deed ∷ [])) place (accepts parked reply) expansion next
-stays_within Asked from deeds place parked expansion next request deed reply need w asks try e = record {
+stays_within : (Asked : ℕ → Request → Type 0) (from : ℕ) (effects : List Effect) (place : ℕ) (parked : Bool) (expansion : Option (List ℕ)) (next : ℕ) (request : Request) (effect : Effect) (reply : Reply) (need : Need) → (w : Within Asked from (acts effects) place parked expansion next)
+    → IsInside w.body next request → IsTry parked request effect reply → needs parked reply ≡ Some need → Within Asked from (acts (effects ++ effect ∷ [])) place (accepts parked reply) expansion next
+stays_within Asked from effects place parked expansion next request effect reply need w asks try e = record {
   done = w.done;
   unit = w.unit;
   inner = w.inner;
-  part = w.part ++ deed ∷ [];
+  part = w.part ++ effect ∷ [];
   body = w.body;
-  is = acts_try deeds (w.done ++ (w.unit ++ w.inner)) w.part parked request deed reply try w.is;
+  is = acts_try effects (w.done ++ (w.unit ++ w.inner)) w.part parked request effect reply try w.is;
   whole = w.whole;
   stands = w.stands;
   first = w.first;
   within = w.within;
-  tries = Again w.tries request asks deed reply need try e;
+  tries = Again w.tries request asks effect reply need try e;
 }
 
-longer : (done unit inner more : List Deed) → (done ++ (unit ++ inner)) ++ more ≡ done ++ (unit ++ (inner ++ more))
-longer done unit inner more = append_assoc done (unit ++ inner) more ∙ ap (λ (l : List Deed). done ++ l) (append_assoc unit inner more)
+longer : (done unit inner more : List Effect) → (done ++ (unit ++ inner)) ++ more ≡ done ++ (unit ++ (inner ++ more))
+longer done unit inner more = append_assoc done (unit ++ inner) more ∙ ap (λ (l : List Effect). done ++ l) (append_assoc unit inner more)
 
-passes_within : (Asked : ℕ → Request → Type 0) (from : ℕ) (deeds : List Deed) (place : ℕ) (parked : Bool) (expansion : Option (List ℕ)) (next : ℕ) (request : Request) (deed : Deed) (reply : Reply) → (w : Within Asked from (acts deeds) place parked expansion next)
-    → IsInside w.body next request → IsTry parked request deed reply → needs parked reply ≡ None → Within Asked from (acts (deeds ++ deed ∷ [])) place false expansion (next + 1)
-passes_within Asked from deeds place parked expansion next request deed reply w asks try e =
-    let more : List Deed = w.part ++ deed ∷ [] in
+passes_within : (Asked : ℕ → Request → Type 0) (from : ℕ) (effects : List Effect) (place : ℕ) (parked : Bool) (expansion : Option (List ℕ)) (next : ℕ) (request : Request) (effect : Effect) (reply : Reply) → (w : Within Asked from (acts effects) place parked expansion next)
+    → IsInside w.body next request → IsTry parked request effect reply → needs parked reply ≡ None → Within Asked from (acts (effects ++ effect ∷ [])) place false expansion (next + 1)
+passes_within Asked from effects place parked expansion next request effect reply w asks try e =
+    let more : List Effect = w.part ++ effect ∷ [] in
     record {
       done = w.done;
       unit = w.unit;
-      inner = w.inner ++ (w.part ++ deed ∷ []);
+      inner = w.inner ++ (w.part ++ effect ∷ []);
       part = [];
       body = w.body;
-      is = acts_try deeds (w.done ++ (w.unit ++ w.inner)) w.part parked request deed reply try w.is ∙ longer w.done w.unit w.inner (w.part ++ deed ∷ []) ∙ sym (append-nil (w.done ++ (w.unit ++ (w.inner ++ (w.part ++ deed ∷ [])))));
+      is = acts_try effects (w.done ++ (w.unit ++ w.inner)) w.part parked request effect reply try w.is ∙ longer w.done w.unit w.inner (w.part ++ effect ∷ []) ∙ sym (append-nil (w.done ++ (w.unit ++ (w.inner ++ (w.part ++ effect ∷ [])))));
       whole = w.whole;
       stands = w.stands;
       first = w.first;
-      within = OneInside w.within (w.part ++ deed ∷ []) reply (ended (IsInside w.body next) w.part parked request deed reply w.tries asks try e);
+      within = OneInside w.within (w.part ++ effect ∷ []) reply (ended (IsInside w.body next) w.part parked request effect reply w.tries asks try e);
       tries = Untried;
     }
 
-fails_within : (Asked : ℕ → Request → Type 0) (from : ℕ) (deeds : List Deed) (place : ℕ) (parked : Bool) (expansion : Option (List ℕ)) (next : ℕ) (request : Request) (deed : Deed) (error : ScpiError) (short : Bool) → (w : Within Asked from (acts deeds) place parked expansion next)
-    → IsInside w.body next request → IsTry parked request deed (Error error) → parked && is_memory error ≡ short
-    → (let s : Standing = if short then record { units = place; inside = Some next; parked = parked } else record { units = place; inside = Some (next + 1); parked = false } in At Asked from (acts (deeds ++ deed ∷ [])) s.units s.parked expansion s.inside)
-fails_within Asked from deeds place parked expansion next request deed error true w asks try e =
-    stays_within Asked from deeds place parked expansion next request deed (Error error) Memory w asks try (ap (λ (b : Bool). (let n : Option Need = if b then Some Memory else None in n)) e)
-fails_within Asked from deeds place parked expansion next request deed error false w asks try e =
-    passes_within Asked from deeds place parked expansion next request deed (Error error) w asks try (ap (λ (b : Bool). (let n : Option Need = if b then Some Memory else None in n)) e)
+fails_within : (Asked : ℕ → Request → Type 0) (from : ℕ) (effects : List Effect) (place : ℕ) (parked : Bool) (expansion : Option (List ℕ)) (next : ℕ) (request : Request) (effect : Effect) (error : ScpiError) (short : Bool) → (w : Within Asked from (acts effects) place parked expansion next)
+    → IsInside w.body next request → IsTry parked request effect (Error error) → parked && is_memory error ≡ short
+    → (let s : Standing = if short then record { units = place; inside = Some next; parked = parked } else record { units = place; inside = Some (next + 1); parked = false } in At Asked from (acts (effects ++ effect ∷ [])) s.units s.parked expansion s.inside)
+fails_within Asked from effects place parked expansion next request effect error true w asks try e =
+    stays_within Asked from effects place parked expansion next request effect (Error error) Memory w asks try (ap (λ (b : Bool). (let n : Option Need = if b then Some Memory else None in n)) e)
+fails_within Asked from effects place parked expansion next request effect error false w asks try e =
+    passes_within Asked from effects place parked expansion next request effect (Error error) w asks try (ap (λ (b : Bool). (let n : Option Need = if b then Some Memory else None in n)) e)
 
-pub try_within : (Asked : ℕ → Request → Type 0) (from : ℕ) (deeds : List Deed) (place : ℕ) (parked : Bool) (expansion : Option (List ℕ)) (next : ℕ) (request : Request) (deed : Deed) (reply : Reply) → (w : Within Asked from (acts deeds) place parked expansion next)
-    → IsInside w.body next request → IsTry parked request deed reply
-    → (let s : Standing = standing_after (record { units = place; inside = Some next; parked = parked }) reply in At Asked from (acts (deeds ++ deed ∷ [])) s.units s.parked (expansion_after (Some next) expansion reply) s.inside)
-try_within Asked from deeds place parked expansion next request deed Done w asks try = passes_within Asked from deeds place parked expansion next request deed Done w asks try refl
-try_within Asked from deeds place parked expansion next request deed (Answer text) w asks try = passes_within Asked from deeds place parked expansion next request deed (Answer text) w asks try refl
-try_within Asked from deeds place parked expansion next request deed (Error error) w asks try = fails_within Asked from deeds place parked expansion next request deed error (parked && is_memory error) w asks try refl
-try_within Asked from deeds place parked expansion next request deed (Expand body) w asks try = passes_within Asked from deeds place parked expansion next request deed (Expand body) w asks try refl
-try_within Asked from deeds place parked expansion next request deed Parked w asks try = stays_within Asked from deeds place parked expansion next request deed Parked Flush w asks try refl
-try_within Asked from deeds place parked expansion next request deed Held w asks try = stays_within Asked from deeds place parked expansion next request deed Held Lock w asks try refl
-try_within Asked from deeds place parked expansion next request deed Later w asks try = stays_within Asked from deeds place parked expansion next request deed Later Room w asks try refl
+pub try_within : (Asked : ℕ → Request → Type 0) (from : ℕ) (effects : List Effect) (place : ℕ) (parked : Bool) (expansion : Option (List ℕ)) (next : ℕ) (request : Request) (effect : Effect) (reply : Reply) → (w : Within Asked from (acts effects) place parked expansion next)
+    → IsInside w.body next request → IsTry parked request effect reply
+    → (let s : Standing = standing_after (record { units = place; inside = Some next; parked = parked }) reply in At Asked from (acts (effects ++ effect ∷ [])) s.units s.parked (expansion_after (Some next) expansion reply) s.inside)
+try_within Asked from effects place parked expansion next request effect Done w asks try = passes_within Asked from effects place parked expansion next request effect Done w asks try refl
+try_within Asked from effects place parked expansion next request effect (Answer text) w asks try = passes_within Asked from effects place parked expansion next request effect (Answer text) w asks try refl
+try_within Asked from effects place parked expansion next request effect (Error error) w asks try = fails_within Asked from effects place parked expansion next request effect error (parked && is_memory error) w asks try refl
+try_within Asked from effects place parked expansion next request effect (Expand body) w asks try = passes_within Asked from effects place parked expansion next request effect (Expand body) w asks try refl
+try_within Asked from effects place parked expansion next request effect Parked w asks try = stays_within Asked from effects place parked expansion next request effect Parked Flush w asks try refl
+try_within Asked from effects place parked expansion next request effect Held w asks try = stays_within Asked from effects place parked expansion next request effect Held Lock w asks try refl
+try_within Asked from effects place parked expansion next request effect Later w asks try = stays_within Asked from effects place parked expansion next request effect Later Room w asks try refl
 
 -- ---- the execution
 
@@ -214,14 +214,14 @@ same_body expansion body other place p request e f unit =
     let both : Some body ≡ Some other = sym e ∙ f in
     let same : other ≡ body = cc (both) in (p, subst (λ (z : List ℕ). IsUnit true z place p request) same unit)
 
-try_at : (source : Source) (deeds : List Deed) (place : ℕ) (inside : Option ℕ) (parked : Bool) (expansion : Option (List ℕ)) (text : Text) (request : Request) (deed : Deed) (reply : Reply)
-    → At (IsAsked source) 0 (acts deeds) place parked expansion inside → NextAt source (record { standing = record { units = place; inside = inside; parked = parked }; expansion = expansion; text = text }) inside request → IsTry parked request deed reply
-    → (let s : Standing = standing_after (record { units = place; inside = inside; parked = parked }) reply in At (IsAsked source) 0 (acts (deeds ++ deed ∷ [])) s.units s.parked (expansion_after inside expansion reply) s.inside)
-try_at source deeds place None parked expansion text request deed reply o (first, asks, clear) try = try_outside (IsAsked source) 0 deeds place parked expansion request deed reply o (first, asks) try
-try_at source deeds place (Some next) parked expansion text request deed reply w (body, p, stands, unit) try =
-    try_within (IsAsked source) 0 deeds place parked expansion next request deed reply w (same_body expansion w.body body next p request w.stands stands unit) try
+try_at : (source : Source) (effects : List Effect) (place : ℕ) (inside : Option ℕ) (parked : Bool) (expansion : Option (List ℕ)) (text : Text) (request : Request) (effect : Effect) (reply : Reply)
+    → At (IsAsked source) 0 (acts effects) place parked expansion inside → NextAt source (record { standing = record { units = place; inside = inside; parked = parked }; expansion = expansion; text = text }) inside request → IsTry parked request effect reply
+    → (let s : Standing = standing_after (record { units = place; inside = inside; parked = parked }) reply in At (IsAsked source) 0 (acts (effects ++ effect ∷ [])) s.units s.parked (expansion_after inside expansion reply) s.inside)
+try_at source effects place None parked expansion text request effect reply o (first, asks, clear) try = try_outside (IsAsked source) 0 effects place parked expansion request effect reply o (first, asks) try
+try_at source effects place (Some next) parked expansion text request effect reply w (body, p, stands, unit) try =
+    try_within (IsAsked source) 0 effects place parked expansion next request effect reply w (same_body expansion w.body body next p request w.stands stands unit) try
 
-pub leave_at : OneList → (Asked : ℕ → Request → Type 0) (from : ℕ) (all : List Deed) (place next : ℕ) (parked : Bool) (expansion : Option (List ℕ)) (body : List ℕ) → Within Asked from all place parked expansion next → expansion ≡ Some body → IsBehind body next
+pub leave_at : OneList → (Asked : ℕ → Request → Type 0) (from : ℕ) (all : List Effect) (place next : ℕ) (parked : Bool) (expansion : Option (List ℕ)) (body : List ℕ) → Within Asked from all place parked expansion next → expansion ≡ Some body → IsBehind body next
     → Outside Asked from all (place + 1) false
 leave_at one Asked from all place next parked expansion body w stands over =
     let both : Some body ≡ Some w.body = sym stands ∙ w.stands in
@@ -231,32 +231,32 @@ leave_at one Asked from all place next parked expansion body w stands over =
     record {
       done = w.done ++ (w.unit ++ w.inner);
       part = [];
-      is = w.is ∙ ap (λ (l : List Deed). (w.done ++ (w.unit ++ w.inner)) ++ l) none;
+      is = w.is ∙ ap (λ (l : List Effect). (w.done ++ (w.unit ++ w.inner)) ++ l) none;
       whole = Expanded w.whole w.unit w.body w.first w.inner next w.within behind;
       tries = Untried;
     }
 
-abbrev Is : Source → List Deed → Course → Type 0
-Is source deeds c = At (IsAsked source) 0 (acts deeds) c.standing.units c.standing.parked c.expansion c.standing.inside
+abbrev Is : Source → List Effect → Progress → Type 0
+Is source effects c = At (IsAsked source) 0 (acts effects) c.standing.units c.standing.parked c.expansion c.standing.inside
 
-turning : OneList → (source : Source) → (deeds : List Deed) (c : Course) → Comes source deeds c → Is source deeds c
-turning one source deeds c Begins = record { done = []; part = []; is = refl; whole = NoUnit; tries = Untried }
-turning one source deeds c (Tries {deeds = before} {c = old} m request next deed reply try) =
-    try_at source before old.standing.units old.standing.inside old.standing.parked old.expansion old.text request deed reply (turning one source before old m) next try
-turning one source deeds c (Leaves {deeds = before} {c = old} m (body, next, stands, place, over)) =
+turning : OneList → (source : Source) → (effects : List Effect) (c : Progress) → Reaches source effects c → Is source effects c
+turning one source effects c Begins = record { done = []; part = []; is = refl; whole = NoUnit; tries = Untried }
+turning one source effects c (Tries {effects = before} {c = old} m request next effect reply try) =
+    try_at source before old.standing.units old.standing.inside old.standing.parked old.expansion old.text request effect reply (turning one source before old m) next try
+turning one source effects c (Leaves {effects = before} {c = old} m (body, next, stands, place, over)) =
     leave_at one (IsAsked source) 0 (acts before) old.standing.units next old.standing.parked old.expansion body
     (subst (λ (z : Option ℕ). At (IsAsked source) 0 (acts before) old.standing.units old.standing.parked old.expansion z) place (turning one source before old m)) stands over
-turning one source deeds c (Sends {deeds = before} {c = old} m begun long) =
-    subst (λ (l : List Deed). At (IsAsked source) 0 l old.standing.units old.standing.parked old.expansion old.standing.inside) (acts_sent before old.text.rest false) (turning one source before old m)
-turning one source deeds c (Ends {deeds = before} {c = old} m ends) =
-    subst (λ (l : List Deed). At (IsAsked source) 0 l old.standing.units old.standing.parked old.expansion old.standing.inside) (acts_sent before (old.text.rest ++ 10 ∷ []) true) (turning one source before old m)
+turning one source effects c (Sends {effects = before} {c = old} m begun long) =
+    subst (λ (l : List Effect). At (IsAsked source) 0 l old.standing.units old.standing.parked old.expansion old.standing.inside) (acts_sent before old.text.rest false) (turning one source before old m)
+turning one source effects c (Ends {effects = before} {c = old} m ends) =
+    subst (λ (l : List Effect). At (IsAsked source) 0 l old.standing.units old.standing.parked old.expansion old.standing.inside) (acts_sent before (old.text.rest ++ 10 ∷ []) true) (turning one source before old m)
 
-pub over_at : (Asked : ℕ → Request → Type 0) (from : ℕ) (all : List Deed) (place : ℕ) (parked : Bool) (expansion : Option (List ℕ)) (inside : Option ℕ) → At Asked from all place parked expansion inside → ((request : Request) → Asked place request → ⊥) → UnitsDone Asked from place all
+pub over_at : (Asked : ℕ → Request → Type 0) (from : ℕ) (all : List Effect) (place : ℕ) (parked : Bool) (expansion : Option (List ℕ)) (inside : Option ℕ) → At Asked from all place parked expansion inside → ((request : Request) → Asked place request → ⊥) → UnitsDone Asked from place all
 over_at Asked from all place parked expansion None o none =
     let empty : o.part ≡ [] = untried (Asked place) o.part parked none o.tries in
-    subst (λ (l : List Deed). UnitsDone Asked from place l) (sym (o.is ∙ ap (λ (l : List Deed). o.done ++ l) empty ∙ append-nil o.done)) o.whole
+    subst (λ (l : List Effect). UnitsDone Asked from place l) (sym (o.is ∙ ap (λ (l : List Effect). o.done ++ l) empty ∙ append-nil o.done)) o.whole
 over_at Asked from all place parked expansion (Some next) w none = absurd (none w.first.request w.first.is)
 
-pub all_done : OneList → (source : Source) (deeds : List Deed) (c : Course) → Comes source deeds c → IsOver source c → UnitsDone (IsAsked source) 0 c.standing.units (acts deeds)
-all_done one source deeds c m over =
-    over_at (IsAsked source) 0 (acts deeds) c.standing.units c.standing.parked c.expansion c.standing.inside (turning one source deeds c m) (λ request is. no_ask one source c.standing.units request over.units is)
+pub all_done : OneList → (source : Source) (effects : List Effect) (c : Progress) → Reaches source effects c → IsOver source c → UnitsDone (IsAsked source) 0 c.standing.units (acts effects)
+all_done one source effects c m over =
+    over_at (IsAsked source) 0 (acts effects) c.standing.units c.standing.parked c.expansion c.standing.inside (turning one source effects c m) (λ request is. no_ask one source c.standing.units request over.units is)

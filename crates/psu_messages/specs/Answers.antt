@@ -3,9 +3,9 @@
 use Rattle.std.specs.Prelude.{◌≡◌, ℕ, ◌||◌, Bool, true, false, List, [], ◌∷◌, ◌++◌}
 use Rattle.psu_exec.specs.Device.{Reply, Done, Answer, Error, Expand, Parked, Held, Later}
 use Rattle.psu_answers.specs.Response.{are_some, joined}
-use Rattle.psu_messages.specs.Deeds.{Deed, Executed, Settled, Sent}
+use Rattle.psu_messages.specs.Effects.{Effect, Executed, Settled, Sent}
 use Rattle.psu_messages.specs.Units.{Source}
-use Rattle.psu_messages.specs.Courses.{Comes, Course, IsOver, beginning}
+use Rattle.psu_messages.specs.Executions.{Reaches, Progress, IsOver, beginning}
 
 abbrev pub answer_in : Reply → List (List ℕ)
 answer_in Done = []
@@ -17,61 +17,61 @@ answer_in Held = []
 answer_in Later = []
 
 -- the responses of units, in order
-abbrev pub answers : List Deed → List (List ℕ)
+abbrev pub answers : List Effect → List (List ℕ)
 answers [] = []
-answers (Executed request reply ∷ deeds) = answer_in reply ++ answers deeds
-answers (Settled reply ∷ deeds) = answer_in reply ++ answers deeds
-answers (Sent text last ∷ deeds) = answers deeds
+answers (Executed request reply ∷ effects) = answer_in reply ++ answers effects
+answers (Settled reply ∷ effects) = answer_in reply ++ answers effects
+answers (Sent text last ∷ effects) = answers effects
 
 -- the pieces that were sent, put together
-abbrev pub text_sent : List Deed → List ℕ
+abbrev pub text_sent : List Effect → List ℕ
 text_sent [] = []
-text_sent (Executed request reply ∷ deeds) = text_sent deeds
-text_sent (Settled reply ∷ deeds) = text_sent deeds
-text_sent (Sent text last ∷ deeds) = text ++ text_sent deeds
+text_sent (Executed request reply ∷ effects) = text_sent effects
+text_sent (Settled reply ∷ effects) = text_sent effects
+text_sent (Sent text last ∷ effects) = text ++ text_sent effects
 
 -- whether the last piece of a message was sent
-abbrev pub ends_text : List Deed → Bool
+abbrev pub ends_text : List Effect → Bool
 ends_text [] = false
-ends_text (Executed request reply ∷ deeds) = ends_text deeds
-ends_text (Settled reply ∷ deeds) = ends_text deeds
-ends_text (Sent text last ∷ deeds) = last || ends_text deeds
+ends_text (Executed request reply ∷ effects) = ends_text effects
+ends_text (Settled reply ∷ effects) = ends_text effects
+ends_text (Sent text last ∷ effects) = last || ends_text effects
 
 -- A message with responses: they are sent whole, the last piece after its last unit.
-pub record IsAnswered (deeds : List Deed) : Type 0 where
-  pub before : List Deed
+pub record IsAnswered (effects : List Effect) : Type 0 where
+  pub before : List Effect
   pub piece : List ℕ
-  pub ends : deeds ≡ before ++ Sent piece true ∷ []
+  pub ends : effects ≡ before ++ Sent piece true ∷ []
   pub whole : ends_text before ≡ false
   pub answered : are_some (answers before) ≡ true
-  pub text : text_sent deeds ≡ joined (answers before) ++ 10 ∷ []
+  pub text : text_sent effects ≡ joined (answers before) ++ 10 ∷ []
 
 -- messages with responses, one after another
-pub data AreAnswered : List Deed → Type 0 where
+pub data AreAnswered : List Effect → Type 0 where
   None : AreAnswered []
-  More : {deeds : List Deed} → AreAnswered deeds → (message : List Deed) → IsAnswered message → AreAnswered (deeds ++ message)
+  More : {effects : List Effect} → AreAnswered effects → (message : List Effect) → IsAnswered message → AreAnswered (effects ++ message)
 
 -- no response, and nothing sent
-pub record IsSilent (deeds : List Deed) : Type 0 where
-  pub answers : answers deeds ≡ []
-  pub text : text_sent deeds ≡ []
-  pub ends : ends_text deeds ≡ false
+pub record IsSilent (effects : List Effect) : Type 0 where
+  pub answers : answers effects ≡ []
+  pub text : text_sent effects ≡ []
+  pub ends : ends_text effects ≡ false
 
 -- all responses are sent, those of each message in a text of their own, and nothing else
-abbrev pub AllIsSent : List Deed → Type 0
-AllIsSent deeds = (before : List Deed) × (after : List Deed) × (deeds ≡ before ++ after) × AreAnswered before × IsSilent after
+abbrev pub AllIsSent : List Effect → Type 0
+AllIsSent effects = (before : List Effect) × (after : List Effect) × (effects ≡ before ++ after) × AreAnswered before × IsSilent after
 
 -- ---- any number of calls
 
 -- The effects of calls for one transmission, one after another, each as the relation of a call says.
-pub data Taken (source : Source) : List Deed → Course → Type 0 where
+pub data Taken (source : Source) : List Effect → Progress → Type 0 where
   New : Taken source [] beginning
-  Call : {deeds : List Deed} {c : Course} → Taken source deeds c → (added : List Deed) (new : Course) → ((before : List Deed) → Comes source before c → Comes source (before ++ added) new) → Taken source (deeds ++ added) new
+  Call : {effects : List Effect} {c : Progress} → Taken source effects c → (added : List Effect) (new : Progress) → ((before : List Effect) → Reaches source before c → Reaches source (before ++ added) new) → Taken source (effects ++ added) new
 
 -- Whichever threads make the calls, and however many there are, together they are one execution of the transmission.
-abbrev pub CallsAreOneCourse : Type 0
-CallsAreOneCourse = (source : Source) (deeds : List Deed) (c : Course) → Taken source deeds c → Comes source deeds c
+abbrev pub CallsAreOneExecution : Type 0
+CallsAreOneExecution = (source : Source) (effects : List Effect) (c : Progress) → Taken source effects c → Reaches source effects c
 
 -- Once nothing is left to do, all responses are sent.
 abbrev pub OverIsSent : Type 0
-OverIsSent = (source : Source) (deeds : List Deed) (c : Course) → Comes source deeds c → IsOver source c → AllIsSent deeds
+OverIsSent = (source : Source) (effects : List Effect) (c : Progress) → Reaches source effects c → IsOver source c → AllIsSent effects

@@ -1,7 +1,7 @@
-pub mod Deeds
+pub mod Effects
 pub mod Standing
 pub mod Units
-pub mod Courses
+pub mod Executions
 pub mod Shown
 pub mod Stepping
 pub mod Answers

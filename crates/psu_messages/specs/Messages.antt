@@ -2,11 +2,11 @@
 -- sent as one text.
 use Rattle.std.specs.Prelude.{◌≡◌, ◌⊎◌, ℕ, ◌<◌, ◌==◌, false, List, [], ◌++◌}
 use Rattle.psu_tree.specs.declared.unit_request.Request.{Request}
-use Rattle.psu_answers.specs.Gathered.{Text}
+use Rattle.psu_answers.specs.ResponseBuffer.{Text}
 use Rattle.psu_answers.specs.Response.{joined}
-use Rattle.psu_messages.specs.Deeds.{Deed}
+use Rattle.psu_messages.specs.Effects.{Effect}
 use Rattle.psu_messages.specs.Units.{Asks, Source}
-use Rattle.psu_messages.specs.Courses.{Comes, Course, IsOver}
+use Rattle.psu_messages.specs.Executions.{Reaches, Progress, IsOver}
 use Rattle.psu_messages.specs.Answers.{IsAnswered, IsSilent, answers, ends_text, text_sent}
 use Rattle.psu_messages.specs.Turns.{UnitsDone, acts}
 
@@ -17,32 +17,32 @@ IsAskedIn source from place request = Asks source place request (place == from)
 
 -- A message: its units, from the first up to the one at `to`, each executed to its end, once and in order. Their
 -- responses were sent whole as one text after the last of them, or they had no response and nothing was sent.
-pub record IsMessage (source : Source) (from to : ℕ) (deeds : List Deed) : Type 0 where
+pub record IsMessage (source : Source) (from to : ℕ) (effects : List Effect) : Type 0 where
   pub some : from < to
-  pub units : UnitsDone (IsAskedIn source from) from to (acts deeds)
-  pub text : IsAnswered deeds ⊎ IsSilent deeds
+  pub units : UnitsDone (IsAskedIn source from) from to (acts effects)
+  pub text : IsAnswered effects ⊎ IsSilent effects
 
 -- messages, one after another, which have this number of units together
-pub data AreMessages (source : Source) : ℕ → List Deed → Type 0 where
+pub data AreMessages (source : Source) : ℕ → List Effect → Type 0 where
   NoMessage : AreMessages source 0 []
-  OneMore : {from : ℕ} {deeds : List Deed} → AreMessages source from deeds → (to : ℕ) (message : List Deed) → IsMessage source from to message → AreMessages source to (deeds ++ message)
+  OneMore : {from : ℕ} {effects : List Effect} → AreMessages source from effects → (to : ℕ) (message : List Effect) → IsMessage source from to message → AreMessages source to (effects ++ message)
 
 -- Once nothing is left to do, the effects are those of the transmission's messages: each text that was sent consists
 -- of the responses of the units of one message.
 abbrev pub OverIsMessages : Type 0
-OverIsMessages = (source : Source) (deeds : List Deed) (c : Course) → Comes source deeds c → IsOver source c → AreMessages source c.standing.units deeds
+OverIsMessages = (source : Source) (effects : List Effect) (c : Progress) → Reaches source effects c → IsOver source c → AreMessages source c.standing.units effects
 
 -- The first messages of a transmission, each whole, and perhaps a part of the next: what was sent of that, followed
 -- by the response buffer, is the responses of its units so far, and the last piece of its text was not sent.
-pub record AreSomeMessages (source : Source) (deeds : List Deed) (gathered : Text) : Type 0 where
+pub record AreSomeMessages (source : Source) (effects : List Effect) (gathered : Text) : Type 0 where
   pub units : ℕ
-  pub whole : List Deed
-  pub begun : List Deed
-  pub is : deeds ≡ whole ++ begun
+  pub whole : List Effect
+  pub begun : List Effect
+  pub is : effects ≡ whole ++ begun
   pub messages : AreMessages source units whole
   pub unended : ends_text begun ≡ false
   pub text : text_sent begun ++ gathered.rest ≡ joined (answers begun)
 
 -- At any point of a transmission, its effects are those of some of its messages.
 abbrev pub SoFarIsMessages : Type 0
-SoFarIsMessages = (source : Source) (deeds : List Deed) (c : Course) → Comes source deeds c → AreSomeMessages source deeds c.text
+SoFarIsMessages = (source : Source) (effects : List Effect) (c : Progress) → Reaches source effects c → AreSomeMessages source effects c.text

@@ -2,20 +2,20 @@
 use Rattle.std.specs.Prelude.{◌≡◌, Bool, false, Option, Some, None, List, ℕ}
 use Rattle.psu_tree.specs.declared.unit_request.Request.{Request}
 use Rattle.psu_exec.specs.Shown.{outcome_of}
-use Rattle.psu_messages.specs.Deeds.{Deed, needs}
-use Rattle.psu_messages.specs.Courses.{Trial}
+use Rattle.psu_messages.specs.Effects.{Effect, needs}
+use Rattle.psu_messages.specs.Executions.{Trial}
 use Rattle.psu_messages.specs.Stepping.{parked_by}
 use Rattle.psu_messages.specs.declared.tries.Tried.{Tried}
 use Rattle.psu_messages.specs.declared.tries.Tried.TheVariants as tried
 use Rattle.psu_exec.specs.Device.{Reply}
-use Rattle.psu_answers.specs.Gathered.{Text}
+use Rattle.psu_answers.specs.ResponseBuffer.{Text}
 use Rattle.psu_messages.specs.Standing.{Standing}
-use Rattle.psu_messages.specs.Courses as courses
-use Rattle.psu_messages.specs.declared.course.Course.{Course}
+use Rattle.psu_messages.specs.Executions as executions
+use Rattle.psu_messages.specs.declared.progress.Progress.{Progress}
 use Rattle.psu_messages.specs.declared.expansion.Expansion.{Expansion}
 
-abbrev pub course : Standing → Option (List ℕ) → Text → courses.Course
-course standing expansion text = record { standing = standing; expansion = expansion; text = text }
+abbrev pub progress : Standing → Option (List ℕ) → Text → executions.Progress
+progress standing expansion text = record { standing = standing; expansion = expansion; text = text }
 
 -- how many units of the expansion are done, if one replaces the next unit
 abbrev pub inside_of : {A : Type 0} → Option (Expansion A) → Option ℕ
@@ -26,10 +26,10 @@ abbrev pub body_of : {A : Type 0} → Option (Expansion A) → Option (List ℕ)
 body_of None = None
 body_of (Some expansion) = Some expansion.body
 
-abbrev pub course_of : {A : Type 0} → Course A → courses.Course
-course_of c = course (record { units = c.units; inside = inside_of c.expansion; parked = c.parked }) (body_of c.expansion) c.gathered
+abbrev pub progress_of : {A : Type 0} → Progress A → executions.Progress
+progress_of c = progress (record { units = c.units; inside = inside_of c.expansion; parked = c.parked }) (body_of c.expansion) c.gathered
 
 -- a unit was tried once, and has ended or waits
-abbrev pub IsTried : {A X : Type 0} → (X → Deed → X → Type 0) → X → Bool → Request → X → Bool → Tried A → Type 0
+abbrev pub IsTried : {A X : Type 0} → (X → Effect → X → Type 0) → X → Bool → Request → X → Bool → Tried A → Type 0
 IsTried does at parked request now new (tried.Ended o) = Trial does at parked request now (outcome_of o) × (needs parked (outcome_of o) ≡ None) × (new ≡ false)
 IsTried does at parked request now new (tried.Waits need) = (reply : Reply) × Trial does at parked request now reply × (needs parked reply ≡ Some need) × (new ≡ parked_by need parked)

@@ -2,17 +2,17 @@
 use Rattle.std.specs.Prelude.{◌≡◌, ◌⊎◌, ◌+◌, Bool, true, false, Option, Some, None, List, ℕ}
 use Rattle.psu_tree.specs.declared.unit_request.Request.{Request}
 use Rattle.psu_exec.specs.Device.{Reply}
-use Rattle.psu_answers.specs.Gathered.{Text}
-use Rattle.psu_messages.specs.Courses.{Course, text_after}
+use Rattle.psu_answers.specs.ResponseBuffer.{Text}
+use Rattle.psu_messages.specs.Executions.{Progress, text_after}
 use Rattle.psu_messages.specs.declared.need.Need.{Need}
 use Rattle.psu_messages.specs.declared.need.Need.TheVariants.{Flush}
 
 -- this number of units is done, and no expansion replaces the next one
-abbrev pub plain : ℕ → Bool → Text → Course
+abbrev pub plain : ℕ → Bool → Text → Progress
 plain units parked text = record { standing = record { units = units; inside = None; parked = parked }; expansion = None; text = text }
 
 -- this number of units is done, and this number of the expansion that replaces the next one
-abbrev pub within : ℕ → List ℕ → ℕ → Bool → Text → Course
+abbrev pub within : ℕ → List ℕ → ℕ → Bool → Text → Progress
 within units body done parked text = record { standing = record { units = units; inside = Some done; parked = parked }; expansion = Some body; text = text }
 
 -- a unit that waits for a flush was accepted
@@ -26,7 +26,7 @@ done_by None done = done + 1
 done_by (Some need) done = done
 
 -- the progress after an expansion was executed: it waits, or it is done and with it the unit that it replaced
-abbrev pub expanded_by : Option Need → ℕ → List ℕ → ℕ → Bool → Text → Course
+abbrev pub expanded_by : Option Need → ℕ → List ℕ → ℕ → Bool → Text → Progress
 expanded_by None units body done parked text = plain (units + 1) parked text
 expanded_by (Some need) units body done parked text = within units body done parked text
 

@@ -1,14 +1,14 @@
 // The units of an expansion, in the place of the unit that it replaces.
 ghost use Rattle.std.specs.Prelude.{◌≡◌, ℕ, min, IfOk, IfErr, IfSome};
-ghost use Rattle.psu_messages.specs.Deeds.{Awaits};
-ghost use Rattle.psu_messages.specs.Courses.{Goes, Stops};
+ghost use Rattle.psu_messages.specs.Effects.{Awaits};
+ghost use Rattle.psu_messages.specs.Executions.{Advances, StopsAt};
 ghost use Rattle.psu_messages.specs.Stepping.{expanded_by, within};
 ghost use Rattle.psu_messages.specs.Units.{Source};
 
 use crate::reading::{pass_over, request_at};
 use crate::steps::take_step;
-use crate::{Front, Need};
-use psu_answers::Gathered;
+use crate::{Executor, Need};
+use psu_answers::ResponseBuffer;
 use psu_lex::split;
 use psu_tree::Path;
 use std::alloc::Allocator;
@@ -21,22 +21,22 @@ pub(crate) fn place_of(done: u64, count: usize) -> usize
 }
 
 /// Executes the rest of an expansion. Returns what has to be waited for, if the expansion isn't done then.
-pub(crate) fn expand<A: Allocator + Copy, F: Front<A>>(
-    front: &mut F,
+pub(crate) fn expand<A: Allocator + Copy, F: Executor<A>>(
+    executor: &mut F,
     alloc: A,
     body: &[u8],
     done: &mut u64,
     parked: &mut bool,
-    gathered: &mut Gathered<A>,
+    gathered: &mut ResponseBuffer<A>,
 ) -> Result<Option<Need>, F::Stop>
-    ensures goes { IfOk result (λ need. (source : Source) (units : ℕ) → Goes F.does source front.old (within units body.now done.old parked.old gathered.old)
-        front.new (expanded_by need units body.now done.new parked.new gathered.new)) }
-    ensures waits { IfOk result (λ some. IfSome some (Awaits F.does front.new)) }
+    ensures advances { IfOk result (λ need. (source : Source) (units : ℕ) → Advances F.does source executor.old (within units body.now done.old parked.old gathered.old)
+        executor.new (expanded_by need units body.now done.new parked.new gathered.new)) }
+    ensures waits { IfOk result (λ some. IfSome some (Awaits F.does executor.new)) }
     ensures stops { IfErr result (λ stop. (source : Source) (units : ℕ)
-        → Stops F.does F.fails F.stops source front.old (within units body.now done.old parked.old gathered.old) stop front.new gathered.new) }
+        → StopsAt F.does F.fails F.stops source executor.old (within units body.now done.old parked.old gathered.old) stop executor.new gathered.new) }
 {
     let Ok(units) = split(alloc, body) else {
-        return Err(front.short());
+        return Err(executor.out_of_memory());
     };
     let list = units.as_slice();
     let at = place_of(*done, list.len());
@@ -45,7 +45,7 @@ pub(crate) fn expand<A: Allocator + Copy, F: Front<A>>(
     pass_over(&mut path, before, true);
     for unit in rest {
         let request = request_at(&mut path, unit, true);
-        let step = take_step(front, &request, parked, gathered)?;
+        let step = take_step(executor, &request, parked, gathered)?;
         if let Some(need) = step {
             return Ok(Some(need));
         }

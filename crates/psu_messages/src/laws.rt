@@ -1,5 +1,5 @@
 // Laws of the execution of a transmission.
-ghost use Rattle.psu_messages.specs.Answers.{CallsAreOneCourse, OverIsSent};
+ghost use Rattle.psu_messages.specs.Answers.{CallsAreOneExecution, OverIsSent};
 ghost use Rattle.psu_messages.specs.Messages.{OverIsMessages, SoFarIsMessages};
 ghost use Rattle.psu_messages.specs.Turns.{OverIsDone};
 
@@ -8,8 +8,8 @@ use psu_lex::laws::one_list_of_units;
 
 /// Whichever threads continue a transmission, and however often it was stopped, its effects are those of one legal
 /// execution.
-pub fn calls_are_one_course()
-    ensures { CallsAreOneCourse }
+pub fn calls_are_one_execution()
+    ensures { CallsAreOneExecution }
 {}
 
 /// Once a transmission is over, each of its messages with responses had them sent whole, in order, and nothing else

@@ -2,23 +2,23 @@
 //! responses. Nothing here waits. The executor of the units is known only by what was asked of it.
 #![tactic(auto)]
 
-mod course;
+mod executor;
 mod expansion;
 mod expansions;
-mod front;
 mod laws;
 mod messages;
 mod need;
+mod progress;
 mod reading;
+mod responses;
 mod steps;
-mod telling;
 mod tries;
 
-pub use course::Course;
+pub use executor::Executor;
 pub use expansion::Expansion;
-pub use front::Front;
 pub use laws::{
-    calls_are_one_course, over_is_done, over_is_messages, over_is_sent, so_far_is_messages,
+    calls_are_one_execution, over_is_done, over_is_messages, over_is_sent, so_far_is_messages,
 };
 pub use messages::{execute_fault, execute_text, proceed};
 pub use need::Need;
+pub use progress::Progress;

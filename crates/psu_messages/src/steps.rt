@@ -1,37 +1,37 @@
 // A try of a unit of an expansion, and its response.
 ghost use Rattle.std.specs.Prelude.{◌≡◌, List, ℕ, IfOk, IfErr, IfSome};
-ghost use Rattle.psu_messages.specs.Courses.{Goes, Stops};
-ghost use Rattle.psu_messages.specs.Deeds.{Awaits};
+ghost use Rattle.psu_messages.specs.Executions.{Advances, StopsAt};
+ghost use Rattle.psu_messages.specs.Effects.{Awaits};
 ghost use Rattle.psu_messages.specs.Stepping.{done_by, within};
 ghost use Rattle.psu_messages.specs.Turns.{IsInside};
 ghost use Rattle.psu_messages.specs.Units.{Source};
 
-use crate::telling::tell;
+use crate::responses::add_response;
 use crate::tries::{Tried, attempt};
-use crate::{Front, Need};
-use psu_answers::Gathered;
+use crate::{Executor, Need};
+use psu_answers::ResponseBuffer;
 use psu_exec::Request;
 use std::alloc::Allocator;
 
 /// Tries a unit of an expansion, and adds its response to the response buffer. Returns what the unit waits for, if it
 /// isn't done then. An expansion in its place is left out: there is none inside another.
 #[inline(always)]
-pub(crate) fn take_step<A: Allocator + Copy, F: Front<A>>(
-    front: &mut F,
+pub(crate) fn take_step<A: Allocator + Copy, F: Executor<A>>(
+    executor: &mut F,
     request: &Request<'_>,
     parked: &mut bool,
-    gathered: &mut Gathered<A>,
+    gathered: &mut ResponseBuffer<A>,
 ) -> Result<Option<Need>, F::Stop>
-    ensures goes { IfOk result (λ need. (source : Source) (units : ℕ) (body : List ℕ) (done : ℕ) → IsInside body done request.now
-        → Goes F.does source front.old (within units body done parked.old gathered.old) front.new (within units body (done_by need done) parked.new gathered.new)) }
-    ensures waits { IfOk result (λ some. IfSome some (Awaits F.does front.new)) }
+    ensures advances { IfOk result (λ need. (source : Source) (units : ℕ) (body : List ℕ) (done : ℕ) → IsInside body done request.now
+        → Advances F.does source executor.old (within units body done parked.old gathered.old) executor.new (within units body (done_by need done) parked.new gathered.new)) }
+    ensures waits { IfOk result (λ some. IfSome some (Awaits F.does executor.new)) }
     ensures stops { IfErr result (λ stop. (source : Source) (units : ℕ) (body : List ℕ) (done : ℕ) → IsInside body done request.now
-        → Stops F.does F.fails F.stops source front.old (within units body done parked.old gathered.old) stop front.new gathered.new) }
+        → StopsAt F.does F.fails F.stops source executor.old (within units body done parked.old gathered.old) stop executor.new gathered.new) }
 {
-    match attempt(front, parked, request)? {
+    match attempt(executor, parked, request)? {
         Tried::Waits(need) => Ok(Some(need)),
         Tried::Ended(outcome) => {
-            tell(front, gathered, &outcome)?;
+            add_response(executor, gathered, &outcome)?;
             Ok(None)
         }
     }

@@ -1,11 +1,11 @@
 // One try of a unit.
 ghost use Rattle.std.specs.Prelude.{◌≡◌, IfOk, IfErr};
 ghost use Rattle.psu_exec.specs.Shown.{outcome_of};
-ghost use Rattle.psu_messages.specs.Deeds.{Deed, IsTry, needs};
+ghost use Rattle.psu_messages.specs.Effects.{Effect, IsTry, needs};
 ghost use Rattle.psu_messages.specs.Shown.{IsTried};
 ghost use Rattle.psu_messages.specs.Stepping.{IsBrokenOff};
 
-use crate::{Front, Need};
+use crate::{Executor, Need};
 use psu_exec::{Outcome, Request, ScpiError};
 use std::alloc::Allocator;
 
@@ -34,32 +34,32 @@ fn need_of<A: Allocator + Copy>(parked: bool, outcome: &Outcome<A>) -> Option<Ne
 
 // Executes a unit, or settles one that was accepted.
 #[inline(always)]
-fn once<A: Allocator + Copy, F: Front<A>>(
-    front: &mut F,
+fn once<A: Allocator + Copy, F: Executor<A>>(
+    executor: &mut F,
     parked: bool,
     request: &Request<'_>,
 ) -> Result<Outcome<A>, F::Stop>
-    ensures done { IfOk result (λ o. (deed : Deed) × F.does front.old deed front.new × IsTry parked request.now deed (outcome_of o)) }
-    ensures stopped { IfErr result (λ stop. IsBrokenOff F.fails F.stops front.old parked request.now stop front.new) }
+    ensures done { IfOk result (λ o. (effect : Effect) × F.does executor.old effect executor.new × IsTry parked request.now effect (outcome_of o)) }
+    ensures stopped { IfErr result (λ stop. IsBrokenOff F.fails F.stops executor.old parked request.now stop executor.new) }
 {
     if parked {
-        front.settle()
+        executor.settle()
     } else {
-        front.execute(request)
+        executor.execute(request)
     }
 }
 
 /// Tries a unit once, whether it was accepted before or not.
 #[inline(always)]
-pub(crate) fn attempt<A: Allocator + Copy, F: Front<A>>(
-    front: &mut F,
+pub(crate) fn attempt<A: Allocator + Copy, F: Executor<A>>(
+    executor: &mut F,
     parked: &mut bool,
     request: &Request<'_>,
 ) -> Result<Tried<A>, F::Stop>
-    ensures tried { IfOk result (IsTried F.does front.old parked.old request.now front.new parked.new) }
-    ensures stopped { IfErr result (λ stop. IsBrokenOff F.fails F.stops front.old parked.old request.now stop front.new) }
+    ensures tried { IfOk result (IsTried F.does executor.old parked.old request.now executor.new parked.new) }
+    ensures stopped { IfErr result (λ stop. IsBrokenOff F.fails F.stops executor.old parked.old request.now stop executor.new) }
 {
-    let outcome = once(front, *parked, request)?;
+    let outcome = once(executor, *parked, request)?;
     match need_of(*parked, &outcome) {
         Some(Need::Flush) => {
             *parked = true;

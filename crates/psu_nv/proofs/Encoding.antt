@@ -54,11 +54,11 @@ module _ (c : Contents) where
   before_macros items more is added = subst (Below (4 ∷ [])) (sym (added ∙ ap (λ (l : List Item). l ++ user_items c.user) is)) (below_key 4 [] _ led_user)
 
   -- all parts before the files
-  abbrev pub front : List Item
-  front = ((enables_items c.enables ++ registers_items 0 c.registers) ++ user_items c.user) ++ macros_items c.macros
+  abbrev pub prefix : List Item
+  prefix = ((enables_items c.enables ++ registers_items 0 c.registers) ++ user_items c.user) ++ macros_items c.macros
 
-  led_front : AllBelow 5 front
-  led_front = all-append (λ (i : Item). LedBelow 5 i.key) ((enables_items c.enables ++ registers_items 0 c.registers) ++ user_items c.user) (macros_items c.macros) (raise 4 5 _ (omega arith) led_user) (macros_below c.macros)
+  led_prefix : AllBelow 5 prefix
+  led_prefix = all-append (λ (i : Item). LedBelow 5 i.key) ((enables_items c.enables ++ registers_items 0 c.registers) ++ user_items c.user) (macros_items c.macros) (raise 4 5 _ (omega arith) led_user) (macros_below c.macros)
 
 pub taken_before : (files : List Item) (i : ℕ) (d : Item) → IsSorted files → i < length files → Below (let f = get_or files i d in f.key) (take i files)
 taken_before [] i d sorted lt = absurd (omega (arith, lt))
@@ -70,28 +70,28 @@ taken_before (f ∷ files) (suc i) d sorted lt = (at_all files i sorted.0 (omega
     at_all (j ∷ l) zero all less = all.0
     at_all (j ∷ l) (suc k) all less = at_all l k all.1 (omega (arith, less))
 
-module _ (c : Contents) (files items : List Item) (n : ℕ) (d f : Item) (of : files ≡ c.files) (is : items ≡ front c ++ map file_item (take n files)) (lt : n < length files) (here : f ≡ get_or files n d) (key : List ℕ) (key_is : key ≡ 5 ∷ f.key) where
+module _ (c : Contents) (files items : List Item) (n : ℕ) (d f : Item) (of : files ≡ c.files) (is : items ≡ prefix c ++ map file_item (take n files)) (lt : n < length files) (here : f ≡ get_or files n d) (key : List ℕ) (key_is : key ≡ 5 ∷ f.key) where
   pub before_file : IsSorted files → Below key items
   before_file sorted =
       let name : List ℕ = (let g = get_or files n d in g.key) in
       let led : key ≡ 5 ∷ name = key_is ∙ ap (λ (g : Item). 5 ∷ g.key) here in
-      subst (λ (k : List ℕ). Below k items) (sym led) (subst (Below (5 ∷ name)) (sym is) (all-append (λ (i : Item). Before i.key (5 ∷ name)) (front c) (map file_item (take n files)) (below_key 5 name (front c) (led_front c)) (files_before (take n files) name (taken_before files n d sorted lt))))
+      subst (λ (k : List ℕ). Below k items) (sym led) (subst (Below (5 ∷ name)) (sym is) (all-append (λ (i : Item). Before i.key (5 ∷ name)) (prefix c) (map file_item (take n files)) (below_key 5 name (prefix c) (led_prefix c)) (files_before (take n files) name (taken_before files n d sorted lt))))
 
-  pub next_file : (value : List ℕ) (next : ℕ) (more : List Item) → value ≡ f.value → next ≡ n + 1 → more ≡ items ++ item_of key value ∷ [] → more ≡ front c ++ map file_item (take next files)
+  pub next_file : (value : List ℕ) (next : ℕ) (more : List Item) → value ≡ f.value → next ≡ n + 1 → more ≡ items ++ item_of key value ∷ [] → more ≡ prefix c ++ map file_item (take next files)
   next_file value next more value_is next_is added =
       let g = get_or files n d in
       let new : item_of key value ≡ file_item g = ap (λ (k : List ℕ). item_of k value) key_is ∙ ap (λ (v : List ℕ). item_of (5 ∷ f.key) v) value_is ∙ ap file_item here in
       added ∙ ap (λ (i : Item). items ++ i ∷ []) new ∙ ap (λ (l : List Item). l ++ file_item g ∷ []) is
-      ∙ append_assoc (front c) (map file_item (take n files)) (file_item g ∷ [])
-      ∙ ap (λ (l : List Item). front c ++ l) (sym (map-push (take n files) g) ∙ ap (map file_item) (sym (take-suc files n d lt)))
-      ∙ ap (λ (k : ℕ). front c ++ map file_item (take k files)) (let after : suc n ≡ next = omega (arith, next_is) in after)
+      ∙ append_assoc (prefix c) (map file_item (take n files)) (file_item g ∷ [])
+      ∙ ap (λ (l : List Item). prefix c ++ l) (sym (map-push (take n files) g) ∙ ap (map file_item) (sym (take-suc files n d lt)))
+      ∙ ap (λ (k : ℕ). prefix c ++ map file_item (take k files)) (let after : suc n ≡ next = omega (arith, next_is) in after)
     where
       map-push : (l : List Item) (g : Item) → map file_item (l ++ g ∷ []) ≡ map file_item l ++ file_item g ∷ []
       map-push [] g = refl
       map-push (i ∷ l) g = ap (λ (m : List Item). file_item i ∷ m) (map-push l g)
 
 -- all parts before the last
-pub before_recall : (c : Contents) (before items : List Item) → before ≡ front c → items ≡ before ++ map file_item c.files → Below (6 ∷ []) items
+pub before_recall : (c : Contents) (before items : List Item) → before ≡ prefix c → items ≡ before ++ map file_item c.files → Below (6 ∷ []) items
 before_recall c before items is added =
     subst (Below (6 ∷ [])) (sym (added ∙ ap (λ (l : List Item). l ++ map file_item c.files) is))
-    (below_key 6 [] _ (all-append (λ (i : Item). LedBelow 6 i.key) (front c) (map file_item c.files) (raise 5 6 (front c) (omega arith) (led_front c)) (files_below c.files)))
+    (below_key 6 [] _ (all-append (λ (i : Item). LedBelow 6 i.key) (prefix c) (map file_item c.files) (raise 5 6 (prefix c) (omega arith) (led_prefix c)) (files_below c.files)))

@@ -38,8 +38,8 @@ get_from : (items : List Item) (n : ℕ) (rest : List ℕ) → AllFrom (n + 1) i
 get_from items n rest all = get_none items (n ∷ rest) (all-map (λ (i : Item). LedFrom (n + 1) i.key) (λ (i : Item). bytes_eq i.key (n ∷ rest) ≡ false) items (λ i led. after_not_same (n ∷ rest) i.key (before_led (n + 1) (n ∷ rest) i.key (omega arith) led)) all)
 
 -- a key that the second list lacks is found in the first
-get_front : (a b : List Item) (key : List ℕ) → get b key ≡ None → get (a ++ b) key ≡ get a key
-get_front a b key none = get-append a b key ∙ ap (first (get a key)) none ∙ first_none (get a key)
+get_prefix : (a b : List Item) (key : List ℕ) → get b key ≡ None → get (a ++ b) key ≡ get a key
+get_prefix a b key none = get-append a b key ∙ ap (first (get a key)) none ∙ first_none (get a key)
 
 get_back : (a b : List Item) (key : List ℕ) → get a key ≡ None → get (a ++ b) key ≡ get b key
 get_back a b key none = get-append a b key ∙ ap (λ (o : Option (List ℕ)). first o (get b key)) none
@@ -80,7 +80,7 @@ get_other q r s lt = by_test (is_reset s)
 get_register : (q k r : ℕ) (registers : List (List OutputSettings)) → q + k ≡ r → get (registers_items q registers) (2 ∷ r ∷ []) ≡ kept_settings (settings_at registers k)
 get_register q k r [] is = refl
 get_register q zero r (s ∷ registers) is =
-    get_front (register_items q s) (registers_items (q + 1) registers) (2 ∷ r ∷ []) (get_later r (q + 1) registers (omega (arith, is)))
+    get_prefix (register_items q s) (registers_items (q + 1) registers) (2 ∷ r ∷ []) (get_later r (q + 1) registers (omega (arith, is)))
     ∙ ap (λ (n : ℕ). get (register_items n s) (2 ∷ r ∷ [])) (let same : q ≡ r = omega (arith, is) in same) ∙ get_own r s
 get_register q (suc k) r (s ∷ registers) is =
     get_back (register_items q s) (registers_items (q + 1) registers) (2 ∷ r ∷ []) (get_other q r s (omega (arith, is)))
@@ -108,7 +108,7 @@ higher m n items le all = all-map (λ (i : Item). LedBelow m i.key) (λ (i : Ite
 module _ (c : Contents) where
   get_enables : get (items_of c) (1 ∷ []) ≡ value_in (enables_items c.enables)
   unfolding items_of
-  get_enables = get_front (enables_items c.enables) _ (1 ∷ []) (get_from _ 1 [] (from_registers c)) ∙ by_enables c.enables
+  get_enables = get_prefix (enables_items c.enables) _ (1 ∷ []) (get_from _ 1 [] (from_registers c)) ∙ by_enables c.enables
     where
       by_enables : (e : Option (ℕ × ℕ)) → get (enables_items e) (1 ∷ []) ≡ value_in (enables_items e)
       by_enables None = refl
@@ -118,7 +118,7 @@ module _ (c : Contents) where
   unfolding items_of
   get_registers r =
       get_back (enables_items c.enables) _ (2 ∷ r ∷ []) (get_below (enables_items c.enables) 2 (r ∷ []) (enables_led c.enables))
-      ∙ get_front (registers_items 0 c.registers) _ (2 ∷ r ∷ []) (get_from _ 2 (r ∷ []) (from_user c))
+      ∙ get_prefix (registers_items 0 c.registers) _ (2 ∷ r ∷ []) (get_from _ 2 (r ∷ []) (from_user c))
       ∙ get_register 0 r r c.registers (omega arith)
       ∙ sym (value_register r (settings_at c.registers r))
 
@@ -129,7 +129,7 @@ module _ (c : Contents) where
       ∙ get_back (registers_items 0 c.registers) _ (n ∷ rest) (get_below (registers_items 0 c.registers) n rest (higher 3 n (registers_items 0 c.registers) le (registers_below c.registers)))
 
   get_user : get (items_of c) (3 ∷ []) ≡ value_in (user_items c.user)
-  get_user = past_registers 3 [] (omega arith) ∙ get_front (user_items c.user) _ (3 ∷ []) (get_from _ 3 [] (from_macros c)) ∙ by_user c.user
+  get_user = past_registers 3 [] (omega arith) ∙ get_prefix (user_items c.user) _ (3 ∷ []) (get_from _ 3 [] (from_macros c)) ∙ by_user c.user
     where
       by_user : (user : List ℕ) → get (user_items user) (3 ∷ []) ≡ value_in (user_items user)
       by_user [] = refl
@@ -138,7 +138,7 @@ module _ (c : Contents) where
   get_macros : get (items_of c) (4 ∷ []) ≡ value_in (macros_items c.macros)
   get_macros =
       past_registers 4 [] (omega arith) ∙ get_back (user_items c.user) _ (4 ∷ []) (get_below (user_items c.user) 4 [] (user_below c.user))
-      ∙ get_front (macros_items c.macros) _ (4 ∷ []) (get_from _ 4 [] (from_files c)) ∙ by_macros c.macros
+      ∙ get_prefix (macros_items c.macros) _ (4 ∷ []) (get_from _ 4 [] (from_files c)) ∙ by_macros c.macros
     where
       by_macros : (macros : List Macro) → get (macros_items macros) (4 ∷ []) ≡ value_in (macros_items macros)
       by_macros [] = refl
@@ -152,7 +152,7 @@ module _ (c : Contents) where
 
   get_files : (name : List ℕ) → get (items_of c) (5 ∷ name) ≡ get c.files name
   get_files name =
-      past_macros 5 name (omega arith) ∙ get_front (map file_item c.files) _ (5 ∷ name) (get_from (recall_items c.recall) 5 name (recall_led c.recall)) ∙ get_file c.files name
+      past_macros 5 name (omega arith) ∙ get_prefix (map file_item c.files) _ (5 ∷ name) (get_from (recall_items c.recall) 5 name (recall_led c.recall)) ∙ get_file c.files name
 
   get_recall : get (items_of c) (6 ∷ []) ≡ value_in (recall_items c.recall)
   get_recall = past_macros 6 [] (omega arith) ∙ get_back (map file_item c.files) _ (6 ∷ []) (get_below (map file_item c.files) 6 [] (files_below c.files)) ∙ by_recall c.recall

@@ -27,8 +27,8 @@ label_short label is =
     low_enough (length label) short
 
 -- a test that decides whether two lists are equal is `bytes_eq`
-pub told : (test : Bool) (a b : List ℕ) → IsTrue test ↔ (a ≡ b) → test ≡ bytes_eq a b
-told test a b is = by_test test (bytes_eq a b) refl is
+pub is_bytes_eq : (test : Bool) (a b : List ℕ) → IsTrue test ↔ (a ≡ b) → test ≡ bytes_eq a b
+is_bytes_eq test a b is = by_test test (bytes_eq a b) refl is
   where
     by_test : (t s : Bool) → bytes_eq a b ≡ s → IsTrue t ↔ (a ≡ b) → t ≡ s
     by_test true true e is = refl

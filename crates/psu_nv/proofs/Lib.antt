@@ -11,6 +11,6 @@ pub mod Encoding
 pub mod MacroBytes
 pub mod Filed
 pub mod Kept
-pub mod Telling
+pub mod Determining
 pub mod Edits
 pub mod ItemsAt

@@ -48,7 +48,7 @@ same_macros (m ∷ a) (n ∷ b) all_a all_b same =
 -- # What was read so far
 
 -- the macros are those found so far, and those that the rest encodes
-pub record GoesOn (found : List Macro) (rest : List ℕ) (macros : List Macro) : Type 0 where
+pub record Continues (found : List Macro) (rest : List ℕ) (macros : List Macro) : Type 0 where
   pub more : List Macro
   pub whole : macros ≡ found ++ more
   pub rest_is : flat_map macro_bytes more ≡ rest
@@ -57,7 +57,7 @@ pub record ReadSo (bytes rest : List ℕ) (found : List Macro) : Type 0 where
   pub all : AllByRecursion IsMacro found
   pub distinct : HasDistinct found
   pub bytes_are : flat_map macro_bytes found ++ rest ≡ bytes
-  pub only : (macros : List Macro) → AreMacros bytes macros → GoesOn found rest macros
+  pub only : (macros : List Macro) → AreMacros bytes macros → Continues found rest macros
 
 pub none_read : (bytes : List ℕ) → ReadSo bytes bytes []
 none_read bytes = record { all = tt; distinct = tt; bytes_are = refl; only = λ macros are. record { more = macros; whole = refl; rest_is = are.bytes_are } }
@@ -75,11 +75,11 @@ other_label : (found : List Macro) (m : Macro) (more : List Macro) (label : List
 other_label [] m more label none = (not_first m more label none).0
 other_label (f ∷ found) m more label none = other_label found m more label (not_first f (found ++ m ∷ more) label none).1
 
-free_front : (found : List Macro) (m : Macro) (more : List Macro) → HasDistinct (found ++ m ∷ more) → has_label found m.label ≡ false
-free_front [] m more distinct = refl
-free_front (f ∷ found) m more distinct =
+free_prefix : (found : List Macro) (m : Macro) (more : List Macro) → HasDistinct (found ++ m ∷ more) → has_label found m.label ≡ false
+free_prefix [] m more distinct = refl
+free_prefix (f ∷ found) m more distinct =
     let other : same_label f.label m.label ≡ false = label_sym f.label m.label ∙ other_label found m more f.label distinct.0 in
-    ap (λ (b : Bool). is_some (cond b (Some f.body) (body_at found m.label))) other ∙ free_front found m more distinct.1
+    ap (λ (b : Bool). is_some (cond b (Some f.body) (body_at found m.label))) other ∙ free_prefix found m more distinct.1
 
 here_is : (found : List Macro) (m : Macro) (more : List Macro) → AllByRecursion IsMacro (found ++ m ∷ more) → IsMacro m
 here_is [] m more all = all.0
@@ -87,10 +87,10 @@ here_is (f ∷ found) m more all = here_is found m more all.1
 
 module _ (bytes rest : List ℕ) (found : List Macro) (so : ReadSo bytes rest found) where
   next_of : (macros : List Macro) → AreMacros bytes macros → (rest ≡ [] → ⊥) → Next found rest macros
-  next_of macros are some = by_more goes.more goes.whole goes.rest_is
+  next_of macros are some = by_more split.more split.whole split.rest_is
     where
-      goes : GoesOn found rest macros
-      goes = so.only macros are
+      split : Continues found rest macros
+      split = so.only macros are
 
       by_more : (more : List Macro) → macros ≡ found ++ more → flat_map macro_bytes more ≡ rest → Next found rest macros
       by_more [] whole rest_is = absurd (some (sym rest_is))
@@ -100,7 +100,7 @@ module _ (bytes rest : List ℕ) (found : List Macro) (so : ReadSo bytes rest fo
         whole = whole;
         rest_is = sym rest_is ∙ flat_map-cons macro_bytes m more;
         is = here_is found m more (subst (AllByRecursion IsMacro) whole are.all);
-        free = free_front found m more (subst HasDistinct whole are.distinct);
+        free = free_prefix found m more (subst HasDistinct whole are.distinct);
       }
 
   pub no_macro : (rest ≡ [] → ⊥) → ((m : Macro) → (after : List ℕ) → length m.body < 65536 → rest ≡ macro_bytes m ++ after → ⊥) → (macros : List Macro) → AreMacros bytes macros → ⊥
@@ -134,8 +134,8 @@ module _ (bytes rest : List ℕ) (found : List Macro) (so : ReadSo bytes rest fo
         right_none (x ∷ l) = ap (λ (k : List ℕ). x ∷ k) (right_none l)
     flat-push (f ∷ l) m = flat_map-cons macro_bytes f (l ++ m ∷ []) ∙ ap (λ (k : List ℕ). macro_bytes f ++ k) (flat-push l m) ∙ sym (append_assoc (macro_bytes f) (flat_map macro_bytes l) (macro_bytes m)) ∙ ap (λ (k : List ℕ). k ++ macro_bytes m) (sym (flat_map-cons macro_bytes f l))
 
-    pub goes_on : IsMacro w → has_label found w.label ≡ false → ReadSo bytes after (found ++ w ∷ [])
-    goes_on good free = record {
+    pub continues : IsMacro w → has_label found w.label ≡ false → ReadSo bytes after (found ++ w ∷ [])
+    continues good free = record {
       all = all-push IsMacro found w so.all good;
       distinct = distinct-push found w so.distinct free;
       bytes_are = ap (λ (l : List ℕ). l ++ after) (flat-push found w) ∙ append_assoc (flat_map macro_bytes found) (macro_bytes w) after ∙ ap (λ (l : List ℕ). flat_map macro_bytes found ++ l) (sym read) ∙ so.bytes_are;

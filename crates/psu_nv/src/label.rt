@@ -90,7 +90,7 @@ impl Hash for Label {
 }
 
 // Whether two labels are the same without regard to case.
-#[tactic(auto, using(crate::proofs::Labels::told))]
+#[tactic(auto, using(crate::proofs::Labels::is_bytes_eq))]
 pub(crate) fn same_label(a: &[u8], b: &[u8]) -> bool
     ensures { result ≡ same_label a.now b.now }
 {

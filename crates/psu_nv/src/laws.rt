@@ -7,7 +7,7 @@ ghost use Rattle.psu_nv.specs.Parts.{Part as Each, key_of, part_items, value_in,
 ghost use Rattle.psu_nv.specs.Decoding.{has_keys};
 
 /// Contents with the same items are equal, so the map encodes all of them.
-pub fn items_tell_contents()
+pub fn items_determine_contents()
     ensures { (a b : Kept) → IsContents a → IsContents b → items_of a ≡ items_of b → a ≡ b }
 {}
 

@@ -41,7 +41,7 @@ pub use file::File;
 pub use file_bytes::{FILE_MOST, FileBytes};
 pub use file_kind::FileKind;
 pub use label::Label;
-pub use laws::{edits_of_parts_make_the_map, items_tell_contents, parts_are_the_whole};
+pub use laws::{edits_of_parts_make_the_map, items_determine_contents, parts_are_the_whole};
 pub use part::Part;
 pub use register::Register;
 pub use user_data::{USER_MOST, UserData};

@@ -13,7 +13,7 @@ mod setting;
 mod settings;
 mod supply;
 
-pub use laws::bytes_tell_settings;
+pub use laws::bytes_determine_settings;
 pub use measured::Measured;
 pub use output::Output;
 pub use output_settings::OutputSettings;

@@ -11,11 +11,11 @@ use Rattle.psu_pages.specs.declared.root.Root.TheVariants.{First, Second}
 use Rattle.psu_pages.specs.declared.words.Words.{Words}
 use Rattle.psu_pages.specs.declared.open_cause.OpenCause.{OpenCause}
 use Rattle.psu_pages.specs.declared.open_cause.OpenCause.TheVariants.{Device, NoRoot, BadRoot, BadVersion, Memory}
-use Rattle.psu_pages.specs.Image.{other, gate_at, gate, mark, mark_in, version_in, IsKnown, limit_in, number_in, count_in, Counts, counting}
+use Rattle.psu_pages.specs.Image.{other, gate_at, gate, mark, mark_in, version_in, IsKnown, limit_in, number_in, count_in, IsCurrent, current_root}
 use Rattle.psu_pages.specs.Shown.{Shows}
 use Rattle.psu_pages.specs.Finding.{open_number, of_root, IsPickedIn, IsNonePicked, HasGoodWords, IsSound, IsUnsound, page_of, HasNoRoot, IsChoiceRefusal}
 use Rattle.psu_pages.proofs.Places.{gate_low, range_inside}
-use Rattle.psu_pages.proofs.Bearing.{counting_is}
+use Rattle.psu_pages.proofs.Encoding.{current_root_is}
 
 of_open : (root : Root) (x : List ℕ) → of_root root (open_number First x) (open_number Second x) ≡ open_number root x
 of_open First x = refl
@@ -40,8 +40,8 @@ module _ (root : Root) (n : ℕ) (both : Bool) (x : List ℕ) (picked : IsPicked
   pub picked_number : number_in root x ≡ n
   picked_number = own.1
 
-  pub picked_counts : Counts root x
-  picked_counts = record {
+  pub picked_current : IsCurrent root x
+  picked_current = record {
     open_gate = own.0;
     highest = λ is_open.
         let m : number_in (other root) x < n = subst (λ (o : Option ℕ). IfSome o (λ m. m < n)) (of_open (other root) x ∙ is_open_number (other root) x is_open) picked.lower in
@@ -55,7 +55,7 @@ module _ (root : Root) (n : ℕ) (both : Bool) (x : List ℕ) (picked : IsPicked
 
   pub picked_lower : both ≡ true → number_in (other root) x < n
   picked_lower two = elim (cases_eq (gate (other root) x) 165) [
-    | inl is_open ↦ omega (arith, picked_counts.highest is_open, own.1)
+    | inl is_open ↦ omega (arith, picked_current.highest is_open, own.1)
     | inr shut ↦
         let none : open_number (other root) x ≡ None = grind (arith, nat_tests) in
         let there : both ≡ false = picked.both_open ∙ ap is_some (of_open (other root) x ∙ none) in
@@ -63,8 +63,8 @@ module _ (root : Root) (n : ℕ) (both : Bool) (x : List ℕ) (picked : IsPicked
   ]
 
 -- no root is the current one where two open ones have the same number
-none_counts : (x : List ℕ) (n : ℕ) → open_number First x ≡ Some n → open_number Second x ≡ Some n → (root : Root) → Counts root x → ⊥
-none_counts x n first second root counts = by_root root counts
+none_current : (x : List ℕ) (n : ℕ) → open_number First x ≡ Some n → open_number Second x ≡ Some n → (root : Root) → IsCurrent root x → ⊥
+none_current x n first second root current = by_root root current
   where
     one : (gate First x ≡ 165) × (number_in First x ≡ n)
     one = number_open First x n first
@@ -72,9 +72,9 @@ none_counts x n first second root counts = by_root root counts
     two : (gate Second x ≡ 165) × (number_in Second x ≡ n)
     two = number_open Second x n second
 
-    by_root : (r : Root) → Counts r x → ⊥
-    by_root First counts = omega (arith, one.1, two.1, counts.highest two.0)
-    by_root Second counts = omega (arith, one.1, two.1, counts.highest one.0)
+    by_root : (r : Root) → IsCurrent r x → ⊥
+    by_root First current = omega (arith, one.1, two.1, current.highest two.0)
+    by_root Second current = omega (arith, one.1, two.1, current.highest one.0)
 
 -- there are two roots, and a gate is open
 pub some_root : (x : List ℕ) (root : Root) → 1024 ≤ length x → gate root x ≡ 165 → HasNoRoot x → ⊥
@@ -88,8 +88,8 @@ unpicked x Device size none = absurd none
 unpicked x NoRoot size none = inr (number_shut First x none.0, number_shut Second x none.1)
 unpicked x BadRoot size none = record {
   some_root = some_root x First size (number_open First x none.0 none.1).0;
-  same_version = λ has. none_counts x none.0 none.1 none.2 (counting x) has.counts;
-  none_stands = λ limit items st. none_counts x none.0 none.1 none.2 (counting x) st.counts;
+  same_version = λ has. none_current x none.0 none.1 none.2 (current_root x) has.current;
+  represents_none = λ limit items st. none_current x none.0 none.1 none.2 (current_root x) st.current;
 }
 unpicked x BadVersion size none = absurd none
 unpicked x Memory size none = absurd none
@@ -131,16 +131,16 @@ module _ (root : Root) (x page : List ℕ) (size : 1024 ≤ length x) (is : page
     }
 
     -- refused because its fields are invalid
-    pub unsound : (cause : OpenCause) → Counts root x → IsUnsound words (length x) cause → IsChoiceRefusal x cause
-    unsound Device counts none = absurd none
-    unsound NoRoot counts none = absurd none
-    unsound BadRoot counts none = record {
-      some_root = some_root x root size counts.open_gate;
+    pub unsound : (cause : OpenCause) → IsCurrent root x → IsUnsound words (length x) cause → IsChoiceRefusal x cause
+    unsound Device current none = absurd none
+    unsound NoRoot current none = absurd none
+    unsound BadRoot current none = record {
+      some_root = some_root x root size current.open_gate;
       same_version = λ has.
-          let is = counting_is root x counts in
+          let is = current_root_is root x current in
           has.version (subst (λ (r : Root). IsKnown (version_in r x)) (sym is) (subst IsKnown version_is (none.0 (mark_is ∙ subst (λ (r : Root). mark_in r x ≡ mark) is has.marked))));
-      none_stands = λ l items st.
-          let same = counting_is root x counts in
+      represents_none = λ l items st.
+          let same = current_root_is root x current in
           let shows = subst (λ (r : Root). Shows r x l) same st.shows in
           none.1 (record {
             marked = mark_is ∙ shows.marked;
@@ -151,12 +151,12 @@ module _ (root : Root) (x page : List ℕ) (size : 1024 ≤ length x) (is : page
             count = omega (arith, shows.count, count_is);
           });
     }
-    unsound BadVersion counts none =
-        let is = sym (counting_is root x counts) in
+    unsound BadVersion current none =
+        let is = sym (current_root_is root x current) in
         record {
           size = size;
-          counts = subst (λ (r : Root). Counts r x) is counts;
+          current = subst (λ (r : Root). IsCurrent r x) is current;
           marked = subst (λ (r : Root). mark_in r x ≡ mark) is (sym mark_is ∙ none.0);
           version = subst (λ (r : Root). IsKnown (version_in r x) → ⊥) is (λ known. none.1 (subst IsKnown (sym version_is) known));
         }
-    unsound Memory counts none = absurd none
+    unsound Memory current none = absurd none

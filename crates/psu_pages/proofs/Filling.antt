@@ -1,4 +1,4 @@
--- A page that is filled from the front.
+-- A page that is filled from its first byte on.
 use Rattle.std.proofs.Common.{◌≡◌, ℕ, ◌+◌, ◌-◌, ◌≤◌, List, length, drop, replicate, sym, ◌∙◌, ap, arith}
 use Rattle.std.proofs.lemmas.List.{drop-replicate, drop-drop}
 use Rattle.std.proofs.lemmas.Slice.{drop-put_mid}

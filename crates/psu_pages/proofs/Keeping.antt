@@ -6,7 +6,7 @@ use Rattle.psu_disk.specs.Disk.{Range, SameBut}
 use Rattle.psu_disk.specs.Ranges.{range_same}
 use Rattle.psu_pages.specs.declared.root.Root.{Root}
 use Rattle.psu_pages.specs.Image.{other, gate_at, gate, version_in, number_in, count_in, names_in, words, page_in, Head, head_on, head_at, heads_in, bytes_in, value_in, IsHead, IsKnown, AreShort, taken, keys, IsInPool, AreApart, AreClear}
-use Rattle.psu_pages.specs.Shown.{Item, item_in, items_in, Shows, Says}
+use Rattle.psu_pages.specs.Shown.{Item, item_in, items_in, Shows, HasContents}
 use Rattle.psu_pages.specs.Writing.{IsOutside, Misses}
 use Rattle.psu_pages.proofs.Lists.{all_left, all_right}
 use Rattle.psu_pages.proofs.Places.{gate_low, gates_apart}
@@ -15,7 +15,7 @@ use Rattle.psu_pages.proofs.Steps.{page_stays}
 -- y is x in the contents of a root after its gate, and on these pages
 pub record Agrees (root : Root) (kept : List ℕ) (x y : List ℕ) : Type 0 where
   pub size : length y ≡ length x
-  pub says : (k : ℕ) → gate_at root + 1 ≤ k → k < gate_at root + 512 → get_or y k 0 ≡ get_or x k 0
+  pub contents : (k : ℕ) → gate_at root + 1 ≤ k → k < gate_at root + 512 → get_or y k 0 ≡ get_or x k 0
   pub pages : AllByRecursion (λ (page : ℕ). page_in page y ≡ page_in page x) kept
 
 pub at_is : (page : ℕ) (bytes : List ℕ) → (let head = head_on page bytes in head.at) ≡ page
@@ -47,7 +47,7 @@ shown_same x y (head ∷ heads) same =
 
 module _ (root : Root) (x y : List ℕ) (room : 1024 ≤ length x) (kept : List ℕ) (agrees : Agrees root kept x y) where
   words_same : (from n : ℕ) → 1 ≤ from → from + n ≤ 512 → Range (gate_at root + from) n y ≡ Range (gate_at root + from) n x
-  words_same from n low high = range_same (gate_at root + from) n x y agrees.size (omega (arith, gate_low root, room, high)) (λ k ge lt. agrees.says k (omega (arith, ge, low)) (omega (arith, lt, high)))
+  words_same from n low high = range_same (gate_at root + from) n x y agrees.size (omega (arith, gate_low root, room, high)) (λ k ge lt. agrees.contents k (omega (arith, ge, low)) (omega (arith, lt, high)))
 
   pub number_same : number_in root y ≡ number_in root x
   number_same = ap (from_be_bytes w64) (words_same 8 8 (omega arith) (omega arith))
@@ -59,8 +59,8 @@ module _ (root : Root) (x y : List ℕ) (room : 1024 ≤ length x) (kept : List 
   names_same = ap (λ (n : ℕ). words n (Range (gate_at root + 18) 480 y)) count_same ∙ ap (words (count_in root x)) (words_same 18 480 (omega arith) (omega arith))
 
 module _ (root : Root) (x y : List ℕ) (room : 1024 ≤ length x) (agrees : Agrees root (taken (heads_in root x)) x y) where
-  its_says : (from n : ℕ) → 1 ≤ from → from + n ≤ 512 → Range (gate_at root + from) n y ≡ Range (gate_at root + from) n x
-  its_says = words_same root x y room (taken (heads_in root x)) agrees
+  its_contents : (from n : ℕ) → 1 ≤ from → from + n ≤ 512 → Range (gate_at root + from) n y ≡ Range (gate_at root + from) n x
+  its_contents = words_same root x y room (taken (heads_in root x)) agrees
 
   pub its_heads : heads_in root y ≡ heads_in root x
   its_heads = ap (map (head_at y)) (names_same root x y room (taken (heads_in root x)) agrees) ∙ heads_same x y (names_in root x) agrees.pages
@@ -69,13 +69,13 @@ module _ (root : Root) (x y : List ℕ) (room : 1024 ≤ length x) (agrees : Agr
   its_items = ap (map (item_in y)) its_heads ∙ shown_same x y (heads_in root x) agrees.pages
 
   version_same : version_in root y ≡ version_in root x
-  version_same = ap (from_be_bytes w16) (its_says 4 2 (omega arith) (omega arith))
+  version_same = ap (from_be_bytes w16) (its_contents 4 2 (omega arith) (omega arith))
 
   pub shows_same : (limit : ℕ) → Shows root x limit → Shows root y limit
   shows_same limit shows = record {
-    marked = its_says 1 3 (omega arith) (omega arith) ∙ shows.marked;
+    marked = its_contents 1 3 (omega arith) (omega arith) ∙ shows.marked;
     version = subst IsKnown (sym version_same) shows.version;
-    limit_is = ap (from_be_bytes w16) (its_says 6 2 (omega arith) (omega arith)) ∙ shows.limit_is;
+    limit_is = ap (from_be_bytes w16) (its_contents 6 2 (omega arith) (omega arith)) ∙ shows.limit_is;
     limit_least = shows.limit_least;
     limit_most = shows.limit_most;
     room = omega (arith, shows.room, agrees.size);
@@ -88,13 +88,13 @@ module _ (root : Root) (x y : List ℕ) (room : 1024 ≤ length x) (agrees : Agr
     distinct = subst (λ (hs : List Head). AreApart (keys hs)) (sym its_heads) shows.distinct;
   }
 
-  pub says_same : (version limit number : ℕ) (heads : List Head) (items : List Item) → Says root version limit number heads items x → Says root version limit number heads items y
-  says_same version limit number heads items says = record {
-    version_is = version_same ∙ says.version_is;
-    number_is = number_same root x y room (taken (heads_in root x)) agrees ∙ says.number_is;
-    shows = shows_same limit says.shows;
-    heads_are = its_heads ∙ says.heads_are;
-    items_are = its_items ∙ says.items_are;
+  pub contents_same : (version limit number : ℕ) (heads : List Head) (items : List Item) → HasContents root version limit number heads items x → HasContents root version limit number heads items y
+  contents_same version limit number heads items contents = record {
+    version_is = version_same ∙ contents.version_is;
+    number_is = number_same root x y room (taken (heads_in root x)) agrees ∙ contents.number_is;
+    shows = shows_same limit contents.shows;
+    heads_are = its_heads ∙ contents.heads_are;
+    items_are = its_items ∙ contents.items_are;
   }
 
 -- pages on a disk
@@ -123,30 +123,30 @@ module _ (written x y : List ℕ) (pool : AllByRecursion (λ (page : ℕ). 2 ≤
   pub agrees_missed : (root : Root) (kept : List ℕ) → AreOn (length x) kept → AreClear written kept → Agrees root kept x y
   agrees_missed root kept fits clear = record {
     size = misses.size;
-    says = λ k ge lt. misses.same k (root_outside written k pool (omega (arith, lt, gate_low root)));
+    contents = λ k ge lt. misses.same k (root_outside written k pool (omega (arith, lt, gate_low root)));
     pages = pages_missed kept fits clear;
   }
 
 -- a range of one root's page is written, which has no byte of the other's
-module _ (moved : Root) (at n : ℕ) (low : gate_at moved ≤ at) (high : at + n ≤ gate_at moved + 512) (x y : List ℕ) (but : SameBut at n x y) where
-  pub pages_moved : (kept : List ℕ) → AreOn (length x) kept → AllByRecursion (λ (page : ℕ). page_in page y ≡ page_in page x) kept
-  pages_moved [] fits = tt
-  pages_moved (page ∷ kept) fits = (range_same (512 * page) 512 x y but.size fits.0.1 (λ k ge lt. but.above k (omega (arith, gate_low moved, high, fits.0.0, ge))), pages_moved kept fits.1)
+module _ (touched : Root) (at n : ℕ) (low : gate_at touched ≤ at) (high : at + n ≤ gate_at touched + 512) (x y : List ℕ) (but : SameBut at n x y) where
+  pub pages_touched : (kept : List ℕ) → AreOn (length x) kept → AllByRecursion (λ (page : ℕ). page_in page y ≡ page_in page x) kept
+  pages_touched [] fits = tt
+  pages_touched (page ∷ kept) fits = (range_same (512 * page) 512 x y but.size fits.0.1 (λ k ge lt. but.above k (omega (arith, gate_low touched, high, fits.0.0, ge))), pages_touched kept fits.1)
 
-  pub gate_moved : gate (other moved) y ≡ gate (other moved) x
-  gate_moved = ⊎_elim (λ before. but.above (gate_at (other moved)) (omega (arith, before, high))) (λ behind. but.below (gate_at (other moved)) (omega (arith, behind, low))) (gates_apart moved)
+  pub gate_touched : gate (other touched) y ≡ gate (other touched) x
+  gate_touched = ⊎_elim (λ before. but.above (gate_at (other touched)) (omega (arith, before, high))) (λ after. but.below (gate_at (other touched)) (omega (arith, after, low))) (gates_apart touched)
 
-  pub agrees_moved : (kept : List ℕ) → AreOn (length x) kept → Agrees (other moved) kept x y
-  agrees_moved kept fits = record {
+  pub agrees_touched : (kept : List ℕ) → AreOn (length x) kept → Agrees (other touched) kept x y
+  agrees_touched kept fits = record {
     size = but.size;
-    says = λ k ge lt. ⊎_elim (λ before. but.above k (omega (arith, before, high, ge))) (λ behind. but.below k (omega (arith, behind, low, lt))) (gates_apart moved);
-    pages = pages_moved kept fits;
+    contents = λ k ge lt. ⊎_elim (λ before. but.above k (omega (arith, before, high, ge))) (λ after. but.below k (omega (arith, after, low, lt))) (gates_apart touched);
+    pages = pages_touched kept fits;
   }
 
   -- where it is only the gate, the contents of its own root stay too
-  pub agrees_gate : at + n ≤ gate_at moved + 1 → (kept : List ℕ) → AreOn (length x) kept → Agrees moved kept x y
+  pub agrees_gate : at + n ≤ gate_at touched + 1 → (kept : List ℕ) → AreOn (length x) kept → Agrees touched kept x y
   agrees_gate gate_only kept fits = record {
     size = but.size;
-    says = λ k ge lt. but.above k (omega (arith, gate_only, ge));
-    pages = pages_moved kept fits;
+    contents = λ k ge lt. but.above k (omega (arith, gate_only, ge));
+    pages = pages_touched kept fits;
   }

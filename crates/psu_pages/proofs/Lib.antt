@@ -8,7 +8,7 @@ pub mod Places
 pub mod Making
 pub mod Putting
 pub mod Keeping
-pub mod Bearing
+pub mod Encoding
 pub mod Switching
 pub mod Quiet
 pub mod Planning

@@ -9,9 +9,9 @@ use Rattle.std.proofs.lemmas.Nat.{from_be_bytes-to_be_bytes_2, from_be_bytes-to_
 use Rattle.psu_disk.specs.Disk.{Range}
 use Rattle.psu_pages.specs.declared.root.Root.{Root}
 use Rattle.psu_pages.specs.Image.{gate_at, count_in, names_in, words, page_in, Head, head_on, head_at, heads_in, version_in, bytes_in, IsHead, AreShort, taken, keys, IsInPool, AreApart}
-use Rattle.psu_pages.specs.Shown.{Item, item_of, item_in, Says}
+use Rattle.psu_pages.specs.Shown.{Item, item_of, item_in, HasContents}
 use Rattle.psu_pages.specs.Writing.{Draft, IsWritten}
-use Rattle.psu_pages.specs.Spelling.{spelled_words, filled, names, said, spelled, value_drafts, head_drafts}
+use Rattle.psu_pages.specs.Spelling.{spelled_words, filled, names, root_contents, spelled, value_drafts, head_drafts}
 use Rattle.psu_pages.proofs.Places.{gate_low, range_inside}
 use Rattle.psu_pages.proofs.Spelling.{words_again, length-spelled_words, head_again}
 
@@ -66,18 +66,18 @@ all_short (head ∷ heads) are = (let is = are.0 in is.key_most, all_short heads
 -- a root whose contents name heads, which are on their pages
 module _ (root : Root) (limit number : ℕ) (heads : List Head) (items : List Item) (x : List ℕ) (least : 4 ≤ limit) (most : limit ≤ 480) (fits : number < 2 ^ 64) (room : 512 * (2 + 2 * limit) ≤ length x)
     (count : length (names heads) ≤ 240) (low : AllByRecursion (λ (n : ℕ). n < 2 ^ 16) (names heads)) (are : AllByRecursion IsHead heads) (pool : AllByRecursion (IsInPool limit) (taken heads)) (apart : AreApart (taken heads)) (cost : length (taken heads) ≤ limit) (distinct : AreApart (keys heads))
-    (says : Range (gate_at root + 1) 511 x ≡ filled 511 (said limit number (names heads))) (there : map (head_at x) (names heads) ≡ heads) (shown : map (item_in x) heads ≡ items) where
+    (has_contents : Range (gate_at root + 1) 511 x ≡ filled 511 (root_contents limit number (names heads))) (there : map (head_at x) (names heads) ≡ heads) (shown : map (item_in x) heads ≡ items) where
   abbrev pages : List ℕ
   pages = names heads
 
-  part : (at from m : ℕ) → at ≡ gate_at root + 1 + from → from + m ≤ 511 → Range at m x ≡ Range from m (filled 511 (said limit number pages))
-  part at from m e le = ap (λ (i : ℕ). Range i m x) e ∙ range_inside (gate_at root + 1) 511 from m x (omega (arith, gate_low root, room)) le ∙ ap (Range from m) says
+  part : (at from m : ℕ) → at ≡ gate_at root + 1 + from → from + m ≤ 511 → Range at m x ≡ Range from m (filled 511 (root_contents limit number pages))
+  part at from m e le = ap (λ (i : ℕ). Range i m x) e ∙ range_inside (gate_at root + 1) 511 from m x (omega (arith, gate_low root, room)) le ∙ ap (Range from m) has_contents
 
   count_is : count_in root x ≡ length pages
   count_is = ap (from_be_bytes w16) (part (gate_at root + 16) 15 2 (omega arith) (omega arith)) ∙ from_be_bytes-to_be_bytes_2 (length pages) (omega (arith, count))
 
   abbrev zeros : List ℕ
-  zeros = replicate (511 - length (said limit number pages)) 0
+  zeros = replicate (511 - length (root_contents limit number pages)) 0
 
   named : Range (gate_at root + 18) 480 x ≡ spelled_words pages ++ take (480 - 2 * length pages) zeros
   named =
@@ -98,7 +98,7 @@ module _ (root : Root) (limit number : ℕ) (heads : List Head) (items : List It
   version_is : version_in root x ≡ 2
   version_is = ap (from_be_bytes w16) (part (gate_at root + 4) 3 2 (omega arith) (omega arith)) ∙ from_be_bytes-to_be_bytes_2 2 (omega arith)
 
-  pub ready : Says root 2 limit number heads items x
+  pub ready : HasContents root 2 limit number heads items x
   ready = record {
     version_is = version_is;
     number_is = ap (from_be_bytes w64) (part (gate_at root + 8) 7 8 (omega arith) (omega arith)) ∙ from_be_bytes-to_be_bytes_8 number fits;

@@ -118,22 +118,22 @@ module _ (n i : ℕ) (d : Bool) (free : List Bool) (lt : i < length free) (pages
   left_out is = so ∙ ap (take n) (sym (free_same 0 i d free lt is))
 
 -- the free pages after the first marks follow those among them
-free_behind : (at i : ℕ) (free : List Bool) → (rest : List ℕ) × (free_from at free ≡ free_from at (take i free) ++ rest)
-free_behind at zero [] = ([], refl)
-free_behind at (suc i) [] = ([], refl)
-free_behind at zero (m ∷ free) = (free_from at (m ∷ free), refl)
-free_behind at (suc i) (true ∷ free) = let more = free_behind (at + 1) i free in (more.0, ap (λ (l : List ℕ). at ∷ l) more.1)
-free_behind at (suc i) (false ∷ free) = free_behind (at + 1) i free
+free_after : (at i : ℕ) (free : List Bool) → (rest : List ℕ) × (free_from at free ≡ free_from at (take i free) ++ rest)
+free_after at zero [] = ([], refl)
+free_after at (suc i) [] = ([], refl)
+free_after at zero (m ∷ free) = (free_from at (m ∷ free), refl)
+free_after at (suc i) (true ∷ free) = let more = free_after (at + 1) i free in (more.0, ap (λ (l : List ℕ). at ∷ l) more.1)
+free_after at (suc i) (false ∷ free) = free_after (at + 1) i free
 
 -- the first free pages, where the first marks have as many as requested
 pub enough : (n i : ℕ) (free : List Bool) (pages : List ℕ) → pages ≡ take n (free_pages (take i free)) → n ≤ length pages → pages ≡ take n (free_pages free)
 enough n i free pages so full =
-    let more = free_behind 0 i free in
+    let more = free_after 0 i free in
     so ∙ sym (first_same n (free_pages (take i free)) more.0 (subst (λ (l : List ℕ). n ≤ length l) so full)) ∙ ap (take n) (sym more.1)
 
 -- the first marks have no more free pages than all of them
 pub no_more : (i : ℕ) (free : List Bool) → length (free_pages (take i free)) ≤ length (free_pages free)
-no_more i free = let more = free_behind 0 i free in omega (arith, ap (λ (l : List ℕ). length l) more.1, length-append (free_pages (take i free)) more.0)
+no_more i free = let more = free_after 0 i free in omega (arith, ap (λ (l : List ℕ). length l) more.1, length-append (free_pages (take i free)) more.0)
 
 -- how many pages are free, when one more mark is looked at
 module _ (i : ℕ) (d : Bool) (free : List Bool) (lt : i < length free) where
@@ -175,7 +175,7 @@ pub handed_over : (older pages : List ℕ) (old mid new : List Bool) → AreClai
 handed_over older pages old mid new claimed first second = record {
   size = second.size ∙ first.size;
   kept = second.marked;
-  given_up = all_map (λ (p : ℕ). is_free mid p ≡ true) (λ (p : ℕ). IsNone pages p → is_free new p ≡ true) (λ p is none. second.others p none ∙ is) older first.marked;
+  released = all_map (λ (p : ℕ). is_free mid p ≡ true) (λ (p : ℕ). IsNone pages p → is_free new p ≡ true) (λ p is none. second.others p none ∙ is) older first.marked;
   others = λ p none. other p none (none_or p pages);
 }
   where
@@ -223,11 +223,11 @@ pub handed_between : (first older pages last : List ℕ) (old new : List Bool) �
     → HandsOver (first ++ (older ++ last)) (first ++ (pages ++ last)) old new
 handed_between first older pages last old new claimed claimed_last apart so = record {
   size = so.size;
-  kept = all_join (λ (p : ℕ). is_free new p ≡ false) first (pages ++ last) (claimed_beside older first old new so.others claimed before) (all_join (λ (p : ℕ). is_free new p ≡ false) pages last so.kept (claimed_beside older last old new so.others claimed_last behind));
-  given_up = all_join Gone first (older ++ last)
+  kept = all_join (λ (p : ℕ). is_free new p ≡ false) first (pages ++ last) (claimed_beside older first old new so.others claimed before) (all_join (λ (p : ℕ). is_free new p ≡ false) pages last so.kept (claimed_beside older last old new so.others claimed_last after));
+  released = all_join Gone first (older ++ last)
       (all_map (λ (p : ℕ). IsNone first p → ⊥) Gone (λ p no none. absurd (no (all_left (λ (q : ℕ). p ≢ q) first (pages ++ last) none))) first (named first))
       (all_join Gone older last
-      (all_map (λ (p : ℕ). IsNone pages p → is_free new p ≡ true) Gone (λ p is none. is (all_left (λ (q : ℕ). p ≢ q) pages last (all_right (λ (q : ℕ). p ≢ q) first (pages ++ last) none))) older so.given_up)
+      (all_map (λ (p : ℕ). IsNone pages p → is_free new p ≡ true) Gone (λ p is none. is (all_left (λ (q : ℕ). p ≢ q) pages last (all_right (λ (q : ℕ). p ≢ q) first (pages ++ last) none))) older so.released)
       (all_map (λ (p : ℕ). IsNone last p → ⊥) Gone (λ p no none. absurd (no (all_right (λ (q : ℕ). p ≢ q) pages last (all_right (λ (q : ℕ). p ≢ q) first (pages ++ last) none)))) last (named last)));
   others = λ p none. so.others p (all_left (λ (q : ℕ). p ≢ q) older last (all_right (λ (q : ℕ). p ≢ q) first (older ++ last) none));
 }
@@ -238,5 +238,5 @@ handed_between first older pages last old new claimed claimed_last apart so = re
     before : AllByRecursion (IsNone older) first
     before = clear_swap first older (all_left (IsNone first) older last (apart_clear first (older ++ last) apart))
 
-    behind : AllByRecursion (IsNone older) last
-    behind = apart_clear older last (apart_right first (older ++ last) apart)
+    after : AllByRecursion (IsNone older) last
+    after = apart_clear older last (apart_right first (older ++ last) apart)

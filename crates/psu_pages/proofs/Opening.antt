@@ -4,12 +4,12 @@ use Rattle.std.specs.List.{AllByRecursion}
 use Rattle.psu_disk.specs.Disk.{Range}
 use Rattle.psu_pages.specs.declared.root.Root.{Root}
 use Rattle.psu_pages.specs.declared.choose.Chosen.{Chosen}
-use Rattle.psu_pages.specs.Image.{gate_at, Counts, version_in, names_in, Head, heads_in, IsHead, IsKnown, AreShort, IsInPool, AreApart, taken, keys, words}
-use Rattle.psu_pages.specs.Shown.{items_in, Shows, Bears}
+use Rattle.psu_pages.specs.Image.{gate_at, IsCurrent, version_in, names_in, Head, heads_in, IsHead, IsKnown, AreShort, IsInPool, AreApart, taken, keys, words}
+use Rattle.psu_pages.specs.Shown.{items_in, Shows, Encodes}
 use Rattle.psu_pages.specs.Free.{IsRoster}
 use Rattle.psu_pages.specs.Finding.{IsChosen, HasGates, HasGoodWords, HasReadableRoot, HasBadRoot, CanStand, page_of}
-use Rattle.psu_pages.proofs.Bearing.{counting_is}
-use Rattle.psu_pages.proofs.Choosing.{picked_counts, picked_number, picked_shut, picked_lower, some_root, on_page}
+use Rattle.psu_pages.proofs.Encoding.{current_root_is}
+use Rattle.psu_pages.proofs.Choosing.{picked_current, picked_number, picked_shut, picked_lower, some_root, on_page}
 
 -- heads that one image may have together, few enough, within the limit, and of distinct keys
 pub roster_of : (limit : ℕ) (heads : List Head) → CanStand limit heads → length heads ≤ 240 → length (taken heads) ≤ limit → AreApart (keys heads) → IsRoster limit heads
@@ -24,27 +24,27 @@ module _ {image : List ℕ} {chosen : Chosen} (has : HasChosen image chosen) whe
   abbrev root : Root
   root = chosen.root
 
-  counts : Counts root image
-  counts = picked_counts chosen.root chosen.number chosen.both image has.is.picked
+  current : IsCurrent root image
+  current = picked_current chosen.root chosen.number chosen.both image has.is.picked
 
   pub gates : HasGates chosen.root chosen.number chosen.both image
   gates = record { shut = picked_shut chosen.root chosen.number chosen.both image has.is.picked; lower = picked_lower chosen.root chosen.number chosen.both image has.is.picked }
 
   pub readable : HasReadableRoot image
   readable =
-      let same = sym (counting_is root image counts) in
+      let same = sym (current_root_is root image current) in
       record {
-        counts = subst (λ (r : Root). Counts r image) same counts;
+        current = subst (λ (r : Root). IsCurrent r image) same current;
         words = subst (λ (r : Root). HasGoodWords r image) same has.is.words;
       }
 
   -- refused because its heads are invalid
   pub bad_root : (Shows chosen.root image chosen.limit → ⊥) → HasBadRoot image
   bad_root none = record {
-    some_root = some_root image root has.size counts.open_gate;
-    same_version = λ known. known.version (subst (λ (r : Root). IsKnown (version_in r image)) (sym (counting_is root image counts)) has.is.words.version);
-    none_stands = λ limit items st.
-        let shows : Shows root image limit = subst (λ (r : Root). Shows r image limit) (counting_is root image counts) st.shows in
+    some_root = some_root image root has.size current.open_gate;
+    same_version = λ known. known.version (subst (λ (r : Root). IsKnown (version_in r image)) (sym (current_root_is root image current)) has.is.words.version);
+    represents_none = λ limit items st.
+        let shows : Shows root image limit = subst (λ (r : Root). Shows r image limit) (current_root_is root image current) st.shows in
         none (subst (Shows root image) (sym shows.limit_is ∙ has.is.limit) shows);
   }
 
@@ -52,10 +52,10 @@ module _ {image : List ℕ} {chosen : Chosen} (has : HasChosen image chosen) whe
   named page names page_is names_are =
       names_are ∙ ap (words chosen.count) (on_page root image page has.size page_is 18 480 (omega arith)) ∙ ap (λ (n : ℕ). words n (Range (gate_at root + 18) 480 image)) (sym has.is.count)
 
-  pub bears : (heads : List Head) → heads_in chosen.root image ≡ heads → IsRoster chosen.limit heads → AreShort chosen.version heads → Bears chosen.root chosen.version chosen.limit chosen.number heads (items_in chosen.root image) image
-  bears heads are roster are_short = record {
-    counts = counts;
-    says = record {
+  pub encodes : (heads : List Head) → heads_in chosen.root image ≡ heads → IsRoster chosen.limit heads → AreShort chosen.version heads → Encodes chosen.root chosen.version chosen.limit chosen.number heads (items_in chosen.root image) image
+  encodes heads are roster are_short = record {
+    current = current;
+    has_contents = record {
       version_is = has.is.version;
       number_is = picked_number chosen.root chosen.number chosen.both image has.is.picked;
       shows = record {

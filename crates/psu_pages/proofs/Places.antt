@@ -21,14 +21,14 @@ gates_apart First = inl (omega arith)
 gates_apart Second = inr (omega arith)
 
 -- the page of a root that has this after its gate, once the gate is written
-pub page_gated : (root : Root) (byte : ℕ) (told x y : List ℕ) → 1024 ≤ length x → Range (gate_at root + 1) 511 x ≡ told → SameBut (gate_at root) 1 x y → gate root y ≡ byte → page_of root y ≡ byte ∷ told
-page_gated root byte told x y long says but is =
+pub page_gated : (root : Root) (byte : ℕ) (contents x y : List ℕ) → 1024 ≤ length x → Range (gate_at root + 1) 511 x ≡ contents → SameBut (gate_at root) 1 x y → gate root y ≡ byte → page_of root y ≡ byte ∷ contents
+page_gated root byte contents x y long has_contents but is =
     let at = gate_at root in
     let next : suc at ≡ at + 1 = omega arith in
     ap (take 512) (drop-cons y at 0 (omega (arith, but.size, long, gate_low root)))
     ∙ ap (λ (n : ℕ). get_or y at 0 ∷ Range n 511 y) next
     ∙ ap (λ (b : ℕ). b ∷ Range (at + 1) 511 y) is
-    ∙ ap (λ (l : List ℕ). byte ∷ l) (range_kept at 1 (at + 1) 511 x y but (omega (arith, long, gate_low root)) (inr (omega arith)) ∙ says)
+    ∙ ap (λ (l : List ℕ). byte ∷ l) (range_kept at 1 (at + 1) 511 x y but (omega (arith, long, gate_low root)) (inr (omega arith)) ∙ has_contents)
 
 -- a range inside of another
 pub range_inside : (at n from m : ℕ) (x : List ℕ) → at + n ≤ length x → from + m ≤ n → Range (at + from) m x ≡ Range from m (Range at n x)

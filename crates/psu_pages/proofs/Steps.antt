@@ -4,7 +4,7 @@ use Rattle.std.specs.List.{AllByRecursion}
 use Rattle.std.proofs.lemmas.Bool.{cases_lt}
 use Rattle.std.proofs.lemmas.List.{take_more, length-take-le, drop-drop}
 use Rattle.psu_disk.specs.Disk.{Range, Holds, SameBut, Follows, LeavesOnly, Elapses}
-use Rattle.psu_disk.specs.Moments.{started, goes_on, and_then, weaken}
+use Rattle.psu_disk.specs.Moments.{started, continues, and_then, weaken}
 use Rattle.psu_disk.specs.Ranges.{range_same, range_written}
 use Rattle.psu_pages.specs.Image.{page_in, IsNone, AreApart}
 use Rattle.psu_pages.specs.Writing.{Draft, IsOutside, Misses, Reaches, AreWritten}
@@ -57,7 +57,7 @@ module _ (page at n : ℕ) (is : at ≡ 512 * page) (long : n ≡ 512) where
   pub run_one : {D : Type 0} {moment : D → ℕ} {left_since : D → ℕ → List ℕ → Type 0} {old new : D} {before after : List ℕ → Type 0} → ((x : List ℕ) → left_since old (moment old) x → before x)
       → Follows (SameBut at n) before after → Elapses (moment old) (moment new) (left_since old) (left_since new) after → LeavesOnly moment left_since old new (Reaches (Misses (page ∷ [])) before)
   run_one {D} {moment} {left_since} {old} {new} {before} {after} only_now step time =
-      goes_on moment left_since old old new (Reaches (Misses (page ∷ [])) before) after
+      continues moment left_since old old new (Reaches (Misses (page ∷ [])) before) after
       (started moment left_since old (Reaches (Misses (page ∷ [])) before) (λ x l. (x, only_now x l, misses_refl (page ∷ []) x))) time (follows_one before after step)
 
   pub written_one : (bytes x y : List ℕ) → at + length bytes ≤ length x → length bytes ≡ 512 → Holds at bytes x y → page_in page y ≡ bytes

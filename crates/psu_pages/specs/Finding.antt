@@ -2,9 +2,9 @@
 use Rattle.std.specs.Prelude.{◌≡◌, ◌≢◌, ℕ, ◌+◌, ◌*◌, ◌<◌, ◌≤◌, ◌==◌, ◌⊎◌, List, length, Bool, true, false, if◌then◌else◌, Option, Some, None, IfSome, is_some, ⊤}
 use Rattle.std.specs.List.{AllByRecursion}
 use Rattle.psu_disk.specs.Disk.{Range}
-use Rattle.psu_pages.specs.Image.{other, gate_at, gate, counting, mark, mark_in, version_in, limit_in, number_in, count_in, Counts, Head, IsHead, IsKnown, IsInPool, IsNone, AreApart, pages_of, taken}
+use Rattle.psu_pages.specs.Image.{other, gate_at, gate, current_root, mark, mark_in, version_in, limit_in, number_in, count_in, IsCurrent, Head, IsHead, IsKnown, IsInPool, IsNone, AreApart, pages_of, taken}
 use Rattle.psu_pages.specs.Free.{is_free, AreClaimed}
-use Rattle.psu_pages.specs.Shown.{Item, Stands}
+use Rattle.psu_pages.specs.Shown.{Item, Represents}
 use Rattle.psu_pages.specs.declared.root.Root.{Root}
 use Rattle.psu_pages.specs.declared.words.Words.{Words}
 use Rattle.psu_pages.specs.declared.choose.Roots.{Roots}
@@ -86,8 +86,8 @@ pub record IsChosen (image : List ℕ) (chosen : Chosen) : Type 0 where
 
 -- There is a current root, and its fields are valid. Up to here no memory is allocated; its heads are read next.
 pub record HasReadableRoot (image : List ℕ) : Type 0 where
-  pub counts : Counts (counting image) image
-  pub words : HasGoodWords (counting image) image
+  pub current : IsCurrent (current_root image) image
+  pub words : HasGoodWords (current_root image) image
 
 -- a head is valid, and its pages are distinct and all free
 pub record IsFit (free : List Bool) (head : Head) : Type 0 where
@@ -130,15 +130,15 @@ HasNoRoot image = (length image < 1024) ⊎ ((gate First image ≢ 165) × (gate
 -- the current root is of this format, but of a version that isn't supported
 pub record HasOtherVersion (image : List ℕ) : Type 0 where
   pub size : 1024 ≤ length image
-  pub counts : Counts (counting image) image
-  pub marked : mark_in (counting image) image ≡ mark
-  pub version : IsKnown (version_in (counting image) image) → ⊥
+  pub current : IsCurrent (current_root image) image
+  pub marked : mark_in (current_root image) image ≡ mark
+  pub version : IsKnown (version_in (current_root image) image) → ⊥
 
 -- there are two roots with an open gate, and the image represents no items for another reason than its version
 pub record HasBadRoot (image : List ℕ) : Type 0 where
   pub some_root : HasNoRoot image → ⊥
   pub same_version : HasOtherVersion image → ⊥
-  pub none_stands : (limit : ℕ) (items : List Item) → Stands image limit items → ⊥
+  pub represents_none : (limit : ℕ) (items : List Item) → Represents image limit items → ⊥
 
 -- The cause for which an image is refused. A failed disk call and a failed allocation say nothing about the image.
 abbrev pub IsRefusal : List ℕ → OpenCause → Type 0

@@ -36,7 +36,7 @@ pub record IsPool (limit : ℕ) (free : List Bool) : Type 0 where
 pub record HandsOver (older pages : List ℕ) (old new : List Bool) : Type 0 where
   pub size : length new ≡ length old
   pub kept : AreClaimed new pages
-  pub given_up : AllByRecursion (λ (page : ℕ). IsNone pages page → is_free new page ≡ true) older
+  pub released : AllByRecursion (λ (page : ℕ). IsNone pages page → is_free new page ≡ true) older
   pub others : (page : ℕ) → IsNone older page → is_free new page ≡ is_free old page
 
 -- heads that one root may name: each with pages of its own, within the pool, and with a key of its own

@@ -47,13 +47,13 @@ names_in root image = words (count_in root image) (Range (gate_at root + 18) 480
 
 -- the root is the current one: its gate is open, and the other's is not open with a number as high. Of two open roots
 -- the one with the higher number is the current one.
-pub record Counts (root : Root) (image : List ℕ) : Type 0 where
+pub record IsCurrent (root : Root) (image : List ℕ) : Type 0 where
   pub open_gate : gate root image ≡ 165
   pub highest : gate (other root) image ≡ 165 → number_in (other root) image < number_in root image
 
 -- the current root, if there is one
-abbrev pub counting : List ℕ → Root
-counting image = if gate Second image == 165 && (not (gate First image == 165) || nat_lt (number_in First image) (number_in Second image)) then Second else First
+abbrev pub current_root : List ℕ → Root
+current_root image = if gate Second image == 165 && (not (gate First image == 165) || nat_lt (number_in First image) (number_in Second image)) then Second else First
 
 -- `PSU`
 abbrev pub mark : List ℕ

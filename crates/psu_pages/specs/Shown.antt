@@ -1,9 +1,9 @@
 -- The items that a root shows, whatever its gate, and those that an image represents.
 use Rattle.std.specs.Prelude.{◌≡◌, ◌≢◌, ℕ, ◌+◌, ◌*◌, ◌<◌, ◌≤◌, ◌⊎◌, List, length, map}
 use Rattle.std.specs.List.{AllByRecursion}
-use Rattle.psu_disk.specs.Disk.{DiskState, Left}
+use Rattle.psu_disk.specs.Disk.{DiskState, IsCrashImage}
 use Rattle.psu_pages.specs.declared.root.Root.{Root}
-use Rattle.psu_pages.specs.Image.{other, gate, mark, mark_in, version_in, limit_in, number_in, count_in, counting, Counts, Head, heads_in, value_in, IsHead, IsKnown, AreShort, taken, keys, IsInPool, AreApart}
+use Rattle.psu_pages.specs.Image.{other, gate, mark, mark_in, version_in, limit_in, number_in, count_in, current_root, IsCurrent, Head, heads_in, value_in, IsHead, IsKnown, AreShort, taken, keys, IsInPool, AreApart}
 
 -- a key and its value
 pub record Item : Type 0 where
@@ -40,7 +40,7 @@ pub record Shows (root : Root) (image : List ℕ) (limit : ℕ) : Type 0 where
   pub distinct : AreApart (keys (heads_in root image))
 
 -- A root has this version and this number, names these heads and shows these items, whatever its gate.
-pub record Says (root : Root) (version limit number : ℕ) (heads : List Head) (items : List Item) (image : List ℕ) : Type 0 where
+pub record HasContents (root : Root) (version limit number : ℕ) (heads : List Head) (items : List Item) (image : List ℕ) : Type 0 where
   pub version_is : version_in root image ≡ version
   pub number_is : number_in root image ≡ number
   pub shows : Shows root image limit
@@ -48,33 +48,33 @@ pub record Says (root : Root) (version limit number : ℕ) (heads : List Head) (
   pub items_are : items_in root image ≡ items
 
 -- This root is the current one, and encodes this version, limit, number, heads and items.
-pub record Bears (root : Root) (version limit number : ℕ) (heads : List Head) (items : List Item) (image : List ℕ) : Type 0 where
-  pub counts : Counts root image
-  pub says : Says root version limit number heads items image
+pub record Encodes (root : Root) (version limit number : ℕ) (heads : List Head) (items : List Item) (image : List ℕ) : Type 0 where
+  pub current : IsCurrent root image
+  pub has_contents : HasContents root version limit number heads items image
 
 -- The image represents these items: its current root shows them.
-pub record Stands (image : List ℕ) (limit : ℕ) (items : List Item) : Type 0 where
-  pub counts : Counts (counting image) image
-  pub shows : Shows (counting image) image limit
-  pub items_are : items_in (counting image) image ≡ items
+pub record Represents (image : List ℕ) (limit : ℕ) (items : List Item) : Type 0 where
+  pub current : IsCurrent (current_root image) image
+  pub shows : Shows (current_root image) image limit
+  pub items_are : items_in (current_root image) image ≡ items
 
 -- the image represents one of two lists of items
 abbrev pub IsEither : ℕ → List Item → List Item → List ℕ → Type 0
-IsEither limit before target image = Stands image limit before ⊎ Stands image limit target
+IsEither limit before target image = Represents image limit before ⊎ Represents image limit target
 
 -- in each possible crash image this root is the current one, and encodes this version, limit, number, heads and items
-abbrev pub EachBears : DiskState → Root → ℕ → ℕ → ℕ → List Head → List Item → Type 0
-EachBears disk root version limit number heads items = (image : List ℕ) → Left disk image → Bears root version limit number heads items image
+abbrev pub EachEncodes : DiskState → Root → ℕ → ℕ → ℕ → List Head → List Item → Type 0
+EachEncodes disk root version limit number heads items = (image : List ℕ) → IsCrashImage disk image → Encodes root version limit number heads items image
 
 -- in each possible crash image this root's gate is closed
 abbrev pub EachShut : DiskState → Root → Type 0
-EachShut disk root = (image : List ℕ) → Left disk image → gate root image ≢ 165
+EachShut disk root = (image : List ℕ) → IsCrashImage disk image → gate root image ≢ 165
 
 -- in each possible crash image this root has a lower number than that
 abbrev pub EachLower : DiskState → Root → ℕ → Type 0
-EachLower disk root number = (image : List ℕ) → Left disk image → number_in root image < number
+EachLower disk root number = (image : List ℕ) → IsCrashImage disk image → number_in root image < number
 
 -- the current root is the previous one and encodes what it did, whatever its version, or it is the next one, of version
 -- 2 and with the next number
-abbrev pub BearsEither : Root → ℕ → ℕ → ℕ → List Head → List Item → List Head → List Item → List ℕ → Type 0
-BearsEither next version limit number before items heads target image = Bears (other next) version limit number before items image ⊎ Bears next 2 limit (number + 1) heads target image
+abbrev pub EncodesEither : Root → ℕ → ℕ → ℕ → List Head → List Item → List Head → List Item → List ℕ → Type 0
+EncodesEither next version limit number before items heads target image = Encodes (other next) version limit number before items image ⊎ Encodes next 2 limit (number + 1) heads target image

@@ -4,7 +4,7 @@ use Rattle.std.specs.List.{AllByRecursion}
 use Rattle.std.proofs.Props.{props}
 use Rattle.psu_pages.specs.declared.root.Root.{Root}
 use Rattle.psu_pages.specs.Image.{Head, heads_in, version_in, taken, keys, key_most, IsHead, IsInPool, AreApart}
-use Rattle.psu_pages.specs.Shown.{Item, Shows, Says, Bears, Stands}
+use Rattle.psu_pages.specs.Shown.{Item, Shows, HasContents, Encodes, Represents}
 use Rattle.psu_pages.specs.Free.{is_free, AreClaimed, IsRoster}
 
 all-IsProp : {X : Type 0} (P : X → Type 0) → ((x : X) → IsProp (P x)) → (xs : List X) → IsProp (AllByRecursion P xs)
@@ -35,14 +35,14 @@ Shows-IsProp root image limit =
     let short = all-IsProp (λ (head : Head). length head.key ≤ key_most (version_in root image)) (λ head. hlevel props) (heads_in root image) in
     hlevel (props, heads, short, pool, apart, distinct)
 
-Says-IsProp : (root : Root) (version limit number : ℕ) (heads : List Head) (items : List Item) (image : List ℕ) → IsProp (Says root version limit number heads items image)
-Says-IsProp root version limit number heads items image = hlevel (props, Shows-IsProp)
+HasContents-IsProp : (root : Root) (version limit number : ℕ) (heads : List Head) (items : List Item) (image : List ℕ) → IsProp (HasContents root version limit number heads items image)
+HasContents-IsProp root version limit number heads items image = hlevel (props, Shows-IsProp)
 
-pub Bears-IsProp : (root : Root) (version limit number : ℕ) (heads : List Head) (items : List Item) (image : List ℕ) → IsProp (Bears root version limit number heads items image)
-Bears-IsProp root version limit number heads items image = hlevel (props, Says-IsProp)
+pub Encodes-IsProp : (root : Root) (version limit number : ℕ) (heads : List Head) (items : List Item) (image : List ℕ) → IsProp (Encodes root version limit number heads items image)
+Encodes-IsProp root version limit number heads items image = hlevel (props, HasContents-IsProp)
 
-pub Stands-IsProp : (image : List ℕ) (limit : ℕ) (items : List Item) → IsProp (Stands image limit items)
-Stands-IsProp image limit items = hlevel (props, Shows-IsProp)
+pub Represents-IsProp : (image : List ℕ) (limit : ℕ) (items : List Item) → IsProp (Represents image limit items)
+Represents-IsProp image limit items = hlevel (props, Shows-IsProp)
 
 pub AreClaimed-IsProp : (free : List Bool) (pages : List ℕ) → IsProp (AreClaimed free pages)
 AreClaimed-IsProp free pages = all-IsProp (λ (page : ℕ). is_free free page ≡ false) (λ page. hlevel props) pages

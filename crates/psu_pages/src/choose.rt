@@ -1,6 +1,6 @@
 //! The choice of the current root, and its contents.
 ghost use Rattle.std.specs.Prelude.{◌≡◌, ◌≢◌, ◌+◌, ◌*◌, ◌≤◌, List, ℕ, true, false, length, IfOk, IfErr, OnOk};
-ghost use Rattle.psu_disk.specs.Disk.{Left, Only, LeavesOnly, HasCause};
+ghost use Rattle.psu_disk.specs.Disk.{IsCrashImage, Only, LeavesOnly, HasCause};
 ghost use Rattle.psu_pages.specs.declared.standing.Standing.TheVariants.{One, Both, Unsure};
 ghost use Rattle.psu_pages.specs.Finding.{AreRoots, IsChosen, IsChoiceCause, IsChoiceRefusal, page_of};
 
@@ -65,8 +65,8 @@ pub fn read_roots<D: Disk>(disk: &mut D) -> Result<Roots, DiskFault>
     ensures found { D.honest → IfOk result (λ roots. AreRoots roots (D.state disk.old).bytes) }
     ensures synced { D.honest → OnOk result (Only (D.state disk.new)) }
     ensures seen { D.honest → (D.state disk.new).bytes ≡ (D.state disk.old).bytes }
-    ensures left { D.honest → (x : List ℕ) → Left (D.state disk.new) x → Left (D.state disk.old) x }
-    ensures time { D.honest → D.tells → LeavesOnly D.moment D.left_since disk.old disk.new (Left (D.state disk.old)) }
+    ensures left { D.honest → (x : List ℕ) → IsCrashImage (D.state disk.new) x → IsCrashImage (D.state disk.old) x }
+    ensures time { D.honest → D.records → LeavesOnly D.moment D.left_since disk.old disk.new (IsCrashImage (D.state disk.old)) }
 {
     let mut roots = Roots {
         first: [0; 512],

@@ -1,15 +1,15 @@
 //! Formatting a disk.
 ghost use Rattle.std.specs.Prelude.{◌≡◌, ◌≢◌, ◌+◌, ◌*◌, ◌≤◌, [], ◌∷◌, List, ℕ, true, length, OnOk, IfOk, IfErr};
-ghost use Rattle.psu_disk.specs.Disk.{Left, HasCause, HasFailed};
+ghost use Rattle.psu_disk.specs.Disk.{IsCrashImage, HasCause, HasFailed};
 ghost use Rattle.psu_pages.specs.Finding.{page_of};
 ghost use Rattle.psu_pages.specs.Image.{gate};
-ghost use Rattle.psu_pages.specs.Spelling.{IsTold, open_root};
-ghost use Rattle.psu_pages.specs.Shown.{items_in, EachBears, EachShut};
+ghost use Rattle.psu_pages.specs.Spelling.{AreRootContents, open_root};
+ghost use Rattle.psu_pages.specs.Shown.{items_in, EachEncodes, EachShut};
 ghost use Rattle.psu_pages.specs.declared.format_fault.FormatCause.TheVariants.{Device as NotWritten, Memory as NoMemory};
 ghost use Rattle.psu_pages.specs.declared.root.Root.TheVariants.{First, Second};
 ghost use Rattle.psu_pages.specs.declared.standing.Standing.TheVariants.{One};
 
-use crate::gates::{CLOSED, OPEN, say, set_gate};
+use crate::gates::{CLOSED, OPEN, set_gate, write_contents};
 use crate::pool::pool;
 use crate::root_page::spell_root;
 use crate::version::VERSION;
@@ -66,20 +66,20 @@ impl<D: Disk, A: Allocator + Copy> Pages<D, A> {
 }
 
 // Makes the first root the only open one, with these bytes after its gate.
-fn lay_out<D: Disk>(disk: &mut D, told: &[u8]) -> Result<(), DiskFault>
+fn lay_out<D: Disk>(disk: &mut D, contents: &[u8]) -> Result<(), DiskFault>
     requires roots { 1024 ≤ D.extent disk.old }
-    requires told { length told.now ≡ 511 }
+    requires contents { length contents.now ≡ 511 }
     ensures extent { D.extent disk.new ≡ D.extent disk.old }
     ensures cause { HasCause (D.failures disk.old) (D.failures disk.new) result }
-    ensures spelled { D.honest → OnOk result (page_of First (D.state disk.new).bytes ≡ 165 ∷ told.now) }
+    ensures spelled { D.honest → OnOk result (page_of First (D.state disk.new).bytes ≡ 165 ∷ contents.now) }
     ensures zero { D.honest → OnOk result (gate Second (D.state disk.new).bytes ≡ 0) }
-    ensures borne { D.honest → (limit number : ℕ) → IsTold limit number [] told.now (D.state disk.old).bytes → 4 ≤ limit → limit ≤ 480 → 512 * (2 + 2 * limit) ≤ D.extent disk.old
-        → OnOk result (EachBears (D.state disk.new) First 2 limit number [] []) }
+    ensures encoded { D.honest → (limit number : ℕ) → AreRootContents limit number [] contents.now (D.state disk.old).bytes → 4 ≤ limit → limit ≤ 480 → 512 * (2 + 2 * limit) ≤ D.extent disk.old
+        → OnOk result (EachEncodes (D.state disk.new) First 2 limit number [] []) }
     ensures shut { D.honest → OnOk result (EachShut (D.state disk.new) Second) }
 {
     set_gate(disk, Root::First, CLOSED)?;
     set_gate(disk, Root::Second, CLOSED)?;
-    say(disk, Root::First, told)?;
+    write_contents(disk, Root::First, contents)?;
     set_gate(disk, Root::First, OPEN)?;
     Ok(())
 }

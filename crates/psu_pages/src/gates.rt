@@ -1,6 +1,6 @@
 //! What is written to a root's page, and synced.
 ghost use Rattle.std.specs.Prelude.{◌≡◌, ◌+◌, ◌*◌, ◌≤◌, ◌∷◌, [], List, ℕ, length, OnOk};
-ghost use Rattle.psu_disk.specs.Disk.{Left, Range, Holds, SameBut, Only, Follows, LeavesOnly, HasCause};
+ghost use Rattle.psu_disk.specs.Disk.{IsCrashImage, Range, Holds, SameBut, Only, Follows, LeavesOnly, HasCause};
 ghost use Rattle.psu_pages.specs.Image.{gate, gate_at};
 ghost use Rattle.psu_pages.specs.Writing.{Reaches};
 
@@ -21,26 +21,26 @@ pub fn set_gate<D: Disk>(disk: &mut D, root: Root, byte: u8) -> Result<(), DiskF
     ensures done { D.honest → OnOk result (gate root (D.state disk.new).bytes ≡ byte) }
     ensures seen { D.honest → SameBut (gate_at root) 1 (D.state disk.old).bytes (D.state disk.new).bytes }
     ensures synced { D.honest → OnOk result (Only (D.state disk.new)) }
-    ensures left { D.honest → Follows (SameBut (gate_at root) 1) (Left (D.state disk.old)) (Left (D.state disk.new)) }
-    ensures time { D.honest → D.tells → LeavesOnly D.moment D.left_since disk.old disk.new (Reaches (SameBut (gate_at root) 1) (Left (D.state disk.old))) }
+    ensures left { D.honest → Follows (SameBut (gate_at root) 1) (IsCrashImage (D.state disk.old)) (IsCrashImage (D.state disk.new)) }
+    ensures time { D.honest → D.records → LeavesOnly D.moment D.left_since disk.old disk.new (Reaches (SameBut (gate_at root) 1) (IsCrashImage (D.state disk.old))) }
 {
     put(disk, root.gate(), &[byte])?;
     Ok(())
 }
 
 /// Writes the contents of a root after its gate, and makes all that was written durable.
-pub fn say<D: Disk>(disk: &mut D, root: Root, told: &[u8]) -> Result<(), DiskFault>
+pub fn write_contents<D: Disk>(disk: &mut D, root: Root, contents: &[u8]) -> Result<(), DiskFault>
     requires roots { 1024 ≤ D.extent disk.old }
-    requires told { length told.now ≡ 511 }
+    requires contents { length contents.now ≡ 511 }
     ensures extent { D.extent disk.new ≡ D.extent disk.old }
     ensures cause { HasCause (D.failures disk.old) (D.failures disk.new) result }
-    ensures says { D.honest → OnOk result (Range (gate_at root + 1) 511 (D.state disk.new).bytes ≡ told.now) }
+    ensures has_contents { D.honest → OnOk result (Range (gate_at root + 1) 511 (D.state disk.new).bytes ≡ contents.now) }
     ensures seen { D.honest → SameBut (gate_at root + 1) 511 (D.state disk.old).bytes (D.state disk.new).bytes }
     ensures synced { D.honest → OnOk result (Only (D.state disk.new)) }
-    ensures left { D.honest → Follows (SameBut (gate_at root + 1) 511) (Left (D.state disk.old)) (Left (D.state disk.new)) }
-    ensures time { D.honest → D.tells → LeavesOnly D.moment D.left_since disk.old disk.new (Reaches (SameBut (gate_at root + 1) 511) (Left (D.state disk.old))) }
+    ensures left { D.honest → Follows (SameBut (gate_at root + 1) 511) (IsCrashImage (D.state disk.old)) (IsCrashImage (D.state disk.new)) }
+    ensures time { D.honest → D.records → LeavesOnly D.moment D.left_since disk.old disk.new (Reaches (SameBut (gate_at root + 1) 511) (IsCrashImage (D.state disk.old))) }
 {
-    put(disk, root.gate() + 1, told)?;
+    put(disk, root.gate() + 1, contents)?;
     Ok(())
 }
 
@@ -52,8 +52,8 @@ fn put<D: Disk>(disk: &mut D, at: u64, bytes: &[u8]) -> Result<(), DiskFault>
     ensures done { D.honest → OnOk result (Holds at bytes.now (D.state disk.old).bytes (D.state disk.new).bytes) }
     ensures seen { D.honest → SameBut at (length bytes.now) (D.state disk.old).bytes (D.state disk.new).bytes }
     ensures synced { D.honest → OnOk result (Only (D.state disk.new)) }
-    ensures left { D.honest → Follows (SameBut at (length bytes.now)) (Left (D.state disk.old)) (Left (D.state disk.new)) }
-    ensures time { D.honest → D.tells → LeavesOnly D.moment D.left_since disk.old disk.new (Reaches (SameBut at (length bytes.now)) (Left (D.state disk.old))) }
+    ensures left { D.honest → Follows (SameBut at (length bytes.now)) (IsCrashImage (D.state disk.old)) (IsCrashImage (D.state disk.new)) }
+    ensures time { D.honest → D.records → LeavesOnly D.moment D.left_since disk.old disk.new (Reaches (SameBut at (length bytes.now)) (IsCrashImage (D.state disk.old))) }
 {
     disk.write(at, bytes)?;
     make_sure(disk)?;
@@ -66,8 +66,8 @@ pub fn make_sure<D: Disk>(disk: &mut D) -> Result<(), DiskFault>
     ensures cause { HasCause (D.failures disk.old) (D.failures disk.new) result }
     ensures synced { D.honest → OnOk result (Only (D.state disk.new)) }
     ensures seen { D.honest → (D.state disk.new).bytes ≡ (D.state disk.old).bytes }
-    ensures left { D.honest → (x : List ℕ) → Left (D.state disk.new) x → Left (D.state disk.old) x }
-    ensures time { D.honest → D.tells → LeavesOnly D.moment D.left_since disk.old disk.new (Left (D.state disk.old)) }
+    ensures left { D.honest → (x : List ℕ) → IsCrashImage (D.state disk.new) x → IsCrashImage (D.state disk.old) x }
+    ensures time { D.honest → D.records → LeavesOnly D.moment D.left_since disk.old disk.new (IsCrashImage (D.state disk.old)) }
 {
     disk.sync()?;
     Ok(())

@@ -20,7 +20,7 @@ pub fn hand_over<A: Allocator + Copy>(free: &mut FreeMap<A>, older: &[Head<A>], 
     let (_, older) = older.split_at(first);
     let (_, heads) = heads.split_at(first);
     let last = same_last(older, heads);
-    give_up(free, &older[..older.len() - last]);
+    release(free, &older[..older.len() - last]);
     keep(free, &heads[..heads.len() - last]);
 }
 
@@ -62,7 +62,7 @@ fn has_same_pages<A: Allocator + Copy>(head: &Head<A>, other: &Head<A>) -> bool
 }
 
 // Releases the pages of heads.
-fn give_up<A: Allocator + Copy>(free: &mut FreeMap<A>, heads: &[Head<A>])
+fn release<A: Allocator + Copy>(free: &mut FreeMap<A>, heads: &[Head<A>])
     requires there { AllByRecursion (λ page. page < length free.old) (taken heads.now) }
     requires claimed { AreClaimed free.old (taken heads.now) }
     requires apart { AreApart (taken heads.now) }

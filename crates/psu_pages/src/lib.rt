@@ -34,7 +34,7 @@ mod writing;
 pub use format_fault::{FormatCause, FormatFault};
 pub use free_map::FreeMap;
 pub use head::Head;
-pub use laws::bears_what_stands;
+pub use laws::represents_what_it_encodes;
 pub use open_cause::OpenCause;
 pub use page_fault::PageFault;
 pub use pages::Pages;

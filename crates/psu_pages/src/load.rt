@@ -1,7 +1,7 @@
 //! Reading the value of a head.
 ghost use Rattle.std.specs.Prelude.{◌≡◌, ◌≢◌, ◌+◌, ◌*◌, ◌≤◌, List, ℕ, OnOk, IfOk, IfErr, IsErrOf};
 ghost use Rattle.std.specs.List.{AllByRecursion};
-ghost use Rattle.psu_disk.specs.Disk.{Left, LeavesOnly, HasCause, HasFailed};
+ghost use Rattle.psu_disk.specs.Disk.{IsCrashImage, LeavesOnly, HasCause, HasFailed};
 ghost use Rattle.psu_pages.specs.Image.{value_in, IsHead, IsInPool, Head as HeadOf};
 ghost use Rattle.psu_pages.specs.declared.page_fault.PageFault.TheVariants.{Device, NoPage};
 
@@ -26,8 +26,8 @@ pub fn read_value<D: Disk, A: Allocator + Copy>(
     ensures pages { IfErr result (λ cause. cause ≢ NoPage) }
     ensures found { D.honest → IfOk result (λ value. value.items ≡ value_in (D.state disk.old).bytes head.now) }
     ensures seen { D.honest → (D.state disk.new).bytes ≡ (D.state disk.old).bytes }
-    ensures left { D.honest → (x : List ℕ) → Left (D.state disk.new) x → Left (D.state disk.old) x }
-    ensures time { D.honest → D.tells → LeavesOnly D.moment D.left_since disk.old disk.new (Left (D.state disk.old)) }
+    ensures left { D.honest → (x : List ℕ) → IsCrashImage (D.state disk.new) x → IsCrashImage (D.state disk.old) x }
+    ensures time { D.honest → D.records → LeavesOnly D.moment D.left_since disk.old disk.new (IsCrashImage (D.state disk.old)) }
 {
     let mut value = Vec::with_capacity(alloc, 512 * head.pages().len())?;
     for page in head.pages() {
@@ -58,8 +58,8 @@ impl<D: Disk, A: Allocator + Copy> Pages<D, A> {
         ensures standing { self.new.standing ≡ self.old.standing }
         ensures planned { (other : HeadOf) → IsPlanned self.old other → IsPlanned self.new other }
         ensures seen { D.honest → (D.state self.new.disk).bytes ≡ (D.state self.old.disk).bytes }
-        ensures left { D.honest → (x : List ℕ) → Left (D.state self.new.disk) x → Left (D.state self.old.disk) x }
-        ensures time { D.honest → D.tells → LeavesOnly D.moment D.left_since self.old.disk self.new.disk (Left (D.state self.old.disk)) }
+        ensures left { D.honest → (x : List ℕ) → IsCrashImage (D.state self.new.disk) x → IsCrashImage (D.state self.old.disk) x }
+        ensures time { D.honest → D.records → LeavesOnly D.moment D.left_since self.old.disk self.new.disk (IsCrashImage (D.state self.old.disk)) }
     {
         read_value(alloc, &mut self.disk, head)
     }

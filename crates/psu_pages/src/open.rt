@@ -1,9 +1,9 @@
 //! Opening a disk, after a power loss or without one.
 ghost use Rattle.std.specs.Prelude.{◌≡◌, ◌≢◌, ◌+◌, ◌*◌, ◌<◌, ◌≤◌, [], List, ℕ, OnOk, IfOk, IfErr, IsErrOf};
-ghost use Rattle.psu_disk.specs.Disk.{Left, Only, LeavesOnly, HasFailed};
+ghost use Rattle.psu_disk.specs.Disk.{IsCrashImage, Only, LeavesOnly, HasFailed};
 ghost use Rattle.psu_pages.specs.Finding.{AreFit, IsRefusal, HasReadableRoot, HasGates};
 ghost use Rattle.psu_pages.specs.Free.{IsRoster};
-ghost use Rattle.psu_pages.specs.Shown.{items_in, Bears};
+ghost use Rattle.psu_pages.specs.Shown.{items_in, Encodes};
 ghost use Rattle.psu_pages.specs.declared.open_cause.OpenCause.TheVariants.{Device, Memory};
 ghost use Rattle.psu_pages.specs.declared.standing.Standing.TheVariants.{Unsure};
 
@@ -29,7 +29,7 @@ impl<D: Disk, A: Allocator + Copy> Pages<D, A> {
     /// Opens the items that a disk represents. Begins with a sync, and reads the two roots and the pages of the heads,
     /// each once. The gate of an older root that is open is left open. Nothing is written.
     pub fn open(alloc: A, mut disk: D) -> Result<Pages<D, A>, Refused<D>>
-        ensures found { D.honest → IfOk result (λ pages. Bears pages.root pages.version pages.limit pages.number pages.heads.items (items_in pages.root (D.state disk).bytes) (D.state disk).bytes) }
+        ensures found { D.honest → IfOk result (λ pages. Encodes pages.root pages.version pages.limit pages.number pages.heads.items (items_in pages.root (D.state disk).bytes) (D.state disk).bytes) }
         ensures sure { IfOk result (λ pages. pages.standing ≢ Unsure) }
         ensures fit { IfOk result (λ pages. AreFit pages.limit pages.heads.items pages.free) }
         ensures none_older { IfOk result (λ pages. pages.older.items ≡ []) }
@@ -42,8 +42,8 @@ impl<D: Disk, A: Allocator + Copy> Pages<D, A> {
         ensures memory { D.honest → IfErr result (λ e. e.cause ≡ Memory → HasReadableRoot (D.state disk).bytes) }
         ensures synced { D.honest → IfOk result (λ pages. Only (D.state pages.disk)) }
         ensures seen { D.honest → (D.state (opened_disk result)).bytes ≡ (D.state disk).bytes }
-        ensures left { D.honest → (x : List ℕ) → Left (D.state (opened_disk result)) x → Left (D.state disk) x }
-        ensures time { D.honest → D.tells → LeavesOnly D.moment D.left_since disk (opened_disk result) (Left (D.state disk)) }
+        ensures left { D.honest → (x : List ℕ) → IsCrashImage (D.state (opened_disk result)) x → IsCrashImage (D.state disk) x }
+        ensures time { D.honest → D.records → LeavesOnly D.moment D.left_since disk (opened_disk result) (IsCrashImage (D.state disk)) }
     {
         if disk.size() < 1024 {
             return Err(Refused {
@@ -86,13 +86,13 @@ fn look<D: Disk, A: Allocator + Copy>(alloc: A, disk: &mut D) -> Result<Opened<A
     ensures limit { IfOk result (λ o. (4 ≤ o.chosen.limit) × (o.chosen.limit ≤ 480) × (512 * (2 + 2 * o.chosen.limit) ≤ D.extent disk.old)) }
     ensures roster { IfOk result (λ o. IsRoster o.chosen.limit o.heads.items) }
     ensures fit { IfOk result (λ o. AreFit o.chosen.limit o.heads.items o.free) }
-    ensures found { D.honest → IfOk result (λ o. Bears o.chosen.root o.chosen.version o.chosen.limit o.chosen.number o.heads.items (items_in o.chosen.root (D.state disk.old).bytes) (D.state disk.old).bytes) }
+    ensures found { D.honest → IfOk result (λ o. Encodes o.chosen.root o.chosen.version o.chosen.limit o.chosen.number o.heads.items (items_in o.chosen.root (D.state disk.old).bytes) (D.state disk.old).bytes) }
     ensures gates { D.honest → IfOk result (λ o. HasGates o.chosen.root o.chosen.number o.chosen.both (D.state disk.old).bytes) }
     ensures refused { D.honest → IfErr result (IsRefusal (D.state disk.old).bytes) }
     ensures synced { D.honest → OnOk result (Only (D.state disk.new)) }
     ensures seen { D.honest → (D.state disk.new).bytes ≡ (D.state disk.old).bytes }
-    ensures left { D.honest → (x : List ℕ) → Left (D.state disk.new) x → Left (D.state disk.old) x }
-    ensures time { D.honest → D.tells → LeavesOnly D.moment D.left_since disk.old disk.new (Left (D.state disk.old)) }
+    ensures left { D.honest → (x : List ℕ) → IsCrashImage (D.state disk.new) x → IsCrashImage (D.state disk.old) x }
+    ensures time { D.honest → D.records → LeavesOnly D.moment D.left_since disk.old disk.new (IsCrashImage (D.state disk.old)) }
 {
     let roots = read_roots(disk)?;
     let chosen = match choose(&roots, disk.size()) {

@@ -1,11 +1,11 @@
 //! Items in the pages of a disk.
 ghost use Rattle.std.specs.Prelude.{◌≡◌, ◌≢◌, ◌+◌, ◌*◌, ◌≤◌, ◌<◌, ◌^◌, [], List, ℕ, false, length, IfOk, OnOk, IfErr};
 ghost use Rattle.std.specs.List.{AllByRecursion};
-ghost use Rattle.psu_disk.specs.Disk.{Left};
+ghost use Rattle.psu_disk.specs.Disk.{IsCrashImage};
 ghost use Rattle.psu_pages.specs.Free.{is_free, AreClaimed, IsRoster};
-ghost use Rattle.psu_pages.specs.Image.{other, taken, counting, number_in, version_in, head_at};
-ghost use Rattle.psu_pages.specs.Shown.{items_in, EachBears, EachShut, EachLower};
-ghost use Rattle.psu_pages.specs.Single.{AreClaimed-IsProp, IsRoster-IsProp, Bears-IsProp};
+ghost use Rattle.psu_pages.specs.Image.{other, taken, current_root, number_in, version_in, head_at};
+ghost use Rattle.psu_pages.specs.Shown.{items_in, EachEncodes, EachShut, EachLower};
+ghost use Rattle.psu_pages.specs.Single.{AreClaimed-IsProp, IsRoster-IsProp, Encodes-IsProp};
 ghost use Rattle.std.proofs.Props.{props};
 ghost use Rattle.psu_pages.specs.declared.root.Root.TheVariants.{First};
 ghost use Rattle.psu_pages.specs.declared.standing.Standing.TheVariants.{One, Both, Unsure};
@@ -38,7 +38,7 @@ pub struct Pages<D: Disk, A: Allocator + Copy> {
     ghost older_roster: { IsRoster limit older.items } by { IsRoster-IsProp limit older.items },
     ghost older_claimed: { AreClaimed free (taken older.items) } by { AreClaimed-IsProp free (taken older.items) },
     ghost none_older: { standing ≡ One → older.items ≡ [] },
-    ghost bears: { D.honest → standing ≢ Unsure → EachBears (D.state disk) root version limit number heads.items (items_in root (D.state disk).bytes) } by { Prim.hlevel (props, Bears-IsProp) },
+    ghost encodes: { D.honest → standing ≢ Unsure → EachEncodes (D.state disk) root version limit number heads.items (items_in root (D.state disk).bytes) } by { Prim.hlevel (props, Encodes-IsProp) },
     ghost shut: { D.honest → standing ≡ One → EachShut (D.state disk) (other root) },
     ghost lower: { D.honest → standing ≡ Both → EachLower (D.state disk) (other root) number },
 }
@@ -50,7 +50,7 @@ impl<D: Disk, A: Allocator + Copy> Pages<D, A> {
         ensures roster { IsRoster self.now.limit result.now }
         ensures claimed { AreClaimed self.now.free (taken result.now) }
         ensures there { D.honest → self.now.standing ≢ Unsure → AllByRecursion (λ head. head_at (D.state self.now.disk).bytes head.at ≡ head) result.now }
-        ensures bears { D.honest → self.now.standing ≢ Unsure → EachBears (D.state self.now.disk) self.now.root self.now.version self.now.limit self.now.number result.now (items_in self.now.root (D.state self.now.disk).bytes) }
+        ensures encodes { D.honest → self.now.standing ≢ Unsure → EachEncodes (D.state self.now.disk) self.now.root self.now.version self.now.limit self.now.number result.now (items_in self.now.root (D.state self.now.disk).bytes) }
     {
         &self.heads
     }
@@ -68,7 +68,7 @@ impl<D: Disk, A: Allocator + Copy> Pages<D, A> {
     /// The number of the current root, which rises by 1 with each root that is published.
     pub fn number(&self) -> u64
         ensures value { result ≡ self.now.number }
-        ensures stands { D.honest → self.now.standing ≢ Unsure → (image : List ℕ) → Left (D.state self.now.disk) image → number_in (counting image) image ≡ result }
+        ensures represents { D.honest → self.now.standing ≢ Unsure → (image : List ℕ) → IsCrashImage (D.state self.now.disk) image → number_in (current_root image) image ≡ result }
     {
         self.number
     }
@@ -76,7 +76,7 @@ impl<D: Disk, A: Allocator + Copy> Pages<D, A> {
     /// The version of the current root: 1 or 2.
     pub fn version(&self) -> u16
         ensures value { result ≡ self.now.version }
-        ensures stands { D.honest → self.now.standing ≢ Unsure → (image : List ℕ) → Left (D.state self.now.disk) image → version_in (counting image) image ≡ result }
+        ensures represents { D.honest → self.now.standing ≢ Unsure → (image : List ℕ) → IsCrashImage (D.state self.now.disk) image → version_in (current_root image) image ≡ result }
     {
         self.version
     }
@@ -91,7 +91,7 @@ impl<D: Disk, A: Allocator + Copy> Pages<D, A> {
     /// Returns the disk, with the items on it.
     pub fn into_disk(self) -> D
         ensures value { result ≡ self.disk }
-        ensures bears { D.honest → self.standing ≢ Unsure → EachBears (D.state result) self.root self.version self.limit self.number self.heads.items (items_in self.root (D.state result).bytes) }
+        ensures encodes { D.honest → self.standing ≢ Unsure → EachEncodes (D.state result) self.root self.version self.limit self.number self.heads.items (items_in self.root (D.state result).bytes) }
     {
         self.disk
     }

@@ -37,7 +37,7 @@ impl<D: Disk, A: Allocator + Copy> Pages<D, A> {
     /// Releases the pages of a head that was planned.
     pub fn unplan(&mut self, head: Head<A>)
         requires { IsPlanned self.old head }
-        ensures given_up { Marks true (pages_of head) self.old.free self.new.free }
+        ensures released { Marks true (pages_of head) self.old.free self.new.free }
         ensures others { (other : HeadOf) → IsPlanned self.old other → AreClear (pages_of head) (pages_of other) → IsPlanned self.new other }
         ensures roots { HasSameRoots self.old self.new }
     {

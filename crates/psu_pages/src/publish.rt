@@ -1,11 +1,11 @@
 //! From the present items to those of other heads: items are written, a root is published, and the older one is closed.
 ghost use Rattle.std.specs.Prelude.{◌≡◌, ◌≢◌, ◌+◌, ◌<◌, ◌≤◌, ◌^◌, [], List, ℕ, true, length, map, OnOk, OnErr, IfErr, IsErrOf};
 ghost use Rattle.std.specs.List.{AllByRecursion};
-ghost use Rattle.psu_disk.specs.Disk.{Left, SameBut, Follows, LeavesOnly, HasFailed};
+ghost use Rattle.psu_disk.specs.Disk.{IsCrashImage, SameBut, Follows, LeavesOnly, HasFailed};
 ghost use Rattle.psu_pages.specs.Free.{is_free, AreClaimed, IsRoster};
 ghost use Rattle.psu_pages.specs.Finding.{page_of};
 ghost use Rattle.psu_pages.specs.Image.{AreClear, IsNone, IsInPool, gate, gate_at, head_at, other, pages_of, taken, Head as HeadOf};
-ghost use Rattle.psu_pages.specs.Shown.{item_in, items_in, Bears, BearsEither};
+ghost use Rattle.psu_pages.specs.Shown.{item_in, items_in, Encodes, EncodesEither};
 ghost use Rattle.psu_pages.specs.Spelling.{head_drafts, open_root};
 ghost use Rattle.psu_pages.specs.Writing.{Misses, Reaches, AreWritten, IsWritten};
 ghost use Rattle.psu_pages.specs.declared.page_fault.PageFault.TheVariants.{Device};
@@ -45,12 +45,12 @@ impl<D: Disk, A: Allocator + Copy> Pages<D, A> {
 
         // At every moment the disk represents the same items, and no page but those of the head is written.
         ensures shown { D.honest → items_in self.new.root (D.state self.new.disk).bytes ≡ items_in self.old.root (D.state self.old.disk).bytes }
-        ensures left { D.honest → (image : List ℕ) → Left (D.state self.new.disk) image
-            → Bears self.old.root self.old.version self.old.limit self.old.number self.old.heads.items (items_in self.old.root (D.state self.old.disk).bytes) image }
-        ensures time { D.honest → D.tells → LeavesOnly D.moment D.left_since self.old.disk self.new.disk
-            (Bears self.old.root self.old.version self.old.limit self.old.number self.old.heads.items (items_in self.old.root (D.state self.old.disk).bytes)) }
-        ensures touched { D.honest → Follows (Misses (pages_of head.now)) (Left (D.state self.old.disk)) (Left (D.state self.new.disk)) }
-        ensures touched_time { D.honest → D.tells → LeavesOnly D.moment D.left_since self.old.disk self.new.disk (Reaches (Misses (pages_of head.now)) (Left (D.state self.old.disk))) }
+        ensures left { D.honest → (image : List ℕ) → IsCrashImage (D.state self.new.disk) image
+            → Encodes self.old.root self.old.version self.old.limit self.old.number self.old.heads.items (items_in self.old.root (D.state self.old.disk).bytes) image }
+        ensures time { D.honest → D.records → LeavesOnly D.moment D.left_since self.old.disk self.new.disk
+            (Encodes self.old.root self.old.version self.old.limit self.old.number self.old.heads.items (items_in self.old.root (D.state self.old.disk).bytes)) }
+        ensures touched { D.honest → Follows (Misses (pages_of head.now)) (IsCrashImage (D.state self.old.disk)) (IsCrashImage (D.state self.new.disk)) }
+        ensures touched_time { D.honest → D.records → LeavesOnly D.moment D.left_since self.old.disk self.new.disk (Reaches (Misses (pages_of head.now)) (IsCrashImage (D.state self.old.disk))) }
     {
         let standing = self.standing;
         self.standing = Standing::Unsure;
@@ -80,12 +80,12 @@ impl<D: Disk, A: Allocator + Copy> Pages<D, A> {
 
         // At every moment the disk represents the items from before, or those of the heads, and no page but the next
         // root's is written.
-        ensures left { D.honest → (image : List ℕ) → Left (D.state self.new.disk) image
-            → BearsEither (other self.old.root) self.old.version self.old.limit self.old.number self.old.heads.items (items_in self.old.root (D.state self.old.disk).bytes) heads.items (map (item_in (D.state self.old.disk).bytes) heads.items) image }
-        ensures time { D.honest → D.tells → LeavesOnly D.moment D.left_since self.old.disk self.new.disk
-            (BearsEither (other self.old.root) self.old.version self.old.limit self.old.number self.old.heads.items (items_in self.old.root (D.state self.old.disk).bytes) heads.items (map (item_in (D.state self.old.disk).bytes) heads.items)) }
-        ensures touched { D.honest → Follows (SameBut (gate_at (other self.old.root)) 512) (Left (D.state self.old.disk)) (Left (D.state self.new.disk)) }
-        ensures touched_time { D.honest → D.tells → LeavesOnly D.moment D.left_since self.old.disk self.new.disk (Reaches (SameBut (gate_at (other self.old.root)) 512) (Left (D.state self.old.disk))) }
+        ensures left { D.honest → (image : List ℕ) → IsCrashImage (D.state self.new.disk) image
+            → EncodesEither (other self.old.root) self.old.version self.old.limit self.old.number self.old.heads.items (items_in self.old.root (D.state self.old.disk).bytes) heads.items (map (item_in (D.state self.old.disk).bytes) heads.items) image }
+        ensures time { D.honest → D.records → LeavesOnly D.moment D.left_since self.old.disk self.new.disk
+            (EncodesEither (other self.old.root) self.old.version self.old.limit self.old.number self.old.heads.items (items_in self.old.root (D.state self.old.disk).bytes) heads.items (map (item_in (D.state self.old.disk).bytes) heads.items)) }
+        ensures touched { D.honest → Follows (SameBut (gate_at (other self.old.root)) 512) (IsCrashImage (D.state self.old.disk)) (IsCrashImage (D.state self.new.disk)) }
+        ensures touched_time { D.honest → D.records → LeavesOnly D.moment D.left_since self.old.disk self.new.disk (Reaches (SameBut (gate_at (other self.old.root)) 512) (IsCrashImage (D.state self.old.disk))) }
     {
         let next = self.root.other();
         let page = spell_root(self.limit, self.number + 1, &heads);
@@ -115,12 +115,12 @@ impl<D: Disk, A: Allocator + Copy> Pages<D, A> {
 
         // At every moment the disk represents the same items, and nothing but the older gate is written.
         ensures shown { D.honest → OnOk result (items_in self.new.root (D.state self.new.disk).bytes ≡ items_in self.old.root (D.state self.old.disk).bytes) }
-        ensures left { D.honest → (image : List ℕ) → Left (D.state self.new.disk) image
-            → Bears self.old.root self.old.version self.old.limit self.old.number self.old.heads.items (items_in self.old.root (D.state self.old.disk).bytes) image }
-        ensures time { D.honest → D.tells → LeavesOnly D.moment D.left_since self.old.disk self.new.disk
-            (Bears self.old.root self.old.version self.old.limit self.old.number self.old.heads.items (items_in self.old.root (D.state self.old.disk).bytes)) }
-        ensures touched { D.honest → Follows (SameBut (gate_at (other self.old.root)) 1) (Left (D.state self.old.disk)) (Left (D.state self.new.disk)) }
-        ensures touched_time { D.honest → D.tells → LeavesOnly D.moment D.left_since self.old.disk self.new.disk (Reaches (SameBut (gate_at (other self.old.root)) 1) (Left (D.state self.old.disk))) }
+        ensures left { D.honest → (image : List ℕ) → IsCrashImage (D.state self.new.disk) image
+            → Encodes self.old.root self.old.version self.old.limit self.old.number self.old.heads.items (items_in self.old.root (D.state self.old.disk).bytes) image }
+        ensures time { D.honest → D.records → LeavesOnly D.moment D.left_since self.old.disk self.new.disk
+            (Encodes self.old.root self.old.version self.old.limit self.old.number self.old.heads.items (items_in self.old.root (D.state self.old.disk).bytes)) }
+        ensures touched { D.honest → Follows (SameBut (gate_at (other self.old.root)) 1) (IsCrashImage (D.state self.old.disk)) (IsCrashImage (D.state self.new.disk)) }
+        ensures touched_time { D.honest → D.records → LeavesOnly D.moment D.left_since self.old.disk self.new.disk (Reaches (SameBut (gate_at (other self.old.root)) 1) (IsCrashImage (D.state self.old.disk))) }
     {
         let Standing::Both = self.standing else {
             return Ok(());

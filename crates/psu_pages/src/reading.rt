@@ -1,6 +1,6 @@
 //! Reading pages, each by one call of the disk.
 ghost use Rattle.std.specs.Prelude.{◌≡◌, ◌+◌, ◌*◌, ◌≤◌, List, ℕ, length, OnOk};
-ghost use Rattle.psu_disk.specs.Disk.{Left, LeavesOnly, HasCause};
+ghost use Rattle.psu_disk.specs.Disk.{IsCrashImage, LeavesOnly, HasCause};
 ghost use Rattle.psu_pages.specs.Image.{page_in};
 
 use psu_disk::{Disk, DiskFault};
@@ -13,8 +13,8 @@ pub fn read_page<D: Disk>(disk: &mut D, page: u16, into: &mut [u8]) -> Result<()
     ensures cause { HasCause (D.failures disk.old) (D.failures disk.new) result }
     ensures bytes { D.honest → OnOk result (into.new ≡ page_in page (D.state disk.old).bytes) }
     ensures seen { D.honest → (D.state disk.new).bytes ≡ (D.state disk.old).bytes }
-    ensures left { D.honest → (x : List ℕ) → Left (D.state disk.new) x → Left (D.state disk.old) x }
-    ensures time { D.honest → D.tells → LeavesOnly D.moment D.left_since disk.old disk.new (Left (D.state disk.old)) }
+    ensures left { D.honest → (x : List ℕ) → IsCrashImage (D.state disk.new) x → IsCrashImage (D.state disk.old) x }
+    ensures time { D.honest → D.records → LeavesOnly D.moment D.left_since disk.old disk.new (IsCrashImage (D.state disk.old)) }
 {
     disk.read(512 * u64::from(page), into)?;
     Ok(())

@@ -1,6 +1,6 @@
 //! Encoding a root as its page.
 ghost use Rattle.std.specs.Prelude.{◌≡◌, ◌+◌, ◌*◌, ◌≤◌, ◌∷◌, ◌++◌, length};
-ghost use Rattle.psu_pages.specs.Spelling.{said, names, spelled_words};
+ghost use Rattle.psu_pages.specs.Spelling.{root_contents, names, spelled_words};
 
 use crate::Head;
 use crate::gates::CLOSED;
@@ -11,7 +11,7 @@ use std::alloc::Allocator;
 /// Returns the page of a root that names these heads, its gate closed.
 pub fn spell_root<A: Allocator + Copy>(limit: u16, number: u64, heads: &[Head<A>]) -> Page
     requires { length heads.now ≤ 240 }
-    ensures { result ≡ 0 ∷ said limit number (names heads.now) }
+    ensures { result ≡ 0 ∷ root_contents limit number (names heads.now) }
 {
     let mut page = Page::of(&[CLOSED]);
     page.add(b"PSU");

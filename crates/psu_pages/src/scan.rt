@@ -1,6 +1,6 @@
 //! Reading the heads that a root names.
 ghost use Rattle.std.specs.Prelude.{◌≡◌, ◌≢◌, ◌+◌, ◌*◌, ◌≤◌, ◌++◌, ◌∷◌, [], List, ℕ, true, false, length, map, slice_set, OnOk, IfOk, IfErr, IfSome, IsNone, IsErrOf};
-ghost use Rattle.psu_disk.specs.Disk.{Left, LeavesOnly, HasFailed};
+ghost use Rattle.psu_disk.specs.Disk.{IsCrashImage, LeavesOnly, HasFailed};
 ghost use Rattle.psu_pages.specs.Image.{head_at, pages_of, IsHead};
 ghost use Rattle.psu_pages.specs.Free.{is_free, Marks};
 ghost use Rattle.psu_pages.specs.Finding.{IsFit, AreFit, CanStand, IsScanCause};
@@ -39,8 +39,8 @@ pub fn scan<D: Disk, A: Allocator + Copy>(
     ensures found { D.honest → IfOk result (λ all. IfSome all (λ found. found.heads.items ≡ map (head_at (D.state disk.old).bytes) names.now)) }
     ensures none { D.honest → IfOk result (λ all. IsNone all → CanStand limit (map (head_at (D.state disk.old).bytes) names.now) → ⊥) }
     ensures seen { D.honest → (D.state disk.new).bytes ≡ (D.state disk.old).bytes }
-    ensures left { D.honest → (x : List ℕ) → Left (D.state disk.new) x → Left (D.state disk.old) x }
-    ensures time { D.honest → D.tells → LeavesOnly D.moment D.left_since disk.old disk.new (Left (D.state disk.old)) }
+    ensures left { D.honest → (x : List ℕ) → IsCrashImage (D.state disk.new) x → IsCrashImage (D.state disk.old) x }
+    ensures time { D.honest → D.records → LeavesOnly D.moment D.left_since disk.old disk.new (IsCrashImage (D.state disk.old)) }
 {
     let mut free = pool(alloc, limit)?;
     let mut heads = Vec::with_capacity(alloc, names.len())?;
@@ -77,8 +77,8 @@ fn read_head<D: Disk, A: Allocator + Copy>(
     ensures memory { D.honest → IsErrOf result OpenCause.Memory → IsHead (head_at (D.state disk.old).bytes name) }
     ensures unclaimed { IsErrOf result OpenCause.Memory → (is_free free.old name ≡ true) × (free.new ≡ slice_set free.old name false) }
     ensures seen { D.honest → (D.state disk.new).bytes ≡ (D.state disk.old).bytes }
-    ensures left { D.honest → (x : List ℕ) → Left (D.state disk.new) x → Left (D.state disk.old) x }
-    ensures time { D.honest → D.tells → LeavesOnly D.moment D.left_since disk.old disk.new (Left (D.state disk.old)) }
+    ensures left { D.honest → (x : List ℕ) → IsCrashImage (D.state disk.new) x → IsCrashImage (D.state disk.old) x }
+    ensures time { D.honest → D.records → LeavesOnly D.moment D.left_since disk.old disk.new (IsCrashImage (D.state disk.old)) }
 {
     if !free.take(name) {
         return Ok(None);

@@ -1,42 +1,42 @@
 //! The switch from the current root to the next one.
 ghost use Rattle.std.specs.Prelude.{◌≡◌, ◌+◌, ◌≤◌, ◌∷◌, List, ℕ, length, map, OnOk};
-ghost use Rattle.psu_disk.specs.Disk.{Left, SameBut, Follows, LeavesOnly, HasCause};
+ghost use Rattle.psu_disk.specs.Disk.{IsCrashImage, SameBut, Follows, LeavesOnly, HasCause};
 ghost use Rattle.psu_pages.specs.Finding.{page_of};
 ghost use Rattle.psu_pages.specs.Image.{Head, gate_at, other};
-ghost use Rattle.psu_pages.specs.Shown.{Item, item_in, EachBears, EachLower, BearsEither};
+ghost use Rattle.psu_pages.specs.Shown.{Item, item_in, EachEncodes, EachLower, EncodesEither};
 ghost use Rattle.psu_pages.specs.Spelling.{IsReady};
 ghost use Rattle.psu_pages.specs.Writing.{Reaches};
 
 use crate::Root;
-use crate::gates::{OPEN, say, set_gate};
+use crate::gates::{OPEN, set_gate, write_contents};
 use psu_disk::{Disk, DiskFault};
 
 /// Makes the next root the current one, in the place of the other. Its contents are made durable before its gate opens.
-pub fn switch<D: Disk>(disk: &mut D, next: Root, told: &[u8]) -> Result<(), DiskFault>
+pub fn switch<D: Disk>(disk: &mut D, next: Root, contents: &[u8]) -> Result<(), DiskFault>
     requires roots { 1024 ≤ D.extent disk.old }
-    requires told { length told.now ≡ 511 }
+    requires contents { length contents.now ≡ 511 }
     ensures extent { D.extent disk.new ≡ D.extent disk.old }
     ensures cause { HasCause (D.failures disk.old) (D.failures disk.new) result }
 
-    ensures spelled { D.honest → OnOk result (page_of next (D.state disk.new).bytes ≡ 165 ∷ told.now) }
-    ensures borne { D.honest → (version limit number : ℕ) (before heads : List Head) (items : List Item)
-        → IsReady (D.state disk.old) next version limit number before heads items told.now
-        → OnOk result (EachBears (D.state disk.new) next 2 limit (number + 1) heads (map (item_in (D.state disk.old).bytes) heads)) }
+    ensures spelled { D.honest → OnOk result (page_of next (D.state disk.new).bytes ≡ 165 ∷ contents.now) }
+    ensures encoded { D.honest → (version limit number : ℕ) (before heads : List Head) (items : List Item)
+        → IsReady (D.state disk.old) next version limit number before heads items contents.now
+        → OnOk result (EachEncodes (D.state disk.new) next 2 limit (number + 1) heads (map (item_in (D.state disk.old).bytes) heads)) }
     ensures lower { D.honest → (version limit number : ℕ) (before heads : List Head) (items : List Item)
-        → IsReady (D.state disk.old) next version limit number before heads items told.now
+        → IsReady (D.state disk.old) next version limit number before heads items contents.now
         → OnOk result (EachLower (D.state disk.new) (other next) (number + 1)) }
     ensures left { D.honest → (version limit number : ℕ) (before heads : List Head) (items : List Item)
-        → IsReady (D.state disk.old) next version limit number before heads items told.now
-        → (image : List ℕ) → Left (D.state disk.new) image → BearsEither next version limit number before items heads (map (item_in (D.state disk.old).bytes) heads) image }
-    ensures time { D.honest → D.tells → (version limit number : ℕ) (before heads : List Head) (items : List Item)
-        → IsReady (D.state disk.old) next version limit number before heads items told.now
-        → LeavesOnly D.moment D.left_since disk.old disk.new (BearsEither next version limit number before items heads (map (item_in (D.state disk.old).bytes) heads)) }
+        → IsReady (D.state disk.old) next version limit number before heads items contents.now
+        → (image : List ℕ) → IsCrashImage (D.state disk.new) image → EncodesEither next version limit number before items heads (map (item_in (D.state disk.old).bytes) heads) image }
+    ensures time { D.honest → D.records → (version limit number : ℕ) (before heads : List Head) (items : List Item)
+        → IsReady (D.state disk.old) next version limit number before heads items contents.now
+        → LeavesOnly D.moment D.left_since disk.old disk.new (EncodesEither next version limit number before items heads (map (item_in (D.state disk.old).bytes) heads)) }
 
     // No other page is written.
-    ensures touched { D.honest → Follows (SameBut (gate_at next) 512) (Left (D.state disk.old)) (Left (D.state disk.new)) }
-    ensures touched_time { D.honest → D.tells → LeavesOnly D.moment D.left_since disk.old disk.new (Reaches (SameBut (gate_at next) 512) (Left (D.state disk.old))) }
+    ensures touched { D.honest → Follows (SameBut (gate_at next) 512) (IsCrashImage (D.state disk.old)) (IsCrashImage (D.state disk.new)) }
+    ensures touched_time { D.honest → D.records → LeavesOnly D.moment D.left_since disk.old disk.new (Reaches (SameBut (gate_at next) 512) (IsCrashImage (D.state disk.old))) }
 {
-    say(disk, next, told)?;
+    write_contents(disk, next, contents)?;
     set_gate(disk, next, OPEN)?;
     Ok(())
 }

@@ -5,17 +5,17 @@ use Rattle.psu_disk.specs.declared.disk.Disk.{Ghosts}
 use Rattle.psu_turn.specs.Seats.{Sight, Calls}
 use Rattle.psu_exec.specs.Device.{State}
 use Rattle.psu_exec.specs.Calls.{Entry, JobEnd, Taken, Job}
-use Rattle.psu_exec.specs.Calls.Entry.{Took, GaveBack, Told}
+use Rattle.psu_exec.specs.Calls.Entry.{Took, GaveBack, Notified}
 use Rattle.psu_exec.specs.Jobs.{job_data}
 use Rattle.psu_exec.specs.declared.job.Job.{Job as AnyJob}
 use Rattle.psu_bench.specs.Calls.{AdmitsOn}
 use Rattle.psu_bench.specs.Rounds.{IsEndOf}
 
--- The seat made this call, and perhaps asked for the news behind it. What it has seen then is one legal history, which begins with all that it had seen
+-- The seat made this call, and perhaps took the notifications after it. What it has seen then is one legal history, which begins with all that it had seen
 -- and ends with what it called.
 abbrev pub Makes : Type 0 → Sight State Entry → Entry → Sight State Entry → Type 0
 Makes honest old entry new = Calls (AdmitsOn honest) old entry new
-    ⊎ ((mid : Sight State Entry) × (asking : List ℕ) × (work : Bool) × Calls (AdmitsOn honest) old entry mid × Calls (AdmitsOn honest) mid (Told asking work) new)
+    ⊎ ((mid : Sight State Entry) × (asking : List ℕ) × (work : Bool) × Calls (AdmitsOn honest) old entry mid × Calls (AdmitsOn honest) mid (Notified asking work) new)
 
 -- what a job came to was given back
 abbrev pub GivesBack : Type 0 → JobEnd → Sight State Entry → Sight State Entry → Type 0

@@ -6,7 +6,7 @@ use Rattle.psu_locks.specs.declared.lock_refusal.LockRefusal.{LockRefusal}
 use Rattle.psu_exec.specs.Device.{State}
 use Rattle.psu_exec.specs.Calls.{Entry}
 use Rattle.psu_bench.specs.Calls.{AdmitsOn}
-use Rattle.psu_messages.specs.Courses.{Course, Goes, beginning}
+use Rattle.psu_messages.specs.Executions.{Progress, Advances, beginning}
 use Rattle.psu_messages.specs.Units.{Source, Text, Fault}
 use Rattle.psu_sides.specs.Deeds.{Deed, Asked, Counted, Wrote, Executed, Reported, Delivered, Queried, Fetched, Locked, Informed, Awaited, Released, Late, Ends}
 use Rattle.psu_sides.specs.Messages.{clears}
@@ -16,7 +16,7 @@ use Rattle.psu_serve.specs.Served.{IsMade, Stops}
 -- what is to be executed is left to others, or executed up to some place, each deed by a call of the session
 abbrev pub IsBegun : Type 0 → ℕ → Source → Sight State Entry → Sight State Entry → Type 0
 IsBegun honest session source old new = (new ≡ old)
-    ⊎ ((course : Course) × Goes (IsMade honest session) source old beginning new course)
+    ⊎ ((course : Progress) × Advances (IsMade honest session) source old beginning new course)
     ⊎ Stops honest session source old beginning new
 
 -- a device clear begins as the core is asked what its message asks for

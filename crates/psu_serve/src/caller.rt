@@ -2,7 +2,7 @@
 ghost use Rattle.std.specs.Prelude.{◌≡◌, ◌⊎◌, ℕ, Bool, List, IfOk, is_some, true};
 ghost use Rattle.std.specs.Arc.{arc_value};
 ghost use Rattle.psu_turn.specs.Seats.{Begins, Calls, IsOf, Splits};
-ghost use Rattle.psu_exec.specs.Calls.Entry.{Executed, Settled, Took, Opened, Closed, Cleared, Sent, Delivered, Queried, Fetched, Told, Locked, Released, Ticked, Informed, Due};
+ghost use Rattle.psu_exec.specs.Calls.Entry.{Executed, Settled, Took, Opened, Closed, Cleared, Sent, Delivered, Queried, Fetched, Notified, Locked, Released, Ticked, Informed, Due};
 ghost use Rattle.psu_exec.specs.Shown.{outcome_of};
 ghost use Rattle.psu_bench.specs.Calls.{AdmitsOn, session_of};
 ghost use Rattle.psu_serve.specs.Seen.{GivesBack, Makes};
@@ -30,7 +30,7 @@ pub struct Caller<D: Disk, G: Gate> {
     ghost here: { is_some seat.opening ≡ true },
 }
 
-// What a unit caused. A query that is answered sets no bit and changes nothing that is kept, so it makes no news.
+// What a unit caused. A query that is answered sets no bit and changes nothing that is kept, so it makes no notification.
 fn news_of<D: Disk, R: Wait>(
     rt: &R,
     bench: &Bench<D, Global>,
@@ -38,12 +38,12 @@ fn news_of<D: Disk, R: Wait>(
     outcome: &Outcome<Global>,
 ) -> News
     requires own { IsOf bench.now seat.old }
-    ensures call { (seat.new ≡ seat.old) ⊎ ((asking : List ℕ) × (work : Bool) × Calls (AdmitsOn D.honest) seat.old (Told asking work) seat.new) }
+    ensures call { (seat.new ≡ seat.old) ⊎ ((asking : List ℕ) × (work : Bool) × Calls (AdmitsOn D.honest) seat.old (Notified asking work) seat.new) }
     ensures own { IsOf bench.now seat.new }
 {
     match outcome {
         Outcome::Answer(_) => News::none(),
-        _ => News::of(bench.news(rt, seat)),
+        _ => News::of(bench.take_notifications(rt, seat)),
     }
 }
 
@@ -112,10 +112,10 @@ impl<D: Disk + Drop, G: Gate + Drop> Caller<D, G> {
     {
         let place = self.door.lock(rt);
         let outcome = self.bench.execute(rt, &mut self.seat, session, request);
-        let news = news_of(rt, &self.bench, &mut self.seat, &outcome);
+        let notifications = news_of(rt, &self.bench, &mut self.seat, &outcome);
         drop(place);
         self.gate.at(Point::AfterAnswer);
-        (outcome, news)
+        (outcome, notifications)
     }
 
     /// What the wait of a session came to, and what that caused.
@@ -125,8 +125,8 @@ impl<D: Disk + Drop, G: Gate + Drop> Caller<D, G> {
     {
         let _place = self.door.lock(rt);
         let outcome = self.bench.settle(rt, &mut self.seat, session);
-        let news = News::of(self.bench.news(rt, &mut self.seat));
-        (outcome, news)
+        let notifications = News::of(self.bench.take_notifications(rt, &mut self.seat));
+        (outcome, notifications)
     }
 
     /// A job.
@@ -145,8 +145,8 @@ impl<D: Disk + Drop, G: Gate + Drop> Caller<D, G> {
     {
         let _place = self.door.lock(rt);
         let given = self.bench.give_back(rt, &mut self.seat, finished);
-        let news = News::of(self.bench.news(rt, &mut self.seat));
-        (sessions_over(given), news)
+        let notifications = News::of(self.bench.take_notifications(rt, &mut self.seat));
+        (sessions_over(given), take_notifications)
     }
 
     /// Opens the session of the least free number.
@@ -183,7 +183,7 @@ impl<D: Disk + Drop, G: Gate + Drop> Caller<D, G> {
     {
         let _place = self.door.lock(rt);
         self.bench.sent(rt, &mut self.seat, session);
-        News::of(self.bench.news(rt, &mut self.seat))
+        News::of(self.bench.take_notifications(rt, &mut self.seat))
     }
 
     /// What was sent to a session is delivered.

@@ -1,8 +1,8 @@
 // The units of a session on the shared device, and their answers on its connection.
 ghost use Rattle.std.specs.Prelude.{◌≡◌, IfOk, OnErr, None};
 ghost use Rattle.psu_exec.specs.Shown.{outcome_of};
-ghost use Rattle.psu_messages.specs.Courses.{Goes, IsOver};
-ghost use Rattle.psu_messages.specs.Shown.{course_of};
+ghost use Rattle.psu_messages.specs.Executions.{Advances, IsOver};
+ghost use Rattle.psu_messages.specs.Shown.{progress_of};
 ghost use Rattle.psu_messages.specs.Units.{source_of};
 ghost use Rattle.psu_serve.specs.Seen.{Makes};
 ghost use Rattle.psu_serve.specs.Served.{IsBrokenOff, IsMade, Stops};
@@ -13,7 +13,7 @@ use psu_disk::Disk;
 use psu_exec::{Outcome, Request};
 use psu_hislip::{Origin, SessionCore};
 use psu_members::{Begun, Member, Server, Stop};
-use psu_messages::{Front, Need, proceed};
+use psu_messages::{Executor, Need, proceed};
 use std::alloc::Global;
 use std::sync::{MutexGuard, Wait};
 
@@ -47,10 +47,10 @@ impl<'a, 'c, 'r, R: Wait, D: Disk + Drop, G: Gate + Drop> Execution<'a, 'c, 'r, 
     /// there may have been room meanwhile. Where it stops, what was done till then are calls of the session too, up to some place of the transmission;
     /// at most the device was told behind them of one more answer, which was not written to its end.
     pub fn advance(&mut self, begun: &mut Begun) -> Result<Option<Need>, Stop>
-        ensures goes { IfOk result (λ _. Goes (IsMade D.honest self.old.member.now.session) (source_of begun.old.input) self.old.caller.now.seat (course_of begun.old.course)
-            self.new.caller.now.seat (course_of begun.new.course)) }
-        ensures over { IfOk result (λ need. need ≡ None → IsOver (source_of begun.old.input) (course_of begun.new.course)) }
-        ensures stops { OnErr result (Stops D.honest self.old.member.now.session (source_of begun.old.input) self.old.caller.now.seat (course_of begun.old.course)
+        ensures goes { IfOk result (λ _. Advances (IsMade D.honest self.old.member.now.session) (source_of begun.old.input) self.old.caller.now.seat (progress_of begun.old.course)
+            self.new.caller.now.seat (progress_of begun.new.course)) }
+        ensures over { IfOk result (λ need. need ≡ None → IsOver (source_of begun.old.input) (progress_of begun.new.course)) }
+        ensures stops { OnErr result (Stops D.honest self.old.member.now.session (source_of begun.old.input) self.old.caller.now.seat (progress_of begun.old.course)
             self.new.caller.now.seat) }
         ensures caller { self.new.caller.ghost_name ≡ self.old.caller.ghost_name }
         ensures input { begun.new.input ≡ begun.old.input }
@@ -65,7 +65,7 @@ impl<'a, 'c, 'r, R: Wait, D: Disk + Drop, G: Gate + Drop> Execution<'a, 'c, 'r, 
     }
 }
 
-impl<'a, 'c, 'r, R: Wait, D: Disk + Drop, G: Gate + Drop> Front<Global>
+impl<'a, 'c, 'r, R: Wait, D: Disk + Drop, G: Gate + Drop> Executor<Global>
     for Execution<'a, 'c, 'r, R, D, G> {
     type Stop = Stop;
 
@@ -111,7 +111,7 @@ impl<'a, 'c, 'r, R: Wait, D: Disk + Drop, G: Gate + Drop> Front<Global>
         written.map_err(|_| Stop::Ended)
     }
 
-    fn short(&self) -> Stop {
+    fn out_of_memory(&self) -> Stop {
         Stop::Ended
     }
 }

@@ -1,7 +1,7 @@
 // What a session is served with on the shared device.
 ghost use Rattle.std.specs.Prelude.{◌≡◌, OnOk, OnErr};
-ghost use Rattle.psu_messages.specs.Courses.{beginning};
-ghost use Rattle.psu_messages.specs.Shown.{course_of};
+ghost use Rattle.psu_messages.specs.Executions.{beginning};
+ghost use Rattle.psu_messages.specs.Shown.{progress_of};
 ghost use Rattle.psu_messages.specs.Units.{source_of};
 ghost use Rattle.psu_turn.specs.Seats.{Calls};
 ghost use Rattle.psu_exec.specs.Calls.Entry.{Cleared};
@@ -43,7 +43,7 @@ fn goes_on(is_so: bool) -> Result<(), Ended> {
 impl<'a, 'c, 'r, R: Wait + Clock, D: Disk + Drop, G: Gate + Drop> Serving<'a, 'c, 'r, R, D, G> {
     // Executes what has begun as far as it need not wait. What it waits for, if anything; what a device clear drops is over.
     fn advance(&mut self, begun: &mut Begun) -> Result<Option<Need>, Ended>
-        ensures begun { course_of begun.old.course ≡ beginning
+        ensures begun { progress_of begun.old.course ≡ beginning
             → IsBegun D.honest self.old.member.now.session (source_of begun.old.input) self.old.caller.now.seat self.new.caller.now.seat }
         ensures caller { self.new.caller.ghost_name ≡ self.old.caller.ghost_name }
         ensures member { self.new.member ≡ self.old.member }

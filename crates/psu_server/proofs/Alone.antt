@@ -4,7 +4,7 @@ use Rattle.std.proofs.lemmas.Bool.{cases_Bool}
 use Rattle.std.proofs.lemmas.Bool.Decides.{nat_tests}
 use Rattle.psu_disk.specs.Disk.{DiskState}
 use Rattle.psu_map.specs.Map.{Item}
-use Rattle.psu_items.specs.Image.{EachStands}
+use Rattle.psu_items.specs.Image.{EachRepresents}
 use Rattle.psu_nv.specs.Contents.{Contents, IsContents, items_of}
 use Rattle.psu_lex.specs.declared.scpi_error.ScpiError.{ScpiError}
 use Rattle.psu_instrument.specs.Macros.{CallGives, ExpandsAt, written}
@@ -15,7 +15,7 @@ use Rattle.psu_exec.specs.Calls.{JobData, JobEnd, JobKind, Commit, Stored, Unsta
 use Rattle.psu_exec.specs.World.{World}
 use Rattle.psu_exec.proofs.Denied.{later_leaves}
 use Rattle.psu_server.specs.Lives.{Calls}
-use Rattle.psu_server.specs.Script.{Rest, Went, Replies, RepliesCalled, RepliesNow, Goes, GoesFrom, flushed_by, flushed, waited, after_reply}
+use Rattle.psu_server.specs.Script.{Rest, UnitOutcome, Replies, RepliesCalled, RepliesNow, HasOutcome, HasOutcomeFrom, flushed_by, flushed, waited, after_reply}
 use Rattle.psu_server.specs.Runs.{none, JobDone, Jobs, Flushes, IsMeant, IsSound, EndsJob, is_later, is_out_of_memory, Acts, UnitRuns, is_final}
 use Rattle.psu_server.proofs.JobEnds.{no_wait_after}
 use Rattle.psu_server.proofs.Scripts.{Holds}
@@ -29,7 +29,7 @@ pub record Still (r : Rest) (w : World) : Type 0 where
   pub holds : items_of r.stored ≡ r.state.flush.before
   pub kept : IsContents r.stored
   pub sound : IsContents r.state.flush.contents
-  pub disk : EachStands w.disk r.state.flush.limit (items_of r.stored)
+  pub disk : EachRepresents w.disk r.state.flush.limit (items_of r.stored)
 
 -- and no unit waits
 pub record Quiet (r : Rest) (w : World) : Type 0 where
@@ -69,9 +69,9 @@ stored_is r w taken new job limit map over q take give =
       holds = sym (ap (λ (z : Flush). target z) commit);
       kept = q.sound;
       sound = subst (λ (z : Flush). IsContents (stored z).contents) (sym commit) q.sound;
-      disk = subst (λ (d : DiskState). EachStands d (committed r).state.flush.limit (items_of f.contents)) (sym there)
-          (subst (λ (n : ℕ). EachStands give.0 n (items_of f.contents)) (same_limit ∙ sym limit_out)
-          (subst (λ (m : List Item). EachStands give.0 limit m) same_map give.1.3));
+      disk = subst (λ (d : DiskState). EachRepresents d (committed r).state.flush.limit (items_of f.contents)) (sym there)
+          (subst (λ (n : ℕ). EachRepresents give.0 n (items_of f.contents)) (same_limit ∙ sym limit_out)
+          (subst (λ (m : List Item). EachRepresents give.0 limit m) same_map give.1.3));
     }
 
 -- a job that does not fail
@@ -137,7 +137,7 @@ wait_by false r whole e =
 -- ---- units
 
 -- the script's result of a unit agrees with its reply and the world after it
-pub record Same (went : Went) (o : Reply) (new : World) : Type 0 where
+pub record Same (went : UnitOutcome) (o : Reply) (new : World) : Type 0 where
   pub reply : went.reply ≡ o
   pub quiet : Quiet went.rest new
 
@@ -194,7 +194,7 @@ still_on r w new c o q call = record {
   holds = q.holds;
   kept = q.kept;
   sound = sound_call r w new c o q.state call;
-  disk = subst (λ (d : DiskState). EachStands d r.state.flush.limit (items_of r.stored)) (sym (disk_call w new c o call)) q.disk;
+  disk = subst (λ (d : DiskState). EachRepresents d r.state.flush.limit (items_of r.stored)) (sym (disk_call w new c o call)) q.disk;
 }
 
 -- a unit whose reply is `Later` leaves everything unchanged
@@ -205,7 +205,7 @@ still_late r w new c q call = record {
   holds = q.holds;
   kept = q.kept;
   sound = q.sound;
-  disk = subst (λ (d : DiskState). EachStands d r.state.flush.limit (items_of r.stored)) (sym (disk_call w new c Later call)) q.disk;
+  disk = subst (λ (d : DiskState). EachRepresents d r.state.flush.limit (items_of r.stored)) (sym (disk_call w new c Later call)) q.disk;
 }
 
 at_once : (r : Rest) (w new : World) (c : Request) (o : Reply) → Quiet r w → is_final o ≡ true → Answers w c o new → Same (after_reply r c o) o new
@@ -248,8 +248,8 @@ settle_at r w new o q call final long =
           holds = q.holds ∙ sym (settle_keeps r.state.flush a).1;
           kept = q.kept;
           sound = subst (λ (c : Contents). IsContents c) (sym (settle_keeps r.state.flush a).2) q.sound;
-          disk = subst (λ (n : ℕ). EachStands new.disk n (items_of r.stored)) (sym (settle_limit r.state.flush a))
-              (subst (λ (d : DiskState). EachStands d r.state.flush.limit (items_of r.stored)) (sym there) q.disk);
+          disk = subst (λ (n : ℕ). EachRepresents new.disk n (items_of r.stored)) (sym (settle_limit r.state.flush a))
+              (subst (λ (d : DiskState). EachRepresents d r.state.flush.limit (items_of r.stored)) (sym there) q.disk);
         };
         wait = over_free r.state.flush (wait_of r.state.flush 1) (ap is_final (sym reply) ∙ final);
       };
@@ -289,7 +289,7 @@ acts_alone r w new c o q holds (final, inr (long, parked, over, call, f, settle)
       (flush_alone (record r { state = after_unit r.state 1 c Parked }) parked over (still_on r w parked c Parked q.still call) f) settle final long;
 }
 
-goes_now : (r : Rest) (c : Request) (x : Reply) → is_later x ≡ false → GoesFrom r c x (after_reply r c x)
+goes_now : (r : Rest) (c : Request) (x : Reply) → is_later x ≡ false → HasOutcomeFrom r c x (after_reply r c x)
 goes_now r c Done h = refl
 goes_now r c (Answer a) h = refl
 goes_now r c (Error e) h = refl
@@ -299,7 +299,7 @@ goes_now r c Held h = refl
 goes_now r c Later h = cc
 
 -- the result of a unit is the script's
-pub unit_alone : (r : Rest) (w new : World) (c : Request) (o : Reply) → Quiet r w → Holds c → UnitRuns none w c o new → (went : Went) × Goes r c went × Same went o new
+pub unit_alone : (r : Rest) (w new : World) (c : Request) (o : Reply) → Quiet r w → Holds c → UnitRuns none w c o new → (went : UnitOutcome) × HasOutcome r c went × Same went o new
 unit_alone r w new c o q holds (inl acts) =
     let a = acts_alone r w new c o q holds acts in (after_reply r c a.first, (a.first, a.replies, goes_now r c a.first a.now), a.same)
 unit_alone r w new c o q holds (inr (late, over, call, f, acts)) =

@@ -1,17 +1,17 @@
 -- Calls on the device as events of the theorem on power loss, one after another.
 use Rattle.std.proofs.Common.{◌≡◌, ℕ, zero, suc, true, Option, Some, List, [], ◌∷◌, ◌++◌, refl, sym, ap, ◌∙◌, subst, append_assoc, append-nil, arith, inl, inr, length, take, ⊎_elim}
-use Rattle.psu_disk.specs.Disk.{DiskState, Left}
+use Rattle.psu_disk.specs.Disk.{DiskState, IsCrashImage}
 use Rattle.psu_disk.specs.Ranges.{reads_left}
 use Rattle.psu_disk.specs.declared.disk.Disk.{Ghosts}
 use Rattle.psu_map.specs.Map.{Item}
-use Rattle.psu_items.specs.Image.{Stands, EachIsEither, EachStands, IsEither}
-use Rattle.psu_items.proofs.Standing.{one_stands}
+use Rattle.psu_items.specs.Image.{Represents, EachIsEither, EachRepresents, IsEither}
+use Rattle.psu_items.proofs.Standing.{represents_one}
 use Rattle.psu_nv.specs.Contents.{items_of}
 use Rattle.psu_exec.specs.Device.{Reply, Done, Answer, Error, Expand, Parked, Held, Later, count_held, target}
 use Rattle.psu_exec.specs.Calls.{Entry, Executed, Settled, Took, GaveBack, Opened, Job, Allows}
 use Rattle.psu_exec.specs.World.{World, Running, Event, Call, Happens, Run, DiskAfter, after, without_power}
 use Rattle.psu_exec.specs.declared.exec.Exec.{Exec}
-use Rattle.psu_exec.specs.declared.home.Home.{Home}
+use Rattle.psu_exec.specs.declared.idle_store.IdleStore.{IdleStore}
 use Rattle.psu_tree.specs.declared.unit_request.Request.{Request}
 use Rattle.psu_nv.specs.Commands.{Command as Change, applied}
 use Rattle.psu_exec.proofs.Events.{other_disk, prefix_is_left, run_keeps, while_running}
@@ -24,9 +24,9 @@ use Rattle.psu_server.specs.Runs.{Mishaps, JobDone, Jobs, Flushes, Acts, Begins,
 -- ---- one call of the code
 
 -- a call that leaves the disk unchanged
-pub called : {D A : Type 0} {G : Ghosts D} (old new : Exec D A G) (life : Life) (entry : Entry) → Allows old.device entry new.device → new.home ≡ old.home
-    → ((d : DiskState) → d ≡ disk_at old.home → DiskAfter (world_of life old) entry d) → Calls (world_of life old) entry (world_of (lived life old.device entry) new)
-called {D} {A} {G} old new life entry allows home stays = (disk_at new.home, (new.device, refl, allows, stays (disk_at new.home) (ap (λ (z : Option (Home D A G)). disk_at z) home), refl))
+pub called : {D A : Type 0} {G : Ghosts D} (old new : Exec D A G) (life : Life) (entry : Entry) → Allows old.device entry new.device → new.idle_store ≡ old.idle_store
+    → ((d : DiskState) → d ≡ disk_at old.idle_store → DiskAfter (world_of life old) entry d) → Calls (world_of life old) entry (world_of (lived life old.device entry) new)
+called {D} {A} {G} old new life entry allows idle_store stays = (disk_at new.idle_store, (new.device, refl, allows, stays (disk_at new.idle_store) (ap (λ (z : Option (IdleStore D A G)). disk_at z) idle_store), refl))
 
 -- ---- lists of calls
 
@@ -215,7 +215,7 @@ reached_made w new m r = reached_calls m.0 w new m.1 r
 pub reached_on : (image : List ℕ) (new : World) → PowersOn image new → Reached new
 reached_on image new p = reached_call p.on new (Opened (Some 1)) p.opens (record { first = p.on; events = []; start = p.start; run = refl })
 
-pub prefix_of_reached : (w : World) (image : List ℕ) → Reached w → Left w.disk image → StandsForPrefix w image
+pub prefix_of_reached : (w : World) (image : List ℕ) → Reached w → IsCrashImage w.disk image → StandsForPrefix w image
 prefix_of_reached w image r left = prefix_is_left r.first w r.events image r.start r.run left
 
 -- while a job is out: an image that represents the map before, or the target
@@ -229,16 +229,16 @@ prefix_of_either w image r running either =
     (p.k, record { from = p.prefix.from; to = p.prefix.to }, p.kept, p.stands)
 
 -- where each possible crash image represents one map, and did so in a world that was reached
-same_prefix : (w : World) (disk : DiskState) (limit : ℕ) (map : List Item) → Reached w → EachStands w.disk limit map → EachStands disk limit map → LeavesPrefix w disk
+same_prefix : (w : World) (disk : DiskState) (limit : ℕ) (map : List Item) → Reached w → EachRepresents w.disk limit map → EachRepresents disk limit map → LeavesPrefix w disk
 same_prefix w disk limit map r was is image left =
     let p = prefix_of_reached w w.disk.bytes r (reads_left w.disk) in
-    let one = one_stands limit w.limit map (items_of (after w p.0)) w.disk.bytes (was w.disk.bytes (reads_left w.disk)) p.3 in
-    (p.0, p.1, p.2, subst (λ (m : List Item). Stands image w.limit m) one.1 (subst (λ (n : ℕ). Stands image n map) one.0 (is image left)))
+    let one = represents_one limit w.limit map (items_of (after w p.0)) w.disk.bytes (was w.disk.bytes (reads_left w.disk)) p.3 in
+    (p.0, p.1, p.2, subst (λ (m : List Item). Represents image w.limit m) one.1 (subst (λ (n : ℕ). Represents image n map) one.0 (is image left)))
 
 -- one image that represents the map that each possible crash image represented
-pub prefix_of_map : (w : World) (limit : ℕ) (map : List Item) (image : List ℕ) → Reached w → EachStands w.disk limit map → Stands image limit map → StandsForPrefix w image
+pub prefix_of_map : (w : World) (limit : ℕ) (map : List Item) (image : List ℕ) → Reached w → EachRepresents w.disk limit map → Represents image limit map → StandsForPrefix w image
 prefix_of_map w limit map image r was is =
-    same_prefix w (without_power image) limit map r was (λ x left. subst (λ (z : List ℕ). Stands z limit map) (sym (only_left image x left)) is) image (reads_left (without_power image))
+    same_prefix w (without_power image) limit map r was (λ x left. subst (λ (z : List ℕ). Represents z limit map) (sym (only_left image x left)) is) image (reads_left (without_power image))
 
 pub leaves_prefix : (w : World) (disk : DiskState) → Reached w → IsLeftBy w disk → LeavesPrefix w disk
 leaves_prefix w disk r (inl same) = λ image left. prefix_of_reached w image r (same image left)
@@ -253,7 +253,7 @@ pub flush_running : (can : Mishaps) (w new : World) → Flushes can w new → ne
 flush_running can w new (n, jobs, inl all) = let last = (subst (λ (k : ℕ). Jobs k can w new) all jobs).2 in call_running last.taken new (GaveBack last.finished (Some last.over)) last.give
 flush_running can w new (n, jobs, inr done) = done.1.1.1
 
-pub flushed_stands : (w : World) → Reached w → w.mode ≡ Running → w.state.flush.unflushed ≡ 0 → EachStands w.disk w.limit (items_of w.state.flush.contents)
+pub flushed_stands : (w : World) → Reached w → w.mode ≡ Running → w.state.flush.unflushed ≡ 0 → EachRepresents w.disk w.limit (items_of w.state.flush.contents)
 flushed_stands w r running none image left =
     let l = while_running w running (run_keeps r.first w r.events r.run (kept_at_start r.first r.start)) in
     let empty : l.rest ≡ [] = no_rest l.rest (sym l.count ∙ none) in
@@ -261,7 +261,7 @@ flushed_stands w r running none image left =
     let taken : take (count_held w.state.flush.held) l.rest ≡ [] = ap (λ (cs : List Change). take (count_held w.state.flush.held) cs) empty ∙ take_none (count_held w.state.flush.held) in
     let aim : target w.state.flush ≡ items_of w.state.flush.contents
     = l.aim ∙ ap (λ (cs : List Change). items_of (applied w.start (l.gone ++ cs))) taken ∙ ap (λ (cs : List Change). items_of (applied w.start cs)) (append-nil l.gone) ∙ ap items_of (sym contents) in
-    ⊎_elim (λ s. subst (λ (m : List Item). Stands image w.limit m) (l.first_map ∙ ap items_of (sym contents)) s) (λ s. subst (λ (m : List Item). Stands image w.limit m) aim s) (l.disk image left)
+    ⊎_elim (λ s. subst (λ (m : List Item). Represents image w.limit m) (l.first_map ∙ ap items_of (sym contents)) s) (λ s. subst (λ (m : List Item). Represents image w.limit m) aim s) (l.disk image left)
   where
     no_rest : (rest : List Change) → length rest ≡ 0 → rest ≡ []
     no_rest [] e = refl

@@ -8,13 +8,13 @@ use Rattle.psu_map.specs.Map.{Item}
 use Rattle.psu_exec.specs.Calls.{JobKind, Commit, Reopen, JobData, JobEnd, Stored, Unstarted, Failed, Reopened, Job, Nothing, Took, GaveBack, Allows, HasWork, job_of, job_out, kind_for, stored}
 use Rattle.psu_exec.specs.Device.{State, Flush, is_whole, is_broken, wait_of}
 use Rattle.psu_nv.specs.Contents.{items_of}
-use Rattle.psu_exec.specs.Jobs.{job_data, job_disk, job_home}
+use Rattle.psu_exec.specs.Jobs.{job_data, job_disk, job_store}
 use Rattle.psu_exec.specs.World.{World}
 use Rattle.psu_exec.proofs.Giving.{FlushGives, flush_gives}
 use Rattle.psu_exec.specs.declared.condition.Condition.{Condition}
 use Rattle.psu_exec.specs.declared.condition.Condition.TheVariants.{Whole, Broken, Worn}
 use Rattle.psu_exec.specs.declared.exec.Exec.{Exec}
-use Rattle.psu_exec.specs.declared.home.Home.{Home}
+use Rattle.psu_exec.specs.declared.idle_store.IdleStore.{IdleStore}
 use Rattle.psu_exec.specs.declared.job.Job.{Job as AnyJob}
 use Rattle.psu_exec.specs.declared.job.Job.TheVariants as job
 use Rattle.psu_server.specs.Failures.{failures_at, failures_of}
@@ -23,7 +23,7 @@ use Rattle.psu_server.specs.Lives.{Life, disk_at, world_of, Calls}
 use Rattle.psu_server.specs.Runs.{is_short, EndsJob, JobDone, Jobs, Flushes, Reopens}
 use Rattle.psu_server.specs.Within.{Within}
 use Rattle.psu_server.specs.Moments.{IsBetween, Leads, Since, disk_in}
-use Rattle.psu_server.specs.Progress.{GoesOn, Halts, Lasts, Spans}
+use Rattle.psu_server.specs.Progress.{Continues, DeviceStops, Lasts, Spans}
 use Rattle.psu_server.specs.declared.run_cause.RunCause.TheVariants.{Memory as RunMemory, Device as RunDevice}
 use Rattle.psu_server.proofs.Calls.{Executes, executes_one, executes_join, jobs_calls, begins_none, leads_join, leads_one, prefix_of_either, reached_made}
 use Rattle.psu_server.proofs.Moments.{since_as, spans_none, spans_same}
@@ -43,12 +43,12 @@ jobs_more first old new life i w d =
 
 -- the jobs before a take that finds nothing
 pub flush_ends : {D A : Type 0} {G : Ghosts D} (first old new : Exec D A G) (life : Life) (i : ℕ) → i ≤ 4 → Within (failures_of first) (failures_of old) (λ can. Jobs i can (world_of life first) (world_of life old))
-    → Allows old.device (Took Nothing) new.device → new.device ≡ old.device → new.home ≡ old.home
+    → Allows old.device (Took Nothing) new.device → new.device ≡ old.device → new.idle_store ≡ old.idle_store
     → Within (failures_of first) (failures_of new) (λ can. Flushes can (world_of life first) (world_of life new))
 flush_ends {D} {A} {G} first old new life i low w took same there =
-    let world : world_of life new ≡ world_of life old = ap (λ (d : State). record (world_of life old) { state = d; disk = disk_at new.home }) same
-    ∙ ap (λ (z : Option (Home D A G)). record (world_of life old) { disk = disk_at z }) there in
-    within_at _ _ _ (λ can. Flushes can (world_of life first) (world_of life new)) (ap (λ (z : Option (Home D A G)). failures_at z) there)
+    let world : world_of life new ≡ world_of life old = ap (λ (d : State). record (world_of life old) { state = d; disk = disk_at new.idle_store }) same
+    ∙ ap (λ (z : Option (IdleStore D A G)). record (world_of life old) { disk = disk_at z }) there in
+    within_at _ _ _ (λ can. Flushes can (world_of life first) (world_of life new)) (ap (λ (z : Option (IdleStore D A G)). failures_at z) there)
     (within_as _ _ (λ can. Jobs i can (world_of life first) (world_of life old)) (λ can. Flushes can (world_of life first) (world_of life new)) w
     (λ can jobs. (
       i,
@@ -56,7 +56,7 @@ flush_ends {D} {A} {G} first old new life i low w took same there =
       inr (
         low,
         subst (λ (z : World). Calls z (Took Nothing) (world_of life new)) (sym world)
-            (disk_at new.home, (new.device, refl, took, ap (λ (z : Option (Home D A G)). disk_at z) there, refl)),
+            (disk_at new.idle_store, (new.device, refl, took, ap (λ (z : Option (IdleStore D A G)). disk_at z) there, refl)),
       ),
     )))
 
@@ -85,7 +85,7 @@ stored_clean f taken new limit map whole out gave =
     committing f w = rw w refl
 
 -- the properties of the disk that a job keeps
-pub run_lasts : {D A : Type 0} {G : Ghosts D} (old taken new : Exec D A G) (j : AnyJob D A G) (short : Bool) → old.home ≡ Some (job_home j) → HasRun taken j new short → Lasts old new
+pub run_lasts : {D A : Type 0} {G : Ghosts D} (old taken new : Exec D A G) (j : AnyJob D A G) (short : Bool) → old.idle_store ≡ Some (job_store j) → HasRun taken j new short → Lasts old new
 run_lasts {D} {A} {G} old taken new j short there run = record {
   extent = run.extent ∙ sym (size_at old j there);
   later = subst (λ (n : ℕ). n ≤ failures_of new) (sym (count_at old j there)) run.later;
@@ -115,7 +115,7 @@ after_clean (Reopened limit map) i f taken new kind is fit clean out gave own lo
     first i many Reopen is own (inr whole) = let bad = is ∙ ap kind_for whole.0 in cc
 
 pub calm_after : {D A : Type 0} {G : Ghosts D} (first : Exec D A G) (i : ℕ) (old taken new : Exec D A G) (j : AnyJob D A G) (short : Bool) → Ghosts.honest G → Allows old.device (Took (Job (job_data j))) taken.device
-    → old.home ≡ Some (job_home j) → HasRun taken j new short → short ≡ false → failures_of first ≤ failures_of old → IsCalm first i old → IsCalm first (i + 1) new
+    → old.idle_store ≡ Some (job_store j) → HasRun taken j new short → short ≡ false → failures_of first ≤ failures_of old → IsCalm first i old → IsCalm first (i + 1) new
 calm_after {D} {A} {G} first i old taken new j short h took there run long later calm =
     let still : is_short run.finished ≡ false = sym run.short_is ∙ long in
     ⊎_elim
@@ -145,26 +145,26 @@ pub job_executes : {D A : Type 0} {G : Ghosts D} (old taken new : Exec D A G) (j
 job_executes old taken new j life short h took run =
     let mid : World = record (world_of life old) { state = taken.device } in
     executes_join (world_of life old) mid (world_of life new) [] []
-    (executes_one (world_of life old) (Took (Job (job_data j))) mid (disk_at old.home, (taken.device, refl, took, refl, refl)))
-    (executes_one mid (GaveBack run.finished (Some run.over)) (world_of life new) (disk_at new.home, (new.device, refl, run.give, run.stands h, refl)))
+    (executes_one (world_of life old) (Took (Job (job_data j))) mid (disk_at old.idle_store, (taken.device, refl, took, refl, refl)))
+    (executes_one mid (GaveBack run.finished (Some run.over)) (world_of life new) (disk_at new.idle_store, (new.device, refl, run.give, run.stands h, refl)))
 
 -- the possible crash images at any moment of a job
 pub job_spans : {D A : Type 0} {G : Ghosts D} (old taken new : Exec D A G) (j : AnyJob D A G) (life : Life) (short : Bool) → Ghosts.honest G
-    → Allows old.device (Took (Job (job_data j))) taken.device → old.home ≡ Some (job_home j) → HasRun taken j new short → Spans old new (world_of life old) (world_of life new)
+    → Allows old.device (Took (Job (job_data j))) taken.device → old.idle_store ≡ Some (job_store j) → HasRun taken j new short → Spans old new (world_of life old) (world_of life new)
 job_spans {D} {A} {G} old taken new j life short h took there run =
     let w = world_of life old in
     let mid : World = record w { state = taken.device } in
-    let takes : Leads w mid = leads_one w mid (Took (Job (job_data j))) (disk_at old.home, (taken.device, refl, took, refl, refl)) in
-    let gives : Leads mid (world_of life new) = leads_one mid (world_of life new) (GaveBack run.finished (Some run.over)) (disk_at new.home, (new.device, refl, run.give, run.stands h, refl)) in
+    let takes : Leads w mid = leads_one w mid (Took (Job (job_data j))) (disk_at old.idle_store, (taken.device, refl, took, refl, refl)) in
+    let gives : Leads mid (world_of life new) = leads_one mid (world_of life new) (GaveBack run.finished (Some run.over)) (disk_at new.idle_store, (new.device, refl, run.give, run.stands h, refl)) in
     let own : job_data j ≡ job_of taken.device.flush = took.0.2 ∙ ap job_of (sym (ap (λ (s : State). s.flush) took.1)) in
     record {
       leads = leads_join w mid (world_of life new) takes gives;
-      time = λ t now r. subst (λ (z : Option D). Since G z (disk_in new.home) (IsBetween w (world_of life new))) (sym (ap (λ (z : Option (Home D A G)). disk_in z) there ∙ disk_of_job j))
-          (since_as G (Some (job_disk j)) (disk_in new.home) (IsEither (job_data j).limit (job_data j).before (job_data j).target) (IsBetween w (world_of life new)) (run.time h t)
+      time = λ t now r. subst (λ (z : Option D). Since G z (disk_in new.idle_store) (IsBetween w (world_of life new))) (sym (ap (λ (z : Option (IdleStore D A G)). disk_in z) there ∙ disk_of_job j))
+          (since_as G (Some (job_disk j)) (disk_in new.idle_store) (IsEither (job_data j).limit (job_data j).before (job_data j).target) (IsBetween w (world_of life new)) (run.time h t)
           (λ x either. (mid, takes, gives, prefix_of_either mid x (reached_made w mid takes r) refl (subst (λ (d : JobData). IsEither d.limit d.before d.target x) own either))));
     }
   where
-    disk_of_job : (j : AnyJob D A G) → disk_in (let z : Option (Home D A G) = Some (job_home j) in z) ≡ Some (job_disk j)
+    disk_of_job : (j : AnyJob D A G) → disk_in (let z : Option (IdleStore D A G) = Some (job_store j) in z) ≡ Some (job_disk j)
     disk_of_job (job.Commit planned) = refl
     disk_of_job (job.Reopen reopening) = refl
 
@@ -174,16 +174,16 @@ pub jobs_execute : {D A : Type 0} {G : Ghosts D} (first old : Exec D A G) (life 
 jobs_execute first old life i w = jobs_calls i w.0 (world_of life first) (world_of life old) (within_itself _ _ (λ can. Jobs i can (world_of life first) (world_of life old)) w)
 
 -- a take that changes nothing
-pub same_world : {D A : Type 0} {G : Ghosts D} (old new : Exec D A G) (life : Life) → new.device ≡ old.device → new.home ≡ old.home → world_of life new ≡ world_of life old
-same_world {D} {A} {G} old new life same there = ap (λ (d : State). record (world_of life old) { state = d; disk = disk_at new.home }) same
-    ∙ ap (λ (z : Option (Home D A G)). record (world_of life old) { disk = disk_at z }) there
+pub same_world : {D A : Type 0} {G : Ghosts D} (old new : Exec D A G) (life : Life) → new.device ≡ old.device → new.idle_store ≡ old.idle_store → world_of life new ≡ world_of life old
+same_world {D} {A} {G} old new life same there = ap (λ (d : State). record (world_of life old) { state = d; disk = disk_at new.idle_store }) same
+    ∙ ap (λ (z : Option (IdleStore D A G)). record (world_of life old) { disk = disk_at z }) there
 
-pub still_spans : {D A : Type 0} {G : Ghosts D} (old new : Exec D A G) (life : Life) → new.device ≡ old.device → new.home ≡ old.home → Spans old new (world_of life old) (world_of life new)
+pub still_spans : {D A : Type 0} {G : Ghosts D} (old new : Exec D A G) (life : Life) → new.device ≡ old.device → new.idle_store ≡ old.idle_store → Spans old new (world_of life old) (world_of life new)
 still_spans old new life same there = spans_same old new life (world_of life new) there ([], same_world old new life same there)
 
 -- a stop out of memory
 pub halts_short : {D A : Type 0} {G : Ghosts D} (old new : Exec D A G) → (Ghosts.honest G → (life : Life) → Executes (world_of life old) [] (world_of life new) × Spans old new (world_of life old) (world_of life new))
-    → Lasts old new → Halts old new [] RunMemory
+    → Lasts old new → DeviceStops old new [] RunMemory
 halts_short old new calls lasts = record {
   begun = λ h life. let c = calls h life in (life, begins_none (world_of life old) (world_of life new) [] c.0, c.1);
   lasts = lasts;
@@ -199,15 +199,15 @@ out_free s taken d took free = ap (λ (z : State). wait_of z.flush 1) took.1 ∙
 
 -- ---- a reopening
 
-pub reopens_none : {D A : Type 0} {G : Ghosts D} (exec : Exec D A G) → is_broken exec.device.flush.store ≡ false → GoesOn exec exec Reopens
+pub reopens_none : {D A : Type 0} {G : Ghosts D} (exec : Exec D A G) → is_broken exec.device.flush.store ≡ false → Continues exec exec Reopens
 reopens_none exec shut = record {
   runs = λ h life. (life, within_here _ (λ can. Reopens can (world_of life exec) (world_of life exec)) (λ can. inl (shut, refl)), spans_none exec life);
   lasts = lasts_none exec;
 }
 
 pub reopens_done : {D A : Type 0} {G : Ghosts D} (old taken new : Exec D A G) (j : AnyJob D A G) (short : Bool) → is_broken old.device.flush.store ≡ true
-    → Allows old.device (Took (Job (job_data j))) taken.device → old.home ≡ Some (job_home j) → HasRun taken j new short → short ≡ false
-    → is_broken new.device.flush.store ≡ false → GoesOn old new Reopens
+    → Allows old.device (Took (Job (job_data j))) taken.device → old.idle_store ≡ Some (job_store j) → HasRun taken j new short → short ≡ false
+    → is_broken new.device.flush.store ≡ false → Continues old new Reopens
 reopens_done old taken new j short broke took there run long mended = record {
   runs = λ h life. (
     life,
@@ -219,14 +219,14 @@ reopens_done old taken new j short broke took there run long mended = record {
 }
 
 -- the store is still broken: a call of the disk failed
-pub still_broken : {D A : Type 0} {G : Ghosts D} (old taken new : Exec D A G) (j : AnyJob D A G) (short : Bool) → Ghosts.honest G → old.home ≡ Some (job_home j) → HasRun taken j new short → short ≡ false
+pub still_broken : {D A : Type 0} {G : Ghosts D} (old taken new : Exec D A G) (j : AnyJob D A G) (short : Bool) → Ghosts.honest G → old.idle_store ≡ Some (job_store j) → HasRun taken j new short → short ≡ false
     → is_broken new.device.flush.store ≡ true → HasFailed (failures_of old) (failures_of new)
 still_broken {D} {A} {G} old taken new j short h there run long broke =
     subst (λ (n : ℕ). HasFailed n (failures_of new)) (sym (count_at old j there))
     (broken_failed run.finished new.device.flush.store _ _ (gave_store run.finished taken.device new.device run.over run.give) broke (run.counts h (sym run.short_is ∙ long)))
 
 pub halts_broken : {D A : Type 0} {G : Ghosts D} (old new : Exec D A G) → (Ghosts.honest G → (life : Life) → Executes (world_of life old) [] (world_of life new) × Spans old new (world_of life old) (world_of life new))
-    → Lasts old new → (Ghosts.honest G → HasFailed (failures_of old) (failures_of new)) → Halts old new [] RunDevice
+    → Lasts old new → (Ghosts.honest G → HasFailed (failures_of old) (failures_of new)) → DeviceStops old new [] RunDevice
 halts_broken old new calls lasts failed = record {
   begun = λ h life. let c = calls h life in (life, begins_none (world_of life old) (world_of life new) [] c.0, c.1);
   lasts = lasts;

@@ -11,7 +11,7 @@ use Rattle.psu_items.specs.declared.broken.BrokenCause.{BrokenCause}
 use Rattle.psu_items.specs.declared.broken.BrokenCause.TheVariants as broken_cause
 use Rattle.psu_exec.specs.Calls.{JobData, JobEnd, Stored, Unstarted, Failed, Reopened, Job, Took, IsExpected, IsAccepted, Allows, job_of, wait_less, wait_cut}
 use Rattle.psu_exec.specs.Device.{State, Flush, count_held, is_broken, is_open, target, wait_of}
-use Rattle.psu_exec.specs.Jobs.{finished_of, finished_disk, home_of, home_disk, job_data, job_disk, job_home, EndStands, RunsTo}
+use Rattle.psu_exec.specs.Jobs.{finished_of, finished_disk, idle_store_of, idle_disk, job_data, job_disk, job_store, EndStands, RunsTo}
 use Rattle.psu_exec.specs.World.{IsTrueOf}
 use Rattle.psu_exec.proofs.Giving.{FlushGives, flush_gives, locks_after, open_after}
 use Rattle.psu_exec.specs.declared.condition.Condition.{Condition}
@@ -19,12 +19,12 @@ use Rattle.psu_exec.specs.declared.condition.Condition.TheVariants.{Whole, Broke
 use Rattle.psu_exec.specs.declared.exec.Exec.{Exec}
 use Rattle.psu_exec.specs.declared.finished.End.{End}
 use Rattle.psu_exec.specs.declared.finished.End.TheVariants as finished
-use Rattle.psu_exec.specs.declared.home.Home.{Home}
+use Rattle.psu_exec.specs.declared.idle_store.IdleStore.{IdleStore}
 use Rattle.psu_exec.specs.declared.job.Job.{Job as AnyJob}
 use Rattle.psu_exec.specs.declared.job.Job.TheVariants as job
 use Rattle.psu_exec.specs.declared.wait.Wait.{Wait}
 use Rattle.psu_server.specs.Failures.{extent_at, extent_of, failures_at, failures_of}
-use Rattle.psu_server.specs.Jobs.{Counts, HasRun, Wears, WearsOutLast, home_number}
+use Rattle.psu_server.specs.Jobs.{Counts, HasRun, Wears, WearsOutLast, idle_number}
 use Rattle.psu_server.specs.Lives.{Life, disk_at, world_of}
 use Rattle.psu_server.specs.Moments.{Since, disk_in}
 use Rattle.psu_server.specs.Runs.{Mishaps, none, is_short, IsSound, EndsJob, JobDone}
@@ -51,12 +51,12 @@ gave_store (Unstarted limit before edits unstarted.Worn) s new over a = ap (λ (
 gave_store (Failed limit before edits cause) s new over a = ap (λ (f : Flush). f.store) (gave (Failed limit before edits cause) s new over a)
 gave_store (Reopened limit map) s new over a = ⊎_elim (λ all. ap (λ (f : Flush). f.store) all.1) (λ none. ap (λ (f : Flush). f.store) none.1) (gave (Reopened limit map) s new over a)
 
-pub gave_home : (end : JobEnd) (s new : State) (over : List ℕ) → IsAccepted s end over new → new.flush.out ≡ false
-gave_home (Stored limit map) s new over a = ap (λ (f : Flush). f.out) (gave (Stored limit map) s new over a)
-gave_home (Unstarted limit before edits unstarted.Memory) s new over a = ap (λ (f : Flush). f.out) (gave (Unstarted limit before edits unstarted.Memory) s new over a)
-gave_home (Unstarted limit before edits unstarted.Worn) s new over a = ap (λ (f : Flush). f.out) (gave (Unstarted limit before edits unstarted.Worn) s new over a)
-gave_home (Failed limit before edits cause) s new over a = ap (λ (f : Flush). f.out) (gave (Failed limit before edits cause) s new over a)
-gave_home (Reopened limit map) s new over a = ⊎_elim (λ all. ap (λ (f : Flush). f.out) all.1) (λ none. ap (λ (f : Flush). f.out) none.1) (gave (Reopened limit map) s new over a)
+pub gave_back_idle : (end : JobEnd) (s new : State) (over : List ℕ) → IsAccepted s end over new → new.flush.out ≡ false
+gave_back_idle (Stored limit map) s new over a = ap (λ (f : Flush). f.out) (gave (Stored limit map) s new over a)
+gave_back_idle (Unstarted limit before edits unstarted.Memory) s new over a = ap (λ (f : Flush). f.out) (gave (Unstarted limit before edits unstarted.Memory) s new over a)
+gave_back_idle (Unstarted limit before edits unstarted.Worn) s new over a = ap (λ (f : Flush). f.out) (gave (Unstarted limit before edits unstarted.Worn) s new over a)
+gave_back_idle (Failed limit before edits cause) s new over a = ap (λ (f : Flush). f.out) (gave (Failed limit before edits cause) s new over a)
+gave_back_idle (Reopened limit map) s new over a = ⊎_elim (λ all. ap (λ (f : Flush). f.out) all.1) (λ none. ap (λ (f : Flush). f.out) none.1) (gave (Reopened limit map) s new over a)
 
 -- the session stays open
 pub gave_open : (end : JobEnd) (s new : State) (over : List ℕ) → IsAccepted s end over new → is_open new 1 ≡ is_open s 1
@@ -115,7 +115,7 @@ still_counts limit before edits broken_cause.Strange a b device strange long = a
 still_counts limit before edits broken_cause.Memory a b device strange long = cc
 
 pub counts_of : {D A : Type 0} {G : Ghosts D} (j : AnyJob D A G) (end : End D A G) → RunsTo j end → Ghosts.honest G → is_short (finished_of end) ≡ false
-    → Counts (finished_of end) (Ghosts.failures G (job_disk j)) (Ghosts.failures G (home_disk (home_of end)))
+    → Counts (finished_of end) (Ghosts.failures G (job_disk j)) (Ghosts.failures G (idle_disk (idle_store_of end)))
 counts_of (job.Commit planned) (finished.Stored store) runs h long = runs.1
 counts_of {D} {A} {G} (job.Commit planned) (finished.Unstarted store back cause) runs h long = ap (λ s. Ghosts.failures G s.disk) runs.store
 counts_of (job.Commit planned) (finished.Broken broken) runs h long = runs.failures
@@ -127,7 +127,7 @@ counts_of (job.Reopen old) (finished.Broken broken) runs h long =
 counts_of (job.Reopen old) (finished.Reopened store) runs h long = runs.failures
 
 -- a commit that wears the store out finds the last number in the root
-pub wears_of : {D A : Type 0} {G : Ghosts D} (j : AnyJob D A G) (end : End D A G) → RunsTo j end → EndStands end → is_short (finished_of end) ≡ false → Wears (finished_of end) (Ghosts.state G (home_disk (home_of end))).bytes
+pub wears_of : {D A : Type 0} {G : Ghosts D} (j : AnyJob D A G) (end : End D A G) → RunsTo j end → EndStands end → is_short (finished_of end) ≡ false → Wears (finished_of end) (Ghosts.state G (idle_disk (idle_store_of end))).bytes
 wears_of (job.Commit planned) (finished.Stored store) runs stands long = tt
 wears_of (job.Commit planned) (finished.Unstarted store back unstarted.Memory) runs stands long = cc
 wears_of {D} {A} {G} (job.Commit planned) (finished.Unstarted store back unstarted.Worn) runs stands long =
@@ -144,7 +144,7 @@ wears_of (job.Reopen old) (finished.Reopened store) runs stands long = tt
 -- ---- why a store can't take a commit
 
 -- a store is worn only where its number is the last
-worn_for : {D A : Type 0} {G : Ghosts D} (j : AnyJob D A G) (end : End D A G) → RunsTo j end → store_after (finished_of end) ≡ Worn → 2 ^ 64 ≤ home_number (home_of end) + 1
+worn_for : {D A : Type 0} {G : Ghosts D} (j : AnyJob D A G) (end : End D A G) → RunsTo j end → store_after (finished_of end) ≡ Worn → 2 ^ 64 ≤ idle_number (idle_store_of end) + 1
 worn_for (job.Commit planned) (finished.Stored new) runs = λ e. cc
 worn_for (job.Commit planned) (finished.Unstarted new back unstarted.Memory) runs = λ e. cc
 worn_for (job.Commit planned) (finished.Unstarted new back unstarted.Worn) runs = λ e. subst (λ s. 2 ^ 64 ≤ s.number + 1) (sym runs.store) (runs.worn refl)
@@ -155,15 +155,15 @@ worn_for (job.Reopen old) (finished.Unstarted new back cause) runs = absurd runs
 worn_for (job.Reopen old) (finished.Broken broken) runs = λ e. cc
 worn_for (job.Reopen old) (finished.Reopened new) runs = λ e. cc
 
-pub the_home : {D A : Type 0} {G : Ghosts D} (a b : Home D A G) → Some a ≡ Some b → a ≡ b
-the_home a b e = cc
+pub the_idle_store : {D A : Type 0} {G : Ghosts D} (a b : IdleStore D A G) → Some a ≡ Some b → a ≡ b
+the_idle_store a b e = cc
 
-gave_worn : {D A : Type 0} {G : Ghosts D} (s new : State) (over : List ℕ) (j : AnyJob D A G) (end : End D A G) (there : Option (Home D A G))
-    → RunsTo j end → IsAccepted s (finished_of end) over new → there ≡ Some (home_of end) → WearsOutLast new.flush.store there
+gave_worn : {D A : Type 0} {G : Ghosts D} (s new : State) (over : List ℕ) (j : AnyJob D A G) (end : End D A G) (there : Option (IdleStore D A G))
+    → RunsTo j end → IsAccepted s (finished_of end) over new → there ≡ Some (idle_store_of end) → WearsOutLast new.flush.store there
 gave_worn {D} {A} {G} s new over j end there runs gave is =
     subst (λ (c : Condition). WearsOutLast c there) (sym (gave_store (finished_of end) s new over gave))
-    (subst (λ (z : Option (Home D A G)). WearsOutLast (store_after (finished_of end)) z) (sym is)
-    (λ h e. subst (λ (z : Home D A G). store_after (finished_of end) ≡ Worn → 2 ^ 64 ≤ home_number z + 1) (the_home (home_of end) h e) (worn_for j end runs)))
+    (subst (λ (z : Option (IdleStore D A G)). WearsOutLast (store_after (finished_of end)) z) (sym is)
+    (λ h e. subst (λ (z : IdleStore D A G). store_after (finished_of end) ≡ Worn → 2 ^ 64 ≤ idle_number z + 1) (the_idle_store (idle_store_of end) h e) (worn_for j end runs)))
 
 -- a store that is broken after a job is so because a call failed
 pub broken_failed : (end : JobEnd) (store : Condition) (a b : ℕ) → store ≡ store_after end → is_broken store ≡ true → Counts end a b → HasFailed a b
@@ -175,22 +175,22 @@ broken_failed (Reopened limit map) store a b is broke counts = let bad = sym (ap
 
 -- ---- the disk of a job
 
--- it is the disk that was at home
-pub count_at : {D A : Type 0} {G : Ghosts D} (old : Exec D A G) (j : AnyJob D A G) → old.home ≡ Some (job_home j) → failures_of old ≡ Ghosts.failures G (job_disk j)
-count_at {D} {A} {G} old j there = ap (λ (z : Option (Home D A G)). failures_at z) there ∙ by j where
-  by : (j : AnyJob D A G) → failures_at (let z : Option (Home D A G) = Some (job_home j) in z) ≡ Ghosts.failures G (job_disk j)
+-- it is the disk of the idle store
+pub count_at : {D A : Type 0} {G : Ghosts D} (old : Exec D A G) (j : AnyJob D A G) → old.idle_store ≡ Some (job_store j) → failures_of old ≡ Ghosts.failures G (job_disk j)
+count_at {D} {A} {G} old j there = ap (λ (z : Option (IdleStore D A G)). failures_at z) there ∙ by j where
+  by : (j : AnyJob D A G) → failures_at (let z : Option (IdleStore D A G) = Some (job_store j) in z) ≡ Ghosts.failures G (job_disk j)
   by (job.Commit planned) = refl
   by (job.Reopen reopening) = refl
 
-pub size_at : {D A : Type 0} {G : Ghosts D} (old : Exec D A G) (j : AnyJob D A G) → old.home ≡ Some (job_home j) → extent_of old ≡ Ghosts.extent G (job_disk j)
-size_at {D} {A} {G} old j there = ap (λ (z : Option (Home D A G)). extent_at z) there ∙ by j where
-  by : (j : AnyJob D A G) → extent_at (let z : Option (Home D A G) = Some (job_home j) in z) ≡ Ghosts.extent G (job_disk j)
+pub size_at : {D A : Type 0} {G : Ghosts D} (old : Exec D A G) (j : AnyJob D A G) → old.idle_store ≡ Some (job_store j) → extent_of old ≡ Ghosts.extent G (job_disk j)
+size_at {D} {A} {G} old j there = ap (λ (z : Option (IdleStore D A G)). extent_at z) there ∙ by j where
+  by : (j : AnyJob D A G) → extent_at (let z : Option (IdleStore D A G) = Some (job_store j) in z) ≡ Ghosts.extent G (job_disk j)
   by (job.Commit planned) = refl
   by (job.Reopen reopening) = refl
 
 -- ---- facts in the run's terms
 
-same_disk : {D A : Type 0} {G : Ghosts D} (end : End D A G) → finished_disk end ≡ home_disk (home_of end)
+same_disk : {D A : Type 0} {G : Ghosts D} (end : End D A G) → finished_disk end ≡ idle_disk (idle_store_of end)
 same_disk (finished.Stored store) = refl
 same_disk (finished.Unstarted store back cause) = refl
 same_disk (finished.Broken broken) = refl
@@ -198,24 +198,24 @@ same_disk (finished.Reopened store) = refl
 
 pub has_run : {D A : Type 0} {G : Ghosts D} (old : Exec D A G) (j : AnyJob D A G) (new : Exec D A G) (end : End D A G) (over : List ℕ) (short : Bool)
     → RunsTo j end → Ghosts.extent G (finished_disk end) ≡ Ghosts.extent G (job_disk j) → Ghosts.failures G (job_disk j) ≤ Ghosts.failures G (finished_disk end)
-    → IsAccepted old.device (finished_of end) over new.device → new.home ≡ Some (home_of end)
+    → IsAccepted old.device (finished_of end) over new.device → new.idle_store ≡ Some (idle_store_of end)
     → (Ghosts.honest G → IsTrueOf (target old.device.flush) (finished_of end) (Ghosts.state G (finished_disk end))) → (Ghosts.honest G → EndStands end) → short ≡ is_short (finished_of end)
-    → (Ghosts.honest G → Ghosts.tells G → LeavesOnly (Ghosts.moment G) (Ghosts.left_since G) (job_disk j) (finished_disk end) (IsEither (job_data j).limit (job_data j).before (job_data j).target)) → HasRun old j new short
+    → (Ghosts.honest G → Ghosts.records G → LeavesOnly (Ghosts.moment G) (Ghosts.left_since G) (job_disk j) (finished_disk end) (IsEither (job_data j).limit (job_data j).before (job_data j).target)) → HasRun old j new short
 has_run {D} {A} {G} old j new end over short runs extent later gave is true_of stands short_is time = record {
   finished = finished_of end;
   over = over;
   give = gave;
   short_is = short_is;
   own = ends_job j end runs;
-  stands = λ h. subst (λ (there : Option (Home D A G)). IsTrueOf (target old.device.flush) (finished_of end) (disk_at there)) (sym is)
+  stands = λ h. subst (λ (there : Option (IdleStore D A G)). IsTrueOf (target old.device.flush) (finished_of end) (disk_at there)) (sym is)
       (subst (λ (d : D). IsTrueOf (target old.device.flush) (finished_of end) (Ghosts.state G d)) (same_disk end) (true_of h));
-  later = subst (λ (there : Option (Home D A G)). Ghosts.failures G (job_disk j) ≤ failures_at there) (sym is) (subst (λ (d : D). Ghosts.failures G (job_disk j) ≤ Ghosts.failures G d) (same_disk end) later);
-  extent = subst (λ (there : Option (Home D A G)). extent_at there ≡ Ghosts.extent G (job_disk j)) (sym is) (subst (λ (d : D). Ghosts.extent G d ≡ Ghosts.extent G (job_disk j)) (same_disk end) extent);
-  worn = gave_worn old.device new.device over j end new.home runs gave is;
-  wears = λ h long. subst (λ (there : Option (Home D A G)). Wears (finished_of end) (disk_at there).bytes) (sym is) (wears_of j end runs (stands h) long);
-  time = λ h t. subst (λ (there : Option (Home D A G)). Since G (Some (job_disk j)) (disk_in there) (IsEither (job_data j).limit (job_data j).before (job_data j).target)) (sym is)
+  later = subst (λ (there : Option (IdleStore D A G)). Ghosts.failures G (job_disk j) ≤ failures_at there) (sym is) (subst (λ (d : D). Ghosts.failures G (job_disk j) ≤ Ghosts.failures G d) (same_disk end) later);
+  extent = subst (λ (there : Option (IdleStore D A G)). extent_at there ≡ Ghosts.extent G (job_disk j)) (sym is) (subst (λ (d : D). Ghosts.extent G d ≡ Ghosts.extent G (job_disk j)) (same_disk end) extent);
+  worn = gave_worn old.device new.device over j end new.idle_store runs gave is;
+  wears = λ h long. subst (λ (there : Option (IdleStore D A G)). Wears (finished_of end) (disk_at there).bytes) (sym is) (wears_of j end runs (stands h) long);
+  time = λ h t. subst (λ (there : Option (IdleStore D A G)). Since G (Some (job_disk j)) (disk_in there) (IsEither (job_data j).limit (job_data j).before (job_data j).target)) (sym is)
       (subst (λ (d : D). LeavesOnly (Ghosts.moment G) (Ghosts.left_since G) (job_disk j) d (IsEither (job_data j).limit (job_data j).before (job_data j).target)) (same_disk end) (time h t));
-  counts = λ h long. subst (λ (there : Option (Home D A G)). Counts (finished_of end) (Ghosts.failures G (job_disk j)) (failures_at there)) (sym is) (counts_of j end runs h long);
+  counts = λ h long. subst (λ (there : Option (IdleStore D A G)). Counts (finished_of end) (Ghosts.failures G (job_disk j)) (failures_at there)) (sym is) (counts_of j end runs h long);
 }
 
 -- ---- a job as events
@@ -241,7 +241,7 @@ failed_of (Failed limit before edits cause) b c f e = f
 failed_of (Reopened limit map) b c f e = cc
 
 pub job_done : {D A : Type 0} {G : Ghosts D} (old taken new : Exec D A G) (j : AnyJob D A G) (life : Life) (short : Bool) → Ghosts.honest G
-    → Allows old.device (Took (Job (job_data j))) taken.device → old.home ≡ Some (job_home j) → HasRun taken j new short → short ≡ false
+    → Allows old.device (Took (Job (job_data j))) taken.device → old.idle_store ≡ Some (job_store j) → HasRun taken j new short → short ≡ false
     → Within (failures_of old) (failures_of new) (λ can. JobDone can (world_of life old) (world_of life new))
 job_done {D} {A} {G} old taken new j life short h took there run long =
     let calm : is_short run.finished ≡ false = sym run.short_is ∙ long in
@@ -255,10 +255,10 @@ job_done {D} {A} {G} old taken new j life short h took there run long =
         taken = record (world_of life old) { state = taken.device };
         finished = run.finished;
         over = run.over;
-        take = (disk_at old.home, (taken.device, refl, took, refl, refl));
-        give = (disk_at new.home, (new.device, refl, run.give, run.stands h, refl));
+        take = (disk_at old.idle_store, (taken.device, refl, took, refl, refl));
+        give = (disk_at new.idle_store, (new.device, refl, run.give, run.stands h, refl));
         own = run.own;
-        sound = sound_of run.finished (disk_at new.home).bytes can (run.wears h calm) cov;
+        sound = sound_of run.finished (disk_at new.idle_store).bytes can (run.wears h calm) cov;
         long = calm;
       },
     )

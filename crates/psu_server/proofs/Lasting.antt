@@ -3,7 +3,7 @@ use Rattle.std.proofs.Common.{◌≡◌, Option, refl, sym, ap, ◌∙◌, subst
 use Rattle.psu_disk.specs.declared.disk.Disk.{Ghosts}
 use Rattle.psu_exec.specs.declared.condition.Condition.{Condition}
 use Rattle.psu_exec.specs.declared.exec.Exec.{Exec}
-use Rattle.psu_exec.specs.declared.home.Home.{Home}
+use Rattle.psu_exec.specs.declared.idle_store.IdleStore.{IdleStore}
 use Rattle.psu_server.specs.Failures.{extent_at, extent_of, failures_at, failures_of}
 use Rattle.psu_server.specs.Jobs.{WearsOutLast}
 use Rattle.psu_server.specs.Progress.{HandsBack, Lasts}
@@ -11,14 +11,14 @@ use Rattle.psu_server.specs.Progress.{HandsBack, Lasts}
 pub lasts_none : {D A : Type 0} {G : Ghosts D} (exec : Exec D A G) → Lasts exec exec
 lasts_none exec = record { extent = refl; later = omega arith; worn = λ e. e }
 
--- the store stays at home unchanged
-pub lasts_same : {D A : Type 0} {G : Ghosts D} (old new : Exec D A G) → new.device.flush.store ≡ old.device.flush.store → new.home ≡ old.home → Lasts old new
+-- the idle store stays as it is
+pub lasts_same : {D A : Type 0} {G : Ghosts D} (old new : Exec D A G) → new.device.flush.store ≡ old.device.flush.store → new.idle_store ≡ old.idle_store → Lasts old new
 lasts_same {D} {A} {G} old new store there =
-    let count : failures_of new ≡ failures_of old = ap (λ (z : Option (Home D A G)). failures_at z) there in
+    let count : failures_of new ≡ failures_of old = ap (λ (z : Option (IdleStore D A G)). failures_at z) there in
     record {
-      extent = ap (λ (z : Option (Home D A G)). extent_at z) there;
+      extent = ap (λ (z : Option (IdleStore D A G)). extent_at z) there;
       later = omega (arith, count);
-      worn = λ e. subst (λ (c : Condition). WearsOutLast c new.home) (sym store) (subst (λ (z : Option (Home D A G)). WearsOutLast old.device.flush.store z) (sym there) e);
+      worn = λ e. subst (λ (c : Condition). WearsOutLast c new.idle_store) (sym store) (subst (λ (z : Option (IdleStore D A G)). WearsOutLast old.device.flush.store z) (sym there) e);
     }
 
 pub lasts_then : {D A : Type 0} {G : Ghosts D} (old mid new : Exec D A G) → Lasts old mid → Lasts mid new → Lasts old new

@@ -22,7 +22,7 @@ use Rattle.psu_lex.specs.declared.scpi_error.ScpiError.{ScpiError}
 use Rattle.psu_lex.specs.declared.scpi_error.ScpiError.TheVariants.{StorageFault}
 use Rattle.psu_server.specs.Failures.{failures_of}
 use Rattle.psu_server.specs.Lives.{Life, world_of}
-use Rattle.psu_server.specs.Progress.{Acted, GoesOn, Halts}
+use Rattle.psu_server.specs.Progress.{Acted, Continues, DeviceStops}
 use Rattle.psu_server.specs.Reasons.{IsHaltedBy}
 use Rattle.psu_server.specs.Runs.{Flushes, is_later}
 use Rattle.psu_server.specs.declared.run_cause.RunCause.TheVariants.{Device}
@@ -96,7 +96,7 @@ late_some : (s new : State) (request : Request) → Allows s (Executed 1 request
 late_some s new request t free =
     full_tail (wait_of s.flush 1) s.flush.unflushed (reads_nonvolatile request.reading (is_none s.flush.contents.enables)) free (late_beside s request (is_denied s 1) t.1.may)
 
-late_halted : {D A : Type 0} {G : Ghosts D} (old mid new : Exec D A G) (request : Request) (reply : Reply) → Ghosts.honest G → GoesOn mid new (Acted request reply) → is_later reply ≡ true
+late_halted : {D A : Type 0} {G : Ghosts D} (old mid new : Exec D A G) (request : Request) (reply : Reply) → Ghosts.honest G → Continues mid new (Acted request reply) → is_later reply ≡ true
     → wait_of mid.device.flush 1 ≡ None → HasFailed (failures_of old) (failures_of mid) ⊎ (mid.device.flush.store ≡ Worn) ⊎ (mid.device.flush.unflushed ≡ 0) → IsHaltedBy old new Device
 late_halted old mid new request reply h a late free clean =
     let life : Life = record { limit = 0; start = mid.device.flush.contents; history = [] } in
@@ -109,10 +109,10 @@ late_halted old mid new request reply h a late free clean =
     ⊎_elim (λ failed. inl (failed_on _ _ _ a.lasts.later failed))
     (λ rest. ⊎_elim (λ worn. inr (store ∙ worn, omega (arith, some, left))) (λ none. absurd (omega (arith, some, none))) rest) clean
 
-pub still_late_halts : {D A : Type 0} {G : Ghosts D} (old mid over new : Exec D A G) (request : Request) (first reply : Reply) → GoesOn old mid (Acted request first) → is_later first ≡ true
-    → GoesOn mid over Flushes → GoesOn over new (Acted request reply) → is_later reply ≡ true → wait_of over.device.flush 1 ≡ None
+pub still_late_halts : {D A : Type 0} {G : Ghosts D} (old mid over new : Exec D A G) (request : Request) (first reply : Reply) → Continues old mid (Acted request first) → is_later first ≡ true
+    → Continues mid over Flushes → Continues over new (Acted request reply) → is_later reply ≡ true → wait_of over.device.flush 1 ≡ None
     → (Ghosts.honest G → HasFailed (failures_of mid) (failures_of over) ⊎ (over.device.flush.store ≡ Worn) ⊎ (over.device.flush.unflushed ≡ 0))
-    → Halts old new (request ∷ []) Device
+    → DeviceStops old new (request ∷ []) Device
 still_late_halts old mid over new request first reply a late f b still free clean =
     halts_here old new [] (request ∷ []) Device
     (executed_join old over new [] [] (late_executed old mid over request first a late f)

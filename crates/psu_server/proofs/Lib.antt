@@ -2,7 +2,7 @@ pub mod Alone
 pub mod MessagesAlone
 pub mod Within
 pub mod Lasting
-pub mod Telling
+pub mod OutputState
 pub mod Calls
 pub mod OneList
 pub mod Moments

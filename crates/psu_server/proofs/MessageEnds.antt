@@ -6,7 +6,7 @@ use Rattle.psu_exec.specs.World.{World}
 use Rattle.psu_exec.specs.declared.exec.Exec.{Exec}
 use Rattle.psu_tree.specs.declared.unit_request.Request.{Request}
 use Rattle.psu_server.specs.Lives.{world_of}
-use Rattle.psu_server.specs.Progress.{GoesOn}
+use Rattle.psu_server.specs.Progress.{Continues}
 use Rattle.psu_server.specs.Runs.{Mishaps, LineBegins, LineRuns, ReplyRuns, UnitsBegin, UnitsRun, is_expansion}
 use Rattle.psu_server.specs.Script.{with_answer}
 use Rattle.psu_server.proofs.Calls.{begins_none, executes_none}
@@ -15,7 +15,7 @@ use Rattle.psu_server.proofs.Moments.{spans_none}
 use Rattle.psu_server.proofs.Within.{within_here}
 
 -- nothing is executed
-pub goes_none : {D A : Type 0} {G : Ghosts D} (exec : Exec D A G) (P : Mishaps → World → World → Type 0) → ((can : Mishaps) (w : World) → P can w w) → GoesOn exec exec P
+pub goes_none : {D A : Type 0} {G : Ghosts D} (exec : Exec D A G) (P : Mishaps → World → World → Type 0) → ((can : Mishaps) (w : World) → P can w w) → Continues exec exec P
 goes_none exec P here = record {
   runs = λ h life. (life, within_here _ (λ can. P can (world_of life exec) (world_of life exec)) (λ can. here can (world_of life exec)), spans_none exec life);
   lasts = lasts_none exec;

@@ -5,8 +5,8 @@ use Rattle.std.proofs.lemmas.List.{get_or_past}
 use Rattle.psu_disk.specs.Disk.{DiskState}
 use Rattle.psu_disk.specs.Ranges.{left_size, reads_left}
 use Rattle.psu_map.specs.Map.{Item}
-use Rattle.psu_items.specs.Image.{Stands, EachStands}
-use Rattle.psu_items.proofs.Standing.{one_stands}
+use Rattle.psu_items.specs.Image.{Represents, EachRepresents}
+use Rattle.psu_items.proofs.Standing.{represents_one}
 use Rattle.psu_nv.specs.Contents.{items_of}
 use Rattle.psu_exec.specs.Device.{State, power_on}
 use Rattle.psu_exec.specs.Calls.{Entry, Opened}
@@ -44,14 +44,14 @@ executed_leads w new e = calls_lead e.entries w new e.calls
 
 -- once the disk is synced
 synced_keeps : (d : DiskState) → KeepsMaps d (without_power d.bytes)
-synced_keeps d = λ image left. (d.bytes, reads_left d, λ limit map s. subst (λ (x : List ℕ). Stands x limit map) (sym (only_left d.bytes image left)) s)
+synced_keeps d = λ image left. (d.bytes, reads_left d, λ limit map s. subst (λ (x : List ℕ). Represents x limit map) (sym (only_left d.bytes image left)) s)
 
 -- where each possible crash image represents the map that the disk's bytes represent
-standing_keeps : (d new : DiskState) (limit : ℕ) (map : List Item) → Stands d.bytes limit map → EachStands new limit map → KeepsMaps d new
+standing_keeps : (d new : DiskState) (limit : ℕ) (map : List Item) → Represents d.bytes limit map → EachRepresents new limit map → KeepsMaps d new
 standing_keeps d new limit map was is = λ image left. (
   d.bytes,
   reads_left d,
-  λ n m s. let one = one_stands limit n map m d.bytes was s in subst (λ (k : List Item). Stands image n k) one.1 (subst (λ (k : ℕ). Stands image k map) one.0 (is image left)),
+  λ n m s. let one = represents_one limit n map m d.bytes was s in subst (λ (k : List Item). Represents image n k) one.1 (subst (λ (k : ℕ). Represents image k map) one.0 (is image left)),
 )
 
 -- a synced disk that is written in one call

@@ -9,7 +9,7 @@ use Rattle.psu_instrument.specs.Macros.{ExpandsAt, body_called, written}
 use Rattle.psu_answers.specs.Response.{response}
 use Rattle.psu_exec.specs.Device.{Reply, Done, Answer, Error, Expand, Parked, Held, Later, State, answer_call, answer_meant, called, here, is_late, is_later, meant, reads_nonvolatile, wait_of}
 use Rattle.psu_server.specs.Lines.{Message}
-use Rattle.psu_server.specs.Script.{Rest, Went, Spoken, Told, Expands, RepliesCalled, RepliesNow, Replies, GoesFrom, Goes, SpeaksInside, SpeaksReply, Speaks, TellsMessage, Scripted, after_reply, flushed, with_answer}
+use Rattle.psu_server.specs.Script.{Rest, UnitOutcome, Spoken, MessageOutcome, Expands, RepliesCalled, RepliesNow, Replies, HasOutcomeFrom, HasOutcome, SpeaksInside, SpeaksReply, Speaks, HasMessageOutcome, Scripted, after_reply, flushed, with_answer}
 use Rattle.psu_server.proofs.Scripts.{Alike, Ones, Same, one_asked, one_asking}
 
 -- no body has two expansions
@@ -66,7 +66,7 @@ reply_bare r a Later = refl
 reply_alike : (r : Rest) (a b : Request) (reply : Reply) → Same a b → after_reply r a reply ≡ after_reply r b reply
 reply_alike r a b reply same = reply_bare r a reply ∙ ap (λ (z : Result Command ScpiError). after_reply r (bare z) reply) same.reading ∙ sym (reply_bare r b reply)
 
-one_from : OneExpansion → (r : Rest) (a b : Request) → Same a b → (reply : Reply) (x y : Went) → GoesFrom r a reply x → GoesFrom r b reply y → x ≡ y
+one_from : OneExpansion → (r : Rest) (a b : Request) → Same a b → (reply : Reply) (x y : UnitOutcome) → HasOutcomeFrom r a reply x → HasOutcomeFrom r b reply y → x ≡ y
 one_from one r a b same Later x y (p, replies, is) (q, replies_too, is_too) =
     is ∙ ap (λ (z : Reply). after_reply (flushed r) a z) (one_reply one (flushed r).state a b same p q replies replies_too) ∙ reply_alike (flushed r) a b q same ∙ sym is_too
 one_from one r a b same Done x y is is_too = is ∙ reply_alike r a b Done same ∙ sym is_too
@@ -76,9 +76,9 @@ one_from one r a b same (Expand text) x y is is_too = is ∙ reply_alike r a b (
 one_from one r a b same Parked x y is is_too = is ∙ reply_alike r a b Parked same ∙ sym is_too
 one_from one r a b same Held x y is is_too = is ∙ reply_alike r a b Held same ∙ sym is_too
 
-one_unit : OneExpansion → (r : Rest) (a b : Request) → Same a b → (x y : Went) → Goes r a x → Goes r b y → x ≡ y
+one_unit : OneExpansion → (r : Rest) (a b : Request) → Same a b → (x y : UnitOutcome) → HasOutcome r a x → HasOutcome r b y → x ≡ y
 one_unit one r a b same x y (p, replies, goes) (q, replies_too, goes_too) =
-    one_from one r a b same p x y goes (subst (λ (z : Reply). GoesFrom r b z y) (one_reply one r.state b a (turned a b same) q p replies_too replies) goes_too)
+    one_from one r a b same p x y goes (subst (λ (z : Reply). HasOutcomeFrom r b z y) (one_reply one r.state b a (turned a b same) q p replies_too replies) goes_too)
   where
     turned : (a b : Request) → Same a b → Same b a
     turned a b same = record { reading = sym same.reading; place = sym same.place; label = sym same.label; parameters = λ list others l k. sym (same.parameters others list k l) }
@@ -88,7 +88,7 @@ one_inside one [] others r answers x y none p q = p ∙ sym (subst (λ (z : List
 one_inside one (a ∷ more) others r answers x y (b, rest, is, same, alike) (went, goes, tells) q =
     let there = subst (λ (z : List Request). SpeaksInside r answers z y) is q in
     let one_went : there.0 ≡ went = sym (one_unit one r a b same went there.0 goes there.1) in
-    one_inside one more rest went.rest (with_answer answers went.reply) x y alike tells (subst (λ (z : Went). SpeaksInside z.rest (with_answer answers z.reply) rest y) one_went there.2)
+    one_inside one more rest went.rest (with_answer answers went.reply) x y alike tells (subst (λ (z : UnitOutcome). SpeaksInside z.rest (with_answer answers z.reply) rest y) one_went there.2)
 
 one_told : Ones → OneExpansion → (reply : Reply) (r : Rest) (answers : List (List ℕ)) (x y : Spoken) → SpeaksReply r answers reply x → SpeaksReply r answers reply y → x ≡ y
 one_told o one (Expand bytes) r answers x y (requests, asks, tells) (others, asks_too, tells_too) =
@@ -102,29 +102,29 @@ one_told o one Later r answers x y p q = p ∙ sym q
 
 one_line : Ones → OneExpansion → (requests others : List Request) (r : Rest) (answers : List (List ℕ)) (x y : Spoken) → Alike requests others → Speaks r answers requests x → Speaks r answers others y → x ≡ y
 one_line o one [] others r answers x y none p q = p ∙ sym (subst (λ (z : List Request). Speaks r answers z y) none q)
-one_line o one (a ∷ more) others r answers x y (b, rest, is, same, alike) (went, some, goes, told, tells) q =
+one_line o one (a ∷ more) others r answers x y (b, rest, is, same, alike) (went, some, goes, outcome, tells) q =
     let there = subst (λ (z : List Request). Speaks r answers z y) is q in
     let one_went : there.0 ≡ went = sym (one_unit one r a b same went there.0 goes there.2) in
-    let told_too : SpeaksReply went.rest answers went.reply there.1 = subst (λ (z : Went). SpeaksReply z.rest answers z.reply there.1) one_went there.3 in
-    let one_some : there.1 ≡ some = one_told o one went.reply went.rest answers there.1 some told_too told in
+    let told_too : SpeaksReply went.rest answers went.reply there.1 = subst (λ (z : UnitOutcome). SpeaksReply z.rest answers z.reply there.1) one_went there.3 in
+    let one_some : there.1 ≡ some = one_told o one went.reply went.rest answers there.1 some told_too outcome in
     one_line o one more rest some.rest some.answers x y alike tells (subst (λ (z : Spoken). Speaks z.rest z.answers rest y) one_some there.4)
 
 -- ---- messages
 
-one_units : Ones → OneExpansion → (requests others : List Request) (r : Rest) (x y : Told) → Alike requests others
+one_units : Ones → OneExpansion → (requests others : List Request) (r : Rest) (x y : MessageOutcome) → Alike requests others
     → (all : Spoken) × Speaks r [] requests all × (x ≡ record { rest = all.rest; text = response all.answers }) → (all : Spoken) × Speaks r [] others all × (y ≡ record { rest = all.rest; text = response all.answers })
     → x ≡ y
 one_units o one requests others r x y alike (all, tells, is) (every, tells_too, is_too) =
-    is ∙ ap (λ (t : Spoken). (let z : Told = record { rest = t.rest; text = response t.answers } in z)) (one_line o one requests others r [] all every alike tells tells_too) ∙ sym is_too
+    is ∙ ap (λ (t : Spoken). (let z : MessageOutcome = record { rest = t.rest; text = response t.answers } in z)) (one_line o one requests others r [] all every alike tells tells_too) ∙ sym is_too
 
-one_message : Ones → OneExpansion → (m : Message) (requests others : List Request) (r : Rest) (x y : Told) → Alike requests others → TellsMessage r m requests x → TellsMessage r m others y → x ≡ y
+one_message : Ones → OneExpansion → (m : Message) (requests others : List Request) (r : Rest) (x y : MessageOutcome) → Alike requests others → HasMessageOutcome r m requests x → HasMessageOutcome r m others y → x ≡ y
 one_message o one Message.Power requests others r x y alike p q = p ∙ sym q
 one_message o one Message.Overlong requests others r x y alike p q = one_units o one requests others r x y alike p q
 one_message o one (Message.Units bytes) requests others r x y alike p q = one_units o one requests others r x y alike p q
 
 pub one_script : Ones → OneExpansion → (ms : List Message) (r : Rest) (text other : List ℕ) → Scripted r ms text → Scripted r ms other → text ≡ other
 one_script o one [] r text other a b = a ∙ sym b
-one_script o one (m ∷ ms) r text other (requests, told, more, asks, tells, script, is) (others, told_too, rest, asks_too, tells_too, script_too, is_too) =
-    let same : told_too ≡ told = sym (one_message o one m requests others r told told_too (one_asking o m requests others asks asks_too) tells tells_too) in
-    let there : Scripted told.rest ms rest = subst (λ (z : Told). Scripted z.rest ms rest) same script_too in
-    is ∙ ap (λ (z : List ℕ). told.text ++ z) (one_script o one ms told.rest more rest script there) ∙ sym (is_too ∙ ap (λ (z : Told). z.text ++ rest) same)
+one_script o one (m ∷ ms) r text other (requests, outcome, more, asks, tells, script, is) (others, told_too, rest, asks_too, tells_too, script_too, is_too) =
+    let same : told_too ≡ outcome = sym (one_message o one m requests others r outcome told_too (one_asking o m requests others asks asks_too) tells tells_too) in
+    let there : Scripted outcome.rest ms rest = subst (λ (z : MessageOutcome). Scripted z.rest ms rest) same script_too in
+    is ∙ ap (λ (z : List ℕ). outcome.text ++ z) (one_script o one ms outcome.rest more rest script there) ∙ sym (is_too ∙ ap (λ (z : MessageOutcome). z.text ++ rest) same)

@@ -3,11 +3,11 @@ use Rattle.std.proofs.Common.{◌≡◌, ℕ, List, Option, Some, None, IfSome, 
 use Rattle.std.specs.Option.{ForSome}
 use Rattle.psu_disk.specs.Disk.{DiskState, LeavesOnly}
 use Rattle.psu_disk.specs.declared.disk.Disk.{Ghosts}
-use Rattle.psu_items.proofs.Fitting.{stands_readable}
+use Rattle.psu_items.proofs.Fitting.{represents_readable}
 use Rattle.psu_items.specs.Finding.{IsOldOrSame}
 use Rattle.psu_exec.proofs.Moments.{keeps_map}
-use Rattle.psu_exec.specs.Jobs.{home_disk}
-use Rattle.psu_items.specs.Image.{EachStands}
+use Rattle.psu_exec.specs.Jobs.{idle_disk}
+use Rattle.psu_items.specs.Image.{EachRepresents}
 use Rattle.psu_nv.specs.Contents.{items_of}
 use Rattle.psu_exec.specs.World.{World}
 use Rattle.psu_exec.specs.declared.exec.Exec.{Exec}
@@ -84,7 +84,7 @@ pub run_cause : {D A : Type 0} {G : Ghosts D} (long : Type 0) (from u v : Option
     → failures_of s ≡ before → IsWornAtLast s → Early long s fault from u v → EndsFor image before (Ghosts.failures G fault.disk) (Ghosts.state G fault.disk).bytes long fault.cause
 run_cause {D} {A} {G} long from u v image s fault before h starts same worn early =
     let w = run_early long from u v image s fault before h starts same worn early in
-    ends_late image before (Ghosts.failures G fault.disk) w.rest w.last (Ghosts.state G fault.disk).bytes long fault.cause (stands_readable _ _ _ starts.found)
+    ends_late image before (Ghosts.failures G fault.disk) w.rest w.last (Ghosts.state G fault.disk).bytes long fault.cause (represents_readable _ _ _ starts.found)
     (stops_since long before w.count (Ghosts.failures G fault.disk) w.rest w.last (Ghosts.state G fault.disk).bytes fault.cause w.later w.why)
 
 -- the text that is written for a known input where nothing goes wrong
@@ -119,25 +119,25 @@ run_whole {D} {A} {G} from u v image s disk before h starts same (due, brought, 
       over = e.1;
       ends = both.1;
       flushed = e.3;
-      kept = subst (λ (d : DiskState). EachStands d e.1.limit (items_of e.1.state.flush.contents)) e.4 (flushed_stands e.1 reached (flush_running went.0 e.0 e.1 both.1) e.3);
+      kept = subst (λ (d : DiskState). EachRepresents d e.1.limit (items_of e.1.state.flush.contents)) e.4 (flushed_stands e.1 reached (flush_running went.0 e.0 e.1 both.1) e.3);
       since = λ from same. whole_leads image due went.0 first e.0 e.1 from p.text starts both.0 both.1 same;
       back = e.4;
     }
 
 -- ---- each moment
 
-pub run_moments : {D A : Type 0} {G : Ghosts D} (from : Option (List ℕ)) (given over : D) (s : Exec D A G) (due : List Message) → Ghosts.tells G → IsNow G → PowersOn (Ghosts.state G given).bytes (world_of (born s) s)
-    → (s.home ≡ None → ⊥) → ForSome s.home (λ h. LeavesOnly (Ghosts.moment G) (Ghosts.left_since G) given (home_disk h) (IsOldOrSame (Ghosts.state G given))) → Brings from due
+pub run_moments : {D A : Type 0} {G : Ghosts D} (from : Option (List ℕ)) (given over : D) (s : Exec D A G) (due : List Message) → Ghosts.records G → IsNow G → PowersOn (Ghosts.state G given).bytes (world_of (born s) s)
+    → (s.idle_store ≡ None → ⊥) → ForSome s.idle_store (λ h. LeavesOnly (Ghosts.moment G) (Ghosts.left_since G) given (idle_disk h) (IsOldOrSame (Ghosts.state G given))) → Brings from due
     → EachMoment (born s) s (Some over) due
     → LeavesOnly (Ghosts.moment G) (Ghosts.left_since G) given over (IsOfRun (Ghosts.state G given) from)
 run_moments {D} {A} {G} from given over s due t now starts some opens brought runs =
     let first = world_of (born s) s in
-    since_then G (Some given) (disk_in s.home) (Some over) (IsOldOrSame (Ghosts.state G given)) (IsWhile first due) (IsOfRun (Ghosts.state G given) from)
-    (since_to s.home given (IsOldOrSame (Ghosts.state G given)) some opens) (runs t now (reached_on (Ghosts.state G given).bytes first starts))
+    since_then G (Some given) (disk_in s.idle_store) (Some over) (IsOldOrSame (Ghosts.state G given)) (IsWhile first due) (IsOfRun (Ghosts.state G given) from)
+    (since_to s.idle_store given (IsOldOrSame (Ghosts.state G given)) some opens) (runs t now (reached_on (Ghosts.state G given).bytes first starts))
     (λ x kept. inl (keeps_map (Ghosts.state G given) x kept)) (λ x while. inr (first, due, starts, brought, while))
 
-pub early_moments : {D A : Type 0} {G : Ghosts D} (long : Type 0) (from u v : Option (List ℕ)) (given : D) (s : Exec D A G) (fault : RunFault D) → Ghosts.honest G → Ghosts.tells G → IsNow G → PowersOn (Ghosts.state G given).bytes (world_of (born s) s)
-    → IsWornAtLast s → (s.home ≡ None → ⊥) → ForSome s.home (λ h. LeavesOnly (Ghosts.moment G) (Ghosts.left_since G) given (home_disk h) (IsOldOrSame (Ghosts.state G given))) → Early long s fault from u v
+pub early_moments : {D A : Type 0} {G : Ghosts D} (long : Type 0) (from u v : Option (List ℕ)) (given : D) (s : Exec D A G) (fault : RunFault D) → Ghosts.honest G → Ghosts.records G → IsNow G → PowersOn (Ghosts.state G given).bytes (world_of (born s) s)
+    → IsWornAtLast s → (s.idle_store ≡ None → ⊥) → ForSome s.idle_store (λ h. LeavesOnly (Ghosts.moment G) (Ghosts.left_since G) given (idle_disk h) (IsOldOrSame (Ghosts.state G given))) → Early long s fault from u v
     → LeavesOnly (Ghosts.moment G) (Ghosts.left_since G) given fault.disk (IsOfRun (Ghosts.state G given) from)
 early_moments long from u v given s fault h t now starts worn some opens (due, brought, p) =
     run_moments from given fault.disk s (p.done ++ p.rest) t now starts some opens (subst (Brings from) p.is brought) (p.stops.stops h worn (born s)).7

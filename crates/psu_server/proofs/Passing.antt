@@ -8,13 +8,13 @@ use Rattle.psu_exec.specs.declared.exec.Exec.{Exec}
 use Rattle.psu_server.specs.Lines.{Message, is_power}
 use Rattle.psu_server.specs.Lives.{Life, StandsForPrefix, world_of}
 use Rattle.psu_server.specs.Moments.{IsBetween, IsWhile, disk_in}
-use Rattle.psu_server.specs.Progress.{EachMoment, GoesOn, RunsOn}
+use Rattle.psu_server.specs.Progress.{EachMoment, Continues, RunsOn}
 use Rattle.psu_server.specs.Runs.{Mishaps, any, Begins, MessageBegins, MessageRuns, NextBegins, Runs}
 use Rattle.psu_server.proofs.Calls.{begins_all, executes_none, prefix_of_reached}
 use Rattle.psu_server.proofs.OneList.{reached_runs}
 use Rattle.psu_server.proofs.MessageEnds.{line_over}
 use Rattle.psu_server.proofs.Lasting.{lasts_none, lasts_then}
-use Rattle.psu_server.proofs.Moments.{here, leads_none, since_as, since_home, since_then}
+use Rattle.psu_server.proofs.Moments.{here, leads_none, since_as, since_idle, since_then}
 use Rattle.psu_server.proofs.Within.{within_as, within_any, within_here, within_then}
 
 -- ---- messages, one after another
@@ -87,7 +87,7 @@ message_begun can w v Message.Overlong text plain r = (joined r.2, (r.0, r.1, r.
 message_begun can w v (Message.Units bytes) text plain r = (joined r.2, (r.0, r.1, r.2, line_over can w v [] r.2 r.0 r.3, refl))
 
 -- each moment of one message
-pub run_one : {D A : Type 0} {G : Ghosts D} (old new : Exec D A G) (m : Message) (text : List ℕ) → is_power m ≡ false → GoesOn old new (λ can w v. MessageRuns can w m text v) → RunsOn old new (m ∷ []) text
+pub run_one : {D A : Type 0} {G : Ghosts D} (old new : Exec D A G) (m : Message) (text : List ℕ) → is_power m ≡ false → Continues old new (λ can w v. MessageRuns can w m text v) → RunsOn old new (m ∷ []) text
 run_one {D} {A} {G} old new m text plain goes = record {
   runs = λ h life. let g = goes.runs h life in
       let w = world_of life old in
@@ -95,7 +95,7 @@ run_one {D} {A} {G} old new m text plain goes = record {
       let b = message_begun any w v m text plain (within_any _ _ (λ can. MessageRuns can w m text v) g.1) in (
         g.0,
         within_as _ _ (λ can. MessageRuns can w m text v) (λ can. Runs can w (m ∷ []) text v) g.1 (λ can x. runs_one can w v m text x),
-        λ t now r. since_as G (disk_in old.home) (disk_in new.home) (IsBetween w v) (IsWhile w (m ∷ [])) (g.2.time t now r) (λ x between. while_begun w v (m ∷ []) b.0 x (inr b.1) between),
+        λ t now r. since_as G (disk_in old.idle_store) (disk_in new.idle_store) (IsBetween w v) (IsWhile w (m ∷ [])) (g.2.time t now r) (λ x between. while_begun w v (m ∷ []) b.0 x (inr b.1) between),
       );
   lasts = goes.lasts;
 }
@@ -108,7 +108,7 @@ then_moments {D} {A} {G} old mid to xs ys text goes h life more t now r =
     let w = world_of life old in
     let u = world_of g.0 mid in
     let ran = within_any _ _ (λ can. Runs can w xs text u) g.1 in
-    since_then G (disk_in old.home) (disk_in mid.home) to (IsWhile w xs) (IsWhile u ys) (IsWhile w (xs ++ ys)) (g.2 t now r) (more t now (reached_runs xs any w u text ran r))
+    since_then G (disk_in old.idle_store) (disk_in mid.idle_store) to (IsWhile w xs) (IsWhile u ys) (IsWhile w (xs ++ ys)) (g.2 t now r) (more t now (reached_runs xs any w u text ran r))
     (λ x m. while_more w xs ys x m) (λ x m. while_behind w u xs ys text x ran m)
 
 pub runs_none : {D A : Type 0} {G : Ghosts D} (exec : Exec D A G) → RunsOn exec exec [] []
@@ -116,7 +116,7 @@ runs_none exec = record {
   runs = λ h life. (
     life,
     within_here _ (λ can. Runs can (world_of life exec) [] [] (world_of life exec)) (λ can. (refl, refl)),
-    λ t now r. since_home exec.home (IsWhile (world_of life exec) []) now (λ x left. while_here (world_of life exec) [] x (prefix_of_reached (world_of life exec) x r left)),
+    λ t now r. since_idle exec.idle_store (IsWhile (world_of life exec) []) now (λ x left. while_here (world_of life exec) [] x (prefix_of_reached (world_of life exec) x r left)),
   );
   lasts = lasts_none exec;
 }
@@ -127,7 +127,7 @@ runs_all old mid new text more xs ys p q = record {
     k.0,
     within_then _ _ _ (λ can. Runs can (world_of life old) xs text (world_of g.0 mid)) (λ can. Runs can (world_of g.0 mid) ys more (world_of k.0 new)) (λ can. Runs can (world_of life old) (xs ++ ys) (text ++ more) (world_of k.0 new)) g.1 k.1
         (λ can x y. runs_join can (world_of life old) (world_of g.0 mid) (world_of k.0 new) text more xs ys x y),
-    then_moments old mid (disk_in new.home) xs ys text p h life k.2,
+    then_moments old mid (disk_in new.idle_store) xs ys text p h life k.2,
   );
   lasts = lasts_then old mid new p.lasts q.lasts;
 }

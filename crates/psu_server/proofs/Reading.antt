@@ -6,20 +6,20 @@ use Rattle.std.specs.Io.KnownBytes.{Appends, Consumes, IsAtEnd}
 use Rattle.std.specs.Io.{StartsWith}
 use Rattle.std.specs.Option.{ForSome}
 use Rattle.psu_disk.specs.declared.disk.Disk.{Ghosts}
-use Rattle.psu_exec.specs.Jobs.{home_disk}
+use Rattle.psu_exec.specs.Jobs.{idle_disk}
 use Rattle.psu_exec.specs.declared.exec.Exec.{Exec}
 use Rattle.psu_exec.specs.World.{World}
 use Rattle.psu_server.specs.Failures.{extent_of, failures_of}
 use Rattle.psu_server.specs.Lines.{Message, Brings, message_now, messages, coming, has, is_none_begun}
 use Rattle.psu_server.specs.Lives.{disk_at, world_of}
-use Rattle.psu_server.specs.Output.{Says, Telling, WritesShort}
+use Rattle.psu_server.specs.Output.{Says, OutputState, WritesShort}
 use Rattle.psu_server.specs.Reasons.{StopsFor}
 use Rattle.psu_server.specs.declared.run_cause.RunCause.{RunCause}
 use Rattle.psu_server.specs.declared.run_cause.RunCause.TheVariants.{Write}
 use Rattle.psu_server.specs.declared.run_fault.RunFault.{RunFault}
 use Rattle.psu_server.specs.Runs.{Flushes, Runs}
 use Rattle.psu_server.specs.Moments.{IsWhile, Since, disk_in}
-use Rattle.psu_server.specs.Progress.{Answered, Answers, EndsEarly, Fed, GoesOn, RanAll, RunsOn, Stopped, Stops, StopsHere}
+use Rattle.psu_server.specs.Progress.{Answered, Answers, EndsEarly, Fed, Continues, RanAll, RunsOn, Stopped, RunEnds, RunEndsHere}
 use Rattle.psu_server.proofs.Causes.{is_write, never_long}
 use Rattle.psu_server.proofs.Feeding.{FaultOf, flush_moments, stops_now, stops_then}
 use Rattle.psu_server.proofs.Passing.{runs_all, runs_join, runs_none, then_moments}
@@ -27,13 +27,13 @@ use Rattle.psu_server.proofs.Moments.{since_back}
 use Rattle.psu_server.proofs.Lasting.{hands_now, hands_then}
 use Rattle.psu_server.proofs.Fronts.{starts_after, starts_whole}
 use Rattle.psu_server.proofs.Cuts.{coming_end, coming_last, coming_none}
-use Rattle.psu_server.proofs.Telling.{longer}
+use Rattle.psu_server.proofs.OutputState.{longer}
 use Rattle.psu_server.proofs.Within.{within_at, within_then}
 
 -- ---- ends
 
 stops_more : {D A : Type 0} {G : Ghosts D} (long : Type 0) (old mid : Exec D A G) (fault : RunFault D) (xs done rest : List Message) (text more part : List ℕ)
-    → RunsOn old mid xs text → Stops long mid fault done rest more part → Stops long old fault (xs ++ done) rest (text ++ more) part
+    → RunsOn old mid xs text → RunEnds long mid fault done rest more part → RunEnds long old fault (xs ++ done) rest (text ++ more) part
 stops_more {D} {A} {G} long old mid fault xs done rest text more part goes stop = record {
   hands = hands_then old mid fault.disk goes.lasts stop.hands;
   stops = λ h worn life. let g = goes.runs h life in let s = stop.stops h (goes.lasts.worn worn) g.0 in (
@@ -45,7 +45,7 @@ stops_more {D} {A} {G} long old mid fault xs done rest text more part goes stop 
     s.4,
     s.5,
     s.6,
-    λ t now r. subst (λ (m : List Message). Since G (disk_in old.home) (Some fault.disk) (IsWhile (world_of life old) m)) (sym (append_assoc xs done rest))
+    λ t now r. subst (λ (m : List Message). Since G (disk_in old.idle_store) (Some fault.disk) (IsWhile (world_of life old) m)) (sym (append_assoc xs done rest))
         (then_moments old mid (Some fault.disk) xs (done ++ rest) text goes h life s.7 t now r),
   );
 }
@@ -64,7 +64,7 @@ early_here long old fault due w cause f other why = record {
   appends = Appends-nil w;
   starts = refl;
   whole = λ e. refl;
-  missing = λ e. absurd (other (sym f.told ∙ e));
+  missing = λ e. absurd (other (sym f.cause_is ∙ e));
 }
 
 -- after messages that were answered
@@ -202,7 +202,7 @@ ran_all_after {D} {A} {G} s s1 disk due done more text u v w is goes p q = recor
         (λ can x y. (subst (λ (m : List Message). Runs can (world_of life s) m (text ++ q.text) e.0) (sym is) (runs_join can (world_of life s) (world_of g.0 s1) e.0 text q.text done more x y.0), y.1)),
     e.3,
     e.4,
-    λ t now r. subst (λ (m : List Message). Since G (disk_in s.home) (Some disk) (IsWhile (world_of life s) m)) (sym is) (then_moments s s1 (Some disk) done more text goes h life e.5 t now r),
+    λ t now r. subst (λ (m : List Message). Since G (disk_in s.idle_store) (Some disk) (IsWhile (world_of life s) m)) (sym is) (then_moments s s1 (Some disk) done more text goes h life e.5 t now r),
   );
 }
 
@@ -224,12 +224,12 @@ ran_end_front long mid s s1 fault from to next u v w r p e q = (
 )
 
 -- a text that is output to an empty buffer is written once the buffer is
-said_written : (a b : Telling) (text : List ℕ) (v : Option (List ℕ)) → a.gathered ≡ [] → Says a b text → Appends b.written v b.gathered → Appends a.written v text
+said_written : (a b : OutputState) (text : List ℕ) (v : Option (List ℕ)) → a.gathered ≡ [] → Says a b text → Appends b.written v b.gathered → Appends a.written v text
 said_written a b text v none says w =
     subst (λ (z : List ℕ). Appends a.written v z) (says.2 ∙ ap (λ (z : List ℕ). z ++ text) none) (Appends-trans a.written b.written v says.0 b.gathered says.1 w)
 
 -- a proper prefix of the text is written where the writer fails
-said_short : (a b : Telling) (text : List ℕ) (v : Option (List ℕ)) → a.gathered ≡ [] → Says a b text → WritesShort b.written v b.gathered → WritesShort a.written v text
+said_short : (a b : OutputState) (text : List ℕ) (v : Option (List ℕ)) → a.gathered ≡ [] → Says a b text → WritesShort b.written v b.gathered → WritesShort a.written v text
 said_short a b text v none says w =
     let all : says.0 ++ b.gathered ≡ text = says.2 ∙ ap (λ (z : List ℕ). z ++ text) none in (
       says.0 ++ w.0,
@@ -239,12 +239,12 @@ said_short a b text v none says w =
     )
 
 -- the output of a piece is written
-pub fed_written : {D A : Type 0} {G : Ghosts D} (f mid : List ℕ → List Message) (piece : List ℕ) (s s1 : Exec D A G) (a b : Telling) (shown : List ℕ) (v : Option (List ℕ))
+pub fed_written : {D A : Type 0} {G : Ghosts D} (f mid : List ℕ → List Message) (piece : List ℕ) (s s1 : Exec D A G) (a b : OutputState) (shown : List ℕ) (v : Option (List ℕ))
     → Fed f piece mid s s1 a b → a.gathered ≡ [] → shown ≡ b.gathered → Appends b.written v shown → Answered f piece mid s s1 a.written v
 fed_written f mid piece s s1 a b shown v p none d w = (p.0, p.1, said_written a b p.1 v none p.2 (subst (Appends b.written v) d w), p.3, p.4)
 
 early_as : {D A : Type 0} {G : Ghosts D} (s : Exec D A G) (fault : RunFault D) (due done rest : List Message) (text part : List ℕ) (u v : Option (List ℕ)) → due ≡ done ++ rest
-    → Stops ⊥ s fault done rest text part → WritesShort u v (text ++ part) → fault.cause ≡ Write → EndsEarly ⊥ s fault due u v
+    → RunEnds ⊥ s fault done rest text part → WritesShort u v (text ++ part) → fault.cause ≡ Write → EndsEarly ⊥ s fault due u v
 early_as s fault due done rest text part u v is stops w write = record {
   done = done;
   rest = rest;
@@ -260,14 +260,14 @@ early_as s fault due done rest text part u v is stops w write = record {
 }
 
 -- a proper prefix of the output of a piece is written, and the device is the one after the piece
-pub fed_front : {D A : Type 0} {G : Ghosts D} (f mid : List ℕ → List Message) (piece : List ℕ) (s s1 : Exec D A G) (fault : RunFault D) (a b : Telling) (shown : List ℕ) (v : Option (List ℕ))
+pub fed_front : {D A : Type 0} {G : Ghosts D} (f mid : List ℕ → List Message) (piece : List ℕ) (s s1 : Exec D A G) (fault : RunFault D) (a b : OutputState) (shown : List ℕ) (v : Option (List ℕ))
     → Fed f piece mid s s1 a b → a.gathered ≡ [] → shown ≡ b.gathered → WritesShort b.written v shown → FaultOf s1 fault Write → (input : List ℕ) → EndsEarly ⊥ s fault (f (piece ++ input)) a.written v
 fed_front f mid piece s s1 fault a b shown v p none d w at input =
     early_as s fault (f (piece ++ input)) p.0 (mid input) p.1 [] a.written v (p.3 input) (stops_then ⊥ s s1 fault p.0 (mid input) p.1 [] p.4 (stops_now ⊥ s1 fault (mid input) Write at (λ last. tt)))
-    (subst (λ (z : List ℕ). WritesShort a.written v z) (sym (append-nil p.1)) (said_short a b p.1 v none p.2 (subst (WritesShort b.written v) d w))) at.told
+    (subst (λ (z : List ℕ). WritesShort a.written v z) (sym (append-nil p.1)) (said_short a b p.1 v none p.2 (subst (WritesShort b.written v) d w))) at.cause_is
 
 -- a fault in a piece: the output before it is written
-pub stopped_whole : {D A : Type 0} {G : Ghosts D} (f : List ℕ → List Message) (piece : List ℕ) (s : Exec D A G) (fault : RunFault D) (a b : Telling) (shown : List ℕ) (v : Option (List ℕ))
+pub stopped_whole : {D A : Type 0} {G : Ghosts D} (f : List ℕ → List Message) (piece : List ℕ) (s : Exec D A G) (fault : RunFault D) (a b : OutputState) (shown : List ℕ) (v : Option (List ℕ))
     → Stopped f piece s fault a b → a.gathered ≡ [] → fault.cause ≢ Write → shown ≡ b.gathered → Appends b.written v shown → (input : List ℕ) → EndsEarly ⊥ s fault (f (piece ++ input)) a.written v
 stopped_whole f piece s fault a b shown v p none own d w input = record {
   done = p.0;
@@ -284,24 +284,24 @@ stopped_whole f piece s fault a b shown v p none own d w input = record {
 }
 
 -- a fault of the writer in a piece
-pub stopped_short : {D A : Type 0} {G : Ghosts D} (f : List ℕ → List Message) (piece : List ℕ) (s : Exec D A G) (fault : RunFault D) (a b : Telling)
+pub stopped_short : {D A : Type 0} {G : Ghosts D} (f : List ℕ → List Message) (piece : List ℕ) (s : Exec D A G) (fault : RunFault D) (a b : OutputState)
     → Stopped f piece s fault a b → a.gathered ≡ [] → fault.cause ≡ Write → (input : List ℕ) → EndsEarly ⊥ s fault (f (piece ++ input)) a.written b.written
 stopped_short f piece s fault a b p none is input =
     early_as s fault (f (piece ++ input)) p.0 (p.4 input).0 p.1 p.2 a.written b.written (p.4 input).1 (p.4 input).2
     (subst (λ (z : List ℕ). WritesShort a.written b.written (z ++ (p.1 ++ p.2))) none (p.3.missing is)) is
 
 -- a write fault replaces the fault that was to be returned
-write_instead : {D A : Type 0} {G : Ghosts D} (s : Exec D A G) (old fault : RunFault D) (done rest : List Message) (text part : List ℕ) → Stops ⊥ s old done rest text part → fault.cause ≡ Write → fault.disk ≡ old.disk
-    → Stops ⊥ s fault done rest text part
+write_instead : {D A : Type 0} {G : Ghosts D} (s : Exec D A G) (old fault : RunFault D) (done rest : List Message) (text part : List ℕ) → RunEnds ⊥ s old done rest text part → fault.cause ≡ Write → fault.disk ≡ old.disk
+    → RunEnds ⊥ s fault done rest text part
 write_instead {D} {A} {G} s old fault done rest text part p is same =
-    subst (λ (e : D). Stops ⊥ s (record fault { disk = e }) done rest text part) (sym same) (record {
+    subst (λ (e : D). RunEnds ⊥ s (record fault { disk = e }) done rest text part) (sym same) (record {
       hands = p.hands;
       stops = λ h worn life. let q = p.stops h worn life in
           (q.0, q.1, q.2, q.3, q.4, q.5, is_write ⊥ q.2 (Ghosts.failures G old.disk) rest q.1 (Ghosts.state G old.disk).bytes fault.cause is, q.7);
     })
 
 -- a fault in a piece, after which the writer failed
-pub stopped_front : {D A : Type 0} {G : Ghosts D} (f : List ℕ → List Message) (piece : List ℕ) (s : Exec D A G) (old fault : RunFault D) (a b : Telling) (shown : List ℕ) (v : Option (List ℕ))
+pub stopped_front : {D A : Type 0} {G : Ghosts D} (f : List ℕ → List Message) (piece : List ℕ) (s : Exec D A G) (old fault : RunFault D) (a b : OutputState) (shown : List ℕ) (v : Option (List ℕ))
     → Stopped f piece s old a b → a.gathered ≡ [] → old.cause ≢ Write → shown ≡ b.gathered → WritesShort b.written v shown → fault.cause ≡ Write → fault.disk ≡ old.disk → (input : List ℕ)
     → EndsEarly ⊥ s fault (f (piece ++ input)) a.written v
 stopped_front f piece s old fault a b shown v p none own d w is same input =
@@ -342,7 +342,7 @@ answers_none over line s w none = subst (λ (m : List Message). Answers m s s w 
 
 -- responses that are complete, and then a fault
 pub answers_early : {D A : Type 0} {G : Ghosts D} (due : List Message) (s s1 : Exec D A G) (fault : RunFault D) (u v : Option (List ℕ)) → Answers due s s1 u v → fault.cause ≢ Write
-    → StopsHere ⊥ s1 fault [] [] → EndsEarly ⊥ s fault due u v
+    → RunEndsHere ⊥ s1 fault [] [] → EndsEarly ⊥ s fault due u v
 answers_early due s s1 fault u v p other stop = record {
   done = due;
   rest = [];
@@ -358,8 +358,8 @@ answers_early due s s1 fault u v p other stop = record {
 }
 
 -- responses that are complete, and then a flush that leaves nothing unflushed
-pub answers_flushed : {D A : Type 0} {G : Ghosts D} (due : List Message) (s s1 s2 : Exec D A G) (disk : D) (u v : Option (List ℕ)) → Answers due s s1 u v → GoesOn s1 s2 Flushes
-    → s2.device.flush.unflushed ≡ 0 → Ghosts.failures G disk ≡ failures_of s2 → Ghosts.extent G disk ≡ extent_of s2 → Ghosts.state G disk ≡ disk_at s2.home → ForSome s2.home (λ h. disk ≡ home_disk h) → RanAll s due disk u v
+pub answers_flushed : {D A : Type 0} {G : Ghosts D} (due : List Message) (s s1 s2 : Exec D A G) (disk : D) (u v : Option (List ℕ)) → Answers due s s1 u v → Continues s1 s2 Flushes
+    → s2.device.flush.unflushed ≡ 0 → Ghosts.failures G disk ≡ failures_of s2 → Ghosts.extent G disk ≡ extent_of s2 → Ghosts.state G disk ≡ disk_at s2.idle_store → ForSome s2.idle_store (λ h. disk ≡ idle_disk h) → RanAll s due disk u v
 answers_flushed {D} {A} {G} due s s1 s2 disk u v p f clean same size at there = record {
   hands = hands_then s s1 disk p.2.lasts (hands_now s1 s2 disk f.lasts size same);
   text = p.0;
@@ -372,8 +372,8 @@ answers_flushed {D} {A} {G} due s s1 s2 disk u v p f clean same size at there = 
         (λ can. Runs can (world_of life s) due p.0 (world_of g.0 s1) × Flushes can (world_of g.0 s1) (world_of k.0 s2)) g.1 k.1 (λ can x y. (x, y))),
     clean,
     sym at,
-    λ t now r. since_back (disk_in s.home) s2.home disk (IsWhile (world_of life s) due) there
-        (subst (λ (m : List Message). Since G (disk_in s.home) (disk_in s2.home) (IsWhile (world_of life s) m)) (append-nil due)
-        (then_moments s s1 (disk_in s2.home) due [] p.0 p.2 h life (flush_moments s1 s2 [] f h g.0) t now r)),
+    λ t now r. since_back (disk_in s.idle_store) s2.idle_store disk (IsWhile (world_of life s) due) there
+        (subst (λ (m : List Message). Since G (disk_in s.idle_store) (disk_in s2.idle_store) (IsWhile (world_of life s) m)) (append-nil due)
+        (then_moments s s1 (disk_in s2.idle_store) due [] p.0 p.2 h life (flush_moments s1 s2 [] f h g.0) t now r)),
   );
 }

@@ -7,7 +7,7 @@ use Rattle.psu_lex.specs.Syntax.{Datum, Header, IsBefore, IsHeader, Lists, Synta
 use Rattle.psu_lex.specs.declared.data.Data.{Data}
 use Rattle.psu_lex.specs.declared.unit.UnitFault.{UnitFault}
 use Rattle.psu_lex.specs.declared.scpi_error.ScpiError.{ScpiError}
-use Rattle.psu_tree.specs.Path.{path_behind}
+use Rattle.psu_tree.specs.Path.{path_after}
 use Rattle.psu_tree.specs.Reading.{Reads, Moves, Calls, SyntaxReads, SyntaxMoves, SyntaxCalls}
 use Rattle.psu_tree.specs.declared.command.Command.{Command}
 use Rattle.psu_tree.specs.declared.unit_request.MacroCall.{MacroCall}
@@ -35,7 +35,7 @@ one_moved : OneHeader → (path : List (List ℕ)) (given : Result Syntax ScpiEr
     → SyntaxMoves path given reading next → SyntaxMoves path given reading other → next ≡ other
 one_moved header path (Err e) reading next other a b = a ∙ sym b
 one_moved header path (Ok syntax) reading next other (h, is, text, moves) (k, is_too, text_too, moves_too) =
-    moves ∙ ap (λ (z : Header). path_behind (is_ok reading) path z) (header h k is is_too (sym text ∙ text_too)) ∙ sym moves_too
+    moves ∙ ap (λ (z : Header). path_after (is_ok reading) path z) (header h k is is_too (sym text ∙ text_too)) ∙ sym moves_too
 
 -- the path moves in one way
 pub one_move : OneSyntax → OneHeader → OneMove
@@ -46,7 +46,7 @@ one_move syntax header path unit reading next other (given, gives, moves) (given
 some_moved : (path : List (List ℕ)) (given : Result Syntax ScpiError) (reading : Result Command ScpiError) → SyntaxReads path given reading
     → (next : List (List ℕ)) × SyntaxMoves path given reading next
 some_moved path (Err e) reading r = (path, refl)
-some_moved path (Ok syntax) reading (h, is, text, form) = (path_behind (is_ok reading) path h, (h, is, text, refl))
+some_moved path (Ok syntax) reading (h, is, text, form) = (path_after (is_ok reading) path h, (h, is, text, refl))
 
 pub some_move : (path : List (List ℕ)) (unit : Part) (reading : Result Command ScpiError) → Reads path unit reading → (next : List (List ℕ)) × Moves path unit reading next
 some_move path unit reading (given, gives, reads) = let m = some_moved path given reading reads in (m.0, (given, gives, m.1))

@@ -8,7 +8,7 @@ use Rattle.psu_instrument.specs.Macros.{ExpandsAt, written}
 use Rattle.psu_answers.specs.Response.{response}
 use Rattle.psu_exec.specs.Device.{Reply, Done, Answer, Error, Expand, Parked, Held, Later, State, answer_call, answer_meant, called, here, is_later, meant}
 use Rattle.psu_server.specs.Lines.{Message}
-use Rattle.psu_server.specs.Script.{Rest, Went, Spoken, Told, RepliesCalled, RepliesNow, Replies, GoesFrom, Goes, SpeaksInside, SpeaksReply, Speaks, TellsMessage, Scripted, after_reply, flushed, restarted, with_answer}
+use Rattle.psu_server.specs.Script.{Rest, UnitOutcome, Spoken, MessageOutcome, RepliesCalled, RepliesNow, Replies, HasOutcomeFrom, HasOutcome, SpeaksInside, SpeaksReply, Speaks, HasMessageOutcome, Scripted, after_reply, flushed, restarted, with_answer}
 use Rattle.psu_server.proofs.Readings.{SomeReading}
 use Rattle.psu_server.proofs.Scripts.{AllHold, Holds, SomeUnits, asked_hold, message_holds, some_asked, some_asking}
 
@@ -39,7 +39,7 @@ some_now some s request holds false = some_called some s request holds (called s
 some_reply : Somes → (s : State) (request : Request) → Holds request → (reply : Reply) × Replies s request reply
 some_reply some s request holds = some_now some s request holds (is_later s 1 request)
 
-some_from : Somes → (r : Rest) (request : Request) → Holds request → (reply : Reply) → (went : Went) × GoesFrom r request reply went
+some_from : Somes → (r : Rest) (request : Request) → Holds request → (reply : Reply) → (went : UnitOutcome) × HasOutcomeFrom r request reply went
 some_from some r request holds Later =
     let reply = some_reply some (flushed r).state request holds in (after_reply (flushed r) request reply.0, (reply.0, reply.1, refl))
 some_from some r request holds Done = (after_reply r request Done, refl)
@@ -49,7 +49,7 @@ some_from some r request holds (Expand text) = (after_reply r request (Expand te
 some_from some r request holds Parked = (after_reply r request Parked, refl)
 some_from some r request holds Held = (after_reply r request Held, refl)
 
-some_unit : Somes → (r : Rest) (request : Request) → Holds request → (went : Went) × Goes r request went
+some_unit : Somes → (r : Rest) (request : Request) → Holds request → (went : UnitOutcome) × HasOutcome r request went
 some_unit some r request holds =
     let reply = some_reply some r.state request holds in
     let went = some_from some r request holds reply.0 in
@@ -59,14 +59,14 @@ some_inside : Somes → (requests : List Request) (r : Rest) (answers : List (Li
 some_inside some [] r answers hold = (record { rest = r; answers = answers }, refl)
 some_inside some (request ∷ requests) r answers (holds, hold) =
     let went = some_unit some r request holds in
-    let told = some_inside some requests went.0.rest (with_answer answers went.0.reply) hold in
-    (told.0, (went.0, went.1, told.1))
+    let outcome = some_inside some requests went.0.rest (with_answer answers went.0.reply) hold in
+    (outcome.0, (went.0, went.1, outcome.1))
 
 some_told : Somes → (reply : Reply) (r : Rest) (answers : List (List ℕ)) → (spoken : Spoken) × SpeaksReply r answers reply spoken
 some_told some (Expand bytes) r answers =
     let asked = some_asked some.units some.reading true bytes in
-    let told = some_inside some asked.0 r answers (asked_hold true bytes asked.0 asked.1) in
-    (told.0, (asked.0, asked.1, told.1))
+    let outcome = some_inside some asked.0 r answers (asked_hold true bytes asked.0 asked.1) in
+    (outcome.0, (asked.0, asked.1, outcome.1))
 some_told some Done r answers = (record { rest = r; answers = with_answer answers Done }, refl)
 some_told some (Answer a) r answers = (record { rest = r; answers = with_answer answers (Answer a) }, refl)
 some_told some (Error e) r answers = (record { rest = r; answers = with_answer answers (Error e) }, refl)
@@ -79,10 +79,10 @@ some_line some [] r answers hold = (record { rest = r; answers = answers }, refl
 some_line some (request ∷ requests) r answers (holds, hold) =
     let went = some_unit some r request holds in
     let one = some_told some went.0.reply went.0.rest answers in
-    let told = some_line some requests one.0.rest one.0.answers hold in
-    (told.0, (went.0, one.0, went.1, one.1, told.1))
+    let outcome = some_line some requests one.0.rest one.0.answers hold in
+    (outcome.0, (went.0, one.0, went.1, one.1, outcome.1))
 
-some_message : Somes → (m : Message) (requests : List Request) (r : Rest) → AllHold requests → (told : Told) × TellsMessage r m requests told
+some_message : Somes → (m : Message) (requests : List Request) (r : Rest) → AllHold requests → (outcome : MessageOutcome) × HasMessageOutcome r m requests outcome
 some_message some Message.Power requests r hold = (record { rest = restarted r; text = [] }, refl)
 some_message some Message.Overlong requests r hold =
     let all = some_line some requests r [] hold in (record { rest = all.0.rest; text = response all.0.answers }, (all.0, all.1, refl))
@@ -93,6 +93,6 @@ pub some_script : Somes → (ms : List Message) (r : Rest) → (text : List ℕ)
 some_script some [] r = ([], refl)
 some_script some (m ∷ ms) r =
     let asking = some_asking some.units some.reading m in
-    let told = some_message some m asking.0 r (message_holds m asking.0 asking.1) in
-    let rest = some_script some ms told.0.rest in
-    (told.0.text ++ rest.0, (asking.0, told.0, rest.0, asking.1, told.1, rest.1, refl))
+    let outcome = some_message some m asking.0 r (message_holds m asking.0 asking.1) in
+    let rest = some_script some ms outcome.0.rest in
+    (outcome.0.text ++ rest.0, (asking.0, outcome.0, rest.0, asking.1, outcome.1, rest.1, refl))

@@ -3,16 +3,16 @@ use Rattle.std.proofs.Common.{◌≡◌, ◌≢◌, ◌⊎◌, ℕ, zero, suc, �
 use Rattle.std.proofs.lemmas.Bool.Decides.{nat_tests}
 use Rattle.psu_disk.specs.Disk.{DiskState, HasFailed, LeavesOnly}
 use Rattle.psu_items.specs.Finding.{IsOldOrSame}
-use Rattle.psu_exec.specs.Jobs.{home_disk}
+use Rattle.psu_exec.specs.Jobs.{idle_disk}
 use Rattle.psu_disk.specs.Ranges.{reads_left}
 use Rattle.psu_disk.specs.declared.disk.Disk.{Ghosts}
 use Rattle.psu_map.specs.Map.{Item}
-use Rattle.psu_items.specs.Image.{HasReadableRoot, Stands, EachStands, IsRefusal}
+use Rattle.psu_items.specs.Image.{HasReadableRoot, Represents, EachRepresents, IsRefusal}
 use Rattle.psu_pages.specs.declared.open_cause.OpenCause.{OpenCause}
 use Rattle.psu_pages.specs.declared.open_cause.OpenCause.TheVariants as refused
 use Rattle.psu_items.specs.Standing.{MapOn}
-use Rattle.psu_items.proofs.Fitting.{stands_by_version, stands_readable, stands_rooted, stands_within}
-use Rattle.psu_items.proofs.Standing.{one_stands}
+use Rattle.psu_items.proofs.Fitting.{represents_by_version, represents_readable, represents_rooted, represents_within}
+use Rattle.psu_items.proofs.Standing.{represents_one}
 use Rattle.psu_exec.specs.Calls.{Opened, Allows, least_free, opened}
 use Rattle.psu_exec.specs.Consistent.{IsConsistent}
 use Rattle.psu_exec.specs.Device.{State, Flush, is_open, power_on, wait_of}
@@ -20,8 +20,8 @@ use Rattle.psu_nv.specs.Contents.{items_of, IsContents, Contents, cost_of, fits}
 use Rattle.psu_exec.specs.World.{World}
 use Rattle.psu_exec.specs.declared.condition.Condition.TheVariants.{Whole, Worn}
 use Rattle.psu_exec.specs.declared.exec.Exec.{Exec}
-use Rattle.psu_exec.specs.declared.home.Home.{Home}
-use Rattle.psu_exec.specs.declared.home.Home.TheVariants as home
+use Rattle.psu_exec.specs.declared.idle_store.IdleStore.{IdleStore}
+use Rattle.psu_exec.specs.declared.idle_store.IdleStore.TheVariants as idle_store
 use Rattle.psu_exec.specs.declared.power_fault.PowerCause.{PowerCause}
 use Rattle.psu_exec.specs.declared.power_fault.PowerCause.TheVariants as power
 use Rattle.psu_server.specs.declared.run_cause.RunCause.{RunCause}
@@ -62,9 +62,9 @@ is_started s new limit c is t =
       ap (λ (z : State). z.flush.contents) there,
     )
 
-pub powers_on : {D A : Type 0} {G : Ghosts D} (image : List ℕ) (store : MapOn D) (on new : Exec D A G) → Stands image store.limit store.items → EachStands (Ghosts.state G store.disk) store.limit store.items → length (Ghosts.state G store.disk).bytes ≡ length image
-    → on.device ≡ power_on store.limit on.device.flush.contents → items_of on.device.flush.contents ≡ store.items → IsContents on.device.flush.contents → fits store.limit on.device.flush.contents ≡ true → on.home ≡ Some (home.Whole store)
-    → Allows on.device (Opened (Some 1)) new.device → new.home ≡ on.home → PowersOn image (world_of (born new) new)
+pub powers_on : {D A : Type 0} {G : Ghosts D} (image : List ℕ) (store : MapOn D) (on new : Exec D A G) → Represents image store.limit store.items → EachRepresents (Ghosts.state G store.disk) store.limit store.items → length (Ghosts.state G store.disk).bytes ≡ length image
+    → on.device ≡ power_on store.limit on.device.flush.contents → items_of on.device.flush.contents ≡ store.items → IsContents on.device.flush.contents → fits store.limit on.device.flush.contents ≡ true → on.idle_store ≡ Some (idle_store.Whole store)
+    → Allows on.device (Opened (Some 1)) new.device → new.idle_store ≡ on.idle_store → PowersOn image (world_of (born new) new)
 powers_on {D} {A} {G} image store on new stood stands size state found sound fitting there opens same =
     let s = is_started on.device new.device store.limit on.device.flush.contents state opens in
     let limit : on.device.flush.limit ≡ store.limit = ap (λ (z : State). z.flush.limit) state in
@@ -78,30 +78,30 @@ powers_on {D} {A} {G} image store on new stood stands size state found sound fit
         mode = refl;
         sound = sound;
         fitting = subst (λ (n : ℕ). fits n on.device.flush.contents ≡ true) (sym limit) fitting;
-        disk = subst (λ (z : Option (Home D A G)). EachStands (disk_at z) on.device.flush.limit (items_of on.device.flush.contents)) (sym there)
-            (subst (λ (n : ℕ). EachStands (Ghosts.state G store.disk) n (items_of on.device.flush.contents)) (sym limit)
-            (subst (λ (m : List Item). EachStands (Ghosts.state G store.disk) store.limit m) (sym found) stands));
+        disk = subst (λ (z : Option (IdleStore D A G)). EachRepresents (disk_at z) on.device.flush.limit (items_of on.device.flush.contents)) (sym there)
+            (subst (λ (n : ℕ). EachRepresents (Ghosts.state G store.disk) n (items_of on.device.flush.contents)) (sym limit)
+            (subst (λ (m : List Item). EachRepresents (Ghosts.state G store.disk) store.limit m) (sym found) stands));
       };
-      found = subst (λ (n : ℕ). Stands image n (items_of on.device.flush.contents)) (sym limit) (subst (λ (m : List Item). Stands image store.limit m) (sym found) stood);
-      size = subst (λ (z : Option (Home D A G)). length (disk_at z).bytes ≡ length image) (sym there) size;
+      found = subst (λ (n : ℕ). Represents image n (items_of on.device.flush.contents)) (sym limit) (subst (λ (m : List Item). Represents image store.limit m) (sym found) stood);
+      size = subst (λ (z : Option (IdleStore D A G)). length (disk_at z).bytes ≡ length image) (sym there) size;
       opens = called on new (born on) (Opened (Some 1)) opens same (λ d e. e);
     })
 
--- the store at home is the one that was opened
-pub opened_moments : {D A : Type 0} {G : Ghosts D} (given : D) (store : MapOn D) (there : Home D A G) (new : Exec D A G) → new.home ≡ Some (home.Whole store) → new.home ≡ Some there
-    → LeavesOnly (Ghosts.moment G) (Ghosts.left_since G) given store.disk (IsOldOrSame (Ghosts.state G given)) → LeavesOnly (Ghosts.moment G) (Ghosts.left_since G) given (home_disk there) (IsOldOrSame (Ghosts.state G given))
+-- the idle store is the one that was opened
+pub opened_moments : {D A : Type 0} {G : Ghosts D} (given : D) (store : MapOn D) (there : IdleStore D A G) (new : Exec D A G) → new.idle_store ≡ Some (idle_store.Whole store) → new.idle_store ≡ Some there
+    → LeavesOnly (Ghosts.moment G) (Ghosts.left_since G) given store.disk (IsOldOrSame (Ghosts.state G given)) → LeavesOnly (Ghosts.moment G) (Ghosts.left_since G) given (idle_disk there) (IsOldOrSame (Ghosts.state G given))
 opened_moments {D} {A} {G} given store there new is at time =
-    subst (λ (z : Home D A G). LeavesOnly (Ghosts.moment G) (Ghosts.left_since G) given (home_disk z) (IsOldOrSame (Ghosts.state G given))) (one (home.Whole store) there (sym is ∙ at)) time
+    subst (λ (z : IdleStore D A G). LeavesOnly (Ghosts.moment G) (Ghosts.left_since G) given (idle_disk z) (IsOldOrSame (Ghosts.state G given))) (one (idle_store.Whole store) there (sym is ∙ at)) time
   where
-    one : (a b : Home D A G) → Some a ≡ Some b → a ≡ b
+    one : (a b : IdleStore D A G) → Some a ≡ Some b → a ≡ b
     one a b e = cc
 
 -- ---- the end of a device
 
--- the store at home is whole, and its number the last, where it is worn
-pub worn_number : {D A : Type 0} {G : Ghosts D} (exec : Exec D A G) (store : MapOn D) → exec.home ≡ Some (home.Whole store) → IsWornAtLast exec → exec.device.flush.store ≡ Worn
+-- the idle store is whole, and its number the last, where it is worn
+pub worn_number : {D A : Type 0} {G : Ghosts D} (exec : Exec D A G) (store : MapOn D) → exec.idle_store ≡ Some (idle_store.Whole store) → IsWornAtLast exec → exec.device.flush.store ≡ Worn
     → 2 ^ 64 ≤ store.number + 1
-worn_number exec store there why worn = why (home.Whole store) there worn
+worn_number exec store there why worn = why (idle_store.Whole store) there worn
 
 -- ---- why a disk doesn't power on
 
@@ -118,20 +118,20 @@ pub not_opened : (cause : OpenCause) (told : RunCause) (image : List ℕ) (befor
 not_opened cause told image before now why failed quiet memory is =
     subst (λ (t : RunCause). NotStarted image before now t) (sym is) (opened_not cause image before now why failed quiet memory)
 
-powered_not : (cause : PowerCause) (image : List ℕ) (before now limit : ℕ) (map : List Item) → Stands image limit map → now ≡ before
+powered_not : (cause : PowerCause) (image : List ℕ) (before now limit : ℕ) (map : List Item) → Represents image limit map → now ≡ before
     → (cause ≡ power.BadItems → (c : Contents) → IsContents c → fits limit c ≡ true → items_of c ≡ map → ⊥) → NotStarted image before now (cause_of_power cause)
 powered_not power.BadItems image before now limit map stands quiet bad = record { limit = limit; map = map; stands = stands; none = bad refl }
-powered_not power.Memory image before now limit map stands quiet bad = (quiet, stands_readable image limit map stands)
+powered_not power.Memory image before now limit map stands quiet bad = (quiet, represents_readable image limit map stands)
 
-pub not_powered : (cause : PowerCause) (told : RunCause) (image : List ℕ) (before now limit : ℕ) (map : List Item) → Stands image limit map → now ≡ before
+pub not_powered : (cause : PowerCause) (told : RunCause) (image : List ℕ) (before now limit : ℕ) (map : List Item) → Represents image limit map → now ≡ before
     → (cause ≡ power.BadItems → (c : Contents) → IsContents c → fits limit c ≡ true → items_of c ≡ map → ⊥) → told ≡ cause_of_power cause → NotStarted image before now told
 not_powered cause told image before now limit map stands quiet bad is =
     subst (λ (t : RunCause). NotStarted image before now t) (sym is) (powered_not cause image before now limit map stands quiet bad)
 
 -- contents that an image represents fit
-fits_on : (image : List ℕ) (limit : ℕ) (contents : Contents) → IsContents contents → Stands image limit (items_of contents) → fits limit contents ≡ true
+fits_on : (image : List ℕ) (limit : ℕ) (contents : Contents) → IsContents contents → Represents image limit (items_of contents) → fits limit contents ≡ true
 fits_on image limit contents sound stands =
-    let cheap = stands_within image limit (items_of contents) stands in
+    let cheap = represents_within image limit (items_of contents) stands in
     let few = sound.most_macros in
     let one : nat_le (cost_of contents) limit ≡ true = grind (arith, nat_tests, cheap) in
     let two : nat_le (length contents.macros) 32 ≡ true = grind (arith, nat_tests, few) in
@@ -139,13 +139,13 @@ fits_on image limit contents sound stands =
 
 -- an image that represents contents powers on, unless a call failed or memory ran out
 stands_stops : (long : Type 0) (before now : ℕ) (rest : List Message) (last : World) (image left : List ℕ) (limit : ℕ) (contents : Contents) (cause : RunCause) → IsContents contents
-    → Stands image limit (items_of contents) → NotStarted image before now cause → StopsFor long before now (Message.Power ∷ rest) last left cause
+    → Represents image limit (items_of contents) → NotStarted image before now cause → StopsFor long before now (Message.Power ∷ rest) last left cause
 stands_stops long before now rest last image left limit contents (Open start.Device) sound stands why = (tt, why)
-stands_stops long before now rest last image left limit contents (Open start.NoRoot) sound stands why = absurd (stands_rooted image limit (items_of contents) stands why)
-stands_stops long before now rest last image left limit contents (Open start.BadRoot) sound stands why = absurd (why.none_stands limit (items_of contents) stands)
-stands_stops long before now rest last image left limit contents (Open start.BadVersion) sound stands why = absurd (stands_by_version image limit (items_of contents) stands why)
+stands_stops long before now rest last image left limit contents (Open start.NoRoot) sound stands why = absurd (represents_rooted image limit (items_of contents) stands why)
+stands_stops long before now rest last image left limit contents (Open start.BadRoot) sound stands why = absurd (why.represents_none limit (items_of contents) stands)
+stands_stops long before now rest last image left limit contents (Open start.BadVersion) sound stands why = absurd (represents_by_version image limit (items_of contents) stands why)
 stands_stops long before now rest last image left limit contents (Open start.BadItems) sound stands why =
-    let one = one_stands limit why.limit (items_of contents) why.map image stands why.stands in
+    let one = represents_one limit why.limit (items_of contents) why.map image stands why.stands in
     absurd (why.none contents sound (subst (λ (n : ℕ). fits n contents ≡ true) one.0 (fits_on image limit contents sound stands)) one.1)
 stands_stops long before now rest last image left limit contents Read sound stands why = tt
 stands_stops long before now rest last image left limit contents Write sound stands why = tt
@@ -168,10 +168,10 @@ stops_since long since before now rest last left TooLong later why = why
 stops_since long since before now rest last left Memory later why = why
 
 pub restart_stops : (long : Type 0) (since before now : ℕ) (rest : List Message) (last : World) (disk : DiskState) (left : List ℕ) (cause : RunCause) (f : Flush) → since ≤ before → IsConsistent f
-    → EachStands disk f.limit f.before → NotStarted disk.bytes before now cause → StopsFor long since now (Message.Power ∷ rest) last left cause
+    → EachRepresents disk f.limit f.before → NotStarted disk.bytes before now cause → StopsFor long since now (Message.Power ∷ rest) last left cause
 restart_stops long since before now rest last disk left cause f later c stands why =
     stops_since long since before now (Message.Power ∷ rest) last left cause later
-    (stands_stops long before now rest last disk.bytes left f.limit c.first cause (sound_first f.limit c.first c.rest c.sound).sound (subst (λ (m : List Item). Stands disk.bytes f.limit m) c.first_map (stands disk.bytes (reads_left disk))) why)
+    (stands_stops long before now rest last disk.bytes left f.limit c.first cause (sound_first f.limit c.first c.rest c.sound).sound (subst (λ (m : List Item). Represents disk.bytes f.limit m) c.first_map (stands disk.bytes (reads_left disk))) why)
 
 -- ---- a fault of the device, according to its disk
 

@@ -14,7 +14,7 @@ use Rattle.psu_exec.specs.declared.wait.Wait.{Wait}
 use Rattle.psu_exec.specs.declared.wait.Wait.TheVariants.{Until, CutOff}
 use Rattle.psu_server.specs.Failures.{failures_of}
 use Rattle.psu_server.specs.Lives.{Life, lived, world_of, Calls}
-use Rattle.psu_server.specs.Progress.{Acted, GoesOn, Halts, Lasts, Spans, WaitEnds}
+use Rattle.psu_server.specs.Progress.{Acted, Continues, DeviceStops, Lasts, Spans, WaitEnds}
 use Rattle.psu_server.specs.Reasons.{IsHaltedBy}
 use Rattle.psu_server.specs.Runs.{Mishaps, Acts, Flushes, IsMeant, UnitRuns, is_final, is_later, is_out_of_memory, is_parked}
 use Rattle.psu_server.specs.declared.run_cause.RunCause.{RunCause}
@@ -32,7 +32,7 @@ pub record HasExecuted {D A : Type 0} {G : Ghosts D} (old new : Exec D A G) (req
   pub calls : Ghosts.honest G → (life : Life) → (next : Life) × Executes (world_of life old) requests (world_of next new) × Spans old new (world_of life old) (world_of next new)
   pub lasts : Lasts old new
 
-pub has_executed : {D A : Type 0} {G : Ghosts D} (old new : Exec D A G) (requests : List Request) (P : Mishaps → World → World → Type 0) → GoesOn old new P
+pub has_executed : {D A : Type 0} {G : Ghosts D} (old new : Exec D A G) (requests : List Request) (P : Mishaps → World → World → Type 0) → Continues old new P
     → ((can : Mishaps) (w v : World) → P can w v → Executes w requests v) → HasExecuted old new requests
 has_executed old new requests P goes turn = record {
   calls = λ h life. let g = goes.runs h life in (g.0, turn g.1.0 (world_of life old) (world_of g.0 new) (within_itself _ _ (λ can. P can (world_of life old) (world_of g.0 new)) g.1), g.2);
@@ -47,7 +47,7 @@ executed_join old mid new xs ys p q = record {
 
 -- a stop after what was executed
 pub halts_here : {D A : Type 0} {G : Ghosts D} (old new : Exec D A G) (done more : List Request) (cause : RunCause) → HasExecuted old new done
-    → (Ghosts.honest G → IsHaltedBy old new cause) → cause ≢ Write → Halts old new (done ++ more) cause
+    → (Ghosts.honest G → IsHaltedBy old new cause) → cause ≢ Write → DeviceStops old new (done ++ more) cause
 halts_here old new done more cause p why own = record {
   begun = λ h life. let g = p.calls h life in (g.0, begins_more _ _ done more (begins_all _ _ done g.1), g.2);
   lasts = p.lasts;
@@ -64,8 +64,8 @@ halted_since old mid new Read lasts w = absurd w
 halted_since old mid new Write lasts w = tt
 halted_since old mid new TooLong lasts w = absurd w
 
-pub halts_after : {D A : Type 0} {G : Ghosts D} (old mid new : Exec D A G) (done rest : List Request) (cause : RunCause) → HasExecuted old mid done → Halts mid new rest cause
-    → Halts old new (done ++ rest) cause
+pub halts_after : {D A : Type 0} {G : Ghosts D} (old mid new : Exec D A G) (done rest : List Request) (cause : RunCause) → HasExecuted old mid done → DeviceStops mid new rest cause
+    → DeviceStops old new (done ++ rest) cause
 halts_after old mid new done rest cause p s = record {
   begun = λ h life. let g = p.calls h life in let k = s.begun h g.0 in (k.0, begins_then (world_of life old) (world_of g.0 mid) (world_of k.0 new) done rest g.1 k.1, spans_then old mid new _ _ _ g.2 k.2);
   lasts = lasts_then old mid new p.lasts s.lasts;
@@ -73,7 +73,7 @@ halts_after old mid new done rest cause p s = record {
   own = s.own;
 }
 
-pub halts_more : {D A : Type 0} {G : Ghosts D} (old new : Exec D A G) (some more : List Request) (cause : RunCause) → Halts old new some cause → Halts old new (some ++ more) cause
+pub halts_more : {D A : Type 0} {G : Ghosts D} (old new : Exec D A G) (some more : List Request) (cause : RunCause) → DeviceStops old new some cause → DeviceStops old new (some ++ more) cause
 halts_more old new some more cause s = record {
   begun = λ h life. let k = s.begun h life in (k.0, begins_more _ _ some more k.1, k.2);
   lasts = s.lasts;
@@ -82,13 +82,13 @@ halts_more old new some more cause s = record {
 }
 
 -- an out-of-memory fault
-pub halts_for_memory : {D A : Type 0} {G : Ghosts D} (old new : Exec D A G) (done more : List Request) → HasExecuted old new done → Halts old new (done ++ more) Memory
+pub halts_for_memory : {D A : Type 0} {G : Ghosts D} (old new : Exec D A G) (done more : List Request) → HasExecuted old new done → DeviceStops old new (done ++ more) Memory
 halts_for_memory old new done more p = halts_here old new done more Memory p (λ h. tt) (λ e. cc)
 
 -- ---- calls after which the device continues
 
-pub settled_goes : {D A : Type 0} {G : Ghosts D} (old new : Exec D A G) (reply : Reply) → Allows old.device (Settled 1 reply) new.device → new.home ≡ old.home
-    → GoesOn old new (λ can w v. Calls w (Settled 1 reply) v)
+pub settled_goes : {D A : Type 0} {G : Ghosts D} (old new : Exec D A G) (reply : Reply) → Allows old.device (Settled 1 reply) new.device → new.idle_store ≡ old.idle_store
+    → Continues old new (λ can w v. Calls w (Settled 1 reply) v)
 settled_goes old new reply t there = record {
   runs = λ h life. (
     lived life old.device (Settled 1 reply),
@@ -99,7 +99,7 @@ settled_goes old new reply t there = record {
   lasts = lasts_same old new (settle_store old.device new.device reply t).0 there;
 }
 
-pub cleared_goes : {D A : Type 0} {G : Ghosts D} (old new : Exec D A G) → Allows old.device (Cleared 1) new.device → new.home ≡ old.home → GoesOn old new (λ can w v. Calls w (Cleared 1) v)
+pub cleared_goes : {D A : Type 0} {G : Ghosts D} (old new : Exec D A G) → Allows old.device (Cleared 1) new.device → new.idle_store ≡ old.idle_store → Continues old new (λ can w v. Calls w (Cleared 1) v)
 cleared_goes old new t there = record {
   runs = λ h life. (
     lived life old.device (Cleared 1),
@@ -124,8 +124,8 @@ meant can (Expand text) h = λ e. cc
 meant can Later h = λ e. cc
 
 -- a unit that is executed, given what was refused for it
-pub executed_goes : {D A : Type 0} {G : Ghosts D} (old new : Exec D A G) (request : Request) (reply : Reply) → Allows old.device (Executed 1 request reply) new.device → new.home ≡ old.home
-    → GoesOn old new (λ can w v. IsMeant can reply × Calls w (Executed 1 request reply) v)
+pub executed_goes : {D A : Type 0} {G : Ghosts D} (old new : Exec D A G) (request : Request) (reply : Reply) → Allows old.device (Executed 1 request reply) new.device → new.idle_store ≡ old.idle_store
+    → Continues old new (λ can w v. IsMeant can reply × Calls w (Executed 1 request reply) v)
 executed_goes old new request reply t there = record {
   runs = λ h life. (
     lived life old.device (Executed 1 request reply),
@@ -136,8 +136,8 @@ executed_goes old new request reply t there = record {
   lasts = lasts_same old new (ap (λ (s : State). s.flush.store) t.1.is) there;
 }
 
-pub goes_then : {D A : Type 0} {G : Ghosts D} (old mid new : Exec D A G) (P Q R : Mishaps → World → World → Type 0) → GoesOn old mid P → GoesOn mid new Q
-    → ((can : Mishaps) (w u v : World) → P can w u → Q can u v → R can w v) → GoesOn old new R
+pub goes_then : {D A : Type 0} {G : Ghosts D} (old mid new : Exec D A G) (P Q R : Mishaps → World → World → Type 0) → Continues old mid P → Continues mid new Q
+    → ((can : Mishaps) (w u v : World) → P can w u → Q can u v → R can w v) → Continues old new R
 goes_then old mid new P Q R p q join = record {
   runs = λ h life. let g = p.runs h life in let k = q.runs h g.0 in (
     k.0,
@@ -148,7 +148,7 @@ goes_then old mid new P Q R p q join = record {
   lasts = lasts_then old mid new p.lasts q.lasts;
 }
 
-pub goes_as : {D A : Type 0} {G : Ghosts D} (old new : Exec D A G) (P R : Mishaps → World → World → Type 0) → GoesOn old new P → ((can : Mishaps) (w v : World) → P can w v → R can w v) → GoesOn old new R
+pub goes_as : {D A : Type 0} {G : Ghosts D} (old new : Exec D A G) (P R : Mishaps → World → World → Type 0) → Continues old new P → ((can : Mishaps) (w v : World) → P can w v → R can w v) → Continues old new R
 goes_as old new P R p turn = record {
   runs = λ h life. let g = p.runs h life in (
     g.0,
@@ -160,13 +160,13 @@ goes_as old new P R p turn = record {
 
 -- ---- waits
 
-pub wait_ends : {D A : Type 0} {G : Ghosts D} (old mid new : Exec D A G) (reply : Reply) → GoesOn old mid Flushes → Allows mid.device (Settled 1 reply) new.device → new.home ≡ mid.home
-    → GoesOn old new (WaitEnds reply)
+pub wait_ends : {D A : Type 0} {G : Ghosts D} (old mid new : Exec D A G) (reply : Reply) → Continues old mid Flushes → Allows mid.device (Settled 1 reply) new.device → new.idle_store ≡ mid.idle_store
+    → Continues old new (WaitEnds reply)
 wait_ends old mid new reply f t there =
     goes_then old mid new Flushes (λ can w v. Calls w (Settled 1 reply) v) (WaitEnds reply) f (settled_goes mid new reply t there) (λ can w u v x y. (u, x, y))
 
 -- a flush, and a settle
-pub flush_settles : {D A : Type 0} {G : Ghosts D} (old mid new : Exec D A G) (reply : Reply) → GoesOn old mid Flushes → Allows mid.device (Settled 1 reply) new.device → new.home ≡ mid.home
+pub flush_settles : {D A : Type 0} {G : Ghosts D} (old mid new : Exec D A G) (reply : Reply) → Continues old mid Flushes → Allows mid.device (Settled 1 reply) new.device → new.idle_store ≡ mid.idle_store
     → HasExecuted old new []
 flush_settles old mid new reply f t there =
     has_executed old new [] (WaitEnds reply) (wait_ends old mid new reply f t there)
@@ -187,7 +187,7 @@ still_parked : (s new : State) (reply : Reply) → Allows s (Settled 1 reply) ne
 still_parked s new reply (opened, inl may, is) final = may ∙ is_waiting (wait_of s.flush 1) (ap is_final (sym may) ∙ final)
 still_parked s new reply (opened, inr may, is) final = let bad = ap is_final (sym may.0) ∙ final in cc
 
-pub waiting_halted : {D A : Type 0} {G : Ghosts D} (old mid new : Exec D A G) (reply : Reply) → Allows mid.device (Settled 1 reply) new.device → new.home ≡ mid.home
+pub waiting_halted : {D A : Type 0} {G : Ghosts D} (old mid new : Exec D A G) (reply : Reply) → Allows mid.device (Settled 1 reply) new.device → new.idle_store ≡ mid.idle_store
     → HasFailed (failures_of old) (failures_of mid) ⊎ (mid.device.flush.store ≡ Worn) ⊎ (mid.device.flush.unflushed ≡ 0) → is_final reply ≡ false → (reply ≡ Parked → 0 < mid.device.flush.unflushed)
     → IsHaltedBy old new Device
 waiting_halted old mid new reply t there clean final parked =
@@ -198,8 +198,8 @@ waiting_halted old mid new reply t there clean final parked =
     (λ rest. ⊎_elim (λ worn. inr (kept.0 ∙ worn, omega (arith, some, left))) (λ none. absurd (omega (arith, some, none))) rest) clean
 
 -- the session no longer waits
-pub halts_cleared : {D A : Type 0} {G : Ghosts D} (old mid new : Exec D A G) (cause : RunCause) → Halts old mid [] cause → Allows mid.device (Cleared 1) new.device → new.home ≡ mid.home
-    → Halts old new [] cause
+pub halts_cleared : {D A : Type 0} {G : Ghosts D} (old mid new : Exec D A G) (cause : RunCause) → DeviceStops old mid [] cause → Allows mid.device (Cleared 1) new.device → new.idle_store ≡ mid.idle_store
+    → DeviceStops old new [] cause
 halts_cleared old mid new cause s t there =
     let c = cleared_goes mid new t there in record {
       begun = λ h life. let k = s.begun h life in let n = c.runs h k.0 in
@@ -232,8 +232,8 @@ acts_at can (Expand text) w v request shut free (m, c) = inr (refl, inl (m, c))
 acts_at can Parked w v request shut free (m, c) = cc
 acts_at can Held w v request shut free (m, c) = absurd (free refl)
 
-pub acted_now : {D A : Type 0} {G : Ghosts D} (old new : Exec D A G) (request : Request) (reply : Reply) → Allows old.device (Executed 1 request reply) new.device → new.home ≡ old.home
-    → is_parked reply ≡ false → reply ≢ Held → GoesOn old new (Acted request reply)
+pub acted_now : {D A : Type 0} {G : Ghosts D} (old new : Exec D A G) (request : Request) (reply : Reply) → Allows old.device (Executed 1 request reply) new.device → new.idle_store ≡ old.idle_store
+    → is_parked reply ≡ false → reply ≢ Held → Continues old new (Acted request reply)
 acted_now old new request reply t there shut free =
     goes_as old new (λ can w v. IsMeant can reply × Calls w (Executed 1 request reply) v) (Acted request reply) (executed_goes old new request reply t there)
     (λ can w v x. acts_at can reply w v request shut free x)
@@ -247,16 +247,16 @@ parked_call w v request Held e c = cc
 parked_call w v request Later e c = cc
 parked_call w v request (Expand text) e c = cc
 
-pub acted_waited : {D A : Type 0} {G : Ghosts D} (old mid new : Exec D A G) (request : Request) (first reply : Reply) → Allows old.device (Executed 1 request first) mid.device → mid.home ≡ old.home
-    → is_parked first ≡ true → GoesOn mid new (WaitEnds reply) → is_final reply ≡ true → is_out_of_memory reply ≡ false → GoesOn old new (Acted request reply)
+pub acted_waited : {D A : Type 0} {G : Ghosts D} (old mid new : Exec D A G) (request : Request) (first reply : Reply) → Allows old.device (Executed 1 request first) mid.device → mid.idle_store ≡ old.idle_store
+    → is_parked first ≡ true → Continues mid new (WaitEnds reply) → is_final reply ≡ true → is_out_of_memory reply ≡ false → Continues old new (Acted request reply)
 acted_waited old mid new request first reply t there parked ends final long =
     goes_then old mid new (λ can w v. IsMeant can first × Calls w (Executed 1 request first) v) (WaitEnds reply) (Acted request reply) (executed_goes old mid request first t there) ends
     (λ can w u v x y. inr (final, inr (long, u, y.0, parked_call w u request first parked x.1, y.1, y.2)))
 
-pub parked_halts : {D A : Type 0} {G : Ghosts D} (old mid new : Exec D A G) (request : Request) (first : Reply) (cause : RunCause) → Allows old.device (Executed 1 request first) mid.device → mid.home ≡ old.home
-    → is_parked first ≡ true → Halts mid new [] cause → Halts old new (request ∷ []) cause
+pub parked_halts : {D A : Type 0} {G : Ghosts D} (old mid new : Exec D A G) (request : Request) (first : Reply) (cause : RunCause) → Allows old.device (Executed 1 request first) mid.device → mid.idle_store ≡ old.idle_store
+    → is_parked first ≡ true → DeviceStops mid new [] cause → DeviceStops old new (request ∷ []) cause
 parked_halts old mid new request first cause t there parked s =
-    subst (λ (z : List Request). Halts old new z cause) (append-nil (request ∷ [])) (halts_after old mid new (request ∷ []) [] cause
+    subst (λ (z : List Request). DeviceStops old new z cause) (append-nil (request ∷ [])) (halts_after old mid new (request ∷ []) [] cause
     (has_executed old mid (request ∷ []) (λ can w v. IsMeant can first × Calls w (Executed 1 request first) v) (executed_goes old mid request first t there)
     (λ can w v x. executes_one w (Executed 1 request Parked) v (parked_call w v request first parked x.1))) s)
 
@@ -264,8 +264,8 @@ unit_at : (can : Mishaps) (reply : Reply) (w v : World) (request : Request) → 
 unit_at can reply w v request over (inl l) = let is = l.0 in cc
 unit_at can reply w v request over (inr r) = inl r
 
-pub unit_now : {D A : Type 0} {G : Ghosts D} (old new : Exec D A G) (request : Request) (reply : Reply) → GoesOn old new (Acted request reply) → is_later reply ≡ false
-    → GoesOn old new (λ can w v. UnitRuns can w request reply v)
+pub unit_now : {D A : Type 0} {G : Ghosts D} (old new : Exec D A G) (request : Request) (reply : Reply) → Continues old new (Acted request reply) → is_later reply ≡ false
+    → Continues old new (λ can w v. UnitRuns can w request reply v)
 unit_now old new request reply a over = goes_as old new (Acted request reply) (λ can w v. UnitRuns can w request reply v) a (λ can w v x. unit_at can reply w v request over x)
 
 -- a unit whose reply is `Later` is that one call
@@ -282,8 +282,8 @@ late_call can (Expand text) w v request late (inr r) = cc
 abbrev AfterLate : Request → Mishaps → World → World → Type 0
 AfterLate request can w v = (late : World) × Calls w (Executed 1 request Later) late × Flushes can late v
 
-late_flush : {D A : Type 0} {G : Ghosts D} (old mid over : Exec D A G) (request : Request) (first : Reply) → GoesOn old mid (Acted request first) → is_later first ≡ true
-    → GoesOn mid over Flushes → GoesOn old over (AfterLate request)
+late_flush : {D A : Type 0} {G : Ghosts D} (old mid over : Exec D A G) (request : Request) (first : Reply) → Continues old mid (Acted request first) → is_later first ≡ true
+    → Continues mid over Flushes → Continues old over (AfterLate request)
 late_flush old mid over request first a late f =
     goes_then old mid over (Acted request first) Flushes (AfterLate request) a f (λ can w u v x y. (u, late_call can first w u request late x, y))
 
@@ -291,24 +291,24 @@ acts_late : (can : Mishaps) (reply : Reply) (w v : World) (request : Request) �
 acts_late can reply w v request over (inl l) = let is = l.0 in cc
 acts_late can reply w v request over (inr r) = r
 
-pub unit_later : {D A : Type 0} {G : Ghosts D} (old mid over new : Exec D A G) (request : Request) (first reply : Reply) → GoesOn old mid (Acted request first) → is_later first ≡ true
-    → GoesOn mid over Flushes → GoesOn over new (Acted request reply) → is_later reply ≡ false → GoesOn old new (λ can w v. UnitRuns can w request reply v)
+pub unit_later : {D A : Type 0} {G : Ghosts D} (old mid over new : Exec D A G) (request : Request) (first reply : Reply) → Continues old mid (Acted request first) → is_later first ≡ true
+    → Continues mid over Flushes → Continues over new (Acted request reply) → is_later reply ≡ false → Continues old new (λ can w v. UnitRuns can w request reply v)
 unit_later old mid over new request first reply a late f b done =
     goes_then old over new (AfterLate request) (Acted request reply) (λ can w v. UnitRuns can w request reply v) (late_flush old mid over request first a late f) b
     (λ can w u v x y. inr (x.0, u, x.1, x.2, acts_late can reply u v request done y))
 
-pub late_executed : {D A : Type 0} {G : Ghosts D} (old mid over : Exec D A G) (request : Request) (first : Reply) → GoesOn old mid (Acted request first) → is_later first ≡ true
-    → GoesOn mid over Flushes → HasExecuted old over []
+pub late_executed : {D A : Type 0} {G : Ghosts D} (old mid over : Exec D A G) (request : Request) (first : Reply) → Continues old mid (Acted request first) → is_later first ≡ true
+    → Continues mid over Flushes → HasExecuted old over []
 late_executed old mid over request first a late f =
     has_executed old over [] (AfterLate request) (late_flush old mid over request first a late f)
     (λ can w v x. executes_join w x.0 v [] [] (executes_one w (Executed 1 request Later) x.0 x.1) (flush_calls can x.0 v x.2))
 
-pub late_halts : {D A : Type 0} {G : Ghosts D} (old mid over : Exec D A G) (request : Request) (first : Reply) (cause : RunCause) → GoesOn old mid (Acted request first) → is_later first ≡ true
-    → Halts mid over [] cause → Halts old over (request ∷ []) cause
+pub late_halts : {D A : Type 0} {G : Ghosts D} (old mid over : Exec D A G) (request : Request) (first : Reply) (cause : RunCause) → Continues old mid (Acted request first) → is_later first ≡ true
+    → DeviceStops mid over [] cause → DeviceStops old over (request ∷ []) cause
 late_halts old mid over request first cause a late s =
     halts_more old over [] (request ∷ []) cause (halts_after old mid over [] [] cause
     (has_executed old mid [] (Acted request first) a (λ can w v x. executes_one w (Executed 1 request Later) v (late_call can first w v request late x))) s)
 
-pub later_halts : {D A : Type 0} {G : Ghosts D} (old mid over new : Exec D A G) (request : Request) (first : Reply) (cause : RunCause) → GoesOn old mid (Acted request first) → is_later first ≡ true
-    → GoesOn mid over Flushes → Halts over new (request ∷ []) cause → Halts old new (request ∷ []) cause
+pub later_halts : {D A : Type 0} {G : Ghosts D} (old mid over new : Exec D A G) (request : Request) (first : Reply) (cause : RunCause) → Continues old mid (Acted request first) → is_later first ≡ true
+    → Continues mid over Flushes → DeviceStops over new (request ∷ []) cause → DeviceStops old new (request ∷ []) cause
 later_halts old mid over new request first cause a late f s = halts_after old over new [] (request ∷ []) cause (late_executed old mid over request first a late f) s

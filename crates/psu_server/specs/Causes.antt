@@ -2,7 +2,7 @@
 use Rattle.std.specs.Prelude.{◌≡◌, ℕ, ◌+◌, ◌≤◌, ◌^◌, List, Option, Some, None}
 use Rattle.psu_disk.specs.Disk.{HasFailed}
 use Rattle.psu_map.specs.Map.{Item}
-use Rattle.psu_items.specs.Image.{counting, number_in, Stands, HasNoRoot, HasBadRoot, HasOtherVersion, HasReadableRoot}
+use Rattle.psu_items.specs.Image.{current_root, number_in, Represents, HasNoRoot, HasBadRoot, HasOtherVersion, HasReadableRoot}
 use Rattle.psu_pages.specs.declared.open_cause.OpenCause.{OpenCause}
 use Rattle.psu_exec.specs.Headline.{AreBad}
 use Rattle.psu_exec.specs.Starts.{start_of_opening, start_of_power_on}
@@ -27,7 +27,7 @@ cause_of_power cause = cause_of_start (start_of_power_on cause)
 pub record HasBadItems (image : List ℕ) : Type 0 where
   pub limit : ℕ
   pub map : List Item
-  pub stands : Stands image limit map
+  pub stands : Represents image limit map
   pub none : AreBad limit map
 
 -- A disk with this image does not power on for this cause. A failed call says nothing about the image. Out of memory is
@@ -46,4 +46,4 @@ NotStarted image before now Memory = (now ≡ before) × HasReadableRoot image
 
 -- the current root has the last number, so no number is left for a commit
 abbrev pub IsWornOut : List ℕ → Type 0
-IsWornOut image = 2 ^ 64 ≤ number_in (counting image) image + 1
+IsWornOut image = 2 ^ 64 ≤ number_in (current_root image) image + 1

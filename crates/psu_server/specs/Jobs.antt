@@ -11,8 +11,8 @@ use Rattle.psu_exec.specs.World.{IsTrueOf}
 use Rattle.psu_exec.specs.declared.condition.Condition.{Condition}
 use Rattle.psu_exec.specs.declared.condition.Condition.TheVariants.{Worn}
 use Rattle.psu_exec.specs.declared.exec.Exec.{Exec}
-use Rattle.psu_exec.specs.declared.home.Home.{Home}
-use Rattle.psu_exec.specs.declared.home.Home.TheVariants as home
+use Rattle.psu_exec.specs.declared.idle_store.IdleStore.{IdleStore}
+use Rattle.psu_exec.specs.declared.idle_store.IdleStore.TheVariants as idle_store
 use Rattle.psu_exec.specs.declared.job.Job.{Job}
 use Rattle.psu_server.specs.Causes.{IsWornOut}
 use Rattle.psu_server.specs.Failures.{extent_of, failures_of}
@@ -32,16 +32,16 @@ Wears (Unstarted limit before edits cause) image = IsWornOut image
 Wears finished image = ⊤
 
 -- The number of the current root of a whole store. (That of a broken one is never used.)
-abbrev pub home_number : {D A : Type 0} {G : Ghosts D} → Home D A G → ℕ
-home_number (home.Whole store) = store.number
-home_number (home.Failed broken) = 2 ^ 64
+abbrev pub idle_number : {D A : Type 0} {G : Ghosts D} → IdleStore D A G → ℕ
+idle_number (idle_store.Whole store) = store.number
+idle_number (idle_store.Failed broken) = 2 ^ 64
 
--- a store at home is worn only where its number is the last
-abbrev pub WearsOutLast : {D A : Type 0} {G : Ghosts D} → Condition → Option (Home D A G) → Type 0
-WearsOutLast store there = ForSome there (λ h. store ≡ Worn → 2 ^ 64 ≤ home_number h + 1)
+-- an idle store is worn only where its number is the last
+abbrev pub WearsOutLast : {D A : Type 0} {G : Ghosts D} → Condition → Option (IdleStore D A G) → Type 0
+WearsOutLast store there = ForSome there (λ h. store ≡ Worn → 2 ^ 64 ≤ idle_number h + 1)
 
 abbrev pub IsWornAtLast : {D A : Type 0} {G : Ghosts D} → Exec D A G → Type 0
-IsWornAtLast exec = WearsOutLast exec.device.flush.store exec.home
+IsWornAtLast exec = WearsOutLast exec.device.flush.store exec.idle_store
 
 -- the job that was out is given back
 pub record HasRun {D A : Type 0} {G : Ghosts D} (old : Exec D A G) (job : Job D A G) (new : Exec D A G) (short : Bool) : Type 0 where
@@ -50,11 +50,11 @@ pub record HasRun {D A : Type 0} {G : Ghosts D} (old : Exec D A G) (job : Job D 
   pub give : Allows old.device (GaveBack finished (Some over)) new.device
   pub short_is : short ≡ is_short finished
   pub own : EndsJob (job_data job).kind finished
-  pub stands : Ghosts.honest G → IsTrueOf (target old.device.flush) finished (disk_at new.home)
+  pub stands : Ghosts.honest G → IsTrueOf (target old.device.flush) finished (disk_at new.idle_store)
   pub later : Ghosts.failures G (job_disk job) ≤ failures_of new
   pub extent : extent_of new ≡ Ghosts.extent G (job_disk job)
   pub worn : IsWornAtLast new
-  pub wears : Ghosts.honest G → is_short finished ≡ false → Wears finished (disk_at new.home).bytes
-  pub time : Ghosts.honest G → Ghosts.tells G
-      → Since G (Some (job_disk job)) (disk_in new.home) (IsEither (job_data job).limit (job_data job).before (job_data job).target)
+  pub wears : Ghosts.honest G → is_short finished ≡ false → Wears finished (disk_at new.idle_store).bytes
+  pub time : Ghosts.honest G → Ghosts.records G
+      → Since G (Some (job_disk job)) (disk_in new.idle_store) (IsEither (job_data job).limit (job_data job).before (job_data job).target)
   pub counts : Ghosts.honest G → is_short finished ≡ false → Counts finished (Ghosts.failures G (job_disk job)) (failures_of new)

@@ -1,18 +1,18 @@
 -- The device with its disk, as the theorem on power loss sees it.
 use Rattle.std.specs.Prelude.{◌≡◌, ◌⊎◌, ℕ, ◌++◌, if◌then◌else◌, length, Option, Some, None, List, [], ◌∷◌}
-use Rattle.psu_disk.specs.Disk.{DiskState, Left}
+use Rattle.psu_disk.specs.Disk.{DiskState, IsCrashImage}
 use Rattle.psu_disk.specs.declared.disk.Disk.{Ghosts}
 use Rattle.psu_map.specs.Map.{Item}
-use Rattle.psu_items.specs.Image.{Stands, EachStands}
+use Rattle.psu_items.specs.Image.{Represents, EachRepresents}
 use Rattle.psu_nv.specs.Contents.{items_of, Contents}
 use Rattle.psu_exec.specs.Device.{State}
 use Rattle.psu_exec.specs.Calls.{Entry, Executed, Opened}
-use Rattle.psu_exec.specs.Jobs.{home_disk}
+use Rattle.psu_exec.specs.Jobs.{idle_disk}
 use Rattle.psu_exec.specs.Consistent.{MayBeKept}
 use Rattle.psu_exec.specs.Headline.{IsPrefix}
 use Rattle.psu_exec.specs.World.{World, Running, Call, PastUnit, Event, Happens, IsStart, Run, after, is_executed, recorded}
 use Rattle.psu_exec.specs.declared.exec.Exec.{Exec}
-use Rattle.psu_exec.specs.declared.home.Home.{Home}
+use Rattle.psu_exec.specs.declared.idle_store.IdleStore.{IdleStore}
 use Rattle.psu_tree.specs.declared.unit_request.Request.{Request}
 
 -- What a device at rest does not store: the limit and the contents found at its power-on, and the units executed since.
@@ -21,13 +21,13 @@ pub record Life : Type 0 where
   pub start : Contents
   pub history : List PastUnit
 
-abbrev pub disk_at : {D A : Type 0} {G : Ghosts D} → Option (Home D A G) → DiskState
+abbrev pub disk_at : {D A : Type 0} {G : Ghosts D} → Option (IdleStore D A G) → DiskState
 disk_at None = record { bytes = []; unsynced = [] }
-disk_at {D} {A} {G} (Some home) = Ghosts.state G (home_disk home)
+disk_at {D} {A} {G} (Some idle_store) = Ghosts.state G (idle_disk idle_store)
 
--- the world of a device: its life, its state, and the disk at home
+-- the world of a device: its life, its state, and the idle store's disk
 abbrev pub world_of : {D A : Type 0} {G : Ghosts D} → Life → Exec D A G → World
-world_of life exec = record { state = exec.device; history = life.history; disk = disk_at exec.home; mode = Running; limit = life.limit; start = life.start }
+world_of life exec = record { state = exec.device; history = life.history; disk = disk_at exec.idle_store; mode = Running; limit = life.limit; start = life.start }
 
 -- the life of a device that has just been powered on
 abbrev pub born : {D A : Type 0} {G : Ghosts D} → Exec D A G → Life
@@ -61,7 +61,7 @@ units_in (entry ∷ entries) = unit_in entry ++ units_in entries
 pub record PowersOn (image : List ℕ) (new : World) : Type 0 where
   pub on : World
   pub start : IsStart on
-  pub found : Stands image on.limit (items_of on.start)
+  pub found : Represents image on.limit (items_of on.start)
   pub size : length on.disk.bytes ≡ length image
   pub opens : Calls on (Opened (Some 1)) new
 
@@ -69,17 +69,17 @@ pub record PowersOn (image : List ℕ) (new : World) : Type 0 where
 -- of the last world, or each possible crash image of either disk represents one map, the same for both, and the disks
 -- have the same size.
 abbrev pub IsLeftBy : World → DiskState → Type 0
-IsLeftBy w disk = ((image : List ℕ) → Left disk image → Left w.disk image)
-    ⊎ ((limit : ℕ) × (map : List Item) × EachStands w.disk limit map × EachStands disk limit map × (length disk.bytes ≡ length w.disk.bytes))
+IsLeftBy w disk = ((image : List ℕ) → IsCrashImage disk image → IsCrashImage w.disk image)
+    ⊎ ((limit : ℕ) × (map : List Item) × EachRepresents w.disk limit map × EachRepresents disk limit map × (length disk.bytes ≡ length w.disk.bytes))
 
 -- The image represents the contents after a prefix of the units executed since power-on. That prefix contains every
 -- unit before a `*OPC?` that was answered.
 abbrev pub StandsForPrefix : World → List ℕ → Type 0
-StandsForPrefix w image = (k : ℕ) × IsPrefix w k × MayBeKept w.limit (after w k) × Stands image w.limit (items_of (after w k))
+StandsForPrefix w image = (k : ℕ) × IsPrefix w k × MayBeKept w.limit (after w k) × Represents image w.limit (items_of (after w k))
 
 -- each possible crash image of the disk represents such contents
 abbrev pub LeavesPrefix : World → DiskState → Type 0
-LeavesPrefix w disk = (image : List ℕ) → Left disk image → StandsForPrefix w image
+LeavesPrefix w disk = (image : List ℕ) → IsCrashImage disk image → StandsForPrefix w image
 
 -- events of the theorem on power loss lead from one world to another
 abbrev pub EventsLead : World → World → Type 0

@@ -1,13 +1,13 @@
 -- The possible crash images at any moment of a run.
 use Rattle.std.specs.Prelude.{◌≡◌, ◌⊎◌, ℕ, ◌++◌, Option, Some, None, List, ⊤}
-use Rattle.psu_disk.specs.Disk.{DiskState, Left, LeavesOnly}
+use Rattle.psu_disk.specs.Disk.{DiskState, IsCrashImage, LeavesOnly}
 use Rattle.psu_disk.specs.declared.disk.Disk.{Ghosts}
 use Rattle.psu_map.specs.Map.{Item}
-use Rattle.psu_items.specs.Image.{Stands}
+use Rattle.psu_items.specs.Image.{Represents}
 use Rattle.psu_exec.specs.Calls.{Entry}
-use Rattle.psu_exec.specs.Jobs.{home_disk}
+use Rattle.psu_exec.specs.Jobs.{idle_disk}
 use Rattle.psu_exec.specs.World.{World}
-use Rattle.psu_exec.specs.declared.home.Home.{Home}
+use Rattle.psu_exec.specs.declared.idle_store.IdleStore.{IdleStore}
 use Rattle.psu_server.specs.Lines.{Message, Brings}
 use Rattle.psu_server.specs.Lives.{CallsAll, PowersOn, StandsForPrefix}
 use Rattle.psu_server.specs.Runs.{any, NextBegins, Runs}
@@ -42,7 +42,7 @@ pub record IsWhile (w : World) (due : List Message) (image : List ℕ) : Type 0 
 
 -- the image represents what some possible crash image of the disk represents
 abbrev pub KeepsOne : DiskState → List ℕ → Type 0
-KeepsOne disk image = (before : List ℕ) × Left disk before × ((limit : ℕ) (map : List Item) → Stands before limit map → Stands image limit map)
+KeepsOne disk image = (before : List ℕ) × IsCrashImage disk before × ((limit : ℕ) (map : List Item) → Represents before limit map → Represents image limit map)
 
 -- The image represents what some possible crash image of the disk does, as before power-on, or a prefix of what was
 -- executed, up to some point of the run, of the messages that the input brings.
@@ -52,12 +52,12 @@ IsOfRun disk input image =
 
 -- ---- disks
 
-abbrev pub disk_in : {D A : Type 0} {G : Ghosts D} → Option (Home D A G) → Option D
+abbrev pub disk_in : {D A : Type 0} {G : Ghosts D} → Option (IdleStore D A G) → Option D
 disk_in None = None
-disk_in (Some home) = Some (home_disk home)
+disk_in (Some idle_store) = Some (idle_disk idle_store)
 
--- Each possible crash image at any moment from one disk to the other satisfies P. Where no disk was at home, nothing is
--- required; a disk that was at home is at home again.
+-- Each possible crash image at any moment from one disk to the other satisfies P. Where no store was idle, nothing is
+-- required; a store that was idle is idle again.
 abbrev pub Since : {D : Type 0} → Ghosts D → Option D → Option D → (List ℕ → Type 0) → Type 0
 Since G None new P = ⊤
 Since G (Some old) None P = ⊥
@@ -65,4 +65,4 @@ Since G (Some old) (Some new) P = LeavesOnly (Ghosts.moment G) (Ghosts.left_sinc
 
 -- an image that is possible since the present moment is a possible crash image of the disk as it is
 abbrev pub IsNow : {D : Type 0} → Ghosts D → Type 0
-IsNow {D} G = (d : D) (image : List ℕ) → Ghosts.left_since G d (Ghosts.moment G d) image → Left (Ghosts.state G d) image
+IsNow {D} G = (d : D) (image : List ℕ) → Ghosts.left_since G d (Ghosts.moment G d) image → IsCrashImage (Ghosts.state G d) image

@@ -13,7 +13,7 @@ use Rattle.psu_server.specs.Jobs.{IsWornAtLast}
 use Rattle.psu_server.specs.Lines.{Message}
 use Rattle.psu_server.specs.Lives.{Life, world_of, Calls, IsLeftBy, Reached}
 use Rattle.psu_server.specs.Moments.{IsBetween, IsNow, IsWhile, Leads, Since, disk_in}
-use Rattle.psu_server.specs.Output.{Telling, Says, SaysUntil}
+use Rattle.psu_server.specs.Output.{OutputState, Says, SaysUntil}
 use Rattle.psu_server.specs.Reasons.{IsHaltedBy, StopsFor}
 use Rattle.psu_server.specs.Runs.{Mishaps, Acts, Begins, Flushes, NextBegins, Runs}
 use Rattle.psu_server.specs.Within.{Within}
@@ -30,7 +30,7 @@ pub record Lasts {D A : Type 0} {G : Ghosts D} (old new : Exec D A G) : Type 0 w
   pub later : failures_of old ≤ failures_of new
   pub worn : IsWornAtLast old → IsWornAtLast new
 
--- the disk that was at home is returned
+-- the idle store's disk is returned
 pub record HandsBack {D A : Type 0} {G : Ghosts D} (old : Exec D A G) (disk : D) : Type 0 where
   pub extent : Ghosts.extent G disk ≡ extent_of old
   pub later : failures_of old ≤ Ghosts.failures G disk
@@ -41,16 +41,16 @@ pub record HandsBack {D A : Type 0} {G : Ghosts D} (old : Exec D A G) (disk : D)
 -- executed up to some world between.
 pub record Spans {D A : Type 0} {G : Ghosts D} (old new : Exec D A G) (w v : World) : Type 0 where
   pub leads : Leads w v
-  pub time : Ghosts.tells G → IsNow G → Reached w → Since G (disk_in old.home) (disk_in new.home) (IsBetween w v)
+  pub time : Ghosts.records G → IsNow G → Reached w → Since G (disk_in old.idle_store) (disk_in new.idle_store) (IsBetween w v)
 
 -- The device continued within its life, and P may have happened with what went wrong.
-pub record GoesOn {D A : Type 0} {G : Ghosts D} (old new : Exec D A G) (P : Mishaps → World → World → Type 0) : Type 0 where
+pub record Continues {D A : Type 0} {G : Ghosts D} (old new : Exec D A G) (P : Mishaps → World → World → Type 0) : Type 0 where
   pub runs : Ghosts.honest G → (life : Life) → (next : Life) × Within (failures_of old) (failures_of new) (λ can. P can (world_of life old) (world_of next new))
       × Spans old new (world_of life old) (world_of next new)
   pub lasts : Lasts old new
 
 -- The device stops for this cause, after a prefix of these requests.
-pub record Halts {D A : Type 0} {G : Ghosts D} (old new : Exec D A G) (requests : List Request) (cause : RunCause) : Type 0 where
+pub record DeviceStops {D A : Type 0} {G : Ghosts D} (old new : Exec D A G) (requests : List Request) (cause : RunCause) : Type 0 where
   pub begun : Ghosts.honest G → (life : Life) → (next : Life) × Begins (world_of life old) requests (world_of next new) × Spans old new (world_of life old) (world_of next new)
   pub lasts : Lasts old new
   pub why : Ghosts.honest G → IsHaltedBy old new cause
@@ -66,7 +66,7 @@ Acted request reply can w new = ((reply ≡ Later) × Calls w (Executed 1 reques
 
 -- The device continued until a fault.
 pub record Breaks {D A : Type 0} {G : Ghosts D} (old new : Exec D A G) (P : Mishaps → World → World → Type 0) (cause : RunCause) : Type 0 where
-  pub goes : GoesOn old new P
+  pub goes : Continues old new P
   pub why : Ghosts.honest G → IsHaltedBy old new cause
 
 -- ---- messages
@@ -75,17 +75,17 @@ pub record Breaks {D A : Type 0} {G : Ghosts D} (old new : Exec D A G) (P : Mish
 -- these messages.
 abbrev pub EachMoment : {D A : Type 0} {G : Ghosts D} → Life → Exec D A G → Option D → List Message → Type 0
 EachMoment {D} {A} {G} life old disk due =
-    Ghosts.tells G → IsNow G → Reached (world_of life old) → Since G (disk_in old.home) disk (IsWhile (world_of life old) due)
+    Ghosts.records G → IsNow G → Reached (world_of life old) → Since G (disk_in old.idle_store) disk (IsWhile (world_of life old) due)
 
 -- The device continued, within its life or in later ones after it: these messages were executed and output this text.
 pub record RunsOn {D A : Type 0} {G : Ghosts D} (old new : Exec D A G) (done : List Message) (text : List ℕ) : Type 0 where
   pub runs : Ghosts.honest G → (life : Life) → (next : Life) × Within (failures_of old) (failures_of new) (λ can. Runs can (world_of life old) done text (world_of next new))
-      × EachMoment life old (disk_in new.home) done
+      × EachMoment life old (disk_in new.idle_store) done
   pub lasts : Lasts old new
 
 -- A run ended early, for a reason: the first of these messages may have begun, and `part` is what was to be output of
 -- it.
-pub record StopsHere {D A : Type 0} {G : Ghosts D} (long : Type 0) (old : Exec D A G) (fault : RunFault D) (rest : List Message) (part : List ℕ) : Type 0 where
+pub record RunEndsHere {D A : Type 0} {G : Ghosts D} (long : Type 0) (old : Exec D A G) (fault : RunFault D) (rest : List Message) (part : List ℕ) : Type 0 where
   pub hands : HandsBack old fault.disk
   pub stops : Ghosts.honest G → IsWornAtLast old → (life : Life) → (last : World)
       × Within (failures_of old) (Ghosts.failures G fault.disk) (λ can. NextBegins can (world_of life old) rest part last)
@@ -94,7 +94,7 @@ pub record StopsHere {D A : Type 0} {G : Ghosts D} (long : Type 0) (old : Exec D
       × EachMoment life old (Some fault.disk) rest
 
 -- A run ended early, for a reason: these messages were executed, and of those after them the first may have begun.
-pub record Stops {D A : Type 0} {G : Ghosts D} (long : Type 0) (old : Exec D A G) (fault : RunFault D) (done rest : List Message) (text part : List ℕ) : Type 0 where
+pub record RunEnds {D A : Type 0} {G : Ghosts D} (long : Type 0) (old : Exec D A G) (fault : RunFault D) (done rest : List Message) (text part : List ℕ) : Type 0 where
   pub hands : HandsBack old fault.disk
   pub stops : Ghosts.honest G → IsWornAtLast old → (life : Life) → (mid : World) × (last : World) × (count : ℕ)
       × Within (failures_of old) count (λ can. Runs can (world_of life old) done text mid)
@@ -105,17 +105,17 @@ pub record Stops {D A : Type 0} {G : Ghosts D} (long : Type 0) (old : Exec D A G
 
 -- The messages due before the piece are those that end in it, and those due after it. The former were executed, and
 -- their text was output.
-abbrev pub Fed : {D A : Type 0} {G : Ghosts D} → (List ℕ → List Message) → List ℕ → (List ℕ → List Message) → Exec D A G → Exec D A G → Telling → Telling → Type 0
-Fed before piece after old new told now =
-    (done : List Message) × (text : List ℕ) × Says told now text
+abbrev pub Fed : {D A : Type 0} {G : Ghosts D} → (List ℕ → List Message) → List ℕ → (List ℕ → List Message) → Exec D A G → Exec D A G → OutputState → OutputState → Type 0
+Fed before piece after old new output now =
+    (done : List Message) × (text : List ℕ) × Says output now text
     × ((input : List ℕ) → before (piece ++ input) ≡ done ++ after input)
     × RunsOn old new done text
 
 -- a piece with a fault in it: messages up to the fault were executed, and their text was output
-abbrev pub Stopped : {D A : Type 0} {G : Ghosts D} → (List ℕ → List Message) → List ℕ → Exec D A G → RunFault D → Telling → Telling → Type 0
-Stopped before piece old fault told now =
-    (done : List Message) × (text : List ℕ) × (part : List ℕ) × SaysUntil fault.cause told now (text ++ part)
-    × ((input : List ℕ) → (rest : List Message) × (before (piece ++ input) ≡ done ++ rest) × Stops ⊥ old fault done rest text part)
+abbrev pub Stopped : {D A : Type 0} {G : Ghosts D} → (List ℕ → List Message) → List ℕ → Exec D A G → RunFault D → OutputState → OutputState → Type 0
+Stopped before piece old fault output now =
+    (done : List Message) × (text : List ℕ) × (part : List ℕ) × SaysUntil fault.cause output now (text ++ part)
+    × ((input : List ℕ) → (rest : List Message) × (before (piece ++ input) ≡ done ++ rest) × RunEnds ⊥ old fault done rest text part)
 
 -- the messages that end in the piece were executed, and the writer gained their text
 abbrev pub Answered : {D A : Type 0} {G : Ghosts D} → (List ℕ → List Message) → List ℕ → (List ℕ → List Message) → Exec D A G → Exec D A G → Option (List ℕ) → Option (List ℕ) → Type 0
@@ -137,7 +137,7 @@ pub record EndsEarly {D A : Type 0} {G : Ghosts D} (long : Type 0) (old : Exec D
   pub is : due ≡ done ++ rest
   pub text : List ℕ
   pub part : List ℕ
-  pub stops : Stops long old fault done rest text part
+  pub stops : RunEnds long old fault done rest text part
   pub front : List ℕ
   pub appends : Appends old_written new_written front
   pub starts : StartsWith (text ++ part) front

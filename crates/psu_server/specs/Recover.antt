@@ -1,7 +1,7 @@
 -- What `recover` reports of an image.
 use Rattle.std.specs.Prelude.{◌≡◌, ℕ, ◌==◌, true, if◌then◌else◌, List, [], ◌∷◌, length, map, ⊤}
 use Rattle.psu_map.specs.Map.{Item, cost}
-use Rattle.psu_items.specs.Image.{counting, number_in, version_in, HasReadableRoot, Stands, IsRefusal}
+use Rattle.psu_items.specs.Image.{current_root, number_in, version_in, HasReadableRoot, Represents, IsRefusal}
 use Rattle.psu_pages.specs.declared.open_cause.OpenCause.{OpenCause}
 use Rattle.psu_pages.specs.declared.open_cause.OpenCause.TheVariants as opening
 use Rattle.psu_nv.specs.Contents.{items_of, fits, IsContents, Contents}
@@ -52,8 +52,8 @@ abbrev pub entry : Item → Entry
 entry file = entry_with file.key (of_value file.value)
 
 -- a file as it is reported
-abbrev pub told : {A : Type 0} → ReportedFile A → Entry
-told file = entry_with file.name (file.kind, file.size)
+abbrev pub reported : {A : Type 0} → ReportedFile A → Entry
+reported file = entry_with file.name (file.kind, file.size)
 
 -- ---- reports
 
@@ -65,15 +65,15 @@ pub record IsReported {A : Type 0} (image : List ℕ) (report : Report A) : Type
   pub contents : Contents
   pub sound : IsContents contents
   pub fitting : fits report.limit contents ≡ true
-  pub stands : Stands image report.limit (items_of contents)
-  pub version : report.version ≡ version_in (counting image) image
-  pub root : report.root ≡ number_in (counting image) image
+  pub stands : Represents image report.limit (items_of contents)
+  pub version : report.version ≡ version_in (current_root image) image
+  pub root : report.root ≡ number_in (current_root image) image
   pub pages : report.pages ≡ cost (items_of contents)
   pub enables : report.enables ≡ contents.enables
   pub request : report.request ≡ prescribed contents.enables
   pub user : report.user ≡ length contents.user
   pub macros : report.macros ≡ length contents.macros
-  pub files : map told report.files.items ≡ map entry contents.files
+  pub files : map reported report.files.items ≡ map entry contents.files
   pub recall : report.recall ≡ contents.recall
 
 -- a report of a device at power-on, with what its store says about the image
@@ -86,7 +86,7 @@ pub record Reports {A : Type 0} (s : State) (version root limit pages : ℕ) (re
   pub request : report.request ≡ first_request s.volatile.instrument.status
   pub user : report.user ≡ length s.flush.contents.user
   pub macros : report.macros ≡ length s.flush.contents.macros
-  pub files : map told report.files.items ≡ map entry s.flush.contents.files
+  pub files : map reported report.files.items ≡ map entry s.flush.contents.files
   pub recall : report.recall ≡ s.flush.contents.recall
 
 -- Why an image isn't reported. A failed disk call says nothing about the image. Out of memory is possible only where a

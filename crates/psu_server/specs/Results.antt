@@ -4,7 +4,7 @@ use Rattle.std.specs.Io.KnownBytes.{Appends}
 use Rattle.std.specs.Io.{StartsWith}
 use Rattle.psu_disk.specs.Disk.{DiskState, HasFailed}
 use Rattle.psu_map.specs.Map.{Item}
-use Rattle.psu_items.specs.Image.{EachStands}
+use Rattle.psu_items.specs.Image.{EachRepresents}
 use Rattle.psu_nv.specs.Contents.{items_of}
 use Rattle.psu_exec.specs.World.{World}
 use Rattle.psu_server.specs.Causes.{NotStarted}
@@ -36,7 +36,7 @@ pub record WritesRun (image : List ℕ) (input : Option (List ℕ)) (old_count n
   pub over : World
   pub ends : Flushes gone last over
   pub flushed : over.state.flush.unflushed ≡ 0
-  pub kept : EachStands disk over.limit (items_of over.state.flush.contents)
+  pub kept : EachRepresents disk over.limit (items_of over.state.flush.contents)
   pub since : (before : World) → before.disk.bytes ≡ image → EventsLead before over
   pub back : over.disk ≡ disk
 
@@ -46,7 +46,7 @@ pub record DoesNotStart (cause : RunCause) (old_count new_count : ℕ) (old_rest
   pub reason : NotStarted old.bytes old_count new_count cause
   pub unread : new_rest ≡ old_rest
   pub unwritten : Appends old_written new_written []
-  pub kept : (limit : ℕ) (map : List Item) → EachStands old limit map → EachStands new limit map
+  pub kept : (limit : ℕ) (map : List Item) → EachRepresents old limit map → EachRepresents new limit map
 
 -- A run that ended early: a prefix of the messages that the input brings was executed, and a prefix of the units of the
 -- next one. Their text and the output of the next one are written, except where the writer failed: then some of that is

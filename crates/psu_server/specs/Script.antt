@@ -37,19 +37,19 @@ abbrev pub flushed : Rest → Rest
 flushed r = flushed_by (r.state.flush.unflushed == 0) r
 
 -- the result of a unit: the device after it, and its reply
-pub record Went : Type 0 where
+pub record UnitOutcome : Type 0 where
   pub rest : Rest
   pub reply : Reply
 
 -- the end of a wait
-abbrev pub waited : Rest → Went
+abbrev pub waited : Rest → UnitOutcome
 waited r = record {
   rest = record r { state = after_settle r.state 1 (settle_answer (wait_of r.state.flush 1)) };
   reply = settle_answer (wait_of r.state.flush 1);
 }
 
 -- the result of a unit with this reply; a parked unit waits for a flush
-abbrev pub after_reply : Rest → Request → Reply → Went
+abbrev pub after_reply : Rest → Request → Reply → UnitOutcome
 after_reply r request Parked = waited (flushed (record r { state = after_unit r.state 1 request Parked }))
 after_reply r request reply = record { rest = record r { state = after_unit r.state 1 request reply }; reply = reply }
 
@@ -75,13 +75,13 @@ abbrev pub Replies : State → Request → Reply → Type 0
 Replies s request reply = RepliesNow (is_later s 1 request) s request reply
 
 -- a unit whose reply is `Later` is executed after a flush
-abbrev pub GoesFrom : Rest → Request → Reply → Went → Type 0
-GoesFrom r request Later went = (reply : Reply) × Replies (flushed r).state request reply × (went ≡ after_reply (flushed r) request reply)
-GoesFrom r request reply went = went ≡ after_reply r request reply
+abbrev pub HasOutcomeFrom : Rest → Request → Reply → UnitOutcome → Type 0
+HasOutcomeFrom r request Later went = (reply : Reply) × Replies (flushed r).state request reply × (went ≡ after_reply (flushed r) request reply)
+HasOutcomeFrom r request reply went = went ≡ after_reply r request reply
 
 -- a unit has this result
-abbrev pub Goes : Rest → Request → Went → Type 0
-Goes r request went = (reply : Reply) × Replies r.state request reply × GoesFrom r request reply went
+abbrev pub HasOutcome : Rest → Request → UnitOutcome → Type 0
+HasOutcome r request went = (reply : Reply) × Replies r.state request reply × HasOutcomeFrom r request reply went
 
 -- the progress of a message: the device, and the answers so far
 pub record Spoken : Type 0 where
@@ -92,7 +92,7 @@ pub record Spoken : Type 0 where
 abbrev pub SpeaksInside : Rest → List (List ℕ) → List Request → Spoken → Type 0
 SpeaksInside r answers [] spoken = spoken ≡ record { rest = r; answers = answers }
 SpeaksInside r answers (request ∷ more) spoken =
-    (went : Went) × Goes r request went × SpeaksInside went.rest (with_answer answers went.reply) more spoken
+    (went : UnitOutcome) × HasOutcome r request went × SpeaksInside went.rest (with_answer answers went.reply) more spoken
 
 -- a reply adds an answer or none, or is an expansion, which is executed in the unit's place
 abbrev pub SpeaksReply : Rest → List (List ℕ) → Reply → Spoken → Type 0
@@ -103,28 +103,28 @@ SpeaksReply r answers reply spoken = spoken ≡ record { rest = r; answers = wit
 abbrev pub Speaks : Rest → List (List ℕ) → List Request → Spoken → Type 0
 Speaks r answers [] spoken = spoken ≡ record { rest = r; answers = answers }
 Speaks r answers (request ∷ more) spoken =
-    (went : Went) × (some : Spoken) × Goes r request went × SpeaksReply went.rest answers went.reply some × Speaks some.rest some.answers more spoken
+    (went : UnitOutcome) × (some : Spoken) × HasOutcome r request went × SpeaksReply went.rest answers went.reply some × Speaks some.rest some.answers more spoken
 
 -- a power loss at rest, and a restart
 abbrev pub restarted : Rest → Rest
 restarted r = at_start r.state.flush.limit r.stored
 
 -- the text of a message, and the device after it
-pub record Told : Type 0 where
+pub record MessageOutcome : Type 0 where
   pub rest : Rest
   pub text : List ℕ
 
 -- a message with these requests has this text and leaves this device
-abbrev pub TellsMessage : Rest → Message → List Request → Told → Type 0
-TellsMessage r Message.Power requests told = told ≡ record { rest = restarted r; text = [] }
-TellsMessage r m requests told = (all : Spoken) × Speaks r [] requests all × (told ≡ record { rest = all.rest; text = response all.answers })
+abbrev pub HasMessageOutcome : Rest → Message → List Request → MessageOutcome → Type 0
+HasMessageOutcome r Message.Power requests outcome = outcome ≡ record { rest = restarted r; text = [] }
+HasMessageOutcome r m requests outcome = (all : Spoken) × Speaks r [] requests all × (outcome ≡ record { rest = all.rest; text = response all.answers })
 
 -- the text of messages, one after another
 abbrev pub Scripted : Rest → List Message → List ℕ → Type 0
 Scripted r [] text = text ≡ []
 Scripted r (m ∷ ms) text =
-    (requests : List Request) × (told : Told) × (more : List ℕ)
-    × Asks m requests × TellsMessage r m requests told × Scripted told.rest ms more × (text ≡ told.text ++ more)
+    (requests : List Request) × (outcome : MessageOutcome) × (more : List ℕ)
+    × Asks m requests × HasMessageOutcome r m requests outcome × Scripted outcome.rest ms more × (text ≡ outcome.text ++ more)
 
 -- what is written for the bytes of an input, on an image of this limit that holds these contents; there is one such
 -- text

@@ -2,12 +2,12 @@
 ghost use Rattle.std.specs.Prelude.{◌≡◌, ◌∷◌, [], IfOk, IfErr, true, false};
 ghost use Rattle.psu_exec.specs.Device.{is_open, wait_of};
 ghost use Rattle.psu_exec.specs.Shown.{outcome_of};
-ghost use Rattle.psu_server.specs.Progress.{Acted, GoesOn, Halts, WaitEnds};
+ghost use Rattle.psu_server.specs.Progress.{Acted, Continues, DeviceStops, WaitEnds};
 ghost use Rattle.psu_server.specs.Runs.{is_final, is_later, is_out_of_memory, is_parked, UnitRuns};
 
 use crate::RunCause;
 use crate::jobs::flush;
-use crate::powered::Powered;
+use crate::powered_device::PoweredDevice;
 use psu_disk::Disk;
 use psu_exec::{Exec, Outcome, Request, ScpiError, Session};
 use std::alloc::Allocator;
@@ -44,11 +44,11 @@ fn wait_end<D: Disk, A: Allocator + Copy>(
     requires first { session ≡ 1 }
     requires idle { exec.old.device.flush.out ≡ false }
     requires open { is_open exec.old.device 1 ≡ true }
-    ensures ends { IfOk result (λ o. GoesOn exec.old exec.new (WaitEnds (outcome_of o))) }
+    ensures ends { IfOk result (λ o. Continues exec.old exec.new (WaitEnds (outcome_of o))) }
     ensures ended { IfOk result (λ o. is_final (outcome_of o) ≡ true) }
     ensures long { IfOk result (λ o. is_out_of_memory (outcome_of o) ≡ false) }
     ensures free { IfOk result (λ o. wait_of exec.new.device.flush 1 ≡ None) }
-    ensures halts { IfErr result (Halts exec.old exec.new []) }
+    ensures device_stops { IfErr result (DeviceStops exec.old exec.new []) }
     ensures idle { exec.new.device.flush.out ≡ false }
     ensures open { is_open exec.new.device 1 ≡ true }
     ensures locked { exec.new.device.volatile.locks ≡ exec.old.device.volatile.locks }
@@ -72,11 +72,11 @@ fn wait<D: Disk, A: Allocator + Copy>(
     requires first { session ≡ 1 }
     requires idle { exec.old.device.flush.out ≡ false }
     requires open { is_open exec.old.device 1 ≡ true }
-    ensures ends { IfOk result (λ o. GoesOn exec.old exec.new (WaitEnds (outcome_of o))) }
+    ensures ends { IfOk result (λ o. Continues exec.old exec.new (WaitEnds (outcome_of o))) }
     ensures ended { IfOk result (λ o. is_final (outcome_of o) ≡ true) }
     ensures long { IfOk result (λ o. is_out_of_memory (outcome_of o) ≡ false) }
     ensures free { wait_of exec.new.device.flush 1 ≡ None }
-    ensures halts { IfErr result (Halts exec.old exec.new []) }
+    ensures device_stops { IfErr result (DeviceStops exec.old exec.new []) }
     ensures idle { exec.new.device.flush.out ≡ false }
     ensures open { is_open exec.new.device 1 ≡ true }
     ensures locked { exec.new.device.volatile.locks ≡ exec.old.device.volatile.locks }
@@ -93,12 +93,12 @@ fn wait<D: Disk, A: Allocator + Copy>(
 /// Executes a unit. A parked unit waits for a flush and is settled. The outcome may still be `Later`.
 #[inline(always)]
 pub fn act<D: Disk, A: Allocator + Copy>(
-    powered: &mut Powered<D, A>,
+    powered: &mut PoweredDevice<D, A>,
     request: &Request<'_>,
 ) -> Result<Outcome<A>, RunCause>
-    ensures acted { IfOk result (λ o. GoesOn powered.old.exec powered.new.exec (Acted request.now (outcome_of o))) }
+    ensures acted { IfOk result (λ o. Continues powered.old.exec powered.new.exec (Acted request.now (outcome_of o))) }
     ensures ended { IfOk result (λ o. is_later (outcome_of o) ≡ false → is_final (outcome_of o) ≡ true) }
-    ensures halts { IfErr result (Halts powered.old.exec powered.new.exec (request.now ∷ [])) }
+    ensures device_stops { IfErr result (DeviceStops powered.old.exec powered.new.exec (request.now ∷ [])) }
 {
     let outcome = powered.exec.execute(powered.session, request);
     if !is_parked(&outcome) {
@@ -111,12 +111,12 @@ pub fn act<D: Disk, A: Allocator + Copy>(
 /// Executes a unit; where its outcome is `Later`, flushes and executes it again.
 #[inline(always)]
 pub fn unit<D: Disk, A: Allocator + Copy>(
-    powered: &mut Powered<D, A>,
+    powered: &mut PoweredDevice<D, A>,
     request: &Request<'_>,
 ) -> Result<Outcome<A>, RunCause>
-    ensures runs { IfOk result (λ o. GoesOn powered.old.exec powered.new.exec (λ can w v. UnitRuns can w request.now (outcome_of o) v)) }
+    ensures runs { IfOk result (λ o. Continues powered.old.exec powered.new.exec (λ can w v. UnitRuns can w request.now (outcome_of o) v)) }
     ensures ended { IfOk result (λ o. is_final (outcome_of o) ≡ true) }
-    ensures halts { IfErr result (Halts powered.old.exec powered.new.exec (request.now ∷ [])) }
+    ensures device_stops { IfErr result (DeviceStops powered.old.exec powered.new.exec (request.now ∷ [])) }
 {
     let outcome = act(powered, request)?;
     if !is_later(&outcome) {

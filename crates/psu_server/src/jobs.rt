@@ -7,7 +7,7 @@ ghost use Rattle.psu_exec.specs.Jobs.{finished_of, job_data};
 ghost use Rattle.psu_exec.specs.declared.condition.Condition.TheVariants.{Worn};
 ghost use Rattle.psu_server.specs.Failures.{failures_of};
 ghost use Rattle.psu_server.specs.Jobs.{HasRun};
-ghost use Rattle.psu_server.specs.Progress.{GoesOn, Halts};
+ghost use Rattle.psu_server.specs.Progress.{Continues, DeviceStops};
 ghost use Rattle.psu_server.specs.Runs.{Flushes, Reopens, is_short};
 
 use crate::RunCause;
@@ -54,8 +54,8 @@ fn run_job<D: Disk, A: Allocator + Copy>(exec: &mut Exec<D, A>, job: Job<D, A>) 
 /// the run.
 pub fn flush<D: Disk, A: Allocator + Copy>(exec: &mut Exec<D, A>) -> Result<(), RunCause>
     requires idle { exec.old.device.flush.out ≡ false }
-    ensures flushes { OnOk result (GoesOn exec.old exec.new Flushes) }
-    ensures halts { IfErr result (Halts exec.old exec.new []) }
+    ensures flushes { OnOk result (Continues exec.old exec.new Flushes) }
+    ensures device_stops { IfErr result (DeviceStops exec.old exec.new []) }
     ensures idle { exec.new.device.flush.out ≡ false }
     ensures open { is_open exec.new.device 1 ≡ is_open exec.old.device 1 }
     ensures locked { exec.new.device.volatile.locks ≡ exec.old.device.volatile.locks }
@@ -82,8 +82,8 @@ pub fn flush<D: Disk, A: Allocator + Copy>(exec: &mut Exec<D, A>) -> Result<(), 
 /// Reopens a broken store. A store that stays broken ends the run.
 pub fn reopen<D: Disk, A: Allocator + Copy>(exec: &mut Exec<D, A>) -> Result<(), RunCause>
     requires idle { exec.old.device.flush.out ≡ false }
-    ensures reopens { OnOk result (GoesOn exec.old exec.new Reopens) }
-    ensures halts { IfErr result (Halts exec.old exec.new []) }
+    ensures reopens { OnOk result (Continues exec.old exec.new Reopens) }
+    ensures device_stops { IfErr result (DeviceStops exec.old exec.new []) }
     ensures failed { D.honest → IfErr result (λ cause. cause ≡ RunCause.Device → HasFailed (failures_of exec.old) (failures_of exec.new)) }
     ensures idle { exec.new.device.flush.out ≡ false }
     ensures open { is_open exec.new.device 1 ≡ is_open exec.old.device 1 }

@@ -10,7 +10,7 @@ const LIMIT: usize = 65_536;
 #[derive(Drop)]
 pub struct Lines<A: Allocator> {
     pub line: Vec<u8, A>,
-    pub is_over: bool,
+    pub is_too_long: bool,
     ghost free: { has 10 line.items ≡ false },
     ghost short: { length line.items ≤ 65536 },
 }
@@ -18,12 +18,12 @@ pub struct Lines<A: Allocator> {
 impl<A: Allocator> Lines<A> {
     /// Returns the state before the first line.
     pub fn new(alloc: A) -> Lines<A>
-        ensures over { result.is_over ≡ false }
+        ensures over { result.is_too_long ≡ false }
         ensures empty { result.line.items ≡ [] }
     {
         Lines {
             line: Vec::new(alloc),
-            is_over: false,
+            is_too_long: false,
         }
     }
 
@@ -33,12 +33,12 @@ impl<A: Allocator> Lines<A> {
     pub fn extend(&mut self, part: &[u8]) -> Result<(), AllocError>
         requires { has 10 part.now ≡ false }
         ensures { OnOk result ((input : List ℕ) →
-            coming self.old.is_over self.old.line.items (part.now ++ input) ≡ coming self.new.is_over self.new.line.items input) }
+            coming self.old.is_too_long self.old.line.items (part.now ++ input) ≡ coming self.new.is_too_long self.new.line.items input) }
     {
-        if !self.is_over {
+        if !self.is_too_long {
             if part.len() > LIMIT - self.line.len() {
                 self.line.clear();
-                self.is_over = true;
+                self.is_too_long = true;
             } else {
                 self.line.extend_from_slice(part)?;
             }
@@ -48,24 +48,24 @@ impl<A: Allocator> Lines<A> {
 
     /// Whether no line has begun.
     pub fn is_empty(&self) -> bool
-        ensures { result ≡ is_none_begun self.now.is_over self.now.line.items }
+        ensures { result ≡ is_none_begun self.now.is_too_long self.now.line.items }
     {
-        !self.is_over && self.line.is_empty()
+        !self.is_too_long && self.line.is_empty()
     }
 
     /// Whether the line is that of a power loss.
     pub fn is_power(&self) -> bool
-        ensures { result ≡ is_power (message_now self.now.is_over self.now.line.items) }
+        ensures { result ≡ is_power (message_now self.now.is_too_long self.now.line.items) }
     {
-        !self.is_over && self.line.as_slice() == b"!POWER".as_slice()
+        !self.is_too_long && self.line.as_slice() == b"!POWER".as_slice()
     }
 
     /// Begins the next line.
     pub fn clear(&mut self)
-        ensures over { self.new.is_over ≡ false }
+        ensures over { self.new.is_too_long ≡ false }
         ensures empty { self.new.line.items ≡ [] }
     {
         self.line.clear();
-        self.is_over = false;
+        self.is_too_long = false;
     }
 }

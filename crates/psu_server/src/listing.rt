@@ -1,6 +1,6 @@
 //! The files of a report.
 ghost use Rattle.std.specs.Prelude.{◌≡◌, IfOk, map};
-ghost use Rattle.psu_server.specs.Recover.{entry, kind_of, of_value, told};
+ghost use Rattle.psu_server.specs.Recover.{entry, kind_of, of_value, reported};
 
 use crate::ReportedFile;
 use psu_items::Pair;
@@ -31,7 +31,7 @@ fn of_value(value: &[u8]) -> (FileKind, usize)
 
 // A file as it is reported.
 fn file_of<A: Allocator + Copy>(alloc: A, file: &Pair<A>) -> Result<ReportedFile<A>, AllocError>
-    ensures { IfOk result (λ f. told f ≡ entry file.now) }
+    ensures { IfOk result (λ f. reported f ≡ entry file.now) }
 {
     let (kind, size) = of_value(file.value());
     Ok(ReportedFile {
@@ -46,7 +46,7 @@ pub fn files_of<A: Allocator + Copy>(
     alloc: A,
     kept: &[Pair<A>],
 ) -> Result<Vec<ReportedFile<A>, A>, AllocError>
-    ensures { IfOk result (λ files. map told files.items ≡ map entry kept.now) }
+    ensures { IfOk result (λ files. map reported files.items ≡ map entry kept.now) }
 {
     let mut files = Vec::new(alloc);
     for file in kept {

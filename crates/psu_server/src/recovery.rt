@@ -3,8 +3,8 @@ ghost use Rattle.std.specs.Prelude.{◌≡◌, ℕ, List, IfOk, IfErr, false};
 ghost use Rattle.std.specs.Option.{ForSome};
 ghost use Rattle.psu_disk.specs.Disk.{HasFailed};
 ghost use Rattle.psu_map.specs.Map.{Item};
-ghost use Rattle.psu_items.specs.Image.{EachStands};
-ghost use Rattle.psu_exec.specs.Jobs.{home_disk};
+ghost use Rattle.psu_items.specs.Image.{EachRepresents};
+ghost use Rattle.psu_exec.specs.Jobs.{idle_disk};
 ghost use Rattle.psu_server.specs.Recover.{IsReported, IsRecoverRefusal, Reports};
 
 use crate::listing::files_of;
@@ -35,7 +35,7 @@ pub fn examine<D: Disk, A: Allocator + Copy>(alloc: A, disk: D) -> Examined<D, A
     ensures found { D.honest → IfOk result.found (IsReported (D.state disk).bytes) }
     ensures refused { D.honest → IfErr result.found (IsRecoverRefusal (D.state disk).bytes) }
     ensures device { IfErr result.found (λ e. e ≡ RecoverFault.Device → HasFailed (D.failures disk) (D.failures result.disk)) }
-    ensures left { D.honest → (limit : ℕ) (map : List Item) → EachStands (D.state disk) limit map → EachStands (D.state result.disk) limit map }
+    ensures left { D.honest → (limit : ℕ) (map : List Item) → EachRepresents (D.state disk) limit map → EachRepresents (D.state result.disk) limit map }
 {
     let store = match Store::open(alloc, disk) {
         Ok(store) => store,
@@ -65,7 +65,7 @@ pub fn examine<D: Disk, A: Allocator + Copy>(alloc: A, disk: D) -> Examined<D, A
 // The disk of a device that has no job out.
 fn disk_of<D: Disk, A: Allocator + Copy>(exec: Exec<D, A>) -> D
     requires { exec.device.flush.out ≡ false }
-    ensures { ForSome exec.home (λ home. result ≡ home_disk home) }
+    ensures { ForSome exec.idle_store (λ idle_store. result ≡ idle_disk idle_store) }
 {
     match exec.end() {
         Ended::Whole(store) => store.into_disk(),

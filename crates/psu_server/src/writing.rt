@@ -12,17 +12,17 @@ const ROOM: usize = 65_536;
 
 /// Appends a text to the output buffer. A buffer that has grown too long is written first.
 #[inline(always)]
-pub fn tell<W: Write, A: Allocator + Copy>(
-    told: &mut Vec<u8, A>,
+pub fn append_output<W: Write, A: Allocator + Copy>(
+    output: &mut Vec<u8, A>,
     text: &[u8],
     writer: &mut W,
 ) -> Result<(), RunCause>
-    ensures says { OnOk result (Says (held (W.contents writer.old) told.old.items) (held (W.contents writer.new) told.new.items) text.now) }
-    ensures until { IfErr result (λ cause. SaysUntil cause (held (W.contents writer.old) told.old.items) (held (W.contents writer.new) told.new.items) []) }
+    ensures says { OnOk result (Says (held (W.contents writer.old) output.old.items) (held (W.contents writer.new) output.new.items) text.now) }
+    ensures until { IfErr result (λ cause. SaysUntil cause (held (W.contents writer.old) output.old.items) (held (W.contents writer.new) output.new.items) []) }
     ensures own { IfErr result (λ cause. (cause ≡ RunCause.Memory) ⊎ (cause ≡ RunCause.Write)) }
 {
-    write_on(told, writer)?;
-    let Ok(()) = told.extend_from_slice(text) else {
+    write_on(output, writer)?;
+    let Ok(()) = output.extend_from_slice(text) else {
         return Err(RunCause::Memory);
     };
     Ok(())
@@ -30,17 +30,17 @@ pub fn tell<W: Write, A: Allocator + Copy>(
 
 // Writes the buffer where it has grown too long, also before the end of a line.
 fn write_on<W: Write, A: Allocator + Copy>(
-    told: &mut Vec<u8, A>,
+    output: &mut Vec<u8, A>,
     writer: &mut W,
 ) -> Result<(), RunCause>
-    ensures says { OnOk result (Says (held (W.contents writer.old) told.old.items) (held (W.contents writer.new) told.new.items) []) }
-    ensures until { IfErr result (λ cause. SaysUntil cause (held (W.contents writer.old) told.old.items) (held (W.contents writer.new) told.new.items) []) }
+    ensures says { OnOk result (Says (held (W.contents writer.old) output.old.items) (held (W.contents writer.new) output.new.items) []) }
+    ensures until { IfErr result (λ cause. SaysUntil cause (held (W.contents writer.old) output.old.items) (held (W.contents writer.new) output.new.items) []) }
     ensures own { IfErr result (λ cause. cause ≡ RunCause.Write) }
 {
-    if told.len() <= ROOM {
+    if output.len() <= ROOM {
         return Ok(());
     }
-    put(writer, told.as_slice())?;
-    told.clear();
+    put(writer, output.as_slice())?;
+    output.clear();
     Ok(())
 }

@@ -4,8 +4,8 @@ use Rattle.std.specs.Prelude.{if◌then◌else◌}
 use Rattle.std.proofs.lemmas.Bool.{and_from, and_parts, cases_Bool, or_cases}
 use Rattle.std.proofs.lemmas.Bool.Decides.{nat_tests}
 use Rattle.psu_lex.specs.Bytes.{all_digits, is_digit}
-use Rattle.psu_tree.specs.Headers.{Entry, Matches, Mnemonic, asked, capital, fits, form_of, in_brackets, is_numbered, names, same_letters, short, stem}
-use Rattle.psu_tree.specs.Rows.{HaveNoHeaderInCommon, EachIsAskedByItsHeaders}
+use Rattle.psu_tree.specs.Headers.{Entry, Matches, Mnemonic, form_for, capital, fits, form_of, in_brackets, is_numbered, names, same_letters, short, stem}
+use Rattle.psu_tree.specs.Rows.{HaveNoHeaderInCommon, EachIsFoundByItsHeaders}
 use Rattle.psu_tree.specs.Table.{table}
 use Rattle.psu_tree.proofs.Matching.{or_left, or_right, matches_in, matches_out}
 
@@ -162,37 +162,37 @@ never : (b : Bool) → not b ≡ true → b ≡ true → ⊥
 never true h k = cc (h)
 never false h k = cc (k)
 
-free_of : (nodes : List Mnemonic) (before behind : List Entry) (other : Entry) (words : List (List ℕ)) → is_free nodes (before ++ other ∷ behind) ≡ true → Matches nodes words → Matches other.nodes words → ⊥
-free_of nodes [] behind other words h m n =
-    never (may_meet 16 nodes other.nodes) (and_parts (not (may_meet 16 nodes other.nodes)) (is_free nodes behind) h).0 (meet 16 nodes other.nodes words m n)
-free_of nodes (row ∷ before) behind other words h m n =
-    free_of nodes before behind other words (and_parts (not (may_meet 16 nodes row.nodes)) (is_free nodes (before ++ other ∷ behind)) h).1 m n
+free_of : (nodes : List Mnemonic) (before after : List Entry) (other : Entry) (words : List (List ℕ)) → is_free nodes (before ++ other ∷ after) ≡ true → Matches nodes words → Matches other.nodes words → ⊥
+free_of nodes [] after other words h m n =
+    never (may_meet 16 nodes other.nodes) (and_parts (not (may_meet 16 nodes other.nodes)) (is_free nodes after) h).0 (meet 16 nodes other.nodes words m n)
+free_of nodes (row ∷ before) after other words h m n =
+    free_of nodes before after other words (and_parts (not (may_meet 16 nodes row.nodes)) (is_free nodes (before ++ other ∷ after)) h).1 m n
 
-free_pair : (before between behind : List Entry) (row other : Entry) (words : List (List ℕ)) → are_free (before ++ row ∷ (between ++ other ∷ behind)) ≡ true
+free_pair : (before between after : List Entry) (row other : Entry) (words : List (List ℕ)) → are_free (before ++ row ∷ (between ++ other ∷ after)) ≡ true
     → Matches row.nodes words → Matches other.nodes words → ⊥
-free_pair [] between behind row other words h m n =
-    free_of row.nodes between behind other words (and_parts (is_free row.nodes (between ++ other ∷ behind)) (are_free (between ++ other ∷ behind)) h).0 m n
-free_pair (first ∷ before) between behind row other words h m n =
-    free_pair before between behind row other words (and_parts (is_free first.nodes (before ++ row ∷ (between ++ other ∷ behind))) (are_free (before ++ row ∷ (between ++ other ∷ behind))) h).1 m n
+free_pair [] between after row other words h m n =
+    free_of row.nodes between after other words (and_parts (is_free row.nodes (between ++ other ∷ after)) (are_free (between ++ other ∷ after)) h).0 m n
+free_pair (first ∷ before) between after row other words h m n =
+    free_pair before between after row other words (and_parts (is_free first.nodes (before ++ row ∷ (between ++ other ∷ after))) (are_free (before ++ row ∷ (between ++ other ∷ after))) h).1 m n
 
 none_common : (rows : List Entry) → are_free rows ≡ true → HaveNoHeaderInCommon rows
-none_common rows h before between behind row other words e m n =
-    free_pair before between behind row other words (subst (λ (z : List Entry). are_free z ≡ true) e h) m n
+none_common rows h before between after row other words e m n =
+    free_pair before between after row other words (subst (λ (z : List Entry). are_free z ≡ true) e h) m n
 
 -- the first row that the words match is the only one
-free_first : (before behind : List Entry) (row : Entry) (words : List (List ℕ)) (asks : Bool) → are_free (before ++ row ∷ behind) ≡ true → Matches row.nodes words
-    → asked (before ++ row ∷ behind) words asks ≡ form_of asks row
-free_first [] behind row words asks h m = rw (matches_in row.nodes words m) refl
-free_first (first ∷ before) behind row words asks h m =
-    let p = and_parts (is_free first.nodes (before ++ row ∷ behind)) (are_free (before ++ row ∷ behind)) h in
+free_first : (before after : List Entry) (row : Entry) (words : List (List ℕ)) (asks : Bool) → are_free (before ++ row ∷ after) ≡ true → Matches row.nodes words
+    → form_for (before ++ row ∷ after) words asks ≡ form_of asks row
+free_first [] after row words asks h m = rw (matches_in row.nodes words m) refl
+free_first (first ∷ before) after row words asks h m =
+    let p = and_parts (is_free first.nodes (before ++ row ∷ after)) (are_free (before ++ row ∷ after)) h in
     elim (cases_Bool (fits first.nodes words)) [
-      | inl t ↦ absurd (free_of first.nodes before behind row words p.0 (matches_out first.nodes words t) m)
-      | inr f ↦ rw f (free_first before behind row words asks p.1 m)
+      | inl t ↦ absurd (free_of first.nodes before after row words p.0 (matches_out first.nodes words t) m)
+      | inr f ↦ rw f (free_first before after row words asks p.1 m)
     ]
 
-each_asked : (rows : List Entry) → are_free rows ≡ true → EachIsAskedByItsHeaders rows
-each_asked rows h before behind row words asks e m =
-    subst (λ (z : List Entry). asked z words asks ≡ form_of asks row) (sym e) (free_first before behind row words asks (subst (λ (z : List Entry). are_free z ≡ true) e h) m)
+each_found : (rows : List Entry) → are_free rows ≡ true → EachIsFoundByItsHeaders rows
+each_found rows h before after row words asks e m =
+    subst (λ (z : List Entry). form_for z words asks ≡ form_of asks row) (sym e) (free_first before after row words asks (subst (λ (z : List Entry). are_free z ≡ true) e h) m)
 
 table_free : are_free table ≡ true
 table_free = refl
@@ -200,5 +200,5 @@ table_free = refl
 pub table_apart : HaveNoHeaderInCommon table
 table_apart = none_common table table_free
 
-pub table_asked : EachIsAskedByItsHeaders table
-table_asked = each_asked table table_free
+pub table_found : EachIsFoundByItsHeaders table
+table_found = each_found table table_free

@@ -66,19 +66,19 @@ not_true : (b : Bool) → not b ≡ true → b ≡ false
 not_true true h = absurd (cc (h))
 not_true false h = refl
 
-no_number : (nodes : List Mnemonic) (front back : List (List ℕ)) (word : List ℕ) → has_none nodes ≡ true → Matches nodes (front ++ word ∷ back) → digits_of word ≡ []
+no_number : (nodes : List Mnemonic) (prefix back : List (List ℕ)) (word : List ℕ) → has_none nodes ≡ true → Matches nodes (prefix ++ word ∷ back) → digits_of word ≡ []
 no_number [] [] back word h m = absurd m
-no_number [] (x ∷ front) back word h m = absurd m
+no_number [] (x ∷ prefix) back word h m = absurd m
 no_number (node ∷ nodes) [] back word h (inl (n, m)) =
     let p = and_parts (is_plain node && not (is_numbered node.kind)) (has_none nodes) h in
     let q = and_parts (is_plain node) (not (is_numbered node.kind)) p.0 in
     plain_named node word q.0 (not_true (is_numbered node.kind) q.1) n
 no_number (node ∷ nodes) [] back word h (inr (b, m)) =
     no_number nodes [] back word (and_parts (is_plain node && not (is_numbered node.kind)) (has_none nodes) h).1 m
-no_number (node ∷ nodes) (x ∷ front) back word h (inl (n, m)) =
-    no_number nodes front back word (and_parts (is_plain node && not (is_numbered node.kind)) (has_none nodes) h).1 m
-no_number (node ∷ nodes) (x ∷ front) back word h (inr (b, m)) =
-    no_number nodes (x ∷ front) back word (and_parts (is_plain node && not (is_numbered node.kind)) (has_none nodes) h).1 m
+no_number (node ∷ nodes) (x ∷ prefix) back word h (inl (n, m)) =
+    no_number nodes prefix back word (and_parts (is_plain node && not (is_numbered node.kind)) (has_none nodes) h).1 m
+no_number (node ∷ nodes) (x ∷ prefix) back word h (inr (b, m)) =
+    no_number nodes (x ∷ prefix) back word (and_parts (is_plain node && not (is_numbered node.kind)) (has_none nodes) h).1 m
 
 none_one : (nodes : List Mnemonic) → has_none nodes ≡ true → has_one nodes ≡ true
 none_one [] h = refl
@@ -97,22 +97,22 @@ first_word : (numbered : Bool) (node : Mnemonic) (nodes : List Mnemonic) (middle
 first_word true node nodes middle back word other e p h n m = inr (no_number nodes middle back other h m)
 first_word false node nodes middle back word other e p h n m = inl (plain_named node word p e n)
 
-one_number : (nodes : List Mnemonic) (front middle back : List (List ℕ)) (word other : List ℕ) → has_one nodes ≡ true → Matches nodes (front ++ word ∷ (middle ++ other ∷ back))
+one_number : (nodes : List Mnemonic) (prefix middle back : List (List ℕ)) (word other : List ℕ) → has_one nodes ≡ true → Matches nodes (prefix ++ word ∷ (middle ++ other ∷ back))
     → (digits_of word ≡ []) ⊎ (digits_of other ≡ [])
 one_number [] [] middle back word other h m = absurd m
-one_number [] (x ∷ front) middle back word other h m = absurd m
+one_number [] (x ∷ prefix) middle back word other h m = absurd m
 one_number (node ∷ nodes) [] middle back word other h (inl (n, m)) =
     let p = and_parts (is_plain node) (if is_numbered node.kind then has_none nodes else has_one nodes) h in
     first_word (is_numbered node.kind) node nodes middle back word other refl p.0 p.1 n m
 one_number (node ∷ nodes) [] middle back word other h (inr (b, m)) =
     let p = and_parts (is_plain node) (if is_numbered node.kind then has_none nodes else has_one nodes) h in
     one_number nodes [] middle back word other (rest_one (is_numbered node.kind) nodes p.1) m
-one_number (node ∷ nodes) (x ∷ front) middle back word other h (inl (n, m)) =
+one_number (node ∷ nodes) (x ∷ prefix) middle back word other h (inl (n, m)) =
     let p = and_parts (is_plain node) (if is_numbered node.kind then has_none nodes else has_one nodes) h in
-    one_number nodes front middle back word other (rest_one (is_numbered node.kind) nodes p.1) m
-one_number (node ∷ nodes) (x ∷ front) middle back word other h (inr (b, m)) =
+    one_number nodes prefix middle back word other (rest_one (is_numbered node.kind) nodes p.1) m
+one_number (node ∷ nodes) (x ∷ prefix) middle back word other h (inr (b, m)) =
     let p = and_parts (is_plain node) (if is_numbered node.kind then has_none nodes else has_one nodes) h in
-    one_number nodes (x ∷ front) middle back word other (rest_one (is_numbered node.kind) nodes p.1) m
+    one_number nodes (x ∷ prefix) middle back word other (rest_one (is_numbered node.kind) nodes p.1) m
 
 -- ---- tables
 
@@ -120,13 +120,13 @@ abbrev all_one : List Entry → Bool
 all_one [] = true
 all_one (row ∷ rows) = has_one row.nodes && all_one rows
 
-one_at : (before behind : List Entry) (row : Entry) → all_one (before ++ row ∷ behind) ≡ true → has_one row.nodes ≡ true
-one_at [] behind row h = (and_parts (has_one row.nodes) (all_one behind) h).0
-one_at (first ∷ before) behind row h = one_at before behind row (and_parts (has_one first.nodes) (all_one (before ++ row ∷ behind)) h).1
+one_at : (before after : List Entry) (row : Entry) → all_one (before ++ row ∷ after) ≡ true → has_one row.nodes ≡ true
+one_at [] after row h = (and_parts (has_one row.nodes) (all_one after) h).0
+one_at (first ∷ before) after row h = one_at before after row (and_parts (has_one first.nodes) (all_one (before ++ row ∷ after)) h).1
 
 each_one_number : (rows : List Entry) → all_one rows ≡ true → HaveOneNumber rows
-each_one_number rows h before behind row front middle back word other e m =
-    one_number row.nodes front middle back word other (one_at before behind row (subst (λ (z : List Entry). all_one z ≡ true) e h)) m
+each_one_number rows h before after row prefix middle back word other e m =
+    one_number row.nodes prefix middle back word other (one_at before after row (subst (λ (z : List Entry). all_one z ≡ true) e h)) m
 
 table_one : all_one table ≡ true
 table_one = refl

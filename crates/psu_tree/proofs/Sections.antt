@@ -4,51 +4,51 @@ use Rattle.std.specs.Prelude.{Some, None, map, if◌then◌else◌}
 use Rattle.std.proofs.Math.Bool.{and-false, and-true}
 use Rattle.std.proofs.lemmas.Bool.{and_parts, cases_Bool, eqb-true}
 use Rattle.psu_lex.specs.Bytes.{all_digits}
-use Rattle.psu_tree.specs.Headers.{Entry, asked, capital, fits, in_brackets, is_form, is_numbered, is_small, stem}
+use Rattle.psu_tree.specs.Headers.{Entry, form_for, capital, fits, in_brackets, is_form, is_numbered, is_small, stem}
 use Rattle.psu_tree.specs.Scans.{first_letter, second_letter}
-use Rattle.psu_tree.specs.Shown.{begins_with, each_begins, entry, fits_behind, named_of, row_behind}
+use Rattle.psu_tree.specs.Shown.{begins_with, each_begins, entry, fits_after, named_of, row_after}
 use Rattle.psu_tree.specs.declared.rows.Node.{Node}
 use Rattle.psu_tree.specs.declared.rows.Row.{Row}
 use Rattle.psu_tree.specs.declared.rows.Section.{Section}
 
-same_fit : (root : Node) (row : Row) (ws : List (List ℕ)) → fits (entry root row).nodes ws ≡ fits_behind (named_of root ws) (in_brackets root.kind) row.nodes.now ws
+same_fit : (root : Node) (row : Row) (ws : List (List ℕ)) → fits (entry root row).nodes ws ≡ fits_after (named_of root ws) (in_brackets root.kind) row.nodes.now ws
 same_fit root row [] = refl
 same_fit root row (word ∷ words) = refl
 
 pub found : (root : Node) (rows : List Row) (more : List Entry) (ws : List (List ℕ)) (asks : Bool) (row : Row)
-    → row_behind (named_of root ws) (in_brackets root.kind) rows ws ≡ Some row
-    → (if asks then row.query else row.command) ≡ asked (map (entry root) rows ++ more) ws asks
+    → row_after (named_of root ws) (in_brackets root.kind) rows ws ≡ Some row
+    → (if asks then row.query else row.command) ≡ form_for (map (entry root) rows ++ more) ws asks
 found root [] more ws asks row h = absurd (cc h)
-found root (first ∷ rows) more ws asks row h = elim (cases_Bool (fits_behind (named_of root ws) (in_brackets root.kind) first.nodes.now ws)) [
+found root (first ∷ rows) more ws asks row h = elim (cases_Bool (fits_after (named_of root ws) (in_brackets root.kind) first.nodes.now ws)) [
   | inl t ↦ let e : first ≡ row = cc (rw t at h) in rw (same_fit root first ws ∙ t) (rw e refl)
   | inr f ↦ rw (same_fit root first ws ∙ f) (found root rows more ws asks row (rw f at h))
 ]
 
 pub passed : (root : Node) (rows : List Row) (more : List Entry) (ws : List (List ℕ)) (asks : Bool)
-    → row_behind (named_of root ws) (in_brackets root.kind) rows ws ≡ None
-    → asked more ws asks ≡ asked (map (entry root) rows ++ more) ws asks
+    → row_after (named_of root ws) (in_brackets root.kind) rows ws ≡ None
+    → form_for more ws asks ≡ form_for (map (entry root) rows ++ more) ws asks
 passed root [] more ws asks h = refl
-passed root (first ∷ rows) more ws asks h = elim (cases_Bool (fits_behind (named_of root ws) (in_brackets root.kind) first.nodes.now ws)) [
+passed root (first ∷ rows) more ws asks h = elim (cases_Bool (fits_after (named_of root ws) (in_brackets root.kind) first.nodes.now ws)) [
   | inl t ↦ absurd (cc (rw t at h))
   | inr f ↦ rw (same_fit root first ws ∙ f) (passed root rows more ws asks (rw f at h))
 ]
 
-closed : (rows : List Row) (ws : List (List ℕ)) → row_behind false false rows ws ≡ None
+closed : (rows : List Row) (ws : List (List ℕ)) → row_after false false rows ws ≡ None
 closed [] ws = refl
 closed (first ∷ rows) [] = closed rows []
 closed (first ∷ rows) (word ∷ words) = closed rows (word ∷ words)
 
-closed_at : (named missing : Bool) (rows : List Row) (ws : List (List ℕ)) → named ≡ false → missing ≡ false → row_behind named missing rows ws ≡ None
+closed_at : (named missing : Bool) (rows : List Row) (ws : List (List ℕ)) → named ≡ false → missing ≡ false → row_after named missing rows ws ≡ None
 closed_at named missing rows ws n m = rw (n, m) (closed rows ws)
 
 -- no words, and a required root
 pub none_without : (root : Node) (rows : List Row) (words : List (Bor (List ℕ))) → length words ≡ 0 → in_brackets root.kind ≡ false
-    → None ≡ row_behind (named_of root (map (λ (word : Bor (List ℕ)). word.now) words)) (in_brackets root.kind) rows (map (λ (word : Bor (List ℕ)). word.now) words)
+    → None ≡ row_after (named_of root (map (λ (word : Bor (List ℕ)). word.now) words)) (in_brackets root.kind) rows (map (λ (word : Bor (List ℕ)). word.now) words)
 none_without root rows [] e m = sym (closed_at false (in_brackets root.kind) rows [] refl m)
 none_without root rows (word ∷ words) e m = absurd (omega (arith, e))
 
 -- a required root that is not named
-pub none_named : (root : Node) (rows : List Row) (ws : List (List ℕ)) → named_of root ws ≡ false → in_brackets root.kind ≡ false → None ≡ row_behind (named_of root ws) (in_brackets root.kind) rows ws
+pub none_named : (root : Node) (rows : List Row) (ws : List (List ℕ)) → named_of root ws ≡ false → in_brackets root.kind ≡ false → None ≡ row_after (named_of root ws) (in_brackets root.kind) rows ws
 none_named root rows ws n m = sym (closed_at (named_of root ws) (in_brackets root.kind) rows ws n m)
 
 -- ---- a root that begins with other letters
@@ -126,7 +126,7 @@ unnamed root (word ∷ words) first second h f = apart (is_numbered root.kind) f
 
 -- a section that is skipped
 pub none_passed : (root : Node) (rows : List Row) (ws : List (List ℕ)) (begins : Bool) → (begins ≡ false → named_of root ws ≡ false) → (not begins && not (in_brackets root.kind)) ≡ true
-    → row_behind (named_of root ws) (in_brackets root.kind) rows ws ≡ None
+    → row_after (named_of root ws) (in_brackets root.kind) rows ws ≡ None
 none_passed root rows ws begins named h =
     let p = and_parts (not begins) (not (in_brackets root.kind)) h in
     closed_at (named_of root ws) (in_brackets root.kind) rows ws (named (not_small begins p.0)) (not_small (in_brackets root.kind) p.1)

@@ -2,7 +2,7 @@
 use Rattle.std.proofs.Common.{◌≡◌, ℕ, ◌<◌, ◌≤◌, ◌&&◌, Bool, true, false, List, [], ◌∷◌, length, refl, arith}
 use Rattle.std.specs.Prelude.{None, nat_le}
 use Rattle.std.proofs.lemmas.Bool.Decides.{nat_tests}
-use Rattle.psu_tree.specs.Headers.{Entry, Mnemonic, asked, fits, in_brackets, names}
+use Rattle.psu_tree.specs.Headers.{Entry, Mnemonic, form_for, fits, in_brackets, names}
 use Rattle.psu_tree.specs.Table.{table}
 
 abbrev few : List Entry → Bool
@@ -35,11 +35,11 @@ and_right false b h = absurd (cc (h))
 at_most_five : (n : ℕ) → nat_le n 5 ≡ true → n ≤ 5
 at_most_five n h = grind (arith, nat_tests, h)
 
-none_in : (entries : List Entry) (words : List (List ℕ)) (asks : Bool) → few entries ≡ true → 5 < length words → asked entries words asks ≡ None
+none_in : (entries : List Entry) (words : List (List ℕ)) (asks : Bool) → few entries ≡ true → 5 < length words → form_for entries words asks ≡ None
 none_in [] words asks h lt = refl
 none_in (entry ∷ entries) words asks h lt =
     let n : length entry.nodes ≤ 5 = at_most_five (length entry.nodes) (and_left (nat_le (length entry.nodes) 5) (few entries) h) in
     rw (too_many entry.nodes words (omega (arith, n, lt))) (none_in entries words asks (and_right (nat_le (length entry.nodes) 5) (few entries) h) lt)
 
-pub none_asked : (words : List (List ℕ)) (asks : Bool) → 5 < length words → asked table words asks ≡ None
-none_asked words asks lt = none_in table words asks few_table lt
+pub none_found : (words : List (List ℕ)) (asks : Bool) → 5 < length words → form_for table words asks ≡ None
+none_found words asks lt = none_in table words asks few_table lt

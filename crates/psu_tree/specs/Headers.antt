@@ -90,8 +90,8 @@ abbrev pub form_of : Bool → Entry → Option Form
 form_of asks entry = if asks then entry.query else entry.command
 
 -- the form of the first row that the words match
-abbrev pub asked : List Entry → List (List ℕ) → Bool → Option Form
-asked table words asks = option_and_then (form_of asks) (find (λ entry. fits entry.nodes words) table)
+abbrev pub form_for : List Entry → List (List ℕ) → Bool → Option Form
+form_for table words asks = option_and_then (form_of asks) (find (λ entry. fits entry.nodes words) table)
 
 -- ---- the standard's notation
 
@@ -105,23 +105,23 @@ ended [] brackets numbered = []
 ended (x ∷ xs) brackets numbered = record { name = x ∷ xs; kind = kind_of brackets numbered } ∷ []
 
 -- the meaning of a byte of the notation
-pub data Mark : Type 0 where
-  Star : Mark
-  Opening : Mark
-  Closing : Mark
-  Colon : Mark
-  Angle : Mark
-  Letter : Mark
+pub data Symbol : Type 0 where
+  Star : Symbol
+  Opening : Symbol
+  Closing : Symbol
+  Colon : Symbol
+  Angle : Symbol
+  Letter : Symbol
 
-abbrev pub mark_of : ℕ → Mark
-mark_of b =
+abbrev pub symbol_of : ℕ → Symbol
+symbol_of b =
     if b == 42 then Star else (if b == 91 then Opening else (if b == 93 then Closing else (if b == 58 then Colon
     else (if b == 60 || b == 62 then Angle else Letter))))
 
 -- the nodes of a header in the standard's notation, after the letters of one that has begun
 abbrev pub nodes_from : List ℕ → Bool → Bool → List ℕ → List Mnemonic
 nodes_from name brackets numbered [] = ended name brackets numbered
-nodes_from name brackets numbered (x ∷ xs) = elim (mark_of x) as (λ _. List Mnemonic) [
+nodes_from name brackets numbered (x ∷ xs) = elim (symbol_of x) as (λ _. List Mnemonic) [
   | Star ↦ record { name = 42 ∷ []; kind = Must } ∷ nodes_from [] false false xs
   | Opening ↦ ended name brackets numbered ++ nodes_from [] true false xs
   | Closing ↦ ended name brackets numbered ++ nodes_from [] false false xs

@@ -2,11 +2,11 @@
 -- tree).
 use Rattle.std.specs.Prelude.{ℕ, ◌-◌, Bool, true, false, List, [], ◌∷◌, ◌++◌, length, take}
 use Rattle.psu_lex.specs.Syntax.{Header}
-use Rattle.psu_lex.specs.declared.mark.Mark.{Mark}
-use Rattle.psu_lex.specs.declared.mark.Mark.TheVariants.{Star, Colon, Bare}
+use Rattle.psu_lex.specs.declared.header_mark.HeaderMark.{HeaderMark}
+use Rattle.psu_lex.specs.declared.header_mark.HeaderMark.TheVariants.{Star, Colon, Bare}
 
 -- the nodes of a header at a path; `*` is a node of its own
-abbrev pub words_at : Mark → List (List ℕ) → List (List ℕ) → List (List ℕ)
+abbrev pub words_at : HeaderMark → List (List ℕ) → List (List ℕ) → List (List ℕ)
 words_at Star path nodes = (42 ∷ []) ∷ nodes
 words_at Colon path nodes = nodes
 words_at Bare path nodes = path ++ nodes
@@ -19,12 +19,12 @@ all_but_last words = take (length words - 1) words
 
 -- the path after a header without error: its nodes without the last, which for a single node is the root after a
 -- leading `:`, and the path itself without one; a common header leaves the path unchanged
-abbrev pub moved : Mark → List (List ℕ) → List (List ℕ) → List (List ℕ)
-moved Star path words = path
-moved Colon path words = all_but_last words
-moved Bare path words = all_but_last words
+abbrev pub next_path : HeaderMark → List (List ℕ) → List (List ℕ) → List (List ℕ)
+next_path Star path words = path
+next_path Colon path words = all_but_last words
+next_path Bare path words = all_but_last words
 
 -- the path after a header, whether it is without error (true) or not: an error leaves the path unchanged
-abbrev pub path_behind : Bool → List (List ℕ) → Header → List (List ℕ)
-path_behind true path h = moved h.mark path (words_of path h)
-path_behind false path h = path
+abbrev pub path_after : Bool → List (List ℕ) → Header → List (List ℕ)
+path_after true path h = next_path h.mark path (words_of path h)
+path_after false path h = path

@@ -9,8 +9,8 @@ use Rattle.psu_lex.specs.Syntax.{Datum, Syntax, SyntaxGives, Header, IsHeader, h
 use Rattle.psu_lex.specs.declared.scpi_error.ScpiError.{ScpiError}
 use Rattle.psu_lex.specs.declared.scpi_error.ScpiError.TheVariants.{UndefinedHeader, HeaderSuffixOutOfRange}
 use Rattle.psu_tree.specs.Commands.{CommandReads}
-use Rattle.psu_tree.specs.Headers.{asked, stem}
-use Rattle.psu_tree.specs.Path.{words_of, path_behind}
+use Rattle.psu_tree.specs.Headers.{form_for, stem}
+use Rattle.psu_tree.specs.Path.{words_of, path_after}
 use Rattle.psu_tree.specs.Table.{table}
 use Rattle.psu_tree.specs.declared.command.Command.{Command}
 use Rattle.psu_tree.specs.declared.form.Form.{Form}
@@ -48,7 +48,7 @@ placed (Some form) (Ok output) = Ok (form, output)
 
 -- the form in the table of a header with these nodes, and its output
 abbrev pub header_reads : List (List ℕ) → Bool → Result (Form × Output) ScpiError
-header_reads words asks = placed (asked table words asks) (output_of (suffix_of words))
+header_reads words asks = placed (form_for table words asks) (output_of (suffix_of words))
 
 -- ---- units
 
@@ -70,7 +70,7 @@ Reads path unit reading = (given : Result Syntax ScpiError) × SyntaxGives unit 
 abbrev pub SyntaxMoves : List (List ℕ) → Result Syntax ScpiError → Result Command ScpiError → List (List ℕ) → Type 0
 SyntaxMoves path (Err e) reading next = next ≡ path
 SyntaxMoves path (Ok syntax) reading next =
-    (h : Header) × IsHeader h × (syntax.header ≡ header_text h) × (next ≡ path_behind (is_ok reading) path h)
+    (h : Header) × IsHeader h × (syntax.header ≡ header_text h) × (next ≡ path_after (is_ok reading) path h)
 
 -- the path after a unit with this result
 abbrev pub Moves : List (List ℕ) → Part → Result Command ScpiError → List (List ℕ) → Type 0

@@ -30,9 +30,9 @@ each_begins (section ∷ sections) =
     begins_with section.first section.second (is_numbered section.root.kind) section.root.name.now && each_begins sections
 
 -- the words match the nodes after a first node, which the first word names (`named`) or which is left out (`missing`)
-abbrev pub fits_behind : Bool → Bool → List Node → List (List ℕ) → Bool
-fits_behind named missing nodes [] = missing && fits (map mnemonic nodes) []
-fits_behind named missing nodes (word ∷ words) =
+abbrev pub fits_after : Bool → Bool → List Node → List (List ℕ) → Bool
+fits_after named missing nodes [] = missing && fits (map mnemonic nodes) []
+fits_after named missing nodes (word ∷ words) =
     (named && fits (map mnemonic nodes) words) || (missing && fits (map mnemonic nodes) (word ∷ words))
 
 -- the first of the rows that words match
@@ -44,8 +44,8 @@ abbrev pub row_either : List Row → List (List ℕ) → List (List ℕ) → Opt
 row_either rows words later = find (λ row. fits (map mnemonic row.nodes.now) later || fits (map mnemonic row.nodes.now) words) rows
 
 -- the first of a section's rows that the words match
-abbrev pub row_behind : Bool → Bool → List Row → List (List ℕ) → Option Row
-row_behind named missing rows words = find (λ row. fits_behind named missing row.nodes.now words) rows
+abbrev pub row_after : Bool → Bool → List Row → List (List ℕ) → Option Row
+row_after named missing rows words = find (λ row. fits_after named missing row.nodes.now words) rows
 
 -- the first word names the node
 abbrev pub named_of : Node → List (List ℕ) → Bool

@@ -4,7 +4,7 @@ ghost use Rattle.psu_lex.specs.Message.{Part};
 ghost use Rattle.psu_lex.specs.declared.scpi_error.ScpiError.{ScpiError};
 ghost use Rattle.psu_tree.specs.Headers.{Matches, Mnemonic, fits};
 ghost use Rattle.psu_tree.specs.Reading.{Reads};
-ghost use Rattle.psu_tree.specs.Rows.{EachIsAskedByItsHeaders, HaveNoHeaderInCommon, HaveOneNumber};
+ghost use Rattle.psu_tree.specs.Rows.{EachIsFoundByItsHeaders, HaveNoHeaderInCommon, HaveOneNumber};
 ghost use Rattle.psu_tree.specs.Table.{table};
 ghost use Rattle.psu_tree.specs.declared.command.Command.{Command};
 
@@ -44,7 +44,7 @@ pub fn no_header_of_two_rows()
 
 /// A header that matches a row has the form of that row, wherever the row is in the table.
 pub fn a_header_asks_for_its_row()
-    ensures { EachIsAskedByItsHeaders table }
+    ensures { EachIsFoundByItsHeaders table }
 {}
 
 /// A header that matches a row of the table has at most one numeric suffix: of any two of its nodes one ends without a

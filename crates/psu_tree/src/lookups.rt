@@ -1,9 +1,9 @@
 // The row of a header. Rows whose first letter differs from the header's are skipped.
 ghost use Rattle.std.specs.Prelude.{◌≡◌, ◌==◌, ◌&&◌, not, true, false, map, if◌then◌else◌};
 ghost use Rattle.std.specs.Option.{option_copied};
-ghost use Rattle.psu_tree.specs.Headers.{asked, fits, in_brackets};
+ghost use Rattle.psu_tree.specs.Headers.{form_for, fits, in_brackets};
 ghost use Rattle.psu_tree.specs.Scans.{begins_apart, first_letter, is_apart, rows_apart, second_letter};
-ghost use Rattle.psu_tree.specs.Shown.{each_begins, entries, mnemonic, named_of, row_at, row_behind, row_either};
+ghost use Rattle.psu_tree.specs.Shown.{each_begins, entries, mnemonic, named_of, row_at, row_after, row_either};
 ghost use Rattle.psu_tree.specs.Table.{table};
 
 use crate::walks::{capital, is_named, is_small, may_miss, patterns, walk};
@@ -129,7 +129,7 @@ fn is_named_first(begins: bool, root: &Node, words: &[&[u8]]) -> bool
 fn row_in<'a>(letter: u8, begins: bool, section: &'a Section, words: &[&[u8]]) -> Option<&'a Row>
     requires letter { letter ≡ first_letter (map (λ word. word.now) words.now) }
     requires named { begins ≡ false → named_of section.now.root (map (λ word. word.now) words.now) ≡ false }
-    ensures { option_copied result ≡ row_behind (named_of section.now.root (map (λ word. word.now) words.now)) (in_brackets section.now.root.kind) section.now.rows.now (map (λ word. word.now) words.now) }
+    ensures { option_copied result ≡ row_after (named_of section.now.root (map (λ word. word.now) words.now)) (in_brackets section.now.root.kind) section.now.rows.now (map (λ word. word.now) words.now) }
 {
     let missing = may_miss(section.root.kind);
     if !is_named_first(begins, &section.root, words) {
@@ -150,7 +150,7 @@ fn row_in<'a>(letter: u8, begins: bool, section: &'a Section, words: &[&[u8]]) -
 }
 
 // Returns the form of a row, with or without a `?`.
-fn asked_by(row: &Row, asks: bool) -> Option<Form>
+fn row_form(row: &Row, asks: bool) -> Option<Form>
     ensures { result ≡ (if asks then row.now.query else row.now.command) }
 {
     if asks { row.query } else { row.command }
@@ -175,7 +175,7 @@ fn has_letters(section: &Section, first: u8, second: u8) -> bool
 // Returns the form of the first row that the words match.
 fn form_in(sections: &[Section], words: &[&[u8]], asks: bool) -> Option<Form>
     requires { each_begins sections.now ≡ true }
-    ensures { result ≡ asked (entries sections.now) (map (λ word. word.now) words.now) asks }
+    ensures { result ≡ form_for (entries sections.now) (map (λ word. word.now) words.now) asks }
 {
     let first = first_letter(words);
     let second = second_letter(words);
@@ -187,7 +187,7 @@ fn form_in(sections: &[Section], words: &[&[u8]], asks: bool) -> Option<Form>
             continue;
         }
         if let Some(row) = row_in(first, begins, section, words) {
-            return asked_by(row, asks);
+            return row_form(row, asks);
         }
     }
     None
@@ -196,7 +196,7 @@ fn form_in(sections: &[Section], words: &[&[u8]], asks: bool) -> Option<Form>
 /// Returns the form in the table of a header with these nodes, with or without a `?`; `None` where no row has such a
 /// header.
 pub fn form_of(words: &[&[u8]], asks: bool) -> Option<Form>
-    ensures { result ≡ asked table (map (λ word. word.now) words.now) asks }
+    ensures { result ≡ form_for table (map (λ word. word.now) words.now) asks }
 {
     form_in(patterns(), words, asks)
 }

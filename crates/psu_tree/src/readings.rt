@@ -4,7 +4,7 @@ ghost use Rattle.psu_lex.specs.Message.{part};
 ghost use Rattle.psu_lex.specs.Names.{is_label};
 ghost use Rattle.psu_lex.specs.Shown.{HoldsData, ShowsHeader, ShowsSyntax};
 ghost use Rattle.psu_lex.specs.Syntax.{Datum as DatumData, Header as HeaderParts, IsHeader, Syntax as Parts, header_text};
-ghost use Rattle.psu_tree.specs.Path.{moved, words_of};
+ghost use Rattle.psu_tree.specs.Path.{next_path, words_of};
 ghost use Rattle.psu_tree.specs.Reading.{Calls, FormReads, Moves, Reads, SyntaxCalls, SyntaxReads, header_reads, placed};
 
 use crate::commands::command_of;
@@ -13,7 +13,7 @@ use crate::suffixes::header_output;
 use crate::words::{Words, add_words};
 use crate::{Command, Form, MacroCall, Path, Request};
 use arrayvec::ArrayVec;
-use psu_lex::{Data, Header, Mark, ScpiError, Syntax, Unit, is_label, syntax};
+use psu_lex::{Data, Header, HeaderMark, ScpiError, Syntax, Unit, is_label, syntax};
 use psu_outputs::Output;
 use std::mem;
 
@@ -109,12 +109,12 @@ fn call_of<'a>(parts: &Syntax<'a>) -> Option<MacroCall<'a>>
 
 // Moves the path to a header's nodes without the last, taking the last out of the words; a common header leaves the
 // path unchanged.
-fn move_path<'a>(path: &mut Path<'a>, words: &mut Words<'a>, mark: Mark)
-    ensures { path.new ≡ moved mark path.old (map (λ word. word.now) words.old.items) }
+fn move_path<'a>(path: &mut Path<'a>, words: &mut Words<'a>, mark: HeaderMark)
+    ensures { path.new ≡ next_path mark path.old (map (λ word. word.now) words.old.items) }
 {
     match mark {
-        Mark::Star => {}
-        Mark::Colon | Mark::Bare => {
+        HeaderMark::Star => {}
+        HeaderMark::Colon | HeaderMark::Bare => {
             if words.len() <= 1 {
                 path.words.clear();
                 return;

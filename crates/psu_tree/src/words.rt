@@ -7,7 +7,7 @@ ghost use Rattle.psu_tree.specs.Scans.{after_node, node_of};
 
 use crate::Path;
 use arrayvec::ArrayVec;
-use psu_lex::{Header, Mark};
+use psu_lex::{Header, HeaderMark};
 
 /// The maximum number of nodes of a header in the table.
 pub const MOST: usize = 5;
@@ -65,11 +65,11 @@ pub fn add_words<'a>(words: &mut Words<'a>, path: &Path<'a>, header: &Header<'a>
         MatchBool result (map (λ word. word.now) words.new.items ≡ words_of path.now h) (5 < length (words_of path.now h)) }
 {
     match header.mark {
-        Mark::Star => {
+        HeaderMark::Star => {
             words.push(b"*");
         }
-        Mark::Colon => {}
-        Mark::Bare => add_path(words, path),
+        HeaderMark::Colon => {}
+        HeaderMark::Bare => add_path(words, path),
     }
     add_nodes(words, header.nodes)
 }

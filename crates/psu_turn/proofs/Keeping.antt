@@ -113,11 +113,11 @@ module _ {T S E : Type 0} (of : T → S) (allows : S → E → S → Type 0) (st
     the_home = o.home (all_in of allows start s o id m.0 me has_it is_in)
 
     -- the seat moves to a stage with the same ticket
-    goes_on : (k : ℕ) → m.0.name ≡ Named k → (g : Stage S) (hs : List (mathlib.Core.Option.Option (Option (Held T)))) → ((x : ℕ) → HasTicket x g → t ≡ x) → length hs ≡ 1
+    continues : (k : ℕ) → m.0.name ≡ Named k → (g : Stage S) (hs : List (mathlib.Core.Option.Option (Option (Held T)))) → ((x : ℕ) → HasTicket x g → t ≡ x) → length hs ≡ 1
         → Stands (get_or s.words 1 0) (get_or s.words 2 0) (length o.log) o.state g
         → (((j : ℕ) (u : View S E) → get_elem? (set s.views id (at_stage m.0 g)) j ≡ some u → IsIn u.stage) → (h : Held T) × (get_elem? hs 0 ≡ some (some (Some h))) × (of h.object ≡ o.state) × (h.count ≡ length o.log) × (length o.log ≤ get_or s.words 2 0))
         → Rule (board of allows start (set s.words 2 (get_or s.words 2 0)) hs (set s.views id (at_stage m.0 g)))
-    goes_on k name g hs only narrow here home = let w : View S E = at_stage m.0 g in let f = o.fits id m.0 me in
+    continues k name g hs only narrow here home = let w : View S E = at_stage m.0 g in let f = o.fits id m.0 me in
         subst (λ (ws : List ℕ). Rule (board of allows start ws hs (set s.views id w))) (sym same_words)
         (moved of allows start s o id m.0 w s.words hs me (λ z. absurd (named_unspent m.0.name k name z)) o.wide narrow refl o.few o.most
         (record { seen = f.seen; own = f.own; inherited = recalls_set o.log s.views id m.0 w me (λ z. absurd (named_unspent m.0.name k name z)) m.0.inherited f.inherited; stage = here })
@@ -128,13 +128,13 @@ module _ {T S E : Type 0} (of : T → S) (allows : S → E → S → Type 0) (st
   pub takes_on : (n id : ℕ) (m : Sat T S E) (t k : ℕ) → m.0.stage ≡ Waiting t → m.0.name ≡ Named k
       → Allows Rule n id m 2 (λ y. y) (takes_turn of (step n 2 0 0 none) m)
   takes_on n id m t k waits name s o narrow me _ = let long = o.wide in let most = o.most in let st = stands s o id m.0 (Waiting t) me waits in
-      let Goes : Type 0 = (w : View S E) × (a : Act (Option (Held T))) × Valid s.homes m.1 a × Rule (stepped s 2 (get_or s.words 2 0) id m.1 w a) × takes_turn of (step n 2 0 0 none) m (get_or s.words 2 0) (w, carried_after m.1 a) in
+      let Continues : Type 0 = (w : View S E) × (a : Act (Option (Held T))) × Valid s.homes m.1 a × Rule (stepped s 2 (get_or s.words 2 0) id m.1 w a) × takes_turn of (step n 2 0 0 none) m (get_or s.words 2 0) (w, carried_after m.1 a) in
       dite (ℕ_discrete (get_or s.words 2 0) t)
       (λ hit. let h = the_home s o id m t me waits hit in let w : View S E = at_stage m.0 (Out t (of h.0.object) h.0.count) in let low = h.4 in (
         w,
         takes 0 (Some h.0),
         h.1,
-        goes_on s o id m t me waits hit k name (Out t (of h.0.object) h.0.count) (set s.homes 0 none) (λ x e. e) (length-set s.homes 0 none ∙ o.one_slot) (hit, st.1, h.2, h.3, omega arith)
+        continues s o id m t me waits hit k name (Out t (of h.0.object) h.0.count) (set s.homes 0 none) (λ x e. e) (length-set s.homes 0 none ∙ o.one_slot) (hit, st.1, h.2, h.3, omega arith)
             (λ all. absurd (all id w (set_here s.views id w (at_bound s.views id m.0 me)))),
         λ t' waits'. let same : t ≡ t' = ticket_is m.0.stage t t' waits waits' in
             ((λ _. (h.0, let c = h.3 in omega arith, let b = st.1 in omega arith, λ i. (at_stage m.0 (Out (same i) (of h.0.object) h.0.count), (0, Some h.0) ∷ m.1))), λ miss. absurd (miss (hit ∙ same))),
@@ -149,7 +149,7 @@ module _ {T S E : Type 0} (of : T → S) (allows : S → E → S → Type 0) (st
         at_stage m.0 (Called t),
         keeps,
         tt,
-        goes_on s o id m t me waits hit k name (Called t) s.homes (λ x e. e) o.one_slot (hit, st.1) (λ all. the_home s o id m t me waits hit),
+        continues s o id m t me waits hit k name (Called t) s.homes (λ x e. e) o.one_slot (hit, st.1) (λ all. the_home s o id m t me waits hit),
         λ t' waits'. let same : t ≡ t' = ticket_is m.0.stage t t' waits waits' in
             ((λ _. λ i. (at_stage m.0 (Called (same i)), m.1)), λ miss. absurd (miss (hit ∙ same))),
       ))

@@ -1,14 +1,14 @@
 // Sessions and their service states.
 ghost use Rattle.std.specs.Prelude.{◌≡◌, true, Some, None, IfOk, OnErr};
-ghost use Rattle.psu_exec.specs.Device.{is_open, mark_of};
-ghost use Rattle.psu_exec.specs.Calls.{Allows, has_work, unparked, with_answer, with_mark, with_session};
-ghost use Rattle.psu_exec.specs.Calls.Entry.{Opened, Closed, Cleared, Sent, Delivered, Queried, Fetched, Told};
-ghost use Rattle.psu_exec.specs.Latches.{latched, opened_mark, with_available};
+ghost use Rattle.psu_exec.specs.Device.{is_open, service_state_of};
+ghost use Rattle.psu_exec.specs.Calls.{Allows, has_work, unparked, with_answer, with_service_state, with_session};
+ghost use Rattle.psu_exec.specs.Calls.Entry.{Opened, Closed, Cleared, Sent, Delivered, Queried, Fetched, Notified};
+ghost use Rattle.psu_exec.specs.ServiceStates.{rqs_updated, opened_service_state, with_available};
 ghost use Rattle.psu_status.specs.Status.{enabled};
 
-use crate::marks::{latched, no_mark, tell_all, untold};
+use crate::service_states::{initial_service_state, report_all, rqs_updated, unreported};
 use crate::waits::least_free;
-use crate::{Condition, Crowded, Device, Mark, Session, Sessions};
+use crate::{Condition, Crowded, Device, ServiceState, Session, Sessions};
 use std::alloc::Allocator;
 
 impl<A: Allocator + Copy> Device<A> {
@@ -20,8 +20,8 @@ impl<A: Allocator + Copy> Device<A> {
         match least_free(&self.open_now) {
             None => Err(Crowded),
             Some(session) => {
-                let mark = self.opened_mark();
-                self.set_session(session, true, mark);
+                let service_state = self.opened_service_state();
+                self.set_session(session, true, service_state);
                 Ok(session)
             }
         }
@@ -34,7 +34,7 @@ impl<A: Allocator + Copy> Device<A> {
         ensures { Allows self.old (Closed session result) self.new }
     {
         let granted = self.locks.drop_session(session);
-        self.set_session(session, false, no_mark());
+        self.set_session(session, false, initial_service_state());
         granted
     }
 
@@ -47,18 +47,18 @@ impl<A: Allocator + Copy> Device<A> {
     }
 
     // The service state of a session that opens.
-    fn opened_mark(&self) -> Mark
-        ensures { result ≡ opened_mark self.now.volatile.instrument.status }
+    fn opened_service_state(&self) -> ServiceState
+        ensures { result ≡ opened_service_state self.now.volatile.instrument.status }
     {
-        latched(0, self.instrument.enabled(false), no_mark())
+        rqs_updated(0, self.instrument.enabled(false), initial_service_state())
     }
 
     // Sets whether a session is open and its service state, and drops its wait.
-    fn set_session(&mut self, session: Session, opens: bool, mark: Mark)
-        ensures { self.new ≡ with_session self.old session opens mark }
+    fn set_session(&mut self, session: Session, opens: bool, service_state: ServiceState)
+        ensures { self.new ≡ with_session self.old session opens service_state }
     {
         self.open_now[session.place()] = opens;
-        self.marks[session.place()] = mark;
+        self.service_states[session.place()] = service_state;
         self.unpark(session);
     }
 
@@ -89,30 +89,37 @@ impl<A: Allocator + Copy> Device<A> {
     fn set_available(&mut self, session: Session, available: bool)
         ensures { self.new ≡ with_answer self.old session available }
     {
-        let mark = self.changed(self.mark(session), available);
-        self.set_mark(session, mark);
+        let service_state = self.changed(self.service_state(session), available);
+        self.set_service_state(session, service_state);
     }
 
     // The service state of a session, with MAV set to whether a response was sent to it that it has not read.
-    fn changed(&self, mark: Mark, available: bool) -> Mark
-        ensures { result ≡ latched (enabled self.now.volatile.instrument.status mark.available) (enabled self.now.volatile.instrument.status available) (with_available mark available) }
+    fn changed(&self, service_state: ServiceState, available: bool) -> ServiceState
+        ensures { result ≡ rqs_updated (enabled self.now.volatile.instrument.status service_state.available) (enabled self.now.volatile.instrument.status available) (with_available service_state available) }
     {
-        let old = self.instrument.enabled(mark.available);
+        let old = self.instrument.enabled(service_state.available);
         let new = self.instrument.enabled(available);
-        latched(old, new, Mark { available, ..mark })
+        rqs_updated(
+            old,
+            new,
+            ServiceState {
+                available,
+                ..service_state
+            },
+        )
     }
 
     // The service state of a session.
-    fn mark(&self, session: Session) -> Mark
-        ensures { result ≡ mark_of self.now session }
+    fn service_state(&self, session: Session) -> ServiceState
+        ensures { result ≡ service_state_of self.now session }
     {
-        self.marks[session.place()]
+        self.service_states[session.place()]
     }
 
-    fn set_mark(&mut self, session: Session, mark: Mark)
-        ensures { self.new ≡ with_mark self.old session mark }
+    fn set_service_state(&mut self, session: Session, service_state: ServiceState)
+        ensures { self.new ≡ with_service_state self.old session service_state }
     {
-        self.marks[session.place()] = mark;
+        self.service_states[session.place()] = service_state;
     }
 
     /// Returns the status byte of an open session with its RQS in bit 6, which is then cleared.
@@ -120,13 +127,15 @@ impl<A: Allocator + Copy> Device<A> {
         requires { is_open self.old session ≡ true }
         ensures { Allows self.old (Queried session result) self.new }
     {
-        let mark = self.mark(session);
-        let byte = self.instrument.polled(mark.available, mark.latch);
-        self.set_mark(
+        let service_state = self.service_state(session);
+        let byte = self
+            .instrument
+            .polled(service_state.available, service_state.rqs);
+        self.set_service_state(
             session,
-            Mark {
-                latch: false,
-                ..mark
+            ServiceState {
+                rqs: false,
+                ..service_state
             },
         );
         byte
@@ -138,17 +147,17 @@ impl<A: Allocator + Copy> Device<A> {
         requires { is_open self.old session ≡ true }
         ensures { Allows self.old (Fetched session result) self.new }
     {
-        let mark = self.mark(session);
-        let byte = if mark.unfetched {
-            Some(self.instrument.polled(mark.available, true))
+        let service_state = self.service_state(session);
+        let byte = if service_state.unfetched {
+            Some(self.instrument.polled(service_state.available, true))
         } else {
             None
         };
-        self.set_mark(
+        self.set_service_state(
             session,
-            Mark {
+            ServiceState {
                 unfetched: false,
-                ..mark
+                ..service_state
             },
         );
         byte
@@ -156,11 +165,11 @@ impl<A: Allocator + Copy> Device<A> {
 
     /// Returns the open sessions that have requested service since the last call, and whether a take would return a
     /// job.
-    pub(crate) fn news(&mut self) -> (Sessions, bool)
-        ensures { Allows self.old (Told result.0 result.1) self.new }
+    pub(crate) fn take_notifications(&mut self) -> (Sessions, bool)
+        ensures { Allows self.old (Notified result.0 result.1) self.new }
     {
-        let sessions = untold(&self.open_now, &self.marks);
-        tell_all(&mut self.marks);
+        let sessions = unreported(&self.open_now, &self.service_states);
+        report_all(&mut self.service_states);
         (sessions, self.has_work())
     }
 

@@ -5,7 +5,7 @@ pub returns-clause-ends : goal.returns-clause-ends
 returns-clause-ends g c = λ honest. ends_are_true _ _ g.D.Disk
 
 pub returns-clause-events : goal.returns-clause-events
-returns-clause-events g c = λ honest tells. threads_are_events _ _ g.D.Disk (g.met.D.Disk.counts_now tells) honest tells
+returns-clause-events g c = λ honest records. threads_are_events _ _ g.D.Disk (g.met.D.Disk.counts_now records) honest records
 
 pub returns-clause-prefix : goal.returns-clause-prefix
-returns-clause-prefix g c = λ honest tells. disks_leave_prefix _ _ g.D.Disk (g.met.D.Disk.counts_now tells) honest tells
+returns-clause-prefix g c = λ honest records. disks_leave_prefix _ _ g.D.Disk (g.met.D.Disk.counts_now records) honest records

@@ -1,5 +1,5 @@
 use Rattle.std.proofs.Common.{◌-◌, ◌≡◌, ℕ, ◌<◌, ◌≤◌, false}
-use Rattle.psu_disk.specs.Disk.{Left, Elapses}
+use Rattle.psu_disk.specs.Disk.{IsCrashImage, Elapses}
 use Rattle.psu_disk.specs.Medium.{NoneMore}
 use Rattle.psu_disk.proofs.kept_disk.write_span.Given as goal
 
@@ -11,7 +11,7 @@ invariant-loop-at g l = record {
   none_more : g.M.Medium.honest → NoneMore (g.M.Medium.forgotten l.fn.medium) (g.M.Medium.forgotten l.medium);
   works : g.M.Medium.works l.fn.medium → g.M.Medium.works l.medium;
   known : g.M.Medium.honest → (k : ℕ) → l.span.low ≤ k → k < l.at → g.M.Medium.forgotten l.medium k ≡ false;
-  time : g.M.Medium.honest → g.M.Medium.tells → Elapses (g.M.Medium.moment l.fn.medium) (g.M.Medium.moment l.medium) (g.M.Medium.left_since l.fn.medium) (g.M.Medium.left_since l.medium) (Left (g.M.Medium.state l.fn.medium));
+  time : g.M.Medium.honest → g.M.Medium.records → Elapses (g.M.Medium.moment l.fn.medium) (g.M.Medium.moment l.medium) (g.M.Medium.left_since l.fn.medium) (g.M.Medium.left_since l.medium) (IsCrashImage (g.M.Medium.state l.fn.medium));
 }
 
 abbrev pub decreases-loop-at : goal.decreases-loop-at

@@ -1,7 +1,7 @@
 use Rattle.std.proofs.Common.{List, sym, ap, ◌∙◌}
 use Rattle.std.specs.Prelude.{flat_map, map}
-use Rattle.psu_hislip.specs.Runs.{Told, actions_of, core_after, started}
-use Rattle.psu_hislip.specs.Transmitted.{text_asked, transmissions}
+use Rattle.psu_hislip.specs.Runs.{Arrival, actions_of, core_after, started}
+use Rattle.psu_hislip.specs.Transmitted.{action_text, transmissions}
 use Rattle.psu_exchange.proofs.Living.{each_is_answered, nothing_else}
 use Rattle.psu_exchange.proofs.Ordering.{none_of_before, text_of, texts_executed, the_streams}
 use Rattle.psu_exchange.proofs.laws.from_bytes_to_bytes.Goals as goal
@@ -12,8 +12,8 @@ returns-clause-messages c = the_streams c.one_division.ensures
 pub returns-clause-transmissions : goal.returns-clause-transmissions
 returns-clause-transmissions c = λ session sync async life turns x stretches last whole rest is a none e good. (
   flat_map text_of x.waiting,
-  sym (c.each_transmission_once_between_clears.ensures session stretches last whole rest a none e (ap (λ (z : List Told). (core_after (started session) z).failed) (sym is) ∙ good))
-      ∙ ap (λ (z : List Told). map text_asked (transmissions (actions_of (started session) z))) (sym is) ∙ texts_executed session sync async life turns x,
+  sym (c.each_transmission_once_between_clears.ensures session stretches last whole rest a none e (ap (λ (z : List Arrival). (core_after (started session) z).failed) (sym is) ∙ good))
+      ∙ ap (λ (z : List Arrival). map action_text (transmissions (actions_of (started session) z))) (sym is) ∙ texts_executed session sync async life turns x,
 )
 
 pub returns-clause-answers : goal.returns-clause-answers

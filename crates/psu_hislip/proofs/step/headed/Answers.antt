@@ -1,6 +1,6 @@
 use Rattle.std.proofs.Common.{◌≡◌, arith, IsSome, subst, [], ◌∷◌, List, ℕ, Option, None}
 use Rattle.psu_hislip.specs.Channel.{Moves}
-use Rattle.psu_hislip.specs.Channel.Awaited.{Begun, Passing}
+use Rattle.psu_hislip.specs.Channel.Awaited.{Partial, Passing}
 use Rattle.psu_hislip.specs.Stream.Received.{Oversize}
 use Rattle.psu_hislip.proofs.Channels.{moves_bad, moves_oversize}
 use Rattle.psu_hislip.specs.declared.header.Header.{Header}
@@ -16,5 +16,5 @@ returns-in_default-clause-moves g c =
 pub returns-then-header-gt-MOST-clause-moves : goal.returns-then-header-gt-MOST-clause-moves
 returns-then-header-gt-MOST-clause-moves g c =
     let h = c.in-Some.header in
-    subst (λ (z : List ℕ). Moves (Begun z) [] (Oversize h ∷ []) (Passing h.length)) c.in-Some.ensures.bytes
+    subst (λ (z : List ℕ). Moves (Partial z) [] (Oversize h ∷ []) (Passing h.length)) c.in-Some.ensures.bytes
     (moves_oversize h c.in-Some.ensures.fits c.if-header-gt-MOST.true)

@@ -11,7 +11,7 @@ returns-in-Ok-one_of-clause-images g c = λ h. rw c.in-Ok-one_of.ensures.same (c
 pub returns-in-Err-one_of-clause-strange : goal.returns-in-Err-one_of-clause-strange
 returns-in-Err-one_of-clause-strange g c = λ h all is.
     let s = c.in-Ok.store in
-    c.in-Err-one_of.ensures.neither (one_found (g.D.Disk.state c.args.disk) c.args.limit s.limit c.args.before.now c.args.target.now c.args.target.now s.items refl all (c.in-Ok.ensures.stood h))
+    c.in-Err-one_of.ensures.neither (one_found (g.D.Disk.state c.args.disk) c.args.limit s.limit c.args.before.now c.args.target.now c.args.target.now s.items refl all (c.in-Ok.ensures.represented h))
 
 pub returns-in-Err-one_of-clause-images : goal.returns-in-Err-one_of-clause-images
 returns-in-Err-one_of-clause-images g c = λ h. rw c.in-Err-one_of.ensures.disk (c.in-Ok.ensures.images h)
@@ -19,8 +19,8 @@ returns-in-Err-one_of-clause-images g c = λ h. rw c.in-Err-one_of.ensures.disk 
 pub returns-in-Err-clause-strange : goal.returns-in-Err-clause-strange
 returns-in-Err-clause-strange g c = λ h all is. not_strange (g.D.Disk.state c.args.disk) c.args.limit c.args.before.now c.args.target.now c.in-Err.refused.cause all (c.in-Err.ensures.refused h) (sym c.from.ensures ∙ is)
 
-pub returns-in-Ok-one_of-clause-stands : goal.returns-in-Ok-one_of-clause-stands
-returns-in-Ok-one_of-clause-stands g c = λ h. rw c.in-Ok-one_of.ensures.same (c.in-Ok.ensures.stands h)
+pub returns-in-Ok-one_of-clause-represents : goal.returns-in-Ok-one_of-clause-represents
+returns-in-Ok-one_of-clause-represents g c = λ h. rw c.in-Ok-one_of.ensures.same (c.in-Ok.ensures.represents h)
 
 pub returns-in-Ok-one_of-clause-moments : goal.returns-in-Ok-one_of-clause-moments
 returns-in-Ok-one_of-clause-moments g c = λ h t. rw c.in-Ok-one_of.ensures.same (c.in-Ok.ensures.moments h t)

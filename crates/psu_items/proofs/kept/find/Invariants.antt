@@ -9,6 +9,6 @@ invariant-loop-at g l = (j : ℕ) → l.from ≤ j → j < l.at → HasHead l.he
 
 abbrev pub invariant-loop-at-2 : goal.invariant-loop-at-2
 invariant-loop-at-2 g l = record {
-  behind : (j : ℕ) → l.from ≤ j → j < length l.heads → HasHead l.heads (item_in l.entry) j → ⊥;
+  after : (j : ℕ) → l.from ≤ j → j < length l.heads → HasHead l.heads (item_in l.entry) j → ⊥;
   before : (j : ℕ) → j < l.at → HasHead l.heads (item_in l.entry) j → ⊥;
 }

@@ -1,11 +1,11 @@
-use Rattle.psu_items.proofs.Taking.{bears_back, follows_back, bears_run, closes_run}
+use Rattle.psu_items.proofs.Taking.{encodes_back, follows_back, encodes_run, closes_run}
 use Rattle.psu_items.proofs.Sparing.{spare_closed, spare_same}
 use Rattle.psu_items.proofs.open.read_back.Goals as goal
 
 pub returns-in_err-close_old-clause-time : goal.returns-in_err-close_old-clause-time
 returns-in_err-close_old-clause-time g c = λ h t.
     let r = c.read_items.ensures in
-    bears_run c.args.pages.now c.read_items.new.pages r.same (let p = c.close_old.new.self in p.disk) (c.args.pages.now.bears h c.requires.sure) (r.seen h) (r.time h t) (c.close_old.ensures.time h t)
+    encodes_run c.args.pages.now c.read_items.new.pages r.same (let p = c.close_old.new.self in p.disk) (c.args.pages.now.encodes h c.requires.sure) (r.seen h) (r.time h t) (c.close_old.ensures.time h t)
 
 pub returns-in_err-close_old-clause-touched_time : goal.returns-in_err-close_old-clause-touched_time
 returns-in_err-close_old-clause-touched_time g c = λ h t.
@@ -15,12 +15,12 @@ returns-in_err-close_old-clause-touched_time g c = λ h t.
 pub returns-clause-left : goal.returns-clause-left
 returns-clause-left g c = λ h x l.
     let r = c.read_items.ensures in
-    bears_back c.args.pages.now c.read_items.new.pages r.same (r.seen h) x (c.close_old.ensures.left h x l)
+    encodes_back c.args.pages.now c.read_items.new.pages r.same (r.seen h) x (c.close_old.ensures.left h x l)
 
 pub returns-clause-time : goal.returns-clause-time
 returns-clause-time g c = λ h t.
     let r = c.read_items.ensures in
-    bears_run c.args.pages.now c.read_items.new.pages r.same (let p = c.close_old.new.self in p.disk) (c.args.pages.now.bears h c.requires.sure) (r.seen h) (r.time h t) (c.close_old.ensures.time h t)
+    encodes_run c.args.pages.now c.read_items.new.pages r.same (let p = c.close_old.new.self in p.disk) (c.args.pages.now.encodes h c.requires.sure) (r.seen h) (r.time h t) (c.close_old.ensures.time h t)
 
 pub returns-clause-touched : goal.returns-clause-touched
 returns-clause-touched g c = λ h.

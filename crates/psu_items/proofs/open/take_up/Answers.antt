@@ -12,8 +12,8 @@ invariant_of-result g c = record {
   spare = c.in-Ok.ensures.spare;
 }
 
-pub returns-in-Ok-clause-stands : goal.returns-in-Ok-clause-stands
-returns-in-Ok-clause-stands g c = pages_on_disk c.read_back.new.pages c.in-Ok.items (let kept = invariant_of-result g c in kept.shows)
+pub returns-in-Ok-clause-represents : goal.returns-in-Ok-clause-represents
+returns-in-Ok-clause-represents g c = pages_on_disk c.read_back.new.pages c.in-Ok.items (let kept = invariant_of-result g c in kept.shows)
 
 pub returns-in-Err-clause-quiet : goal.returns-in-Err-clause-quiet
 returns-in-Err-clause-quiet g c = λ not. rw c.into_disk.ensures.value (c.in-Err.ensures.quiet (not_device c.in-Err.fault c.unread.result c.unread.ensures not))

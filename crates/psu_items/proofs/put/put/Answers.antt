@@ -1,10 +1,10 @@
 use Rattle.std.proofs.Common.{◌≡◌, ◌∙◌, ℕ, List, refl, ap, sym, subst, arith}
-use Rattle.psu_disk.specs.Disk.{Left, SameBut, Follows, LeavesOnly, HasFailed}
+use Rattle.psu_disk.specs.Disk.{IsCrashImage, SameBut, Follows, LeavesOnly, HasFailed}
 use Rattle.psu_items.specs.Image.{listed, IsEitherRoot}
 use Rattle.psu_map.specs.Target.{aimed}
 use Rattle.psu_items.proofs.Opening.{err_any}
 use Rattle.psu_items.proofs.Placing.{heads_are}
-use Rattle.psu_items.proofs.Putting.{heads_there, heads_list, from_bears, run_one, from_either, run_two, from_two, run_three, shown_last}
+use Rattle.psu_items.proofs.Putting.{heads_there, heads_list, from_encodes, run_one, from_either, run_two, from_two, run_three, shown_last}
 use Rattle.psu_pages.specs.Free.{AreClaimed, IsRoster}
 use Rattle.psu_pages.specs.Image.{Head, gate_at, other, taken}
 use Rattle.psu_pages.specs.Writing.{Reaches}
@@ -12,9 +12,9 @@ use Rattle.psu_items.specs.declared.layout.Layout.{Layout}
 use Rattle.psu_items.specs.Layout.{heads_of, slots_of}
 use Rattle.psu_map.specs.Map.{Item}
 use Rattle.psu_items.specs.Standing.{ShowsMap}
-use Rattle.psu_items.specs.Writing.{SameBehind}
+use Rattle.psu_items.specs.Writing.{SameAfterPool}
 use Rattle.psu_items.proofs.Sparing.{spare_closed, spare_published}
-use Rattle.psu_items.proofs.Behind.{but_behind, behind_step, behind_step_run, behind_on, behind_run}
+use Rattle.psu_items.proofs.AfterPool.{but_after_pool, after_pool_step, after_pool_step_run, after_pool_on, after_pool_run}
 use Rattle.psu_pages.specs.declared.standing.Standing.TheVariants.{One, Both, Unsure}
 use Rattle.psu_items.proofs.put.put.Given.{Over}
 use Rattle.psu_items.proofs.put.put.Goals.{After-publish_root, After-close_old}
@@ -25,7 +25,7 @@ named : {A : Type 0} (layout : Layout A) → layout.heads.items ≡ heads_of (sl
 named {A = A} layout = sym (heads_are A 0 layout.heads.items layout.unwritten.items)
 
 pub returns-in_err-write_heads-clause-left : goal.returns-in_err-write_heads-clause-left
-returns-in_err-write_heads-clause-left g c = λ h before shows x l. from_bears c.args.pages.now c.write_heads.new.pages before (aimed c.args.target.now) h shows x (c.write_heads.ensures.left h x l)
+returns-in_err-write_heads-clause-left g c = λ h before shows x l. from_encodes c.args.pages.now c.write_heads.new.pages before (aimed c.args.target.now) h shows x (c.write_heads.ensures.left h x l)
 
 pub returns-in_err-write_heads-clause-time : goal.returns-in_err-write_heads-clause-time
 returns-in_err-write_heads-clause-time g c = λ h t before shows. run_one c.args.pages.now c.write_heads.new.pages before (aimed c.args.target.now) h shows (c.write_heads.ensures.time h t)
@@ -67,33 +67,33 @@ are g c h =
 
 -- the possible crash images after the call that closes the older root's gate
 left : (g : Over) (c : After-close_old g) → g.D.Disk.honest → (let mid = c.write_heads.new.pages in listed (g.D.Disk.state mid.disk).bytes (let layout = c.args.layout in layout.heads.items) ≡ aimed c.args.target.now)
-    → let old = c.args.pages.now in (before : List Item) → ShowsMap old before → (x : List ℕ) → Left (g.D.Disk.state (let last = c.close_old.new.self in last.disk)) x → IsEitherRoot old.version old.number old.limit before (aimed c.args.target.now) x
+    → let old = c.args.pages.now in (before : List Item) → ShowsMap old before → (x : List ℕ) → IsCrashImage (g.D.Disk.state (let last = c.close_old.new.self in last.disk)) x → IsEitherRoot old.version old.number old.limit before (aimed c.args.target.now) x
 left g c h e before shows x l =
     from_two c.args.pages.now c.write_heads.new.pages before (aimed c.args.target.now) h shows c.write_heads.ensures.same (c.write_heads.ensures.shown h) c.requires.sorted (let layout = c.args.layout in layout.heads.items) e c.publish_root.new.self c.in_ok-publish_root.ensures.published c.publish_root.ensures.limit (c.in_ok-publish_root.ensures.shown h) x (c.close_old.ensures.left h x l)
 
-time : (g : Over) (c : After-close_old g) → g.D.Disk.honest → g.D.Disk.tells → (let mid = c.write_heads.new.pages in listed (g.D.Disk.state mid.disk).bytes (let layout = c.args.layout in layout.heads.items) ≡ aimed c.args.target.now)
+time : (g : Over) (c : After-close_old g) → g.D.Disk.honest → g.D.Disk.records → (let mid = c.write_heads.new.pages in listed (g.D.Disk.state mid.disk).bytes (let layout = c.args.layout in layout.heads.items) ≡ aimed c.args.target.now)
     → let old = c.args.pages.now in (before : List Item) → ShowsMap old before → LeavesOnly g.D.Disk.moment g.D.Disk.left_since old.disk (let last = c.close_old.new.self in last.disk) (IsEitherRoot old.version old.number old.limit before (aimed c.args.target.now))
 time g c h t e before shows =
     run_three c.args.pages.now c.write_heads.new.pages before (aimed c.args.target.now) h shows c.write_heads.ensures.same (c.write_heads.ensures.shown h) c.requires.sorted (let layout = c.args.layout in layout.heads.items) e c.publish_root.new.self c.in_ok-publish_root.ensures.published c.publish_root.ensures.limit (c.in_ok-publish_root.ensures.shown h) (let p = c.close_old.new.self in p.disk) (c.write_heads.ensures.time h t) (c.publish_root.ensures.time h t) (c.close_old.ensures.time h t)
 
 -- nothing after the pool changes
-published_behind : (g : Over) (c : After-publish_root g) → g.D.Disk.honest
-    → let old = c.args.pages.now in Follows (SameBehind old.limit) (Left (g.D.Disk.state old.disk)) (Left (g.D.Disk.state (let two = c.publish_root.new.self in two.disk)))
-published_behind g c h =
+published_after_pool : (g : Over) (c : After-publish_root g) → g.D.Disk.honest
+    → let old = c.args.pages.now in Follows (SameAfterPool old.limit) (IsCrashImage (g.D.Disk.state old.disk)) (IsCrashImage (g.D.Disk.state (let two = c.publish_root.new.self in two.disk)))
+published_after_pool g c h =
     let d = g.D.Disk in
     let old = c.args.pages.now in
     let mid = c.write_heads.new.pages in
     let two = c.publish_root.new.self in
-    behind_on d old.limit old.disk mid.disk (c.write_heads.ensures.behind h) two.disk (behind_step d old.limit mid.disk (SameBut (gate_at (other mid.root)) 512) (λ x y b. but_behind old.limit (other mid.root) 512 x y (omega arith) b) two.disk (c.publish_root.ensures.touched h))
+    after_pool_on d old.limit old.disk mid.disk (c.write_heads.ensures.after_pool h) two.disk (after_pool_step d old.limit mid.disk (SameBut (gate_at (other mid.root)) 512) (λ x y b. but_after_pool old.limit (other mid.root) 512 x y (omega arith) b) two.disk (c.publish_root.ensures.touched h))
 
-published_time : (g : Over) (c : After-publish_root g) → g.D.Disk.honest → g.D.Disk.tells
-    → let d = g.D.Disk in let old = c.args.pages.now in LeavesOnly d.moment d.left_since old.disk (let two = c.publish_root.new.self in two.disk) (Reaches (SameBehind old.limit) (Left (d.state old.disk)))
+published_time : (g : Over) (c : After-publish_root g) → g.D.Disk.honest → g.D.Disk.records
+    → let d = g.D.Disk in let old = c.args.pages.now in LeavesOnly d.moment d.left_since old.disk (let two = c.publish_root.new.self in two.disk) (Reaches (SameAfterPool old.limit) (IsCrashImage (d.state old.disk)))
 published_time g c h t =
     let d = g.D.Disk in
     let old = c.args.pages.now in
     let mid = c.write_heads.new.pages in
     let two = c.publish_root.new.self in
-    behind_run d old.limit old.disk mid.disk (c.write_heads.ensures.behind h) two.disk (c.write_heads.ensures.behind_time h t) (behind_step_run d old.limit mid.disk (SameBut (gate_at (other mid.root)) 512) (λ x y b. but_behind old.limit (other mid.root) 512 x y (omega arith) b) two.disk (c.publish_root.ensures.touched_time h t))
+    after_pool_run d old.limit old.disk mid.disk (c.write_heads.ensures.after_pool h) two.disk (c.write_heads.ensures.after_pool_time h t) (after_pool_step_run d old.limit mid.disk (SameBut (gate_at (other mid.root)) 512) (λ x y b. but_after_pool old.limit (other mid.root) 512 x y (omega arith) b) two.disk (c.publish_root.ensures.touched_time h t))
 
 pub returns-in_err-publish_root-clause-left : goal.returns-in_err-publish_root-clause-left
 returns-in_err-publish_root-clause-left g c = λ h before shows x l.
@@ -105,11 +105,11 @@ returns-in_err-publish_root-clause-time g c = λ h t before shows.
     let at = goal.at.returns-in_err-publish_root-clause-time g c in
     run_two c.args.pages.now c.write_heads.new.pages before (aimed c.args.target.now) h shows c.write_heads.ensures.same (c.write_heads.ensures.shown h) c.requires.sorted (let layout = c.args.layout in layout.heads.items) (are g at.After-publish_root h) (let p = c.publish_root.new.self in p.disk) (c.write_heads.ensures.time h t) (c.publish_root.ensures.time h t)
 
-pub returns-in_err-publish_root-clause-behind : goal.returns-in_err-publish_root-clause-behind
-returns-in_err-publish_root-clause-behind g c = published_behind g (goal.at.returns-in_err-publish_root-clause-behind g c).After-publish_root
+pub returns-in_err-publish_root-clause-after_pool : goal.returns-in_err-publish_root-clause-after_pool
+returns-in_err-publish_root-clause-after_pool g c = published_after_pool g (goal.at.returns-in_err-publish_root-clause-after_pool g c).After-publish_root
 
-pub returns-in_err-publish_root-clause-behind_time : goal.returns-in_err-publish_root-clause-behind_time
-returns-in_err-publish_root-clause-behind_time g c = published_time g (goal.at.returns-in_err-publish_root-clause-behind_time g c).After-publish_root
+pub returns-in_err-publish_root-clause-after_pool_time : goal.returns-in_err-publish_root-clause-after_pool_time
+returns-in_err-publish_root-clause-after_pool_time g c = published_time g (goal.at.returns-in_err-publish_root-clause-after_pool_time g c).After-publish_root
 
 pub returns-in_err-close_old-clause-left : goal.returns-in_err-close_old-clause-left
 returns-in_err-close_old-clause-left g c = λ h.
@@ -121,22 +121,22 @@ returns-in_err-close_old-clause-time g c = λ h t.
     let at = goal.at.returns-in_err-close_old-clause-time g c in
     time g at.After-close_old h t (are g at.After-publish_root h)
 
-pub returns-in_err-close_old-clause-behind : goal.returns-in_err-close_old-clause-behind
-returns-in_err-close_old-clause-behind g c = λ h.
+pub returns-in_err-close_old-clause-after_pool : goal.returns-in_err-close_old-clause-after_pool
+returns-in_err-close_old-clause-after_pool g c = λ h.
     let d = g.D.Disk in
     let old = c.args.pages.now in
     let two = c.publish_root.new.self in
     let last = c.close_old.new.self in
-    behind_on d old.limit old.disk two.disk (published_behind g (goal.at.returns-in_err-close_old-clause-behind g c).After-publish_root h) last.disk (behind_step d old.limit two.disk (SameBut (gate_at (other two.root)) 1) (λ x y b. but_behind old.limit (other two.root) 1 x y (omega arith) b) last.disk (c.close_old.ensures.touched h))
+    after_pool_on d old.limit old.disk two.disk (published_after_pool g (goal.at.returns-in_err-close_old-clause-after_pool g c).After-publish_root h) last.disk (after_pool_step d old.limit two.disk (SameBut (gate_at (other two.root)) 1) (λ x y b. but_after_pool old.limit (other two.root) 1 x y (omega arith) b) last.disk (c.close_old.ensures.touched h))
 
-pub returns-in_err-close_old-clause-behind_time : goal.returns-in_err-close_old-clause-behind_time
-returns-in_err-close_old-clause-behind_time g c = λ h t.
+pub returns-in_err-close_old-clause-after_pool_time : goal.returns-in_err-close_old-clause-after_pool_time
+returns-in_err-close_old-clause-after_pool_time g c = λ h t.
     let d = g.D.Disk in
     let old = c.args.pages.now in
     let two = c.publish_root.new.self in
     let last = c.close_old.new.self in
-    let at = (goal.at.returns-in_err-close_old-clause-behind_time g c).After-publish_root in
-    behind_run d old.limit old.disk two.disk (published_behind g at h) last.disk (published_time g at h t) (behind_step_run d old.limit two.disk (SameBut (gate_at (other two.root)) 1) (λ x y b. but_behind old.limit (other two.root) 1 x y (omega arith) b) last.disk (c.close_old.ensures.touched_time h t))
+    let at = (goal.at.returns-in_err-close_old-clause-after_pool_time g c).After-publish_root in
+    after_pool_run d old.limit old.disk two.disk (published_after_pool g at h) last.disk (published_time g at h t) (after_pool_step_run d old.limit two.disk (SameBut (gate_at (other two.root)) 1) (λ x y b. but_after_pool old.limit (other two.root) 1 x y (omega arith) b) last.disk (c.close_old.ensures.touched_time h t))
 
 pub returns-clause-left : goal.returns-clause-left
 returns-clause-left g c = λ h.
@@ -148,22 +148,22 @@ returns-clause-time g c = λ h t.
     let at = goal.at.returns-clause-time g c in
     time g at.After-close_old h t (are g at.After-publish_root h)
 
-pub returns-clause-behind : goal.returns-clause-behind
-returns-clause-behind g c = λ h.
+pub returns-clause-after_pool : goal.returns-clause-after_pool
+returns-clause-after_pool g c = λ h.
     let d = g.D.Disk in
     let old = c.args.pages.now in
     let two = c.publish_root.new.self in
     let last = c.close_old.new.self in
-    behind_on d old.limit old.disk two.disk (published_behind g (goal.at.returns-clause-behind g c).After-publish_root h) last.disk (behind_step d old.limit two.disk (SameBut (gate_at (other two.root)) 1) (λ x y b. but_behind old.limit (other two.root) 1 x y (omega arith) b) last.disk (c.close_old.ensures.touched h))
+    after_pool_on d old.limit old.disk two.disk (published_after_pool g (goal.at.returns-clause-after_pool g c).After-publish_root h) last.disk (after_pool_step d old.limit two.disk (SameBut (gate_at (other two.root)) 1) (λ x y b. but_after_pool old.limit (other two.root) 1 x y (omega arith) b) last.disk (c.close_old.ensures.touched h))
 
-pub returns-clause-behind_time : goal.returns-clause-behind_time
-returns-clause-behind_time g c = λ h t.
+pub returns-clause-after_pool_time : goal.returns-clause-after_pool_time
+returns-clause-after_pool_time g c = λ h t.
     let d = g.D.Disk in
     let old = c.args.pages.now in
     let two = c.publish_root.new.self in
     let last = c.close_old.new.self in
-    let at = (goal.at.returns-clause-behind_time g c).After-publish_root in
-    behind_run d old.limit old.disk two.disk (published_behind g at h) last.disk (published_time g at h t) (behind_step_run d old.limit two.disk (SameBut (gate_at (other two.root)) 1) (λ x y b. but_behind old.limit (other two.root) 1 x y (omega arith) b) last.disk (c.close_old.ensures.touched_time h t))
+    let at = (goal.at.returns-clause-after_pool_time g c).After-publish_root in
+    after_pool_run d old.limit old.disk two.disk (published_after_pool g at h) last.disk (published_time g at h t) (after_pool_step_run d old.limit two.disk (SameBut (gate_at (other two.root)) 1) (λ x y b. but_after_pool old.limit (other two.root) 1 x y (omega arith) b) last.disk (c.close_old.ensures.touched_time h t))
 
 pub returns-clause-shows : goal.returns-clause-shows
 returns-clause-shows g c = record {

@@ -9,11 +9,11 @@ use Rattle.psu_pages.specs.Outcome.{IsPlanned}
 use Rattle.psu_pages.specs.Writing.{IsWritten, Reaches}
 use Rattle.psu_pages.proofs.Lists.{all_at}
 use Rattle.psu_map.specs.Target.{aimed}
-use Rattle.psu_items.proofs.Taking.{BearsOf, bears_on, bears_on_run, same_on}
+use Rattle.psu_items.proofs.Taking.{EncodesPages, encodes_on, encodes_on_run, same_on}
 use Rattle.psu_items.proofs.Placing.{all_written, at_place, heads_are, slot, written_on}
-use Rattle.psu_disk.specs.Disk.{Left, Follows, LeavesOnly}
-use Rattle.psu_items.specs.Writing.{SameBehind}
-use Rattle.psu_items.proofs.Behind.{behind_none, behind_still, behind_on, behind_run}
+use Rattle.psu_disk.specs.Disk.{IsCrashImage, Follows, LeavesOnly}
+use Rattle.psu_items.specs.Writing.{SameAfterPool}
+use Rattle.psu_items.proofs.AfterPool.{after_pool_none, after_pool_still, after_pool_on, after_pool_run}
 use Rattle.psu_items.proofs.put.write_heads.Given.{Over}
 use Rattle.psu_items.proofs.put.write_heads.Goals.{After-index}
 use Rattle.psu_items.proofs.put.write_heads.Goals as goal
@@ -30,10 +30,10 @@ loop-place-init g c =
       planned = λ other is. is;
       stands = λ h kept. kept;
       shown = λ h. refl;
-      left = λ h. p.bears h c.requires.sure;
-      time = λ h t. started d.moment d.left_since p.disk (BearsOf p) (λ x l. p.bears h c.requires.sure x (g.met.D.Disk.only_now t p.disk x l));
-      behind = λ h. behind_none d p.limit p.disk;
-      behind_time = λ h t. behind_still d p.limit p.disk (g.met.D.Disk.only_now t p.disk);
+      left = λ h. p.encodes h c.requires.sure;
+      time = λ h t. started d.moment d.left_since p.disk (EncodesPages p) (λ x l. p.encodes h c.requires.sure x (g.met.D.Disk.only_now t p.disk x l));
+      after_pool = λ h. after_pool_none d p.limit p.disk;
+      after_pool_time = λ h t. after_pool_still d p.limit p.disk (g.met.D.Disk.only_now t p.disk);
     }
 
 -- the next place is the place of a head
@@ -75,7 +75,7 @@ write_head-requires-clause-size g c = let sized = its g (goal.at.write_head-requ
 pub returns-in_err-write_head-clause-time : goal.returns-in_err-write_head-clause-time
 returns-in_err-write_head-clause-time g c = λ h t.
     let l = c.loop-place in
-    bears_on_run c.args.pages.now l.pages l.invariant.same (let p = c.write_head.new.pages in p.disk) (l.invariant.shown h) (l.invariant.time h t) (c.write_head.ensures.time h t)
+    encodes_on_run c.args.pages.now l.pages l.invariant.same (let p = c.write_head.new.pages in p.disk) (l.invariant.shown h) (l.invariant.time h t) (c.write_head.ensures.time h t)
 
 pub loop-place-preserved : goal.loop-place-preserved
 loop-place-preserved g c =
@@ -89,8 +89,8 @@ loop-place-preserved g c =
     let named = heads_are g.row.A.Denot 0 (heads g at) (unwritten g at) in
     let others : d.honest → (o : Head) (its : List ℕ) → IsWritten (d.state mid.disk).bytes o its → AllByRecursion (IsInPool old.limit) (pages_of o) → AreClear (pages_of c.index.result.now) (pages_of o) → IsWritten (d.state new.disk).bytes o its =
     λ h o its w pool. e.others h o its w (subst (λ (n : ℕ). AllByRecursion (IsInPool n) (pages_of o)) (sym l.invariant.same.limit) pool) in
-    let step : d.honest → Follows (SameBehind old.limit) (Left (d.state mid.disk)) (Left (d.state new.disk)) = λ h. subst (λ (n : ℕ). Follows (SameBehind n) (Left (d.state mid.disk)) (Left (d.state new.disk))) l.invariant.same.limit (e.behind h) in
-    let step_run : d.honest → d.tells → LeavesOnly d.moment d.left_since mid.disk new.disk (Reaches (SameBehind old.limit) (Left (d.state mid.disk))) = λ h t. subst (λ (n : ℕ). LeavesOnly d.moment d.left_since mid.disk new.disk (Reaches (SameBehind n) (Left (d.state mid.disk)))) l.invariant.same.limit (e.behind_time h t) in
+    let step : d.honest → Follows (SameAfterPool old.limit) (IsCrashImage (d.state mid.disk)) (IsCrashImage (d.state new.disk)) = λ h. subst (λ (n : ℕ). Follows (SameAfterPool n) (IsCrashImage (d.state mid.disk)) (IsCrashImage (d.state new.disk))) l.invariant.same.limit (e.after_pool h) in
+    let step_run : d.honest → d.records → LeavesOnly d.moment d.left_since mid.disk new.disk (Reaches (SameAfterPool old.limit) (IsCrashImage (d.state mid.disk))) = λ h t. subst (λ (n : ℕ). LeavesOnly d.moment d.left_since mid.disk new.disk (Reaches (SameAfterPool n) (IsCrashImage (d.state mid.disk)))) l.invariant.same.limit (e.after_pool_time h t) in
     record {
       extent = e.extent ∙ l.invariant.extent;
       works = c.in_ok-write_head.ensures.works ∙ l.invariant.works;
@@ -100,29 +100,29 @@ loop-place-preserved g c =
       stands = λ h kept. written_on g.row.A.Denot (aimed c.args.target.now) (d.state mid.disk).bytes (d.state new.disk).bytes old.limit (heads g at) (unwritten g at) l.place-index (place g at) c.index.result.now (left g at) (next g at) (within g at) c.index.ensures
           (subst (λ (hs : List Head). AllByRecursion (IsInPool old.limit) (taken hs)) named c.requires.pool) (subst (λ (hs : List Head). AreApart (taken hs)) named c.requires.apart) (others h) (c.in_ok-write_head.ensures.written h) (l.invariant.stands h kept);
       shown = λ h. e.shown h ∙ l.invariant.shown h;
-      left = λ h x i. bears_on old mid l.invariant.same (l.invariant.shown h) x (e.left h x i);
-      time = λ h t. bears_on_run old mid l.invariant.same new.disk (l.invariant.shown h) (l.invariant.time h t) (e.time h t);
-      behind = λ h. behind_on d old.limit old.disk mid.disk (l.invariant.behind h) new.disk (step h);
-      behind_time = λ h t. behind_run d old.limit old.disk mid.disk (l.invariant.behind h) new.disk (l.invariant.behind_time h t) (step_run h t);
+      left = λ h x i. encodes_on old mid l.invariant.same (l.invariant.shown h) x (e.left h x i);
+      time = λ h t. encodes_on_run old mid l.invariant.same new.disk (l.invariant.shown h) (l.invariant.time h t) (e.time h t);
+      after_pool = λ h. after_pool_on d old.limit old.disk mid.disk (l.invariant.after_pool h) new.disk (step h);
+      after_pool_time = λ h t. after_pool_run d old.limit old.disk mid.disk (l.invariant.after_pool h) new.disk (l.invariant.after_pool_time h t) (step_run h t);
     }
 
-pub returns-in_err-write_head-clause-behind : goal.returns-in_err-write_head-clause-behind
-returns-in_err-write_head-clause-behind g c = λ h.
+pub returns-in_err-write_head-clause-after_pool : goal.returns-in_err-write_head-clause-after_pool
+returns-in_err-write_head-clause-after_pool g c = λ h.
     let d = g.D.Disk in
     let l = c.loop-place in
     let old = c.args.pages.now in
     let mid = l.pages in
     let new = c.write_head.new.pages in
-    behind_on d old.limit old.disk mid.disk (l.invariant.behind h) new.disk (subst (λ (n : ℕ). Follows (SameBehind n) (Left (d.state mid.disk)) (Left (d.state new.disk))) l.invariant.same.limit (c.write_head.ensures.behind h))
+    after_pool_on d old.limit old.disk mid.disk (l.invariant.after_pool h) new.disk (subst (λ (n : ℕ). Follows (SameAfterPool n) (IsCrashImage (d.state mid.disk)) (IsCrashImage (d.state new.disk))) l.invariant.same.limit (c.write_head.ensures.after_pool h))
 
-pub returns-in_err-write_head-clause-behind_time : goal.returns-in_err-write_head-clause-behind_time
-returns-in_err-write_head-clause-behind_time g c = λ h t.
+pub returns-in_err-write_head-clause-after_pool_time : goal.returns-in_err-write_head-clause-after_pool_time
+returns-in_err-write_head-clause-after_pool_time g c = λ h t.
     let d = g.D.Disk in
     let l = c.loop-place in
     let old = c.args.pages.now in
     let mid = l.pages in
     let new = c.write_head.new.pages in
-    behind_run d old.limit old.disk mid.disk (l.invariant.behind h) new.disk (l.invariant.behind_time h t) (subst (λ (n : ℕ). LeavesOnly d.moment d.left_since mid.disk new.disk (Reaches (SameBehind n) (Left (d.state mid.disk)))) l.invariant.same.limit (c.write_head.ensures.behind_time h t))
+    after_pool_run d old.limit old.disk mid.disk (l.invariant.after_pool h) new.disk (l.invariant.after_pool_time h t) (subst (λ (n : ℕ). LeavesOnly d.moment d.left_since mid.disk new.disk (Reaches (SameAfterPool n) (IsCrashImage (d.state mid.disk)))) l.invariant.same.limit (c.write_head.ensures.after_pool_time h t))
 
 pub returns-clause-written : goal.returns-clause-written
 returns-clause-written g c = λ h kept.

@@ -1,5 +1,5 @@
 use Rattle.std.proofs.Common.{◌≡◌, ◌≤◌, ℕ, List, length, drop}
-use Rattle.psu_disk.specs.Disk.{Left, LeavesOnly}
+use Rattle.psu_disk.specs.Disk.{IsCrashImage, LeavesOnly}
 use Rattle.psu_map.specs.Capacity.{IsMapOf}
 use Rattle.psu_pages.specs.Outcome.{HasSameHeads}
 use Rattle.psu_items.specs.Image.{listed}
@@ -18,8 +18,8 @@ invariant-loop-at g l =
       same : HasSameHeads old l.pages;
       standing : (let p = l.pages in p.standing) ≡ old.standing;
       seen : d.honest → (d.state (let p = l.pages in p.disk)).bytes ≡ (d.state old.disk).bytes;
-      left : d.honest → (x : List ℕ) → Left (d.state (let p = l.pages in p.disk)) x → Left (d.state old.disk) x;
-      time : d.honest → d.tells → LeavesOnly d.moment d.left_since old.disk (let p = l.pages in p.disk) (Left (d.state old.disk));
+      left : d.honest → (x : List ℕ) → IsCrashImage (d.state (let p = l.pages in p.disk)) x → IsCrashImage (d.state old.disk) x;
+      time : d.honest → d.records → LeavesOnly d.moment d.left_since old.disk (let p = l.pages in p.disk) (IsCrashImage (d.state old.disk));
     }
 
 abbrev pub decreases-loop-at : goal.decreases-loop-at

@@ -11,9 +11,9 @@ use Rattle.psu_map.proofs.Maps.{sorted-changed}
 use Rattle.psu_items.proofs.Standing.{pages_as}
 use Rattle.psu_items.proofs.Laying.{slots_planned}
 use Rattle.psu_items.proofs.Roster.{slots_sized, slots_claimed, slots_roster, slots_stand}
-use Rattle.psu_items.proofs.Committing.{none_run, still_shows, either_back, time_back, behind_back, behind_time_back}
+use Rattle.psu_items.proofs.Committing.{none_run, still_shows, either_back, time_back, after_pool_back, after_pool_time_back}
 use Rattle.psu_items.proofs.Sparing.{laid_spare}
-use Rattle.psu_items.proofs.Behind.{behind_still}
+use Rattle.psu_items.proofs.AfterPool.{after_pool_still}
 use Rattle.psu_items.proofs.renew.renew.Goals as goal
 
 pub returns-in_default-clause-left : goal.returns-in_default-clause-left
@@ -79,11 +79,11 @@ returns-in-Ok-put-clause-time g c = λ h t.
     time_back p c.lay_out.new.pages c.lay_out.ensures.roots m (aimed c.in-Ok.target) (changed m c.args.batch.now) c.in-Ok.ensures.aimed (let last = c.put.new.pages in last.disk)
     (c.put.ensures.time h t m (still_shows p c.lay_out.new.pages c.lay_out.ensures.roots m c.requires.keeps.shows))
 
-pub returns-in-Ok-put-clause-behind : goal.returns-in-Ok-put-clause-behind
-returns-in-Ok-put-clause-behind g c = λ h. behind_back c.args.pages.now c.lay_out.new.pages c.lay_out.ensures.roots (let last = c.put.new.pages in last.disk) (c.put.ensures.behind h)
+pub returns-in-Ok-put-clause-after_pool : goal.returns-in-Ok-put-clause-after_pool
+returns-in-Ok-put-clause-after_pool g c = λ h. after_pool_back c.args.pages.now c.lay_out.new.pages c.lay_out.ensures.roots (let last = c.put.new.pages in last.disk) (c.put.ensures.after_pool h)
 
-pub returns-in-Ok-put-clause-behind_time : goal.returns-in-Ok-put-clause-behind_time
-returns-in-Ok-put-clause-behind_time g c = λ h t. behind_time_back c.args.pages.now c.lay_out.new.pages c.lay_out.ensures.roots (let last = c.put.new.pages in last.disk) (c.put.ensures.behind_time h t)
+pub returns-in-Ok-put-clause-after_pool_time : goal.returns-in-Ok-put-clause-after_pool_time
+returns-in-Ok-put-clause-after_pool_time g c = λ h t. after_pool_time_back c.args.pages.now c.lay_out.new.pages c.lay_out.ensures.roots (let last = c.put.new.pages in last.disk) (c.put.ensures.after_pool_time h t)
 
 pub returns-clause-device : goal.returns-clause-device
 returns-clause-device g c = λ device.
@@ -104,11 +104,11 @@ returns-clause-time g c = λ h t.
     time_back p c.lay_out.new.pages c.lay_out.ensures.roots m (aimed c.in-Ok.target) (changed m c.args.batch.now) c.in-Ok.ensures.aimed (let last = c.put.new.pages in last.disk)
     (c.put.ensures.time h t m (still_shows p c.lay_out.new.pages c.lay_out.ensures.roots m c.requires.keeps.shows))
 
-pub returns-clause-behind : goal.returns-clause-behind
-returns-clause-behind g c = λ h. behind_back c.args.pages.now c.lay_out.new.pages c.lay_out.ensures.roots (let last = c.put.new.pages in last.disk) (c.put.ensures.behind h)
+pub returns-clause-after_pool : goal.returns-clause-after_pool
+returns-clause-after_pool g c = λ h. after_pool_back c.args.pages.now c.lay_out.new.pages c.lay_out.ensures.roots (let last = c.put.new.pages in last.disk) (c.put.ensures.after_pool h)
 
-pub returns-clause-behind_time : goal.returns-clause-behind_time
-returns-clause-behind_time g c = λ h t. behind_time_back c.args.pages.now c.lay_out.new.pages c.lay_out.ensures.roots (let last = c.put.new.pages in last.disk) (c.put.ensures.behind_time h t)
+pub returns-clause-after_pool_time : goal.returns-clause-after_pool_time
+returns-clause-after_pool_time g c = λ h t. after_pool_time_back c.args.pages.now c.lay_out.new.pages c.lay_out.ensures.roots (let last = c.put.new.pages in last.disk) (c.put.ensures.after_pool_time h t)
 
 pub returns-in-Ok-put-clause-heads : goal.returns-in-Ok-put-clause-heads
 returns-in-Ok-put-clause-heads g c = λ head value one had keeps size.
@@ -129,8 +129,8 @@ returns-clause-later g c = let d = g.D.Disk in subst (λ disk. d.failures disk �
 pub returns-clause-extent : goal.returns-clause-extent
 returns-clause-extent g c = c.put.ensures.extent ∙ ap g.D.Disk.extent c.lay_out.ensures.roots.disk
 
-pub returns-in_default-clause-behind_time : goal.returns-in_default-clause-behind_time
-returns-in_default-clause-behind_time g c = λ h t. let p = c.args.pages.now in behind_still g.D.Disk p.limit p.disk (g.met.D.Disk.only_now t p.disk)
+pub returns-in_default-clause-after_pool_time : goal.returns-in_default-clause-after_pool_time
+returns-in_default-clause-after_pool_time g c = λ h t. let p = c.args.pages.now in after_pool_still g.D.Disk p.limit p.disk (g.met.D.Disk.only_now t p.disk)
 
-pub returns-in_default-lay_out-clause-behind_time : goal.returns-in_default-lay_out-clause-behind_time
-returns-in_default-lay_out-clause-behind_time g c = λ h t. let p = c.args.pages.now in rw c.lay_out.ensures.roots.disk (behind_still g.D.Disk p.limit p.disk (g.met.D.Disk.only_now t p.disk))
+pub returns-in_default-lay_out-clause-after_pool_time : goal.returns-in_default-lay_out-clause-after_pool_time
+returns-in_default-lay_out-clause-after_pool_time g c = λ h t. let p = c.args.pages.now in rw c.lay_out.ensures.roots.disk (after_pool_still g.D.Disk p.limit p.disk (g.met.D.Disk.only_now t p.disk))

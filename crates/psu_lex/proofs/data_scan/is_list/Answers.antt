@@ -17,7 +17,7 @@ returns-in-Some-clause-yes c = λ t.
     let tail = c.in-Some.first.tail.now in
     let datum = datum_of c.in-Some.first.datum in
     let some = subst (λ (z : Option Found). IfSome z (λ found. datum_at text ≡ Some (datum_of found.datum, found.tail.now))) c.in-Some.is c.requires.some in
-    let more = c.goes_on.ensures.yes t in (
+    let more = c.is_list_tail.ensures.yes t in (
       datum ∷ more.0,
       lists_in text tail datum more.0 some more.1,
       subst (λ (z : Option Found). HoldsFound z (datum ∷ more.0)) (sym c.in-Some.is) (more.0, refl, some_datum text tail datum some, more.1),
@@ -28,4 +28,4 @@ returns-in-Some-clause-no c = λ f list l.
     let text = c.args.text.now in
     let some = subst (λ (z : Option Found). IfSome z (λ found. datum_at text ≡ Some (datum_of found.datum, found.tail.now))) c.in-Some.is c.requires.some in
     let k = rest_of text c.in-Some.first.tail.now (datum_of c.in-Some.first.datum) list some l in
-    c.goes_on.ensures.no f k.others k.listed
+    c.is_list_tail.ensures.no f k.others k.listed

@@ -1,7 +1,7 @@
 use Rattle.std.proofs.Common.{sym, ◌∙◌, ap, ◌+◌, true, false, drop, Some, arith}
 use Rattle.std.proofs.lemmas.Grind.{common_steps}
 use Rattle.psu_lex.specs.Scan.{after_string}
-use Rattle.psu_lex.proofs.Searches.{drop-add, string_none, string_broken, quote_at, string_ends, goes_on, suffix}
+use Rattle.psu_lex.proofs.Searches.{drop-add, string_none, string_broken, quote_at, string_ends, string_continues, suffix}
 use Rattle.psu_lex.proofs.pieces.string_end.Goals as goal
 
 pub returns-then-rest-at-eq10-clause-none : goal.returns-then-rest-at-eq10-clause-none
@@ -25,6 +25,6 @@ loop-at-preserved c =
       n = n + (at + 1 + 1);
       rest = c.after-rest.ensures ∙ ap (drop 1) (c.after-next.ensures ∙ ap (drop (at + 1)) c.loop-at.invariant.rest)
           ∙ sym (drop-add (at + 1) 1 (drop n c.args.text.now)) ∙ sym (drop-add n (at + 1 + 1) c.args.text.now);
-      same = ap (after_string false c.args.quote) c.after-rest.ensures ∙ sym (goes_on c.args.quote c.after-next.result.now (sym c.begins.ensures ∙ c.if-not-begins.false))
+      same = ap (after_string false c.args.quote) c.after-rest.ensures ∙ sym (string_continues c.args.quote c.after-next.result.now (sym c.begins.ensures ∙ c.if-not-begins.false))
           ∙ ap (after_string true c.args.quote) c.after-next.ensures ∙ sym (quote_at c.args.quote c.loop-at.rest.now at c.in-Some.ensures c.if-rest-at-eq10.false) ∙ c.loop-at.invariant.same;
     }

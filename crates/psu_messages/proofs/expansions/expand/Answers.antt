@@ -5,22 +5,22 @@ use Rattle.psu_messages.proofs.Places.{from_more}
 use Rattle.psu_messages.proofs.expansions.expand.Goals as goal
 
 pub returns-in_default-clause-stops : goal.returns-in_default-clause-stops
-returns-in_default-clause-stops g c = λ source units. some_stop (inr (inr refl)) c.short.ensures refl
+returns-in_default-clause-stops g c = λ source units. some_stop (inr (inr refl)) c.out_of_memory.ensures refl
 
 pub returns-in_err-step-clause-stops : goal.returns-in_err-step-clause-stops
 returns-in_err-step-clause-stops g c =
     let next = inside_at c.args.body.now _ c.as_slice-list.result.now c.split_at.result.0.now c.split_at.result.1.now c.place_of-at.result c.args.done.now c.loop-unit.unit-index _ c.pass_over.new.path c.loop-unit.path
     c.request_at-request.new.path c.request_at-request.result c.in-Ok.ensures c.as_slice-list.ensures c.split_at.ensures.front c.split_at.ensures.back (omega (arith, c.loop-unit-test.true)) c.place_of-at.ensures
     c.pass_over.ensures c.loop-unit.invariant.path c.request_at-request.ensures c.loop-unit.done c.loop-unit.invariant.done in
-    passed_on c.from_residual.result c.in_err-step.field-0.0 _ c.from_residual.ensures.1 (λ source units. stops_on (c.loop-unit.invariant.goes source units) (c.in_err-step.ensures.stops source units c.args.body.now c.loop-unit.done next))
+    passed_on c.from_residual.result c.in_err-step.field-0.0 _ c.from_residual.ensures.1 (λ source units. stops_on (c.loop-unit.invariant.advances source units) (c.in_err-step.ensures.stops source units c.args.body.now c.loop-unit.done next))
 
-pub returns-in-Some-clause-goes : goal.returns-in-Some-clause-goes
-returns-in-Some-clause-goes g c = λ source units.
+pub returns-in-Some-clause-advances : goal.returns-in-Some-clause-advances
+returns-in-Some-clause-advances g c = λ source units.
     let next = inside_at c.args.body.now _ c.as_slice-list.result.now c.split_at.result.0.now c.split_at.result.1.now c.place_of-at.result c.args.done.now c.loop-unit.unit-index _ c.pass_over.new.path c.loop-unit.path
     c.request_at-request.new.path c.request_at-request.result c.in-Ok.ensures c.as_slice-list.ensures c.split_at.ensures.front c.split_at.ensures.back (omega (arith, c.loop-unit-test.true)) c.place_of-at.ensures
     c.pass_over.ensures c.loop-unit.invariant.path c.request_at-request.ensures c.loop-unit.done c.loop-unit.invariant.done in
-    let went = rw c.in-Some.is at c.in_ok-step.ensures.goes in
-    behind g.F.Front.does source c.args.front.now c.loop-unit.front c.take_step.new.front _ _ _ (c.loop-unit.invariant.goes source units) (went source units c.args.body.now c.loop-unit.done next)
+    let went = rw c.in-Some.is at c.in_ok-step.ensures.advances in
+    behind g.F.Executor.does source c.args.executor.now c.loop-unit.executor c.take_step.new.executor _ _ _ (c.loop-unit.invariant.advances source units) (went source units c.args.body.now c.loop-unit.done next)
 
 pub loop-unit-preserved : goal.loop-unit-preserved
 loop-unit-preserved g c =
@@ -28,17 +28,17 @@ loop-unit-preserved g c =
     let next = inside_at c.args.body.now _ c.as_slice-list.result.now c.split_at.result.0.now c.split_at.result.1.now c.place_of-at.result c.args.done.now c.loop-unit.unit-index _ c.pass_over.new.path c.loop-unit.path
     c.request_at-request.new.path c.request_at-request.result c.in-Ok.ensures c.as_slice-list.ensures c.split_at.ensures.front c.split_at.ensures.back within c.place_of-at.ensures
     c.pass_over.ensures c.loop-unit.invariant.path c.request_at-request.ensures c.loop-unit.done c.loop-unit.invariant.done in
-    let went = rw c.in_default-step.is at c.in_ok-step.ensures.goes in
+    let went = rw c.in_default-step.is at c.in_ok-step.ensures.advances in
     record {
       path = from_more true c.split_at.result.1.now c.place_of-at.result c.loop-unit.unit-index _ c.pass_over.new.path c.loop-unit.path c.request_at-request.new.path c.request_at-request.result within c.loop-unit.invariant.path c.request_at-request.ensures;
       done = omega (arith, c.loop-unit.invariant.done);
-      goes = λ source units. behind g.F.Front.does source c.args.front.now c.loop-unit.front c.take_step.new.front _ _ _ (c.loop-unit.invariant.goes source units) (went source units c.args.body.now c.loop-unit.done next);
+      advances = λ source units. behind g.F.Executor.does source c.args.executor.now c.loop-unit.executor c.take_step.new.executor _ _ _ (c.loop-unit.invariant.advances source units) (went source units c.args.body.now c.loop-unit.done next);
     }
 
-pub returns-clause-goes : goal.returns-clause-goes
-returns-clause-goes g c = λ source units.
+pub returns-clause-advances : goal.returns-clause-advances
+returns-clause-advances g c = λ source units.
     let more : length c.split_at.result.1.now ≡ length (drop c.place_of-at.result c.as_slice-list.result.now) = ap length c.split_at.ensures.back in
     let all : length c.as_slice-list.result.now ≤ c.loop-unit.done
     = omega (arith, c.loop-unit-test.false, c.place_of-at.ensures, c.loop-unit.invariant.done, length-drop c.place_of-at.result c.as_slice-list.result.now) in
-    behind g.F.Front.does source c.args.front.now c.loop-unit.front c.loop-unit.front _ _ _ (c.loop-unit.invariant.goes source units)
-    (leaves_all g.F.Front.does source c.loop-unit.front units c.args.body.now c.loop-unit.done c.loop-unit.parked c.loop-unit.gathered _ c.as_slice-list.result.now c.in-Ok.ensures c.as_slice-list.ensures all)
+    behind g.F.Executor.does source c.args.executor.now c.loop-unit.executor c.loop-unit.executor _ _ _ (c.loop-unit.invariant.advances source units)
+    (leaves_all g.F.Executor.does source c.loop-unit.executor units c.args.body.now c.loop-unit.done c.loop-unit.parked c.loop-unit.gathered _ c.as_slice-list.result.now c.in-Ok.ensures c.as_slice-list.ensures all)

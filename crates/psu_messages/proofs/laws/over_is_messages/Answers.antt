@@ -2,4 +2,4 @@ use Rattle.psu_messages.proofs.Messaging.{all_messages}
 use Rattle.psu_messages.proofs.laws.over_is_messages.Goals as goal
 
 pub returns : goal.returns
-returns c = λ source deeds d m over. all_messages c.one_list_of_units.ensures c.parts_are_the_answers.ensures source deeds d m over
+returns c = λ source effects d m over. all_messages c.one_list_of_units.ensures c.parts_are_the_answers.ensures source effects d m over

@@ -1,14 +1,14 @@
 use Rattle.psu_messages.proofs.Outside.{from_within}
 use Rattle.psu_messages.proofs.messages.perform.Goals as goal
 
-pub returns-in-None-clause-goes : goal.returns-in-None-clause-goes
-returns-in-None-clause-goes g c = λ source next.
-    let done = rw c.in-None.is at c.in_ok-need.ensures.goes in
+pub returns-in-None-clause-advances : goal.returns-in-None-clause-advances
+returns-in-None-clause-advances g c = λ source next.
+    let done = rw c.in-None.is at c.in_ok-need.ensures.advances in
     let went = rw c.as_slice.ensures at done in
-    from_within g.F.Front.does source c.args.front.now c.expand.new.front _ c.args.course.now.units c.args.course.now.expansion c.in-Some.expansion c.args.course.now.parked c.args.course.now.gathered c.in-Some.is (went source c.args.course.now.units)
+    from_within g.F.Executor.does source c.args.executor.now c.expand.new.executor _ c.args.progress.now.units c.args.progress.now.expansion c.in-Some.expansion c.args.progress.now.parked c.args.progress.now.gathered c.in-Some.is (went source c.args.progress.now.units)
 
-pub returns-in-Some-need-clause-goes : goal.returns-in-Some-need-clause-goes
-returns-in-Some-need-clause-goes g c = λ source next.
-    let waits = rw c.in-Some-need.is at c.in_ok-need.ensures.goes in
+pub returns-in-Some-need-clause-advances : goal.returns-in-Some-need-clause-advances
+returns-in-Some-need-clause-advances g c = λ source next.
+    let waits = rw c.in-Some-need.is at c.in_ok-need.ensures.advances in
     let went = rw c.as_slice.ensures at waits in
-    from_within g.F.Front.does source c.args.front.now c.expand.new.front _ c.args.course.now.units c.args.course.now.expansion c.in-Some.expansion c.args.course.now.parked c.args.course.now.gathered c.in-Some.is (went source c.args.course.now.units)
+    from_within g.F.Executor.does source c.args.executor.now c.expand.new.executor _ c.args.progress.now.units c.args.progress.now.expansion c.in-Some.expansion c.args.progress.now.parked c.args.progress.now.gathered c.in-Some.is (went source c.args.progress.now.units)

@@ -11,13 +11,13 @@ pub returns-in_err-need-clause-stops : goal.returns-in_err-need-clause-stops
 returns-in_err-need-clause-stops g c =
     passed_on c.from_residual-in_err-need.result c.in_err-need.field-0.0 _ c.from_residual-in_err-need.ensures.1 (λ source asks.
     stops_on
-    (c.in_ok-close_before.ensures.goes source (λ first out. turn_ends source c.args.course.now.units c.args.request.now c.args.first asks first))
+    (c.in_ok-close_before.ensures.advances source (λ first out. turn_ends source c.args.progress.now.units c.args.request.now c.args.first asks first))
     (c.in_err-need.ensures.stops source
-    (turn_next source c.close_before.new.course c.args.course.now.units c.args.request.now c.args.first c.in_ok-close_before.ensures.units asks c.in_ok-close_before.ensures.clear)))
+    (turn_next source c.close_before.new.progress c.args.progress.now.units c.args.request.now c.args.first c.in_ok-close_before.ensures.units asks c.in_ok-close_before.ensures.clear)))
 
-pub returns-clause-goes : goal.returns-clause-goes
-returns-clause-goes g c = λ source asks.
-    behind g.F.Front.does source c.args.front.now c.close_before.new.front c.perform.new.front _ _ _
-    (c.in_ok-close_before.ensures.goes source (λ first out. turn_ends source c.args.course.now.units c.args.request.now c.args.first asks first))
-    (c.in_ok-need.ensures.goes source
-    (turn_next source c.close_before.new.course c.args.course.now.units c.args.request.now c.args.first c.in_ok-close_before.ensures.units asks c.in_ok-close_before.ensures.clear))
+pub returns-clause-advances : goal.returns-clause-advances
+returns-clause-advances g c = λ source asks.
+    behind g.F.Executor.does source c.args.executor.now c.close_before.new.executor c.perform.new.executor _ _ _
+    (c.in_ok-close_before.ensures.advances source (λ first out. turn_ends source c.args.progress.now.units c.args.request.now c.args.first asks first))
+    (c.in_ok-need.ensures.advances source
+    (turn_next source c.close_before.new.progress c.args.progress.now.units c.args.request.now c.args.first c.in_ok-close_before.ensures.units asks c.in_ok-close_before.ensures.clear))

@@ -1,7 +1,7 @@
 use Rattle.std.proofs.Common.{◌≡◌, ◌<◌, ◌∙◌, ◌∷◌, ◌++◌, sym, ap, subst, [], List, true, false, length, rules, arith, length-append}
 use Rattle.std.proofs.lemmas.Grind.{common_steps}
 use Rattle.psu_nv.specs.Contents.{Macro, has_label}
-use Rattle.psu_nv.proofs.MacroBytes.{ReadSo, no_macro, not_good, twice, goes_on, all_read}
+use Rattle.psu_nv.proofs.MacroBytes.{ReadSo, no_macro, not_good, twice, continues, all_read}
 use Rattle.psu_nv.proofs.written.macros_of.Goals as goal
 
 pub returns-in_default-clause-none : goal.returns-in_default-clause-none
@@ -30,7 +30,7 @@ loop-rest-preserved c =
     let pushed : c.try_push.new.self.items ≡ c.loop-rest.found.items ++ c.in-Some.written ∷ [] = search rules in
     let room : length c.loop-rest.found.items < 32 = search rules in
     record {
-      so = subst (ReadSo c.args.bytes.now c.in-Some.after.now) (sym pushed) (goes_on c.args.bytes.now c.loop-rest.rest.now c.loop-rest.found.items c.loop-rest.invariant.so some c.in-Some.written c.in-Some.after.now c.in-Some.ensures.body c.in-Some.ensures.found (c.is_good.ensures.found c.if-not-is_good.false) free);
+      so = subst (ReadSo c.args.bytes.now c.in-Some.after.now) (sym pushed) (continues c.args.bytes.now c.loop-rest.rest.now c.loop-rest.found.items c.loop-rest.invariant.so some c.in-Some.written c.in-Some.after.now c.in-Some.ensures.body c.in-Some.ensures.found (c.is_good.ensures.found c.if-not-is_good.false) free);
       count = omega (arith, room, ap length pushed, length-append c.loop-rest.found.items (c.in-Some.written ∷ []));
     }
 

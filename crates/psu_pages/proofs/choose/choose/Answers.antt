@@ -1,7 +1,7 @@
 use Rattle.std.proofs.Common.{◌≡◌, ℕ, Option, sym, ◌∙◌, subst}
 use Rattle.psu_pages.specs.declared.root.Root.TheVariants.{First, Second}
 use Rattle.psu_pages.specs.Finding.{open_number, IsPicked, IsNonePicked, IsPickedIn, IsSound, IsUnsound}
-use Rattle.psu_pages.proofs.Choosing.{unpicked, number_on, picked_counts, version_is, limit_is, count_is, good_words, unsound}
+use Rattle.psu_pages.proofs.Choosing.{unpicked, number_on, picked_current, version_is, limit_is, count_is, good_words, unsound}
 use Rattle.psu_pages.proofs.choose.choose.Goals as goal
 
 pub returns-in-Err-clause-refused : goal.returns-in-Err-clause-refused
@@ -17,7 +17,7 @@ returns-in-Err-check-clause-refused c = λ x are sized.
     let p = c.in-Ok.picked in
     let picked : IsPickedIn x p.root p.number p.both = subst (λ (o : Option ℕ). IsPicked (open_number First x) o p.root p.number p.both) second (subst (λ (o : Option ℕ). IsPicked o c.open_number-2.result p.root p.number p.both) first c.in-Ok.ensures.picked) in
     let w = c.words_on-words in
-    unsound p.root x c.page.result.now are.size (c.page.ensures.value x are) w.result w.ensures.mark w.ensures.version w.ensures.limit w.ensures.count c.in-Err-check.cause (picked_counts p.root p.number p.both x picked)
+    unsound p.root x c.page.result.now are.size (c.page.ensures.value x are) w.result w.ensures.mark w.ensures.version w.ensures.limit w.ensures.count c.in-Err-check.cause (picked_current p.root p.number p.both x picked)
     (subst (λ (n : ℕ). IsUnsound w.result n c.in-Err-check.cause) (sym sized) c.in-Err-check.ensures.unsound)
 
 pub returns-clause-chosen : goal.returns-clause-chosen

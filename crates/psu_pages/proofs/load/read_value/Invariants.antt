@@ -1,5 +1,5 @@
 use Rattle.std.proofs.Common.{◌≡◌, ℕ, List, take}
-use Rattle.psu_disk.specs.Disk.{Left, LeavesOnly}
+use Rattle.psu_disk.specs.Disk.{IsCrashImage, LeavesOnly}
 use Rattle.psu_pages.specs.Image.{bytes_in}
 use Rattle.psu_pages.proofs.load.read_value.Given as goal
 
@@ -11,6 +11,6 @@ invariant-loop-page g l =
       works : d.failures l.disk ≡ d.failures l.fn.disk;
       found : d.honest → l.value.items ≡ bytes_in (d.state l.fn.disk).bytes (take l.page-index l.page-items);
       seen : d.honest → (d.state l.disk).bytes ≡ (d.state l.fn.disk).bytes;
-      left : d.honest → (x : List ℕ) → Left (d.state l.disk) x → Left (d.state l.fn.disk) x;
-      time : d.honest → d.tells → LeavesOnly d.moment d.left_since l.fn.disk l.disk (Left (d.state l.fn.disk));
+      left : d.honest → (x : List ℕ) → IsCrashImage (d.state l.disk) x → IsCrashImage (d.state l.fn.disk) x;
+      time : d.honest → d.records → LeavesOnly d.moment d.left_since l.fn.disk l.disk (IsCrashImage (d.state l.fn.disk));
     }

@@ -5,7 +5,7 @@ use Rattle.psu_pages.specs.Image.{head_at, heads_in, words, Head, AreApart, AreS
 use Rattle.psu_pages.specs.Finding.{AreFit, CanStand}
 use Rattle.psu_pages.proofs.Numbers.{length_words}
 use Rattle.psu_pages.proofs.Quiet.{quiet_runs}
-use Rattle.psu_pages.proofs.Opening.{HasChosen, roster_of, gates, readable, bad_root, named, bears, stand}
+use Rattle.psu_pages.proofs.Opening.{HasChosen, roster_of, gates, readable, bad_root, named, encodes, stand}
 use Rattle.psu_pages.proofs.open.look.Given.{Over}
 use Rattle.psu_pages.proofs.open.look.Goals.{In-Ok, After-scan, In-Ok-Some}
 use Rattle.psu_pages.proofs.open.look.Goals as goal
@@ -76,7 +76,7 @@ pub returns-clause-found : goal.returns-clause-found
 returns-clause-found g c = λ h.
     let at = goal.at.returns-clause-found g c in
     let is = has g at.In-Ok h in
-    bears is c.in-Ok-Some.found.heads.items (sym (read g at.In-Ok-Some h ∙ heads_are g at.After-scan h is)) (returns-clause-roster g c) (subst (AreShort c.in-Ok.chosen.version) c.deref-2.ensures.value (c.stand_together.ensures.short c.if-not-stand_together.false))
+    encodes is c.in-Ok-Some.found.heads.items (sym (read g at.In-Ok-Some h ∙ heads_are g at.After-scan h is)) (returns-clause-roster g c) (subst (AreShort c.in-Ok.chosen.version) c.deref-2.ensures.value (c.stand_together.ensures.short c.if-not-stand_together.false))
 
 pub returns-clause-gates : goal.returns-clause-gates
 returns-clause-gates g c = λ h. gates (has g (goal.at.returns-clause-gates g c).In-Ok h)

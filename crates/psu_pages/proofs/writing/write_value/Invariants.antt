@@ -1,5 +1,5 @@
 use Rattle.std.proofs.Common.{◌≡◌, ◌*◌, take, drop}
-use Rattle.psu_disk.specs.Disk.{Left, Follows, LeavesOnly}
+use Rattle.psu_disk.specs.Disk.{IsCrashImage, Follows, LeavesOnly}
 use Rattle.psu_pages.specs.Spelling.{value_drafts}
 use Rattle.psu_pages.specs.Writing.{Misses, Reaches, AreWritten}
 use Rattle.psu_pages.proofs.writing.write_value.Given as goal
@@ -13,6 +13,6 @@ invariant-loop-page g l =
       rest : l.rest ≡ drop (512 * l.page-index) l.value;
       written : d.honest → AreWritten (value_drafts (take l.page-index l.pages) l.value) (d.state l.disk).bytes;
       seen : d.honest → Misses l.pages (d.state l.fn.disk).bytes (d.state l.disk).bytes;
-      left : d.honest → Follows (Misses l.pages) (Left (d.state l.fn.disk)) (Left (d.state l.disk));
-      time : d.honest → d.tells → LeavesOnly d.moment d.left_since l.fn.disk l.disk (Reaches (Misses l.pages) (Left (d.state l.fn.disk)));
+      left : d.honest → Follows (Misses l.pages) (IsCrashImage (d.state l.fn.disk)) (IsCrashImage (d.state l.disk));
+      time : d.honest → d.records → LeavesOnly d.moment d.left_since l.fn.disk l.disk (Reaches (Misses l.pages) (IsCrashImage (d.state l.fn.disk)));
     }

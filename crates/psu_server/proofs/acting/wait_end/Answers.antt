@@ -6,24 +6,24 @@ use Rattle.psu_server.proofs.LateUnits.{parked_of}
 use Rattle.psu_server.proofs.SessionOne.{settle_free, settled_one}
 use Rattle.psu_server.proofs.acting.wait_end.Goals as goal
 
-pub returns-then-not-is_final-clause-halts : goal.returns-then-not-is_final-clause-halts
-returns-then-not-is_final-clause-halts g c =
+pub returns-then-not-is_final-clause-device_stops : goal.returns-then-not-is_final-clause-device_stops
+returns-then-not-is_final-clause-device_stops g c =
     let step = settled_one c.flush.new.exec.device c.settle-outcome.new.self.device (outcome_of c.settle-outcome.result) c.args.session c.requires.first c.settle-outcome.ensures.step in
     halts_here c.args.exec.now c.settle-outcome.new.self [] [] Device
-    (flush_settles c.args.exec.now c.flush.new.exec c.settle-outcome.new.self (outcome_of c.settle-outcome.result) c.in_ok-flush.ensures.flushes step c.settle-outcome.ensures.home)
-    (λ h. waiting_halted c.args.exec.now c.flush.new.exec c.settle-outcome.new.self (outcome_of c.settle-outcome.result) step c.settle-outcome.ensures.home
+    (flush_settles c.args.exec.now c.flush.new.exec c.settle-outcome.new.self (outcome_of c.settle-outcome.result) c.in_ok-flush.ensures.flushes step c.settle-outcome.ensures.idle_store)
+    (λ h. waiting_halted c.args.exec.now c.flush.new.exec c.settle-outcome.new.self (outcome_of c.settle-outcome.result) step c.settle-outcome.ensures.idle_store
     (c.in_ok-flush.ensures.clean h) (sym c.is_final.ensures ∙ c.if-not-is_final.true) (λ parked. c.settle-outcome.ensures.parked (parked_of _ parked))) (λ e. cc)
 
-pub returns-then-is_out_of_memory-clause-halts : goal.returns-then-is_out_of_memory-clause-halts
-returns-then-is_out_of_memory-clause-halts g c =
+pub returns-then-is_out_of_memory-clause-device_stops : goal.returns-then-is_out_of_memory-clause-device_stops
+returns-then-is_out_of_memory-clause-device_stops g c =
     let step = settled_one c.flush.new.exec.device c.settle-outcome.new.self.device (outcome_of c.settle-outcome.result) c.args.session c.requires.first c.settle-outcome.ensures.step in
     halts_for_memory c.args.exec.now c.settle-outcome.new.self [] []
-    (flush_settles c.args.exec.now c.flush.new.exec c.settle-outcome.new.self (outcome_of c.settle-outcome.result) c.in_ok-flush.ensures.flushes step c.settle-outcome.ensures.home)
+    (flush_settles c.args.exec.now c.flush.new.exec c.settle-outcome.new.self (outcome_of c.settle-outcome.result) c.in_ok-flush.ensures.flushes step c.settle-outcome.ensures.idle_store)
 
 pub returns-clause-ends : goal.returns-clause-ends
 returns-clause-ends g c =
     let step = settled_one c.flush.new.exec.device c.settle-outcome.new.self.device (outcome_of c.settle-outcome.result) c.args.session c.requires.first c.settle-outcome.ensures.step in
-    wait_ends c.args.exec.now c.flush.new.exec c.settle-outcome.new.self (outcome_of c.settle-outcome.result) c.in_ok-flush.ensures.flushes step c.settle-outcome.ensures.home
+    wait_ends c.args.exec.now c.flush.new.exec c.settle-outcome.new.self (outcome_of c.settle-outcome.result) c.in_ok-flush.ensures.flushes step c.settle-outcome.ensures.idle_store
 
 pub returns-clause-free : goal.returns-clause-free
 returns-clause-free g c =

@@ -12,32 +12,32 @@ reading-init g c = record {
   seen = [];
   has = read_start _ (g.R.Source.remaining c.args.reader.now) (g.R.Source.reads c.args.reader.now) c.new-intake.ensures.reads;
   taken = sym c.new-intake.ensures.bytes;
-  ran = ran_start c.new-lines.result.is_over c.new-lines.result.line.items c.args.powered.exec _ _ c.new-lines.ensures.over c.new-lines.ensures.empty;
+  ran = ran_start c.new-lines.result.is_too_long c.new-lines.result.line.items c.args.powered.exec _ _ c.new-lines.ensures.over c.new-lines.ensures.empty;
 }
 
 pub returns-in_default-clause-early : goal.returns-in_default-clause-early
 returns-in_default-clause-early g c =
     let f = c.fault.ensures in
-    ran_front _ (coming c.reading.lines.is_over c.reading.lines.line.items) c.args.powered.exec c.reading.powered.exec c.fault.result _ _ _ _ Read c.reading.invariant.ran
-    (record { told = f.cause; failures = f.failures; extent = f.extent; state = f.state; reason = f.reason; disk = f.same }) (λ w. cc) (λ rest last. tt)
+    ran_front _ (coming c.reading.lines.is_too_long c.reading.lines.line.items) c.args.powered.exec c.reading.powered.exec c.fault.result _ _ _ _ Read c.reading.invariant.ran
+    (record { cause_is = f.cause; failures = f.failures; extent = f.extent; state = f.state; reason = f.reason; disk = f.same }) (λ w. cc) (λ rest last. tt)
 
 pub returns-then-count-eq0-clause-whole : goal.returns-then-count-eq0-clause-whole
 returns-then-count-eq0-clause-whole g c =
-    ran_end (coming c.reading.lines.is_over c.reading.lines.line.items) c.args.powered.exec c.reading.powered.exec c.in_ok-disk.disk _ _ _ _ _ _ c.reading.invariant.ran
+    ran_end (coming c.reading.lines.is_too_long c.reading.lines.line.items) c.args.powered.exec c.reading.powered.exec c.in_ok-disk.disk _ _ _ _ _ _ c.reading.invariant.ran
     (consumes_none c.in-Ok.count c.read_into.new.piece (g.R.Source.remaining c.reading.reader) (g.R.Source.remaining c.read_into.new.self) c.if-count-eq0.true c.in-Ok.ensures.bytes.0)
     (c.in-Ok.ensures.bytes.1 c.if-count-eq0.true (omega (arith, c.requires.room, c.reading.auto.piece, c.read_into.auto.piece))) c.in_ok-disk.ensures.whole
 
 pub returns-in_err-disk-clause-early : goal.returns-in_err-disk-clause-early
 returns-in_err-disk-clause-early g c =
     passed c.from_residual.result c.in_err-disk.field-0.0 _ c.from_residual.ensures.1
-    (ran_end_front _ (coming c.reading.lines.is_over c.reading.lines.line.items) c.args.powered.exec c.reading.powered.exec c.in_err-disk.field-0.0 _ _ _ _ _ _ c.reading.invariant.ran
+    (ran_end_front _ (coming c.reading.lines.is_too_long c.reading.lines.line.items) c.args.powered.exec c.reading.powered.exec c.in_err-disk.field-0.0 _ _ _ _ _ _ c.reading.invariant.ran
     (consumes_none c.in-Ok.count c.read_into.new.piece (g.R.Source.remaining c.reading.reader) (g.R.Source.remaining c.read_into.new.self) c.if-count-eq0.true c.in-Ok.ensures.bytes.0)
     (c.in-Ok.ensures.bytes.1 c.if-count-eq0.true (omega (arith, c.requires.room, c.reading.auto.piece, c.read_into.auto.piece))) c.in_err-disk.ensures.early)
 
 pub returns-in_err-powered-clause-early : goal.returns-in_err-powered-clause-early
 returns-in_err-powered-clause-early g c =
     passed c.from_residual-in_err-powered.result c.in_err-powered.field-0.0 _ c.from_residual-in_err-powered.ensures.1
-    (ran_cut_front _ (coming c.reading.lines.is_over c.reading.lines.line.items) c.room-room.result c.in-Ok.count c.read_into.new.piece c.args.powered.exec c.reading.powered.exec
+    (ran_cut_front _ (coming c.reading.lines.is_too_long c.reading.lines.line.items) c.room-room.result c.in-Ok.count c.read_into.new.piece c.args.powered.exec c.reading.powered.exec
     c.in_err-powered.field-0.0 _ _ _ _ _ _ (omega (arith, c.if-count-room.true)) c.reading.invariant.ran c.in-Ok.ensures.bytes.0 c.in_err-powered.ensures.early)
 
 pub returns-then-count-room-clause-early : goal.returns-then-count-room-clause-early
@@ -48,16 +48,16 @@ returns-then-count-room-clause-early g c =
     (g.R.Source.remaining c.reading.reader) (g.R.Source.remaining c.read_into.new.self) (g.R.Source.reads c.args.reader.now) (g.R.Source.reads c.reading.reader) (g.R.Source.reads c.read_into.new.self)
     c.reading.invariant.has c.in-Ok.ensures.bytes.0 c.in-Ok.ensures.counted.1 c.if-count-eq0.false c.in-Ok.ensures.bound.0 c.count_read.ensures.reads in
     let all = taken_more c.reading.invariant.seen c.read_into.new.piece c.in-Ok.count _ _ _ c.reading.invariant.taken c.in-Ok.ensures.bound.0 c.count_read.ensures.bytes refl in
-    ran_cut _ (coming c.reading.lines.is_over c.reading.lines.line.items) (coming c.answer.new.lines.is_over c.answer.new.lines.line.items)
+    ran_cut _ (coming c.reading.lines.is_too_long c.reading.lines.line.items) (coming c.answer.new.lines.is_too_long c.answer.new.lines.line.items)
     c.room-room.result c.in-Ok.count c.read_into.new.piece c.args.powered.exec c.reading.powered.exec c.in_ok-powered.powered.exec fault.result _ _ _ _ _ _ TooLong (omega (arith, c.if-count-room.true))
-    c.reading.invariant.ran c.in-Ok.ensures.bytes.0 c.in_ok-powered.ensures.whole (record { told = f.cause; failures = f.failures; extent = f.extent; state = f.state; reason = f.reason; disk = f.same }) (λ w. cc)
+    c.reading.invariant.ran c.in-Ok.ensures.bytes.0 c.in_ok-powered.ensures.whole (record { cause_is = f.cause; failures = f.failures; extent = f.extent; state = f.state; reason = f.reason; disk = f.same }) (λ w. cc)
     (λ rest last. (c.count_read.new.self.reads, c.reading.invariant.seen ++ take c.in-Ok.count c.read_into.new.piece, has, inl (omega (arith, all, c.room-room.ensures, c.if-count-room.true, c.count_read.ensures.bytes))))
 
 pub returns-in_err-powered-2-clause-early : goal.returns-in_err-powered-2-clause-early
 returns-in_err-powered-2-clause-early g c =
     let fault = c.in_err-powered-2.field-0.0 in
     passed c.from_residual-in_err-powered-2.result fault _ c.from_residual-in_err-powered-2.ensures.1
-    (ran_stop _ (coming c.reading.lines.is_over c.reading.lines.line.items) (take c.in-Ok.count c.read_into.new.piece) c.args.powered.exec c.reading.powered.exec fault _ _ _ _ _ _ c.reading.invariant.ran
+    (ran_stop _ (coming c.reading.lines.is_too_long c.reading.lines.line.items) (take c.in-Ok.count c.read_into.new.piece) c.args.powered.exec c.reading.powered.exec fault _ _ _ _ _ _ c.reading.invariant.ran
     c.in-Ok.ensures.bytes.0 (λ input. early_never_long _ c.reading.powered.exec fault _ _ _ (c.in_err-powered-2.ensures.early input)))
 
 pub reading-preserved : goal.reading-preserved
@@ -67,7 +67,7 @@ reading-preserved g c = record {
       (g.R.Source.remaining c.reading.reader) (g.R.Source.remaining c.read_into.new.self) (g.R.Source.reads c.args.reader.now) (g.R.Source.reads c.reading.reader) (g.R.Source.reads c.read_into.new.self)
       c.reading.invariant.has c.in-Ok.ensures.bytes.0 c.in-Ok.ensures.counted.1 c.if-count-eq0.false c.in-Ok.ensures.bound.0 (c.count_bytes.ensures.reads ∙ c.count_read.ensures.reads);
   taken = taken_more c.reading.invariant.seen c.read_into.new.piece c.in-Ok.count _ _ _ c.reading.invariant.taken c.in-Ok.ensures.bound.0 c.count_read.ensures.bytes c.count_bytes.ensures.bytes;
-  ran = ran_on (coming c.reading.lines.is_over c.reading.lines.line.items) (coming c.answer-in-reading.new.lines.is_over c.answer-in-reading.new.lines.line.items)
+  ran = ran_on (coming c.reading.lines.is_too_long c.reading.lines.line.items) (coming c.answer-in-reading.new.lines.is_too_long c.answer-in-reading.new.lines.line.items)
       (take c.in-Ok.count c.read_into.new.piece) c.args.powered.exec c.reading.powered.exec c.in_ok-powered-2.powered.exec _ _ _ _ _ _ c.reading.invariant.ran c.in-Ok.ensures.bytes.0 c.in_ok-powered-2.ensures.whole;
 }
 
@@ -81,8 +81,8 @@ returns-then-count-eq0-clause-short g c =
 pub returns-clause-early : goal.returns-clause-early
 returns-clause-early g c =
     let f = c.fault-2.ensures in
-    ran_front _ (coming c.reading.lines.is_over c.reading.lines.line.items) c.args.powered.exec c.reading.powered.exec c.fault-2.result _ _ _ _ TooLong c.reading.invariant.ran
-    (record { told = f.cause; failures = f.failures; extent = f.extent; state = f.state; reason = f.reason; disk = f.same }) (λ w. cc)
+    ran_front _ (coming c.reading.lines.is_too_long c.reading.lines.line.items) c.args.powered.exec c.reading.powered.exec c.fault-2.result _ _ _ _ TooLong c.reading.invariant.ran
+    (record { cause_is = f.cause; failures = f.failures; extent = f.extent; state = f.state; reason = f.reason; disk = f.same }) (λ w. cc)
     (λ rest last.
     let full : c.reading.intake.reads + 1 ≤ 1048576 → ⊥ = λ room. let left = c.reading-test.ensures.1 room in absurd cc in
     (c.reading.intake.reads, c.reading.invariant.seen, c.reading.invariant.has, inr (omega (arith, full, c.reading.intake.few))))

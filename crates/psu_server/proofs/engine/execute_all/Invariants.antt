@@ -10,7 +10,7 @@ invariant-reading g l = record {
   seen : List ℕ;
   has : HasRead l.intake.reads l.intake.reads seen (g.R.Source.remaining l.initial.reader) (g.R.Source.remaining l.reader) (g.R.Source.reads l.initial.reader) (g.R.Source.reads l.reader);
   taken : length seen ≡ l.intake.bytes;
-  ran : Ran (coming l.lines.is_over l.lines.line.items) l.initial.powered.exec l.powered.exec
+  ran : Ran (coming l.lines.is_too_long l.lines.line.items) l.initial.powered.exec l.powered.exec
       (g.R.Source.remaining l.initial.reader) (g.R.Source.remaining l.reader) (g.W.Write.contents l.initial.writer) (g.W.Write.contents l.writer);
 }
 

@@ -39,21 +39,21 @@ pub returns-in-Err-clause-early : goal.returns-in-Err-clause-early
 returns-in-Err-clause-early g c =
     let mid = c.in_ok-powered.powered.exec in
     let f = c.fault.ensures in
-    let halts = c.in-Err.ensures.halts in
-    answers_early (coming c.args.lines.now.is_over c.args.lines.now.line.items []) c.args.powered.exec mid c.fault.result _ _ c.in_ok-powered.ensures.whole (λ e. halts.own (sym f.cause ∙ e))
-    (flush_stops mid c.flush.new.exec c.fault.result c.in-Err.cause halts (record { told = f.cause; failures = f.failures; extent = f.extent; state = f.state; reason = f.reason; disk = f.same }))
+    let device_stops = c.in-Err.ensures.device_stops in
+    answers_early (coming c.args.lines.now.is_too_long c.args.lines.now.line.items []) c.args.powered.exec mid c.fault.result _ _ c.in_ok-powered.ensures.whole (λ e. device_stops.own (sym f.cause ∙ e))
+    (flush_stops mid c.flush.new.exec c.fault.result c.in-Err.cause device_stops (record { cause_is = f.cause; failures = f.failures; extent = f.extent; state = f.state; reason = f.reason; disk = f.same }))
 
 pub returns-then-not-is_flushed-clause-early : goal.returns-then-not-is_flushed-clause-early
 returns-then-not-is_flushed-clause-early g c =
     let fault = c.fault-then-not-is_flushed.result in
     let f = c.fault-then-not-is_flushed.ensures in
     let mid = c.in_ok-powered.powered.exec in
-    answers_early (coming c.args.lines.now.is_over c.args.lines.now.line.items []) c.args.powered.exec mid fault _ _ c.in_ok-powered.ensures.whole (λ e. let bad = sym f.cause ∙ e in cc)
-    (flushed_stops mid c.flush.new.exec fault c.in-Ok.ensures.flushes (record { told = f.cause; failures = f.failures; extent = f.extent; state = f.state; reason = f.reason; disk = f.same })
+    answers_early (coming c.args.lines.now.is_too_long c.args.lines.now.line.items []) c.args.powered.exec mid fault _ _ c.in_ok-powered.ensures.whole (λ e. let bad = sym f.cause ∙ e in cc)
+    (flushed_stops mid c.flush.new.exec fault c.in-Ok.ensures.flushes (record { cause_is = f.cause; failures = f.failures; extent = f.extent; state = f.state; reason = f.reason; disk = f.same })
     (λ h. left_halts mid c.flush.new.exec (c.in-Ok.ensures.clean h) (some_left c.flush.new.exec.device.flush.unflushed (sym c.is_flushed.ensures ∙ c.if-not-is_flushed.true))))
 
 pub returns-clause-whole : goal.returns-clause-whole
 returns-clause-whole g c =
     let disk = c.into_disk.ensures in
-    answers_flushed (coming c.args.lines.now.is_over c.args.lines.now.line.items []) c.args.powered.exec c.in_ok-powered.powered.exec c.flush.new.exec c.into_disk.result _ _
+    answers_flushed (coming c.args.lines.now.is_too_long c.args.lines.now.line.items []) c.args.powered.exec c.in_ok-powered.powered.exec c.flush.new.exec c.into_disk.result _ _
     c.in_ok-powered.ensures.whole c.in-Ok.ensures.flushes (none_left c.flush.new.exec.device.flush.unflushed (sym c.is_flushed.ensures ∙ c.if-not-is_flushed.false)) disk.failures disk.extent disk.state disk.same

@@ -38,7 +38,7 @@ returns-in_default-clause-early g c = λ h.
     let f = c.fault.ensures in
     inr (run_early _ (g.R.Source.remaining c.args.reader.now) _ _ (g.D.Disk.state c.args.disk).bytes c.in-Ok.powered.exec c.fault.result (g.D.Disk.failures c.args.disk) h (on.starts h) on.works on.last
     (early_unread _ c.in-Ok.powered.exec c.fault.result (g.R.Source.remaining c.args.reader.now) (g.W.Write.contents c.args.writer.now) Memory
-    (record { told = f.cause; failures = f.failures; extent = f.extent; state = f.state; reason = f.reason; disk = f.same }) (λ e. cc) (λ rest last. tt)))
+    (record { cause_is = f.cause; failures = f.failures; extent = f.extent; state = f.state; reason = f.reason; disk = f.same }) (λ e. cc) (λ rest last. tt)))
 
 pub returns-in_default-clause-cause : goal.returns-in_default-clause-cause
 returns-in_default-clause-cause g c = λ h.
@@ -46,7 +46,7 @@ returns-in_default-clause-cause g c = λ h.
     let f = c.fault.ensures in
     run_cause _ (g.R.Source.remaining c.args.reader.now) _ _ (g.D.Disk.state c.args.disk).bytes c.in-Ok.powered.exec c.fault.result (g.D.Disk.failures c.args.disk) h (on.starts h) on.works on.last
     (early_unread _ c.in-Ok.powered.exec c.fault.result (g.R.Source.remaining c.args.reader.now) (g.W.Write.contents c.args.writer.now) Memory
-    (record { told = f.cause; failures = f.failures; extent = f.extent; state = f.state; reason = f.reason; disk = f.same }) (λ e. cc) (λ rest last. tt))
+    (record { cause_is = f.cause; failures = f.failures; extent = f.extent; state = f.state; reason = f.reason; disk = f.same }) (λ e. cc) (λ rest last. tt))
 
 pub returns-in_err-disk-clause-extent : goal.returns-in_err-disk-clause-extent
 returns-in_err-disk-clause-extent g c =
@@ -94,7 +94,7 @@ returns-in_default-clause-time g c = λ h t.
     let f = c.fault.ensures in
     early_moments ⊥ (g.R.Source.remaining c.args.reader.now) _ _ c.args.disk p.exec c.fault.result h t (g.met.D.Disk.only_now t) (on.starts h) on.last (λ none. let bad = sym p.idle ∙ p.exec.away ∙ ap is_none none in cc) (on.time h t)
     (early_unread ⊥ p.exec c.fault.result (g.R.Source.remaining c.args.reader.now) (g.W.Write.contents c.args.writer.now) Memory
-    (record { told = f.cause; failures = f.failures; extent = f.extent; state = f.state; reason = f.reason; disk = f.same }) (λ e. cc) (λ rest last. tt))
+    (record { cause_is = f.cause; failures = f.failures; extent = f.extent; state = f.state; reason = f.reason; disk = f.same }) (λ e. cc) (λ rest last. tt))
 
 pub returns-in_err-disk-clause-time : goal.returns-in_err-disk-clause-time
 returns-in_err-disk-clause-time g c = λ h t.

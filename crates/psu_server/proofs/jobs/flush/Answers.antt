@@ -4,7 +4,7 @@ use Rattle.psu_exec.specs.Jobs.{job_data}
 use Rattle.psu_server.specs.Lives.{world_of}
 use Rattle.psu_server.specs.Runs.{Jobs}
 use Rattle.psu_server.proofs.Calls.{Executes, executes_join}
-use Rattle.psu_server.proofs.JobEnds.{gave_free, gave_home, gave_locks, gave_open, job_done}
+use Rattle.psu_server.proofs.JobEnds.{gave_free, gave_back_idle, gave_locks, gave_open, job_done}
 use Rattle.psu_server.proofs.FlushEnds.{calm_after, flush_ends, flush_full, halts_short, job_executes, job_spans, jobs_execute, jobs_more, out_free, run_lasts, same_world, still_spans}
 use Rattle.psu_server.proofs.Lasting.{lasts_none, lasts_same, lasts_then}
 use Rattle.psu_server.proofs.Moments.{spans_none, spans_then}
@@ -24,8 +24,8 @@ loop-init g c = record {
   calm = λ h. inr (inr (inl refl));
 }
 
-pub returns-then-run_job-clause-halts : goal.returns-then-run_job-clause-halts
-returns-then-run_job-clause-halts g c =
+pub returns-then-run_job-clause-device_stops : goal.returns-then-run_job-clause-device_stops
+returns-then-run_job-clause-device_stops g c =
     halts_short c.args.exec.now c.run_job.new.exec
     (λ h life. (
       executes_join _ (world_of life c.loop.exec) _ _ _ (jobs_execute c.args.exec.now c.loop.exec life c.loop.counter (c.loop.invariant.jobs h life))
@@ -40,29 +40,29 @@ returns-in-Err-Nothing-clause-flushes g c = record {
   runs = λ h life. (
     life,
     flush_ends c.args.exec.now c.loop.exec c.take.new.self life c.loop.counter c.loop.invariant.count (c.loop.invariant.jobs h life)
-        (rw c.in-Err-Nothing.field-0-is at c.in-Err-Nothing.ensures.step) c.in-Err-Nothing.ensures.same c.in-Err-Nothing.ensures.home,
-    spans_then c.args.exec.now c.loop.exec c.take.new.self _ _ _ (c.loop.invariant.spans h life) (still_spans c.loop.exec c.take.new.self life c.in-Err-Nothing.ensures.same c.in-Err-Nothing.ensures.home),
+        (rw c.in-Err-Nothing.field-0-is at c.in-Err-Nothing.ensures.step) c.in-Err-Nothing.ensures.same c.in-Err-Nothing.ensures.idle_store,
+    spans_then c.args.exec.now c.loop.exec c.take.new.self _ _ _ (c.loop.invariant.spans h life) (still_spans c.loop.exec c.take.new.self life c.in-Err-Nothing.ensures.same c.in-Err-Nothing.ensures.idle_store),
   );
   lasts = lasts_then c.args.exec.now c.loop.exec c.take.new.self c.loop.invariant.lasts
-      (lasts_same c.loop.exec c.take.new.self (ap (λ (s : State). s.flush.store) c.in-Err-Nothing.ensures.same) c.in-Err-Nothing.ensures.home);
+      (lasts_same c.loop.exec c.take.new.self (ap (λ (s : State). s.flush.store) c.in-Err-Nothing.ensures.same) c.in-Err-Nothing.ensures.idle_store);
 }
 
-pub returns-in-Err-Memory-clause-halts : goal.returns-in-Err-Memory-clause-halts
-returns-in-Err-Memory-clause-halts g c =
+pub returns-in-Err-Memory-clause-device_stops : goal.returns-in-Err-Memory-clause-device_stops
+returns-in-Err-Memory-clause-device_stops g c =
     halts_short c.args.exec.now c.take.new.self
     (λ h life. (
-      subst (λ w. Executes (world_of life c.args.exec.now) [] w) (sym (same_world c.loop.exec c.take.new.self life c.in-Err-Memory.ensures.same c.in-Err-Memory.ensures.home))
+      subst (λ w. Executes (world_of life c.args.exec.now) [] w) (sym (same_world c.loop.exec c.take.new.self life c.in-Err-Memory.ensures.same c.in-Err-Memory.ensures.idle_store))
           (jobs_execute c.args.exec.now c.loop.exec life c.loop.counter (c.loop.invariant.jobs h life)),
-      spans_then c.args.exec.now c.loop.exec c.take.new.self _ _ _ (c.loop.invariant.spans h life) (still_spans c.loop.exec c.take.new.self life c.in-Err-Memory.ensures.same c.in-Err-Memory.ensures.home),
+      spans_then c.args.exec.now c.loop.exec c.take.new.self _ _ _ (c.loop.invariant.spans h life) (still_spans c.loop.exec c.take.new.self life c.in-Err-Memory.ensures.same c.in-Err-Memory.ensures.idle_store),
     ))
     (lasts_then c.args.exec.now c.loop.exec c.take.new.self c.loop.invariant.lasts
-    (lasts_same c.loop.exec c.take.new.self (ap (λ (s : State). s.flush.store) c.in-Err-Memory.ensures.same) c.in-Err-Memory.ensures.home))
+    (lasts_same c.loop.exec c.take.new.self (ap (λ (s : State). s.flush.store) c.in-Err-Memory.ensures.same) c.in-Err-Memory.ensures.idle_store))
 
 pub loop-preserved : goal.loop-preserved
 loop-preserved g c =
     let run = c.run_job.ensures.run in
     let long = c.if-run_job.false in
-    let idle = gave_home run.finished _ _ run.over run.give in record {
+    let idle = gave_back_idle run.finished _ _ run.over run.give in record {
       idle = idle;
       same_open = gave_open run.finished _ _ run.over run.give ∙ ap (λ (s : State). is_open s 1) c.in-Ok.ensures.step.1 ∙ c.loop.invariant.same_open;
       same_locks = gave_locks run.finished _ _ run.over run.give ∙ ap (λ (s : State). s.volatile.locks) c.in-Ok.ensures.step.1 ∙ c.loop.invariant.same_locks;

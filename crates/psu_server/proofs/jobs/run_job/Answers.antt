@@ -10,5 +10,5 @@ unreachable-requires g c = c.in-Err.ensures.step.0 c.requires.out (expected c.ar
 pub returns : goal.returns
 returns g c = record {
   run = has_run c.args.exec.now c.args.job c.give_back.new.self c.run-finished.result.end c.in-Ok.field-0 c.is_short-short.result c.run-finished.ensures.end c.run-finished.ensures.extent c.run-finished.ensures.later
-      c.in-Ok.ensures.step c.in-Ok.ensures.home c.in-Ok.ensures.stands c.run-finished.ensures.stands (c.is_short-short.ensures ∙ ap (λ end. is_short (finished_of end)) c.end.ensures) c.run-finished.ensures.time;
+      c.in-Ok.ensures.step c.in-Ok.ensures.idle_store c.in-Ok.ensures.stands c.run-finished.ensures.stands (c.is_short-short.ensures ∙ ap (λ end. is_short (finished_of end)) c.end.ensures) c.run-finished.ensures.time;
 }

@@ -1,5 +1,5 @@
 use Rattle.psu_server.proofs.Fronts.{on_err}
-use Rattle.psu_server.proofs.Telling.{short_behind}
+use Rattle.psu_server.proofs.OutputState.{short_behind}
 use Rattle.psu_server.proofs.output.put_both.Goals as goal
 
 pub returns-in_err-put-2-clause-short : goal.returns-in_err-put-2-clause-short

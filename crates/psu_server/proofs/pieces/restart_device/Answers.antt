@@ -7,11 +7,11 @@ use Rattle.psu_server.proofs.pieces.restart_device.Goals as goal
 pub returns-in-Err-clause-stops : goal.returns-in-Err-clause-stops
 returns-in-Err-clause-stops g c = λ rest.
     let f = c.fault.ensures in
-    reopen_stops c.args.powered.exec c.reopen.new.exec c.fault.result rest c.in-Err.cause c.in-Err.ensures.halts
-    (record { told = f.cause; failures = f.failures; extent = f.extent; state = f.state; reason = f.reason; disk = f.same }) c.in-Err.ensures.failed
+    reopen_stops c.args.powered.exec c.reopen.new.exec c.fault.result rest c.in-Err.cause c.in-Err.ensures.device_stops
+    (record { cause_is = f.cause; failures = f.failures; extent = f.extent; state = f.state; reason = f.reason; disk = f.same }) c.in-Err.ensures.failed
 
 pub returns-in-Err-clause-other : goal.returns-in-Err-clause-other
-returns-in-Err-clause-other g c = λ e. c.in-Err.ensures.halts.own (sym c.fault.ensures.cause ∙ e)
+returns-in-Err-clause-other g c = λ e. c.in-Err.ensures.device_stops.own (sym c.fault.ensures.cause ∙ e)
 
 pub returns-in_err-powered-clause-other : goal.returns-in_err-powered-clause-other
 returns-in_err-powered-clause-other g c = passed c.from_residual.result c.in_err-powered.field-0.0 _ c.from_residual.ensures.1 c.in_err-powered.ensures.other

@@ -1,13 +1,13 @@
 use Rattle.std.proofs.Common.{◌≡◌, ◌∙◌, ℕ, true, List, refl, sym, ap, subst, Result, Ok, Err, IfOk, IfErr}
 use Rattle.psu_map.specs.Map.{Item, cost}
-use Rattle.psu_items.specs.Image.{EachStands, HasReadableRoot, IsRefusal, Stands}
+use Rattle.psu_items.specs.Image.{EachRepresents, HasReadableRoot, IsRefusal, Represents}
 use Rattle.psu_pages.specs.declared.open_cause.OpenCause.{OpenCause}
 use Rattle.psu_pages.specs.declared.open_cause.OpenCause.TheVariants as opening
-use Rattle.psu_items.proofs.Fitting.{stands_readable}
+use Rattle.psu_items.proofs.Fitting.{represents_readable}
 use Rattle.psu_nv.specs.Contents.{items_of, fits, Contents}
 use Rattle.psu_exec.specs.declared.power_fault.PowerCause.{PowerCause}
 use Rattle.psu_exec.specs.declared.power_fault.PowerCause.TheVariants as power
-use Rattle.psu_exec.specs.declared.home.Home.TheVariants as home
+use Rattle.psu_exec.specs.declared.idle_store.IdleStore.TheVariants as idle_store
 use Rattle.psu_server.specs.declared.report.Report.{Report}
 use Rattle.psu_server.specs.declared.recover_fault.RecoverFault.{RecoverFault}
 use Rattle.psu_server.specs.declared.recover_fault.RecoverFault.TheVariants.{Device, Memory}
@@ -30,14 +30,14 @@ returns-in-Ok-power_on-clause-found g c = λ h.
     let bytes : List ℕ = (g.D.Disk.state c.args.disk).bytes in
     let contents : Contents = c.in-Ok-power_on.exec.device.flush.contents in
     let found : items_of contents ≡ c.in-Ok.store.items = c.in-Ok-power_on.ensures.found in
-    let stood : Stands bytes c.in-Ok.store.limit c.in-Ok.store.items = c.in-Ok.ensures.stood h in
+    let represented : Represents bytes c.in-Ok.store.limit c.in-Ok.store.items = c.in-Ok.ensures.represented h in
     let limit : c.limit-limit.result ≡ c.in-Ok.store.limit = c.limit-limit.ensures.value in
     let pages : c.cost-pages.result ≡ cost (items_of contents) = c.cost-pages.ensures.value ∙ ap cost (c.items.ensures.value ∙ sym found) in
     found_of c.report_of.result bytes (λ r. Reports c.in-Ok-power_on.exec.device c.version-version.result c.number-root.result c.limit-limit.result c.cost-pages.result r) c.report_of.ensures.reports (λ r is. record {
       contents = contents;
       sound = c.in-Ok-power_on.ensures.sound;
       fitting = subst (λ (l : ℕ). fits l contents ≡ true) (sym (is.limit_is ∙ limit)) c.in-Ok-power_on.ensures.fitting;
-      stands = subst (λ (l : ℕ). Stands bytes l (items_of contents)) (sym (is.limit_is ∙ limit)) (subst (λ (m : List Item). Stands bytes c.in-Ok.store.limit m) (sym found) stood);
+      stands = subst (λ (l : ℕ). Represents bytes l (items_of contents)) (sym (is.limit_is ∙ limit)) (subst (λ (m : List Item). Represents bytes c.in-Ok.store.limit m) (sym found) represented);
       version = is.version_is ∙ c.version-version.ensures.value ∙ c.in-Ok.ensures.version h;
       root = is.root_is ∙ c.number-root.ensures.value ∙ c.in-Ok.ensures.number h;
       pages = is.pages_is ∙ pages;
@@ -52,7 +52,7 @@ returns-in-Ok-power_on-clause-found g c = λ h.
 pub returns-in-Ok-power_on-clause-refused : goal.returns-in-Ok-power_on-clause-refused
 returns-in-Ok-power_on-clause-refused g c = λ h.
     let bytes : List ℕ = (g.D.Disk.state c.args.disk).bytes in
-    only_memory c.report_of.result (IsRecoverRefusal bytes) c.report_of.ensures.wants (stands_readable bytes c.in-Ok.store.limit c.in-Ok.store.items (c.in-Ok.ensures.stood h))
+    only_memory c.report_of.result (IsRecoverRefusal bytes) c.report_of.ensures.wants (represents_readable bytes c.in-Ok.store.limit c.in-Ok.store.items (c.in-Ok.ensures.represented h))
 
 pub returns-in-Ok-power_on-clause-device : goal.returns-in-Ok-power_on-clause-device
 returns-in-Ok-power_on-clause-device g c = only_memory c.report_of.result _ c.report_of.ensures.wants (λ e. cc)
@@ -78,17 +78,17 @@ pub returns-in-Err-power_on-clause-refused : goal.returns-in-Err-power_on-clause
 returns-in-Err-power_on-clause-refused g c = λ h.
     let bytes : List ℕ = (g.D.Disk.state c.args.disk).bytes in
     let cause : PowerCause = c.in-Err-power_on.fault.cause in
-    let bad : cause ≡ power.BadItems → HasBadItems bytes = λ is. record { limit = c.in-Ok.store.limit; map = c.in-Ok.store.items; stands = c.in-Ok.ensures.stood h; none = c.in-Err-power_on.ensures.bad is } in
-    subst (λ (e : RecoverFault). IsRecoverRefusal bytes e) (sym c.from-in-Err-power_on.ensures) (by_cause bytes cause (stands_readable bytes c.in-Ok.store.limit c.in-Ok.store.items (c.in-Ok.ensures.stood h)) bad)
+    let bad : cause ≡ power.BadItems → HasBadItems bytes = λ is. record { limit = c.in-Ok.store.limit; map = c.in-Ok.store.items; stands = c.in-Ok.ensures.represented h; none = c.in-Err-power_on.ensures.bad is } in
+    subst (λ (e : RecoverFault). IsRecoverRefusal bytes e) (sym c.from-in-Err-power_on.ensures) (by_cause bytes cause (represents_readable bytes c.in-Ok.store.limit c.in-Ok.store.items (c.in-Ok.ensures.represented h)) bad)
 
 pub returns-in-Ok-power_on-clause-left : goal.returns-in-Ok-power_on-clause-left
 returns-in-Ok-power_on-clause-left g c = λ h limit map each.
-    subst (λ d. EachStands (g.D.Disk.state d) limit map) (sym (c.disk_of.ensures (home.Whole c.in-Ok.store) c.in-Ok-power_on.ensures.home)) (c.in-Ok.ensures.left h limit map each)
+    subst (λ d. EachRepresents (g.D.Disk.state d) limit map) (sym (c.disk_of.ensures (idle_store.Whole c.in-Ok.store) c.in-Ok-power_on.ensures.idle_store)) (c.in-Ok.ensures.left h limit map each)
 
 pub returns-in-Err-power_on-clause-left : goal.returns-in-Err-power_on-clause-left
 returns-in-Err-power_on-clause-left g c = λ h limit map each.
-    subst (λ d. EachStands (g.D.Disk.state d) limit map) (sym c.into_disk.ensures.value)
-    (subst (λ s. EachStands (g.D.Disk.state s.disk) limit map) (sym c.in-Err-power_on.ensures.back) (c.in-Ok.ensures.left h limit map each))
+    subst (λ d. EachRepresents (g.D.Disk.state d) limit map) (sym c.into_disk.ensures.value)
+    (subst (λ s. EachRepresents (g.D.Disk.state s.disk) limit map) (sym c.in-Err-power_on.ensures.back) (c.in-Ok.ensures.left h limit map each))
 
 -- no cause of a failed power-on is a failed call
 not_device : (cause : PowerCause) → recover_power cause ≡ Device → ⊥

@@ -1,7 +1,7 @@
 use Rattle.std.proofs.Common.{◌≡◌, ◌==◌, ◌&&◌, Bool, true, false, ℕ, List, ◌∷◌, Bor, sym, ap, ◌∙◌}
 use Rattle.std.specs.Prelude.{map, Option}
 use Rattle.std.specs.Option.{option_copied}
-use Rattle.psu_tree.specs.Headers.{asked}
+use Rattle.psu_tree.specs.Headers.{form_for}
 use Rattle.psu_tree.specs.Scans.{first_letter, second_letter}
 use Rattle.psu_tree.specs.Shown.{each_begins, entries, named_of}
 use Rattle.psu_tree.specs.declared.rows.Row.{Row}
@@ -23,7 +23,7 @@ sections-preserved-then-is_passed c =
     c.first_letter-first.ensures c.second_letter-second.ensures c.has_letters-begins.ensures in
     let none = none_passed s.root s.rows.now ws c.has_letters-begins.result off (sym c.is_passed.ensures ∙ c.if-is_passed.true) in
     record {
-      rows = passed s.root s.rows.now (entries c.in-Some.others.now) ws c.args.asks none ∙ ap (λ (z : List Section). asked (entries z) ws c.args.asks) (sym c.in-Some.ensures.cases.0) ∙ c.sections.invariant.rows;
+      rows = passed s.root s.rows.now (entries c.in-Some.others.now) ws c.args.asks none ∙ ap (λ (z : List Section). form_for (entries z) ws c.args.asks) (sym c.in-Some.ensures.cases.0) ∙ c.sections.invariant.rows;
       letters = (each_one c.sections.rest.now c.in-Some.others.now s c.in-Some.ensures.cases.0 c.sections.invariant.letters).1;
     }
 
@@ -39,8 +39,8 @@ returns-in-Some-row_in c =
     let ws : List (List ℕ) = map (λ (word : Bor (List ℕ)). word.now) c.args.words.now in
     let s : Section = c.in-Some.section.now in
     let row : _ = sym c.row_in.ensures ∙ ap (λ (o : Option (Bor Row)). option_copied o) c.in-Some-row_in.is in
-    c.asked_by.ensures ∙ found s.root s.rows.now (entries c.in-Some.others.now) ws c.args.asks c.in-Some-row_in.row.now row
-    ∙ ap (λ (z : List Section). asked (entries z) ws c.args.asks) (sym c.in-Some.ensures.cases.0) ∙ c.sections.invariant.rows
+    c.row_form.ensures ∙ found s.root s.rows.now (entries c.in-Some.others.now) ws c.args.asks c.in-Some-row_in.row.now row
+    ∙ ap (λ (z : List Section). form_for (entries z) ws c.args.asks) (sym c.in-Some.ensures.cases.0) ∙ c.sections.invariant.rows
 
 pub sections-preserved : goal.sections-preserved
 sections-preserved c =
@@ -48,6 +48,6 @@ sections-preserved c =
     let s : Section = c.in-Some.section.now in
     let row : _ = sym c.row_in.ensures ∙ ap (λ (o : Option (Bor Row)). option_copied o) c.in_default-row_in.is in
     record {
-      rows = passed s.root s.rows.now (entries c.in-Some.others.now) ws c.args.asks row ∙ ap (λ (z : List Section). asked (entries z) ws c.args.asks) (sym c.in-Some.ensures.cases.0) ∙ c.sections.invariant.rows;
+      rows = passed s.root s.rows.now (entries c.in-Some.others.now) ws c.args.asks row ∙ ap (λ (z : List Section). form_for (entries z) ws c.args.asks) (sym c.in-Some.ensures.cases.0) ∙ c.sections.invariant.rows;
       letters = (each_one c.sections.rest.now c.in-Some.others.now s c.in-Some.ensures.cases.0 c.sections.invariant.letters).1;
     }

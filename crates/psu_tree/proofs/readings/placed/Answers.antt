@@ -1,7 +1,7 @@
 use Rattle.std.proofs.Common.{ℕ, List, Bor, ap, ◌∙◌}
 use Rattle.std.specs.Prelude.{Option, Result, map}
 use Rattle.psu_lex.specs.declared.scpi_error.ScpiError.{ScpiError}
-use Rattle.psu_tree.specs.Headers.{asked}
+use Rattle.psu_tree.specs.Headers.{form_for}
 use Rattle.psu_tree.specs.Reading.{placed}
 use Rattle.psu_tree.specs.Table.{table}
 use Rattle.psu_outputs.specs.declared.output.Output.{Output}
@@ -12,4 +12,4 @@ pub returns : goal.returns
 returns c =
     c.at_output.ensures
     ∙ ap (λ (form : Option Form). placed form c.header_output.result) c.form_of.ensures
-    ∙ ap (λ (output : Result Output ScpiError). placed (asked table (map (λ (word : Bor (List ℕ)). word.now) c.args.words.now) c.args.asks) output) c.header_output.ensures
+    ∙ ap (λ (output : Result Output ScpiError). placed (form_for table (map (λ (word : Bor (List ℕ)). word.now) c.args.words.now) c.args.asks) output) c.header_output.ensures

@@ -19,7 +19,7 @@ pub returns : goal.returns
 returns g c =
     let k = subst (λ (s : State). IsConsistent s.flush) c.self-2.view_is c.self-2.invariant.1 in
     let is = c.answer-outcome.ensures.is in
-    let follows = c.follow.ensures c.args.self.now c.enabled-old.ensures (sym (ap (λ (s : State). s.volatile.marks) is)) in (
+    let follows = c.follow.ensures c.args.self.now c.enabled-old.ensures (sym (ap (λ (s : State). s.volatile.service_states) is)) in (
       c.requires,
       answered_step c.args.self.now c.answer-outcome.new.self c.follow.new.self c.args.session c.args.request.now (outcome_of c.answer-outcome.result) (sym c.is_denied.ensures ∙ c.if-is_denied.false)
           (sym (rw c.reads_nonvolatile.ensures at c.if-is_late.ensures)) c.answer-outcome.ensures.may is follows k,

@@ -9,4 +9,4 @@ returns-in-Commit-clause-last g c = subst (λ job. IsAtLastNumber job → IsLast
 
 pub returns-in-Commit-clause-time : goal.returns-in-Commit-clause-time
 returns-in-Commit-clause-time g c =
-    subst (λ job. g.D.Disk.honest → g.D.Disk.tells → LeavesOnly g.D.Disk.moment g.D.Disk.left_since (job_disk job) (finished_disk c.run.result.end) (IsEither (job_data job).limit (job_data job).before (job_data job).target)) (sym c.in-Commit.is) c.run.ensures.time
+    subst (λ job. g.D.Disk.honest → g.D.Disk.records → LeavesOnly g.D.Disk.moment g.D.Disk.left_since (job_disk job) (finished_disk c.run.result.end) (IsEither (job_data job).limit (job_data job).before (job_data job).target)) (sym c.in-Commit.is) c.run.ensures.time

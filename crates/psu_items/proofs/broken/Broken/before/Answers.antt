@@ -2,5 +2,5 @@ use Rattle.psu_map.specs.Batch.{changed}
 use Rattle.psu_items.proofs.Recovering.{each_either}
 use Rattle.psu_items.proofs.broken.Broken.before.Goals as goal
 
-pub returns-clause-stands : goal.returns-clause-stands
-returns-clause-stands g c = λ h. let s = c.args.self.now in each_either (g.D.Disk.state s.disk) s.limit s.before (changed s.before s.batch) (s.either h)
+pub returns-clause-represents : goal.returns-clause-represents
+returns-clause-represents g c = λ h. let s = c.args.self.now in each_either (g.D.Disk.state s.disk) s.limit s.before (changed s.before s.batch) (s.either h)

@@ -1,15 +1,15 @@
 use Rattle.std.proofs.Common.{◌≡◌, inl, ◌∙◌, ◌+◌, ◌≤◌, ℕ, List, Err, refl, sym, ap, subst, arith}
-use Rattle.psu_disk.specs.Disk.{Left, LeavesOnly}
+use Rattle.psu_disk.specs.Disk.{IsCrashImage, LeavesOnly}
 use Rattle.psu_map.specs.Map.{Item}
 use Rattle.psu_map.specs.Batch.{Edit, changed}
-use Rattle.psu_items.specs.Image.{IsEither, IsEitherRoot, Stands}
+use Rattle.psu_items.specs.Image.{IsEither, IsEitherRoot, Represents}
 use Rattle.psu_items.specs.Layout.{HaveKept}
 use Rattle.psu_map.specs.Plan.{Planned}
 use Rattle.psu_items.specs.Standing.{on_pages}
-use Rattle.psu_items.proofs.Standing.{pages_on_disk, pages_stand, pages_as}
+use Rattle.psu_items.proofs.Standing.{pages_on_disk, pages_represent, pages_as}
 use Rattle.psu_items.proofs.Committing.{not_true, none_run, to_either, either_run, number_back, items_back, limit_back, failed_back, left_out}
 use Rattle.psu_items.proofs.Renewing.{map_called, edits_called, either_called, weakly_called, time_called, target_called, view_again, keeps_called}
-use Rattle.psu_items.proofs.Behind.{behind_none, behind_still}
+use Rattle.psu_items.proofs.AfterPool.{after_pool_none, after_pool_still}
 use Rattle.psu_items.proofs.Retaining.{each_kept}
 use Rattle.psu_items.proofs.store.Store.commit.Given.{Over}
 use Rattle.psu_items.proofs.store.Store.commit.Goals.{After-renew}
@@ -20,8 +20,8 @@ use Rattle.psu_items.proofs.store.Store.commit.Goals as goal
 pub returns-then-is_worn-clause-unstarted : goal.returns-then-is_worn-clause-unstarted
 returns-then-is_worn-clause-unstarted g c = record { store = refl; batch_is = refl; worn = λ e. c.if-is_worn.ensures.0 refl }
 
-pub returns-then-is_worn-clause-stands_unstarted : goal.returns-then-is_worn-clause-stands_unstarted
-returns-then-is_worn-clause-stands_unstarted g c = λ h. let s = c.self.inside in rw (← c.self.view_is) (pages_on_disk s.pages s.items c.self.invariant.shows h)
+pub returns-then-is_worn-clause-represents_unstarted : goal.returns-then-is_worn-clause-represents_unstarted
+returns-then-is_worn-clause-represents_unstarted g c = λ h. let s = c.self.inside in rw (← c.self.view_is) (pages_on_disk s.pages s.items c.self.invariant.shows h)
 
 pub returns-then-is_worn-clause-roots : goal.returns-then-is_worn-clause-roots
 returns-then-is_worn-clause-roots g c = λ h. let s = c.self.inside in rw (← c.self.view_is) (λ x l. inl (pages_as s.pages s.items c.self.invariant.shows h x l))
@@ -32,19 +32,19 @@ returns-then-is_worn-clause-roots_time g c = λ h t. let s = c.self.inside in rw
 pub returns-then-is_worn-clause-time : goal.returns-then-is_worn-clause-time
 returns-then-is_worn-clause-time g c = λ h t. let s = c.self.inside in rw (← c.self.view_is) (either_run g.D.Disk s.pages.version s.pages.number s.pages.limit s.items (changed s.items c.args.batch) s.pages.disk s.pages.disk (none_run s.pages s.items (changed s.items c.args.batch) c.self.invariant.shows h (g.met.D.Disk.only_now t s.pages.disk)))
 
-pub returns-then-is_worn-clause-behind : goal.returns-then-is_worn-clause-behind
-returns-then-is_worn-clause-behind g c = λ h. let s = c.self.inside in rw (← c.self.view_is) (behind_none g.D.Disk s.pages.limit s.pages.disk)
+pub returns-then-is_worn-clause-after_pool : goal.returns-then-is_worn-clause-after_pool
+returns-then-is_worn-clause-after_pool g c = λ h. let s = c.self.inside in rw (← c.self.view_is) (after_pool_none g.D.Disk s.pages.limit s.pages.disk)
 
-pub returns-then-is_worn-clause-behind_time : goal.returns-then-is_worn-clause-behind_time
-returns-then-is_worn-clause-behind_time g c = λ h t. let s = c.self.inside in rw (← c.self.view_is) (behind_still g.D.Disk s.pages.limit s.pages.disk (g.met.D.Disk.only_now t s.pages.disk))
+pub returns-then-is_worn-clause-after_pool_time : goal.returns-then-is_worn-clause-after_pool_time
+returns-then-is_worn-clause-after_pool_time g c = λ h t. let s = c.self.inside in rw (← c.self.view_is) (after_pool_still g.D.Disk s.pages.limit s.pages.disk (g.met.D.Disk.only_now t s.pages.disk))
 
 -- ---- an allocation for the plan of the batch failed
 
 pub returns-in-Err-clause-unstarted : goal.returns-in-Err-clause-unstarted
 returns-in-Err-clause-unstarted g c = let s = c.self.inside in record { store = ap (on_pages s.pages) c.in-Err.ensures.err.0 ∙ c.self.view_is; batch_is = c.in-Err.ensures.err.1; worn = λ e. absurd cc }
 
-pub returns-in-Err-clause-stands_unstarted : goal.returns-in-Err-clause-stands_unstarted
-returns-in-Err-clause-stands_unstarted g c =
+pub returns-in-Err-clause-represents_unstarted : goal.returns-in-Err-clause-represents_unstarted
+returns-in-Err-clause-represents_unstarted g c =
     let s = c.self.inside in
     let kept = keeps_called s.pages c.in-Err.items s.items c.self.invariant c.in-Err.ensures.err.0 in
     pages_on_disk s.pages c.in-Err.items kept.shows
@@ -58,11 +58,11 @@ returns-in-Err-clause-roots_time g c = λ h t. let s = c.self.inside in rw (← 
 pub returns-in-Err-clause-time : goal.returns-in-Err-clause-time
 returns-in-Err-clause-time g c = λ h t. let s = c.self.inside in rw (← c.self.view_is) (either_run g.D.Disk s.pages.version s.pages.number s.pages.limit s.items (changed s.items c.args.batch) s.pages.disk s.pages.disk (none_run s.pages s.items (changed s.items c.args.batch) c.self.invariant.shows h (g.met.D.Disk.only_now t s.pages.disk)))
 
-pub returns-in-Err-clause-behind : goal.returns-in-Err-clause-behind
-returns-in-Err-clause-behind g c = λ h. let s = c.self.inside in rw (← c.self.view_is) (behind_none g.D.Disk s.pages.limit s.pages.disk)
+pub returns-in-Err-clause-after_pool : goal.returns-in-Err-clause-after_pool
+returns-in-Err-clause-after_pool g c = λ h. let s = c.self.inside in rw (← c.self.view_is) (after_pool_none g.D.Disk s.pages.limit s.pages.disk)
 
-pub returns-in-Err-clause-behind_time : goal.returns-in-Err-clause-behind_time
-returns-in-Err-clause-behind_time g c = λ h t. let s = c.self.inside in rw (← c.self.view_is) (behind_still g.D.Disk s.pages.limit s.pages.disk (g.met.D.Disk.only_now t s.pages.disk))
+pub returns-in-Err-clause-after_pool_time : goal.returns-in-Err-clause-after_pool_time
+returns-in-Err-clause-after_pool_time g c = λ h t. let s = c.self.inside in rw (← c.self.view_is) (after_pool_still g.D.Disk s.pages.limit s.pages.disk (g.met.D.Disk.only_now t s.pages.disk))
 
 -- ---- the map before and after the writing
 
@@ -72,17 +72,17 @@ map_is g c = let s = c.self.inside in map_called s.items c.pairs.result.now c.ar
 edits_are : (g : Over) (c : After-renew g) → c.edits.result.now ≡ c.args.batch
 edits_are g c = let s = c.self.inside in edits_called s.items c.pairs.result.now c.args.batch c.edits.result.now c.in-Ok.plan c.in-Ok.ensures.ok c.pairs.ensures.all c.edits.ensures
 
-roots : (g : Over) (c : After-renew g) → g.D.Disk.honest → (x : List ℕ) → Left (g.D.Disk.state (let p = c.renew.new.pages in p.disk)) x
+roots : (g : Over) (c : After-renew g) → g.D.Disk.honest → (x : List ℕ) → IsCrashImage (g.D.Disk.state (let p = c.renew.new.pages in p.disk)) x
     → let s = c.self.inside in IsEitherRoot s.pages.version s.pages.number s.pages.limit s.items (changed s.items c.args.batch) x
 roots g c h x l = let s = c.self.inside in either_called s.items c.pairs.result.now c.args.batch c.edits.result.now (map_is g c) (edits_are g c) s.pages.version s.pages.number s.pages.limit x (c.renew.ensures.left h x l)
 
-roots_time : (g : Over) (c : After-renew g) → g.D.Disk.honest → g.D.Disk.tells
+roots_time : (g : Over) (c : After-renew g) → g.D.Disk.honest → g.D.Disk.records
     → let s = c.self.inside in LeavesOnly g.D.Disk.moment g.D.Disk.left_since s.pages.disk (let p = c.renew.new.pages in p.disk) (IsEitherRoot s.pages.version s.pages.number s.pages.limit s.items (changed s.items c.args.batch))
 roots_time g c h t =
     let s = c.self.inside in
     time_called s.items c.pairs.result.now c.args.batch c.edits.result.now (map_is g c) (edits_are g c) g.D.Disk s.pages.version s.pages.number s.pages.limit s.pages.disk (let p = c.renew.new.pages in p.disk) (c.renew.ensures.time h t)
 
-time : (g : Over) (c : After-renew g) → g.D.Disk.honest → g.D.Disk.tells
+time : (g : Over) (c : After-renew g) → g.D.Disk.honest → g.D.Disk.records
     → let s = c.self.inside in LeavesOnly g.D.Disk.moment g.D.Disk.left_since s.pages.disk (let p = c.renew.new.pages in p.disk) (IsEither s.pages.limit s.items (changed s.items c.args.batch))
 time g c h t = let s = c.self.inside in either_run g.D.Disk s.pages.version s.pages.number s.pages.limit s.items (changed s.items c.args.batch) s.pages.disk (let p = c.renew.new.pages in p.disk) (roots_time g c h t)
 
@@ -114,14 +114,14 @@ returns-in-Ok-renew-clause-heads g c = λ h.
     let have = subst (λ (edits : List Edit). HaveKept edits s.items (let p = s.pages in p.heads.items) new.heads.items) (edits_are g at) (subst (λ (m : List Item). HaveKept c.edits.result.now m (let p = s.pages in p.heads.items) new.heads.items) (map_is g at) c.in-Ok-renew.ensures.heads) in
     rw (← c.self.view_is) (each_kept h s.pages new s.items (changed c.pairs.result.now c.edits.result.now) c.self.invariant.shows c.in-Ok-renew.ensures.keeps.shows c.args.batch have)
 
-pub returns-in-Ok-renew-clause-behind : goal.returns-in-Ok-renew-clause-behind
-returns-in-Ok-renew-clause-behind g c = λ h. rw (← c.self.view_is) (c.renew.ensures.behind h)
+pub returns-in-Ok-renew-clause-after_pool : goal.returns-in-Ok-renew-clause-after_pool
+returns-in-Ok-renew-clause-after_pool g c = λ h. rw (← c.self.view_is) (c.renew.ensures.after_pool h)
 
-pub returns-in-Ok-renew-clause-behind_time : goal.returns-in-Ok-renew-clause-behind_time
-returns-in-Ok-renew-clause-behind_time g c = λ h t. rw (← c.self.view_is) (c.renew.ensures.behind_time h t)
+pub returns-in-Ok-renew-clause-after_pool_time : goal.returns-in-Ok-renew-clause-after_pool_time
+returns-in-Ok-renew-clause-after_pool_time g c = λ h t. rw (← c.self.view_is) (c.renew.ensures.after_pool_time h t)
 
-pub returns-in-Ok-renew-clause-stands_stored : goal.returns-in-Ok-renew-clause-stands_stored
-returns-in-Ok-renew-clause-stands_stored g c =
+pub returns-in-Ok-renew-clause-represents_stored : goal.returns-in-Ok-renew-clause-represents_stored
+returns-in-Ok-renew-clause-represents_stored g c =
     let target : c.made.result ≡ changed c.pairs.result.now c.edits.result.now = c.made.ensures ∙ ap (λ (m : List Item). changed m (let p = c.in-Ok.plan in p.edits)) (sym c.pairs.ensures.all) ∙ ap (changed c.pairs.result.now) (sym c.edits.ensures) in
     let kept = keeps_called c.renew.new.pages c.made.result (changed c.pairs.result.now c.edits.result.now) c.in-Ok-renew.ensures.keeps target in
     pages_on_disk c.renew.new.pages c.made.result kept.shows
@@ -131,8 +131,8 @@ returns-in-Ok-renew-clause-left_stored g c = λ h x l.
     let s = c.self.inside in
     let at = (goal.at.returns-in-Ok-renew-clause-left_stored g c).After-renew in
     let last = c.renew.new.pages in
-    let stands : Stands x last.limit (changed c.pairs.result.now c.edits.result.now) = pages_stand last (changed c.pairs.result.now c.edits.result.now) c.in-Ok-renew.ensures.keeps.shows h x l in
-    rw (← c.self.view_is) (subst (λ (n : ℕ). Stands x n (changed s.items c.args.batch)) c.renew.ensures.limit (subst (Stands x last.limit) (target_called s.items c.pairs.result.now c.args.batch c.edits.result.now (map_is g at) (edits_are g at)) stands))
+    let represents : Represents x last.limit (changed c.pairs.result.now c.edits.result.now) = pages_represent last (changed c.pairs.result.now c.edits.result.now) c.in-Ok-renew.ensures.keeps.shows h x l in
+    rw (← c.self.view_is) (subst (λ (n : ℕ). Represents x n (changed s.items c.args.batch)) c.renew.ensures.limit (subst (Represents x last.limit) (target_called s.items c.pairs.result.now c.args.batch c.edits.result.now (map_is g at) (edits_are g at)) represents))
 
 -- ---- an allocation for the writing failed
 
@@ -152,8 +152,8 @@ returns-in-Err-Memory-clause-unstarted g c =
       worn = λ e. absurd cc;
     }
 
-pub returns-in-Err-Memory-clause-stands_unstarted : goal.returns-in-Err-Memory-clause-stands_unstarted
-returns-in-Err-Memory-clause-stands_unstarted g c = let kept = kept_there g c in pages_on_disk c.renew.new.pages c.into_parts-items.result.0 kept.shows
+pub returns-in-Err-Memory-clause-represents_unstarted : goal.returns-in-Err-Memory-clause-represents_unstarted
+returns-in-Err-Memory-clause-represents_unstarted g c = let kept = kept_there g c in pages_on_disk c.renew.new.pages c.into_parts-items.result.0 kept.shows
 
 pub returns-in-Err-Memory-clause-roots : goal.returns-in-Err-Memory-clause-roots
 returns-in-Err-Memory-clause-roots g c = λ h x l. rw (← c.self.view_is) (roots g (goal.at.returns-in-Err-Memory-clause-roots g c).After-renew h x l)
@@ -164,11 +164,11 @@ returns-in-Err-Memory-clause-roots_time g c = λ h t. rw (← c.self.view_is) (r
 pub returns-in-Err-Memory-clause-time : goal.returns-in-Err-Memory-clause-time
 returns-in-Err-Memory-clause-time g c = λ h t. rw (← c.self.view_is) (time g (goal.at.returns-in-Err-Memory-clause-time g c).After-renew h t)
 
-pub returns-in-Err-Memory-clause-behind : goal.returns-in-Err-Memory-clause-behind
-returns-in-Err-Memory-clause-behind g c = λ h. rw (← c.self.view_is) (c.renew.ensures.behind h)
+pub returns-in-Err-Memory-clause-after_pool : goal.returns-in-Err-Memory-clause-after_pool
+returns-in-Err-Memory-clause-after_pool g c = λ h. rw (← c.self.view_is) (c.renew.ensures.after_pool h)
 
-pub returns-in-Err-Memory-clause-behind_time : goal.returns-in-Err-Memory-clause-behind_time
-returns-in-Err-Memory-clause-behind_time g c = λ h t. rw (← c.self.view_is) (c.renew.ensures.behind_time h t)
+pub returns-in-Err-Memory-clause-after_pool_time : goal.returns-in-Err-Memory-clause-after_pool_time
+returns-in-Err-Memory-clause-after_pool_time g c = λ h t. rw (← c.self.view_is) (c.renew.ensures.after_pool_time h t)
 
 -- ---- the disk failed
 
@@ -214,11 +214,11 @@ returns-in-Err-Device-clause-roots_time g c = λ h t. rw (← c.self.view_is, c.
 pub returns-in-Err-Device-clause-time : goal.returns-in-Err-Device-clause-time
 returns-in-Err-Device-clause-time g c = λ h t. rw (← c.self.view_is, c.into_disk.ensures.value) (time g (goal.at.returns-in-Err-Device-clause-time g c).After-renew h t)
 
-pub returns-in-Err-Device-clause-behind : goal.returns-in-Err-Device-clause-behind
-returns-in-Err-Device-clause-behind g c = λ h. rw (← c.self.view_is, c.into_disk.ensures.value) (c.renew.ensures.behind h)
+pub returns-in-Err-Device-clause-after_pool : goal.returns-in-Err-Device-clause-after_pool
+returns-in-Err-Device-clause-after_pool g c = λ h. rw (← c.self.view_is, c.into_disk.ensures.value) (c.renew.ensures.after_pool h)
 
-pub returns-in-Err-Device-clause-behind_time : goal.returns-in-Err-Device-clause-behind_time
-returns-in-Err-Device-clause-behind_time g c = λ h t. rw (← c.self.view_is, c.into_disk.ensures.value) (c.renew.ensures.behind_time h t)
+pub returns-in-Err-Device-clause-after_pool_time : goal.returns-in-Err-Device-clause-after_pool_time
+returns-in-Err-Device-clause-after_pool_time g c = λ h t. rw (← c.self.view_is, c.into_disk.ensures.value) (c.renew.ensures.after_pool_time h t)
 
 pub returns-in-Err-clause-extent : goal.returns-in-Err-clause-extent
 returns-in-Err-clause-extent g c = rw (← c.self.view_is) refl

@@ -20,5 +20,5 @@ invariant_of-result g c =
       spare = λ page pool none. fresh.free page (subst (λ (n : ℕ). IsInPool n page) fresh.limit_is pool);
     }
 
-pub returns-in-Ok-clause-stands : goal.returns-in-Ok-clause-stands
-returns-in-Ok-clause-stands g c = pages_on_disk c.in-Ok.pages c.new.result (let kept = invariant_of-result g c in kept.shows)
+pub returns-in-Ok-clause-represents : goal.returns-in-Ok-clause-represents
+returns-in-Ok-clause-represents g c = pages_on_disk c.in-Ok.pages c.new.result (let kept = invariant_of-result g c in kept.shows)

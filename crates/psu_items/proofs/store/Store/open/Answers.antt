@@ -1,14 +1,14 @@
 use Rattle.std.proofs.Common.{inr, refl}
 use Rattle.psu_disk.specs.Moments.{weaken}
-use Rattle.psu_items.specs.Image.{Stands}
+use Rattle.psu_items.specs.Image.{Represents}
 use Rattle.psu_items.specs.Finding.{IsOldOrSame}
 use Rattle.psu_items.specs.Outcome.{opened_disk}
-use Rattle.psu_items.proofs.Opening.{err_any, readable, closed, closed_run, still_stands, pages_refused}
-use Rattle.psu_items.proofs.Opened.{found_stood, found_number, found_version, found_one}
+use Rattle.psu_items.proofs.Opening.{err_any, readable, closed, closed_run, still_represents, pages_refused}
+use Rattle.psu_items.proofs.Opened.{found_represented, found_number, found_version, found_one}
 use Rattle.psu_items.proofs.store.Store.open.Goals as goal
 
-pub returns-in-Ok-clause-stood : goal.returns-in-Ok-clause-stood
-returns-in-Ok-clause-stood g c = λ h. found_stood c.in-Ok.pages (g.D.Disk.state c.args.disk).bytes (c.in-Ok.ensures.found h) (c.in-Ok.ensures.seen h) c.take_up.result c.take_up.ensures.words c.take_up.ensures.sorted (c.take_up.ensures.found h)
+pub returns-in-Ok-clause-represented : goal.returns-in-Ok-clause-represented
+returns-in-Ok-clause-represented g c = λ h. found_represented c.in-Ok.pages (g.D.Disk.state c.args.disk).bytes (c.in-Ok.ensures.found h) (c.in-Ok.ensures.seen h) c.take_up.result c.take_up.ensures.words c.take_up.ensures.sorted (c.take_up.ensures.found h)
 
 pub returns-in-Ok-clause-number : goal.returns-in-Ok-clause-number
 returns-in-Ok-clause-number g c = λ h. found_number c.in-Ok.pages (g.D.Disk.state c.args.disk).bytes (c.in-Ok.ensures.found h) c.take_up.result c.take_up.ensures.words
@@ -30,15 +30,15 @@ returns-in-Ok-clause-moments g c = λ h t.
     closed_run c.in-Ok.pages old.bytes (c.in-Ok.ensures.found h) (c.in-Ok.ensures.seen h) (c.in-Ok.ensures.synced h) old c.args.disk (opened_disk c.take_up.result) refl (c.in-Ok.ensures.time h t) (c.take_up.ensures.time h t) (c.take_up.ensures.touched_time h t)
 
 pub returns-in-Ok-clause-finds : goal.returns-in-Ok-clause-finds
-returns-in-Ok-clause-finds g c = λ h limit m all. found_one (g.D.Disk.state c.args.disk) limit m all c.take_up.result (returns-in-Ok-clause-stood g c h)
+returns-in-Ok-clause-finds g c = λ h limit m all. found_one (g.D.Disk.state c.args.disk) limit m all c.take_up.result (returns-in-Ok-clause-represented g c h)
 
 pub returns-in-Ok-clause-left : goal.returns-in-Ok-clause-left
-returns-in-Ok-clause-left g c = λ h limit m all x l. still_stands (g.D.Disk.state c.args.disk) limit m all x (returns-in-Ok-clause-images g c h x l)
+returns-in-Ok-clause-left g c = λ h limit m all x l. still_represents (g.D.Disk.state c.args.disk) limit m all x (returns-in-Ok-clause-images g c h x l)
 
 pub returns-in-Ok-clause-time : goal.returns-in-Ok-clause-time
 returns-in-Ok-clause-time g c = λ h t limit m all.
     let d = g.D.Disk in
-    weaken d.moment d.left_since c.args.disk (opened_disk c.take_up.result) (IsOldOrSame (d.state c.args.disk)) (λ x. Stands x limit m) (returns-in-Ok-clause-moments g c h t) (still_stands (d.state c.args.disk) limit m all)
+    weaken d.moment d.left_since c.args.disk (opened_disk c.take_up.result) (IsOldOrSame (d.state c.args.disk)) (λ x. Represents x limit m) (returns-in-Ok-clause-moments g c h t) (still_represents (d.state c.args.disk) limit m all)
 
 pub returns-in-Err-clause-refused : goal.returns-in-Err-clause-refused
 returns-in-Err-clause-refused g c = λ h. pages_refused (g.D.Disk.state c.args.disk).bytes c.in-Err.refused.cause (c.in-Err.ensures.refused h)

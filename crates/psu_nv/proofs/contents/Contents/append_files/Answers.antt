@@ -2,11 +2,11 @@ use Rattle.std.proofs.Common.{◌∙◌, ◌∷◌, ◌++◌, List, ℕ, sym, ap
 use Rattle.std.proofs.lemmas.List.{append-nil, take_all}
 use Rattle.psu_map.specs.Map.{Item, IsSorted}
 use Rattle.psu_nv.specs.Contents.{Contents, file_item}
-use Rattle.psu_nv.proofs.Encoding.{front, before_file, next_file}
+use Rattle.psu_nv.proofs.Encoding.{prefix, before_file, next_file}
 use Rattle.psu_nv.proofs.contents.Contents.append_files.Goals as goal
 
 pub loop-pair-init : goal.loop-pair-init
-loop-pair-init g c = c.requires ∙ sym (append-nil (front c.args.self.now))
+loop-pair-init g c = c.requires ∙ sym (append-nil (prefix c.args.self.now))
 
 pub append-requires : goal.append-requires
 append-requires g c =
@@ -26,4 +26,4 @@ pub returns : goal.returns
 returns g c =
     let same = c.pairs-pair-items.ensures.all ∙ ap (λ (k : Contents). k.files) c.self.view_is in
     let all = take_all c.loop-pair.pair-index c.pairs-pair-items.result.now (omega (arith, c.loop-pair-test.false)) in
-    rw c.requires (c.loop-pair.invariant ∙ ap (λ (fs : List Item). front c.args.self.now ++ map file_item fs) (all ∙ same))
+    rw c.requires (c.loop-pair.invariant ∙ ap (λ (fs : List Item). prefix c.args.self.now ++ map file_item fs) (all ∙ same))

@@ -19,5 +19,5 @@ pub returns : goal.returns
 unfolding items_of
 returns g c =
     let kept = c.args.self.now in
-    let front = c.in_ok-append-3.ensures ∙ ap (λ (l : List Item). l ++ macros_items kept.macros) (c.in_ok-append-2.ensures ∙ ap (λ (l : List Item). l ++ user_items kept.user) c.in_ok-append_registers.ensures) in
-    c.in_ok-append-4.ensures ∙ ap (λ (l : List Item). l ++ recall_items kept.recall) (c.in_ok-append_files.ensures ∙ ap (λ (l : List Item). l ++ map file_item kept.files) front) ∙ simp append_assoc
+    let prefix = c.in_ok-append-3.ensures ∙ ap (λ (l : List Item). l ++ macros_items kept.macros) (c.in_ok-append-2.ensures ∙ ap (λ (l : List Item). l ++ user_items kept.user) c.in_ok-append_registers.ensures) in
+    c.in_ok-append-4.ensures ∙ ap (λ (l : List Item). l ++ recall_items kept.recall) (c.in_ok-append_files.ensures ∙ ap (λ (l : List Item). l ++ map file_item kept.files) prefix) ∙ simp append_assoc

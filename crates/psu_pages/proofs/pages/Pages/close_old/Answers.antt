@@ -3,11 +3,11 @@ use Rattle.psu_disk.specs.Disk.{SameBut}
 use Rattle.psu_disk.specs.Moments.{started}
 use Rattle.psu_pages.specs.Free.{IsRoster, AreClaimed}
 use Rattle.psu_pages.specs.Image.{other, gate_at, taken, pages_of, Head, IsNone, AreClear}
-use Rattle.psu_pages.specs.Shown.{items_in, Bears}
+use Rattle.psu_pages.specs.Shown.{items_in, Encodes}
 use Rattle.psu_pages.proofs.Lists.{clear_swap}
 use Rattle.psu_pages.proofs.Marking.{claimed_beside}
 use Rattle.psu_pages.proofs.Planning.{none_root, pool_within}
-use Rattle.psu_pages.proofs.Publishing.{Keeps, closing, shut_zero, still_left, still_run, still_shown, still_bears}
+use Rattle.psu_pages.proofs.Publishing.{Keeps, closing, shut_zero, still_left, still_run, still_shown, still_encodes}
 use Rattle.psu_pages.specs.declared.standing.Standing.TheVariants.{One, Both}
 use Rattle.psu_pages.proofs.pages.Pages.close_old.Given.{Over}
 use Rattle.psu_pages.proofs.pages.Pages.close_old.Goals.{After-set_gate}
@@ -19,7 +19,7 @@ keeps g c h =
     let p = c.args.self.now in
     let now = g.D.Disk.state p.disk in
     record {
-      each = closing now p.root p.version p.limit p.number p.heads.items (items_in p.root now.bytes) (p.bears h c.requires.sure) (p.lower h c.in-Both.is);
+      each = closing now p.root p.version p.limit p.number p.heads.items (items_in p.root now.bytes) (p.encodes h c.requires.sure) (p.lower h c.in-Both.is);
       step = rw (← c.other.ensures) (c.set_gate.ensures.left h);
       seen = rw (← c.other.ensures) (c.set_gate.ensures.seen h);
     }
@@ -28,7 +28,7 @@ pub returns-in_default-clause-time : goal.returns-in_default-clause-time
 returns-in_default-clause-time g c = λ h t.
     let d = g.D.Disk in
     let p = c.args.self.now in
-    started d.moment d.left_since p.disk (Bears p.root p.version p.limit p.number p.heads.items (items_in p.root (d.state p.disk).bytes)) (λ x l. p.bears h c.requires.sure x (g.met.D.Disk.only_now t p.disk x l))
+    started d.moment d.left_since p.disk (Encodes p.root p.version p.limit p.number p.heads.items (items_in p.root (d.state p.disk).bytes)) (λ x l. p.encodes h c.requires.sure x (g.met.D.Disk.only_now t p.disk x l))
 
 pub returns-in_err-set_gate-clause-left : goal.returns-in_err-set_gate-clause-left
 returns-in_err-set_gate-clause-left g c = λ h. still_left (keeps g (goal.at.returns-in_err-set_gate-clause-left g c).After-set_gate h)
@@ -69,8 +69,8 @@ invariant_of-self-2-clause-older_roster g c =
     let p = c.args.self.now in
     subst (IsRoster p.limit) (sym c.clear.ensures.items) (record { each = tt; pool = tt; apart = tt; count = omega arith; cost = omega arith; distinct = tt })
 
-pub invariant_of-self-2-clause-bears : goal.invariant_of-self-2-clause-bears
-invariant_of-self-2-clause-bears g c = λ h sure. still_bears (keeps g (goal.at.invariant_of-self-2-clause-bears g c).After-set_gate h)
+pub invariant_of-self-2-clause-encodes : goal.invariant_of-self-2-clause-encodes
+invariant_of-self-2-clause-encodes g c = λ h sure. still_encodes (keeps g (goal.at.invariant_of-self-2-clause-encodes g c).After-set_gate h)
 
 pub invariant_of-self-2-clause-shut : goal.invariant_of-self-2-clause-shut
 invariant_of-self-2-clause-shut g c = λ h one. rw (← c.other.ensures) (shut_zero (g.D.Disk.state c.set_gate.new.disk) c.other.result (c.in_ok-set_gate.ensures.synced h) (c.in_ok-set_gate.ensures.done h))

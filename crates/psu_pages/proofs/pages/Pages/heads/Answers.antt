@@ -3,7 +3,7 @@ use Rattle.std.specs.List.{AllByRecursion}
 use Rattle.std.specs.Prelude.{◌≡◌}
 use Rattle.psu_disk.specs.Ranges.{reads_left}
 use Rattle.psu_pages.specs.Image.{Head, head_at}
-use Rattle.psu_pages.proofs.Bearing.{heads_there}
+use Rattle.psu_pages.proofs.Encoding.{heads_there}
 use Rattle.psu_pages.proofs.pages.Pages.heads.Goals as goal
 
 pub returns-clause-there : goal.returns-clause-there
@@ -11,7 +11,7 @@ returns-clause-there g c = λ h sure.
     let disk = g.D.Disk.state (let p = c.args.self.now in p.disk) in
     let p = c.args.self.now in
     subst (λ (hs : List Head). AllByRecursion (λ (head : Head). head_at disk.bytes head.at ≡ head) hs) (sym c.deref.ensures.value)
-    (heads_there p.root disk.bytes p.heads.items (p.bears h sure disk.bytes (reads_left disk)).says.heads_are)
+    (heads_there p.root disk.bytes p.heads.items (p.encodes h sure disk.bytes (reads_left disk)).has_contents.heads_are)
 
-pub returns-clause-bears : goal.returns-clause-bears
-returns-clause-bears g c = λ h sure. rw c.deref.ensures.value (let p = c.args.self.now in p.bears h sure)
+pub returns-clause-encodes : goal.returns-clause-encodes
+returns-clause-encodes g c = λ h sure. rw c.deref.ensures.value (let p = c.args.self.now in p.encodes h sure)

@@ -1,7 +1,7 @@
-use Rattle.psu_pages.proofs.Bearing.{bears_number}
+use Rattle.psu_pages.proofs.Encoding.{encodes_number}
 use Rattle.psu_pages.proofs.pages.Pages.number.Goals as goal
 
-pub returns-clause-stands : goal.returns-clause-stands
-returns-clause-stands g c = λ h sure image left.
+pub returns-clause-represents : goal.returns-clause-represents
+returns-clause-represents g c = λ h sure image left.
     let p = c.args.self.now in
-    bears_number p.root p.version p.limit p.number p.heads.items _ image (p.bears h sure image left)
+    encodes_number p.root p.version p.limit p.number p.heads.items _ image (p.encodes h sure image left)

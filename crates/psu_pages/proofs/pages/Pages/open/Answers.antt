@@ -1,18 +1,18 @@
 use Rattle.std.proofs.Common.{◌<◌, ℕ, List, sym, ◌∙◌, ap, subst}
 use Rattle.psu_pages.specs.Image.{other, gate, number_in}
-use Rattle.psu_pages.specs.Shown.{items_in, Bears}
+use Rattle.psu_pages.specs.Shown.{items_in, Encodes}
 use Rattle.psu_pages.proofs.pages.Pages.open.Goals as goal
 
-pub invariant_of-result-clause-bears : goal.invariant_of-result-clause-bears
-invariant_of-result-clause-bears g c = λ h sure x left.
+pub invariant_of-result-clause-encodes : goal.invariant_of-result-clause-encodes
+invariant_of-result-clause-encodes g c = λ h sure x left.
     let d = g.D.Disk in
     let o = c.in-Ok.field-0 in
     let chosen = o.chosen in
     let new = (d.state c.look.new.disk).bytes in
     let seen = c.look.ensures.seen h in
-    let at_new : Bears chosen.root chosen.version chosen.limit chosen.number o.heads.items (items_in chosen.root new) new =
-    subst (λ (y : List ℕ). Bears chosen.root chosen.version chosen.limit chosen.number o.heads.items (items_in chosen.root y) y) (sym seen) (c.in-Ok.ensures.found h) in
-    subst (Bears chosen.root chosen.version chosen.limit chosen.number o.heads.items (items_in chosen.root new)) (sym (c.in-Ok.ensures.synced h x left)) at_new
+    let at_new : Encodes chosen.root chosen.version chosen.limit chosen.number o.heads.items (items_in chosen.root new) new =
+    subst (λ (y : List ℕ). Encodes chosen.root chosen.version chosen.limit chosen.number o.heads.items (items_in chosen.root y) y) (sym seen) (c.in-Ok.ensures.found h) in
+    subst (Encodes chosen.root chosen.version chosen.limit chosen.number o.heads.items (items_in chosen.root new)) (sym (c.in-Ok.ensures.synced h x left)) at_new
 
 pub invariant_of-result-clause-shut : goal.invariant_of-result-clause-shut
 invariant_of-result-clause-shut g c = λ h one x left is.

@@ -2,7 +2,7 @@ use Rattle.std.proofs.Common.{ℕ, List, arith}
 use Rattle.std.specs.List.{AllByRecursion}
 use Rattle.psu_pages.specs.Image.{other, pages_of, Head, IsInPool, AreClear}
 use Rattle.psu_pages.specs.Writing.{Misses, IsWritten}
-use Rattle.psu_pages.proofs.Publishing.{Keeps, missed, shut_missed, lower_missed, still_left, still_run, still_shown, still_bears, written_still, pool_words, pool_room}
+use Rattle.psu_pages.proofs.Publishing.{Keeps, missed, shut_missed, lower_missed, still_left, still_run, still_shown, still_encodes, written_still, pool_words, pool_room}
 use Rattle.psu_pages.proofs.pages.Pages.write_new.Given.{Over}
 use Rattle.psu_pages.proofs.pages.Pages.write_new.Goals.{After-write_item}
 use Rattle.psu_pages.proofs.pages.Pages.write_new.Goals as goal
@@ -13,7 +13,7 @@ keeps g c h =
     let p = c.args.self.now in
     let r = c.requires.planned in
     record {
-      each = missed g.D.Disk.state p.root p.version p.limit p.number p.heads.items (pages_of c.args.head.now) p.disk r.pool r.unnamed (p.bears h c.requires.sure);
+      each = missed g.D.Disk.state p.root p.version p.limit p.number p.heads.items (pages_of c.args.head.now) p.disk r.pool r.unnamed (p.encodes h c.requires.sure);
       step = c.write_item.ensures.left h;
       seen = c.write_item.ensures.seen h;
     }
@@ -36,8 +36,8 @@ returns-in_err-write_item-clause-left g c = λ h. still_left (keeps g (goal.at.r
 pub returns-in_err-write_item-clause-time : goal.returns-in_err-write_item-clause-time
 returns-in_err-write_item-clause-time g c = λ h t. still_run (keeps g (goal.at.returns-in_err-write_item-clause-time g c).After-write_item h) (c.write_item.ensures.time h t)
 
-pub invariant_of-self-2-clause-bears : goal.invariant_of-self-2-clause-bears
-invariant_of-self-2-clause-bears g c = λ h sure. still_bears (keeps g (goal.at.invariant_of-self-2-clause-bears g c).After-write_item h)
+pub invariant_of-self-2-clause-encodes : goal.invariant_of-self-2-clause-encodes
+invariant_of-self-2-clause-encodes g c = λ h sure. still_encodes (keeps g (goal.at.invariant_of-self-2-clause-encodes g c).After-write_item h)
 
 pub invariant_of-self-2-clause-shut : goal.invariant_of-self-2-clause-shut
 invariant_of-self-2-clause-shut g c = λ h one.
@@ -48,7 +48,7 @@ pub invariant_of-self-2-clause-lower : goal.invariant_of-self-2-clause-lower
 invariant_of-self-2-clause-lower g c = λ h both.
     let p = c.args.self.now in
     let r = c.requires.planned in
-    lower_missed g.D.Disk.state p.root p.version p.limit p.number p.heads.items (pages_of c.args.head.now) p.disk r.pool r.unnamed (p.bears h c.requires.sure) c.write_item.new.disk (c.write_item.ensures.left h) (other p.root) p.number (p.lower h both)
+    lower_missed g.D.Disk.state p.root p.version p.limit p.number p.heads.items (pages_of c.args.head.now) p.disk r.pool r.unnamed (p.encodes h c.requires.sure) c.write_item.new.disk (c.write_item.ensures.left h) (other p.root) p.number (p.lower h both)
 
 pub returns-clause-others : goal.returns-clause-others
 returns-clause-others g c = others g (goal.at.returns-clause-others g c).After-write_item

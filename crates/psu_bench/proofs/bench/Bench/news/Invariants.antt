@@ -1,6 +1,0 @@
-use Rattle.std.proofs.Common.{Some}
-use Rattle.psu_exec.specs.Calls.Entry.{Told}
-use Rattle.psu_bench.proofs.bench.Bench.news.Given as goal
-
-abbrev pub ghosts-leave : goal.ghosts-leave
-ghosts-leave g a = record { entry = Some (Told a._reply.now.0 a._reply.now.1) }

@@ -1,0 +1,153 @@
+// Sessions that others close, and the counted turn, used directly.
+ghost use Rattle.psu_turn.specs.Seats.{IsOf};
+
+use crate::benches::{
+    bench_on, executes, formatted, is_answer, is_flushed_at_close, is_open_at_close, opened, unit,
+};
+use psu_bench::{Bench, Seat};
+use psu_disk::MemDisk;
+use psu_exec::{Grant, Kind, LockRefusal, Outcome, Session};
+use std::alloc::Global;
+use std::sync::Wait;
+use std::thread::{Threads, join};
+
+type Device = Bench<MemDisk<Global>, Global>;
+
+// Whether a unit's outcome is `Later` and a status query finds nothing.
+fn comes_later<R: Wait>(rt: &R, bench: &Device, seat: &mut Seat<Global>, one: Session) -> bool
+    requires { IsOf bench.now seat.old }
+    ensures { IsOf bench.now seat.new }
+{
+    matches!(unit(rt, bench, seat, one, b"*IDN?"), Outcome::Later)
+        && matches!(bench.settle(rt, seat, one), Outcome::Later)
+        && bench.status(rt, seat, one) == 0
+        && bench.requests(rt, seat, one).is_none()
+}
+
+// Whether no lock is granted or held.
+fn holds_nothing<R: Wait>(rt: &R, bench: &Device, seat: &mut Seat<Global>, one: Session) -> bool
+    requires { IsOf bench.now seat.old }
+    ensures { IsOf bench.now seat.new }
+{
+    bench.lock(rt, seat, one, Kind::Exclusive, 0, 0) == Ok(Grant::Failed)
+        && matches!(bench.release(rt, seat, one), Err(LockRefusal::NotHeld))
+        && bench.close_session(rt, seat, one).is_empty()
+}
+
+// Makes the other calls of a session, and returns whether no session holds a lock or waits for one then.
+fn leaves_nothing<R: Wait>(rt: &R, bench: &Device, seat: &mut Seat<Global>, one: Session) -> bool
+    requires { IsOf bench.now seat.old }
+    ensures { IsOf bench.now seat.new }
+{
+    bench.clear(rt, seat, one);
+    bench.sent(rt, seat, one);
+    bench.delivered(rt, seat, one);
+    let info = bench.info(rt, seat);
+    !info.exclusive && info.holders == 0 && bench.next_deadline(rt, seat).is_none()
+}
+
+// Whether none of its twelve calls has an effect.
+fn acts_on_nothing<R: Wait>(rt: &R, bench: &Device, seat: &mut Seat<Global>, one: Session) -> bool
+    requires { IsOf bench.now seat.old }
+    ensures { IsOf bench.now seat.new }
+{
+    comes_later(rt, bench, seat, one)
+        && holds_nothing(rt, bench, seat, one)
+        && leaves_nothing(rt, bench, seat, one)
+        && bench.progress(seat) == 12
+}
+
+// A session that isn't open: the outcome of a unit is `Later`, no lock is granted or held, and all other results are
+// empty.
+#[test]
+fn a_session_that_is_not_open_acts_on_nothing(rt: HostRuntime) {
+    let (bench, mut seat) = bench_on(&rt, rt.alloc(), formatted(&rt, rt.alloc()));
+    assert!(rt; acts_on_nothing(&rt, &bench, &mut seat, Session::at(0)));
+    assert!(rt; is_flushed_at_close(&rt, bench, seat));
+}
+
+// Whether the service request enable register reads as 4.
+fn is_told<R: Wait>(rt: &R, bench: &Device, seat: &mut Seat<Global>, session: Session) -> bool
+    requires { IsOf bench.now seat.old }
+    ensures { IsOf bench.now seat.new }
+{
+    is_answer(&unit(rt, bench, seat, session, b"*SRE?"), b"4")
+}
+
+fn asked<R: Wait>(
+    rt: &R,
+    bench: &Device,
+    mut seat: Seat<Global>,
+    session: Session,
+) -> (bool, Seat<Global>)
+    requires { IsOf bench.now seat }
+    ensures { IsOf bench.now result.1 }
+{
+    let is_told = is_told(rt, bench, &mut seat, session);
+    (is_told, seat)
+}
+
+// Whether it reads so in another thread.
+fn asked_elsewhere<R: Threads + Wait + Sync>(
+    rt: &R,
+    bench: &Device,
+    seat: Seat<Global>,
+    session: Session,
+) -> (bool, Seat<Global>)
+    requires { IsOf bench.now seat }
+    ensures { IsOf bench.now result.1 }
+{
+    let (asked, ()) = join(
+        rt,
+        || -> (bool, Seat<Global>)
+            requires { IsOf bench.now seat }
+            ensures { IsOf bench.entry.now result.1 }
+        { asked(rt, bench, seat, session) },
+        || (),
+    );
+    asked
+}
+
+// Whether it reads so in another thread, with a seat that is split off for it, and the number of calls that is seen
+// grows by that one.
+fn is_told_elsewhere<R: Threads + Wait + Sync>(
+    rt: &R,
+    bench: &Device,
+    seat: &mut Seat<Global>,
+    session: Session,
+) -> bool
+    requires { IsOf bench.now seat.old }
+    ensures { IsOf bench.now seat.new }
+{
+    let other = bench.split(seat);
+    let before = bench.progress(seat);
+    let (is_told, other) = asked_elsewhere(rt, bench, other, session);
+    let is_one_more = bench.progress(seat) == before.wrapping_add(1);
+    bench.join(seat, other);
+    is_told && is_one_more
+}
+
+// Whether another thread reads what one thread sets, and then the one again.
+fn is_read_elsewhere<R: Threads + Wait + Sync>(
+    rt: &R,
+    bench: &Device,
+    seat: &mut Seat<Global>,
+    session: Session,
+) -> bool
+    requires { IsOf bench.now seat.old }
+    ensures { IsOf bench.now seat.new }
+{
+    executes(rt, bench, seat, session, b"*SRE 4")
+        && is_told_elsewhere(rt, bench, seat, session)
+        && is_told(rt, bench, seat, session)
+}
+
+// Another thread reads what one thread set; the number of calls that a seat sees grows by that one call, and the
+// session is open at the close.
+#[test]
+fn another_thread_reads_what_was_set(rt: HostRuntime) {
+    let (bench, mut seat) = bench_on(&rt, rt.alloc(), formatted(&rt, rt.alloc()));
+    let session = opened(&rt, &bench, &mut seat);
+    assert!(rt; is_read_elsewhere(&rt, &bench, &mut seat, session));
+    assert!(rt; is_open_at_close(&rt, bench, seat, session));
+}

@@ -1,0 +1,29 @@
+-- The sessions with a service request to report, after one more place.
+use Rattle.std.proofs.Common.{◌≡◌, ◌≤◌, ◌<◌, ℕ, suc, ◌+◌, Bool, true, false, List, [], ◌∷◌, ◌++◌, length, take, get_or, refl, sym, ap, ap₂, ◌∙◌, arith, append_assoc}
+use Rattle.std.specs.Prelude.{◌&&◌}
+use Rattle.std.proofs.lemmas.List.{take_more, length-take-le}
+use Rattle.psu_exec.specs.ServiceStates.{named, unreported_from}
+use Rattle.psu_exec.specs.declared.service_state.ServiceState.{ServiceState}
+
+-- a list with nothing after it
+alone : (n : ℕ) (b : Bool) → named n b ++ [] ≡ named n b
+alone n true = refl
+alone n false = refl
+
+unreported_append : (n m : ℕ) (os : List Bool) (ms : List ServiceState) (o : Bool) (x : ServiceState) → length os ≡ length ms → m ≡ n + length os → unreported_from n (os ++ o ∷ []) (ms ++ x ∷ []) ≡ unreported_from n os ms ++ named m (o && x.unreported)
+unreported_append n m [] [] o x same e = alone n (o && x.unreported) ∙ ap (λ k. named k (o && x.unreported)) (let is : n ≡ m = omega arith in is)
+unreported_append n m [] (y ∷ ms) o x same e = absurd (let bad : ⊥ = omega arith in bad)
+unreported_append n m (p ∷ os) [] o x same e = absurd (let bad : ⊥ = omega arith in bad)
+unreported_append n m (p ∷ os) (y ∷ ms) o x same e =
+    ap (λ rest. named n (p && y.unreported) ++ rest) (unreported_append (suc n) m os ms o x (omega arith) (omega arith)) ∙ sym (append_assoc (named n (p && y.unreported)) (unreported_from (suc n) os ms) (named m (o && x.unreported)))
+
+pub unreported_more : (os : List Bool) (ms : List ServiceState) (i : ℕ) (d : Bool) (e : ServiceState) → i < length os → i < length ms
+    → unreported_from 1 (take (i + 1) os) (take (i + 1) ms) ≡ unreported_from 1 (take i os) (take i ms) ++ named (i + 1) (get_or os i d && (get_or ms i e).unreported)
+unreported_more os ms i d e h g =
+    let size : length (take i os) ≡ i = length-take-le i os (omega arith) in
+    let other : length (take i ms) ≡ i = length-take-le i ms (omega arith) in
+    ap₂ (unreported_from 1) (take_more os i d h) (take_more ms i e g) ∙ unreported_append 1 (i + 1) (take i os) (take i ms) (get_or os i d) (get_or ms i e) (omega arith) (omega arith)
+
+pub length-named : (n : ℕ) (b : Bool) → length (named n b) ≤ 1
+length-named n true = omega arith
+length-named n false = omega arith

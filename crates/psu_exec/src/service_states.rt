@@ -1,0 +1,119 @@
+// The service states of all sessions.
+ghost use Rattle.std.specs.Prelude.{◌≡◌, ◌+◌, ◌<◌, ◌≤◌, ◌&&◌, ◌++◌, length, map};
+ghost use Rattle.psu_exec.specs.ServiceStates.{rqs_updated, rqs_updated_by, named, initial_service_state, reported, unreported_from};
+
+use crate::{Enabled, SESSIONS, ServiceState, Session, Sessions};
+
+/// The service state of a session that was sent no response and has not requested service.
+pub fn initial_service_state() -> ServiceState
+    ensures { result ≡ initial_service_state }
+{
+    ServiceState {
+        available: false,
+        rqs: false,
+        unfetched: false,
+        unreported: false,
+    }
+}
+
+/// Returns the service state of a session whose enabled bits were `old` and are `new`. If one of them rises, RQS is
+/// set and service is requested, unless RQS was set before; if none of them is left, RQS is cleared.
+pub fn rqs_updated(old: u8, new: u8, service_state: ServiceState) -> ServiceState
+    ensures { result ≡ rqs_updated old new service_state }
+{
+    if (old ^ new) & new != 0 {
+        if service_state.rqs {
+            return service_state;
+        }
+        return ServiceState {
+            available: service_state.available,
+            rqs: true,
+            unfetched: true,
+            unreported: true,
+        };
+    }
+    if new == 0 && old != 0 {
+        return ServiceState {
+            rqs: false,
+            ..service_state
+        };
+    }
+    service_state
+}
+
+// The service state of a session after a change of the status alone.
+fn rqs_updated_by(old: Enabled, new: Enabled, service_state: ServiceState) -> ServiceState
+    ensures { result ≡ rqs_updated_by old new service_state }
+{
+    rqs_updated(
+        old.bits(service_state.available),
+        new.bits(service_state.available),
+        service_state,
+    )
+}
+
+/// Updates RQS of all sessions after a change of the status.
+pub fn follow(service_states: &mut [ServiceState; SESSIONS], old: Enabled, new: Enabled)
+    ensures { service_states.new ≡ map (rqs_updated_by old new) service_states.old }
+{
+    if old.read == new.read && old.unread == new.unread {
+        return;
+    }
+    follow_each(service_states, old, new);
+}
+
+fn follow_each(service_states: &mut [ServiceState; SESSIONS], old: Enabled, new: Enabled)
+    ensures { service_states.new ≡ map (rqs_updated_by old new) service_states.old }
+{
+    for i in 0..SESSIONS {
+        service_states[i] = rqs_updated_by(old, new, service_states[i]);
+    }
+}
+
+/// Marks the service requests of all sessions as reported.
+pub fn report_all(service_states: &mut [ServiceState; SESSIONS])
+    ensures { service_states.new ≡ map reported service_states.old }
+{
+    for i in 0..SESSIONS {
+        service_states[i] = report(service_states[i]);
+    }
+}
+
+fn report(service_state: ServiceState) -> ServiceState
+    ensures { result ≡ reported service_state }
+{
+    ServiceState {
+        unreported: false,
+        ..service_state
+    }
+}
+
+// Adds the session of a place if it is open and has a service request to report.
+fn push_unreported(
+    sessions: &mut Sessions,
+    place: usize,
+    is_open: bool,
+    service_state: ServiceState,
+)
+    requires place { place < 16 }
+    requires room { length sessions.old ≤ place }
+    ensures { sessions.new ≡ sessions.old ++ named (place + 1) (is_open && service_state.unreported) }
+{
+    if is_open && service_state.unreported {
+        sessions.push(Session::at(place));
+    }
+}
+
+/// The open sessions that have a service request to report.
+pub fn unreported(
+    open_now: &[bool; SESSIONS],
+    service_states: &[ServiceState; SESSIONS],
+) -> Sessions
+    ensures { result ≡ unreported_from 1 open_now.now service_states.now }
+{
+    let mut sessions = Sessions::new();
+    for i in 0..SESSIONS {
+        push_unreported(&mut sessions, i, open_now[i], service_states[i]);
+    }
+    sessions
+}

@@ -1,0 +1,87 @@
+// The executor of the rows.
+use crate::devices::Power;
+use crate::log::{Log, Turn};
+use psu_exec::{Outcome, Request, ScpiError, Session};
+use psu_messages::{Executor, Need};
+use std::alloc::Global;
+
+/// The executor has stopped permanently.
+#[derive(Drop)]
+pub struct Stopped;
+
+/// A device with its session, and a log of the calls.
+#[derive(Drop)]
+pub struct Probe<'a> {
+    pub exec: &'a mut Power,
+    pub session: Session,
+    pub log: &'a mut Log,
+}
+
+impl<'a> Executor<Global> for Probe<'a> {
+    type Stop = Stopped;
+
+    ghost does = { λ _ _ _. Unit {0} };
+
+    ghost fails = { λ _ _ _ _. Unit {0} };
+
+    ghost stops = { λ _ _ _. Unit {0} };
+
+    fn execute(&mut self, request: &Request<'_>) -> Result<Outcome<Global>, Stopped> {
+        match self.log.turn() {
+            Turn::Continues => self.executed(request),
+            Turn::Stops => Err(Stopped),
+            Turn::Held => self.put_off(Need::Lock, Outcome::Held),
+            Turn::Later => self.put_off(Need::Room, Outcome::Later),
+        }
+    }
+
+    fn settle(&mut self) -> Result<Outcome<Global>, Stopped> {
+        match self.log.turn() {
+            Turn::Continues => self.settled(),
+            Turn::Stops => Err(Stopped),
+            Turn::Held => self.put_off(Need::Flush, Outcome::Parked),
+            Turn::Later => self.put_off(Need::Memory, Outcome::Error(ScpiError::OutOfMemory)),
+        }
+    }
+
+    fn send(&mut self, text: &[u8], is_last: bool) -> Result<(), Stopped> {
+        if self.log.turn() == Turn::Stops {
+            return Err(Stopped);
+        }
+        self.log.send(text, is_last).ok_or(Stopped)
+    }
+
+    fn out_of_memory(&self) -> Stopped {
+        Stopped
+    }
+}
+
+impl<'a> Probe<'a> {
+    // Puts the unit off, which has to wait for this.
+    fn put_off(
+        &mut self,
+        need: Need,
+        outcome: Outcome<Global>,
+    ) -> Result<Outcome<Global>, Stopped> {
+        self.log.need = need;
+        Ok(outcome)
+    }
+
+    // Executes a unit on the device.
+    fn executed(&mut self, request: &Request<'_>) -> Result<Outcome<Global>, Stopped> {
+        if self.exec.is_open(self.session) {
+            Ok(self.exec.execute(self.session, request))
+        } else {
+            Err(Stopped)
+        }
+    }
+
+    // Settles the wait of the session on the device.
+    fn settled(&mut self) -> Result<Outcome<Global>, Stopped> {
+        if self.exec.is_open(self.session) {
+            Ok(self.exec.settle(self.session))
+        } else {
+            Err(Stopped)
+        }
+    }
+}

@@ -1,0 +1,35 @@
+// The progress of a transmission.
+ghost use Rattle.std.specs.Prelude.{◌≡◌};
+ghost use Rattle.psu_messages.specs.Executions.{beginning};
+ghost use Rattle.psu_messages.specs.Shown.{progress_of};
+
+use crate::Expansion;
+use psu_answers::ResponseBuffer;
+use std::alloc::Allocator;
+
+/// The progress of a transmission, between two tries of its units.
+#[derive(Drop)]
+pub struct Progress<A: Allocator + Copy> {
+    /// How many of its units are done.
+    pub units: u64,
+    /// The expansion that replaces the next unit.
+    pub expansion: Option<Expansion<A>>,
+    /// Whether the next unit (of the expansion, if there is one) was accepted and waits.
+    pub parked: bool,
+    /// The response buffer: the responses that are not sent.
+    pub gathered: ResponseBuffer<A>,
+}
+
+impl<A: Allocator + Copy> Progress<A> {
+    /// The progress before anything is done.
+    pub fn new(alloc: A) -> Progress<A>
+        ensures { progress_of result ≡ beginning }
+    {
+        Progress {
+            units: 0,
+            expansion: None,
+            parked: false,
+            gathered: ResponseBuffer::new(alloc),
+        }
+    }
+}

@@ -1,0 +1,62 @@
+// The responses of units: gathered in the response buffer, and sent.
+ghost use Rattle.std.specs.Prelude.{◌≡◌, true, IfErr, OnOk, OnErr};
+ghost use Rattle.psu_exec.specs.Shown.{outcome_of};
+ghost use Rattle.psu_messages.specs.Executions.{Closes, AddsResponse};
+ghost use Rattle.psu_messages.specs.Stepping.{IsLeft};
+
+use crate::Executor;
+use psu_answers::ResponseBuffer;
+use psu_exec::Outcome;
+use std::alloc::Allocator;
+
+/// Adds the response of a unit to the response buffer; a long buffer is sent as a part. If the executor stops, what
+/// is not sent is still in the buffer, with the response or without it.
+#[inline(always)]
+pub(crate) fn add_response<A: Allocator + Copy, F: Executor<A>>(
+    executor: &mut F,
+    gathered: &mut ResponseBuffer<A>,
+    outcome: &Outcome<A>,
+) -> Result<(), F::Stop>
+    ensures adds { OnOk result (AddsResponse F.does executor.old gathered.old (outcome_of outcome.now) executor.new gathered.new) }
+    ensures stopped { IfErr result (λ stop. F.stops executor.old stop executor.new) }
+    ensures left { OnErr result (IsLeft gathered.old (outcome_of outcome.now) gathered.new) }
+{
+    let Outcome::Answer(answer) = outcome else {
+        return Ok(());
+    };
+    if gathered.append(answer.as_slice()).is_err() {
+        return Err(executor.out_of_memory());
+    }
+    if !gathered.is_long() {
+        return Ok(());
+    }
+    executor.send(gathered.text(), false)?;
+    gathered.clear();
+    Ok(())
+}
+
+/// Ends a message: sends the last piece of its response message, if it has one. If the executor stops, that piece is
+/// still in the response buffer.
+#[inline(always)]
+pub(crate) fn close<A: Allocator + Copy, F: Executor<A>>(
+    executor: &mut F,
+    gathered: &mut ResponseBuffer<A>,
+) -> Result<(), F::Stop>
+    ensures closes { OnOk result (Closes F.does executor.old gathered.old executor.new gathered.new) }
+    ensures stopped { IfErr result (λ stop. F.stops executor.old stop executor.new) }
+    ensures left { OnErr result (gathered.new ≡ gathered.old) }
+    ensures unsent { OnErr result (gathered.old.answered ≡ true) }
+{
+    if !gathered.has_answered() {
+        return Ok(());
+    }
+    if gathered.end().is_err() {
+        return Err(executor.out_of_memory());
+    }
+    if let Err(stop) = executor.send(gathered.text(), true) {
+        gathered.take_back();
+        return Err(stop);
+    }
+    gathered.restart();
+    Ok(())
+}

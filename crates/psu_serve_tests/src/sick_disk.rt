@@ -1,0 +1,140 @@
+// A disk that refuses writes for a time, like one without room.
+ghost use Rattle.std.specs.Prelude.{◌≡◌, ◌≤◌};
+ghost use Rattle.psu_disk.specs.Disk.{HasFailed};
+
+use psu_disk::{Disk, DiskFault};
+use std::alloc::{AllocError, Global};
+use std::sync::Arc;
+use std::sync::atomic::{AtomicBool, AtomicUsize, Ordering};
+
+#[derive(Drop)]
+struct State {
+    is_sick: AtomicBool,
+    refused: AtomicUsize,
+}
+
+/// The state of a disk, as a test sets it.
+#[derive(Drop)]
+pub struct Health {
+    state: Arc<State>,
+}
+
+impl Health {
+    /// Returns the state of a disk that accepts writes.
+    pub fn new(alloc: Global) -> Result<Health, AllocError> {
+        let state = State {
+            is_sick: AtomicBool::new(false),
+            refused: AtomicUsize::new(0),
+        };
+        Ok(Health {
+            state: Arc::new(alloc, state)?,
+        })
+    }
+
+    /// Returns another handle to the state, for the disk.
+    pub fn another(&self) -> Result<Health, AllocError> {
+        Ok(Health {
+            state: Arc::try_clone(&self.state)?,
+        })
+    }
+
+    /// Makes the disk refuse each write from now on, or accept each.
+    pub fn be_sick(&self, is_sick: bool) {
+        self.state.is_sick.store(is_sick, Ordering::SeqCst);
+    }
+
+    /// The number of writes that were refused.
+    pub fn refused(&self) -> usize {
+        self.state.refused.load(Ordering::SeqCst)
+    }
+
+    // Whether a write is refused.
+    fn refuses(&self) -> bool {
+        let is_sick = self.state.is_sick.load(Ordering::SeqCst);
+        if is_sick {
+            self.state.refused.fetch_add(1, Ordering::SeqCst);
+        }
+        is_sick
+    }
+}
+
+/// A disk that refuses writes while it is sick; it still reads and syncs.
+#[derive(Drop)]
+pub struct SickDisk<D: Disk> {
+    inner: D,
+    health: Health,
+    failed: u64,
+}
+
+impl<D: Disk> SickDisk<D> {
+    pub fn new(inner: D, health: Health) -> SickDisk<D> {
+        SickDisk {
+            inner,
+            health,
+            failed: 0,
+        }
+    }
+
+    fn fail(&mut self) -> DiskFault
+        ensures extent { D.extent self.new.inner ≡ D.extent self.old.inner }
+        ensures failed { HasFailed self.old.failed self.new.failed }
+        ensures later { self.old.failed ≤ self.new.failed }
+    {
+        self.failed = self.failed.saturating_add(1);
+        DiskFault
+    }
+}
+
+impl<D: Disk> Disk for SickDisk<D> {
+    ghost use Rattle.std.specs.Prelude.{[]};
+    ghost use Rattle.psu_disk.specs.Memory.{memory};
+
+    ghost honest = { ⊥ };
+
+    ghost records = { ⊥ };
+
+    ghost extent = { λ d. D.extent d.inner };
+
+    ghost state = { λ _. memory [] [] };
+
+    ghost moment = { λ _. 0 };
+
+    ghost left_since = { λ _ _ _. ⊥ };
+
+    ghost failures = { λ d. d.failed };
+
+    ghost sized = { λ honest. absurd honest };
+
+    ghost counts_now = { λ records. absurd records };
+
+    ghost only_now = { λ records. absurd records };
+
+    fn size(&self) -> u64 {
+        self.inner.size()
+    }
+
+    fn faults(&self) -> u64 {
+        self.failed
+    }
+
+    fn read(&mut self, at: u64, into: &mut [u8]) -> Result<(), DiskFault> {
+        if self.inner.read(at, into).is_err() {
+            return Err(self.fail());
+        }
+        Ok(())
+    }
+
+    fn write(&mut self, at: u64, bytes: &[u8]) -> Result<(), DiskFault> {
+        if self.health.refuses() || self.inner.write(at, bytes).is_err() {
+            return Err(self.fail());
+        }
+        Ok(())
+    }
+
+    fn sync(&mut self) -> Result<(), DiskFault> {
+        if self.inner.sync().is_err() {
+            return Err(self.fail());
+        }
+        Ok(())
+    }
+}

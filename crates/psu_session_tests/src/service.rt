@@ -1,0 +1,61 @@
+// Service requests: their causes, and how often they are made.
+use psu_hosts::{Mismatch, plays};
+
+const CALLS: &str = "
+# A message that is available calls its client, a further answer calls it again, and one before it was delivered does not. A further message tells
+# that what came before is delivered.
+== called_by_a_message.image 48893
+1 joins
+2 joins
+1 says *SRE 16
+1 named
+1 called 50
+1 status 0 50
+1 status 0 10
+1 status 1 00
+1 named
+1 called 50
+1 status 0 50
+1 named
+1 quiet
+1 status 0 10
+1 continues VOLT 1
+1 silent
+1 status 0 00
+2 status 0 00
+
+# What the flusher completes calls all clients, and one that comes later.
+== called_by_a_flush.image 48895 run
+1 joins
+2 joins
+1 says *CLS;*ESE 1;*SRE 32;*SAV 1;*OPC
+1 quiet
+flusher goes
+1 called 60
+1 status 0 60
+1 status 0 20
+2 called 60
+2 status 0 60
+2 status 0 20
+3 joins
+3 called 60
+3 status 0 60
+3 status 0 20
+
+# An error calls by its bit of the status byte, and by its class. Nothing is flushed meanwhile, which would make others look.
+== called_by_errors.image 48921
+1 joins
+1 asks *CLS;*SRE 4;*OPC? -> 1
+1 continues FOO
+1 called 44
+1 status 0 44
+1 asks *CLS;*ESE 32;*SRE 32;*OPC? -> 1
+1 continues FOO
+1 called 64
+1 status 0 64
+";
+
+#[test]
+fn clients_are_called(rt: HostRuntime) -> Result<(), Mismatch> {
+    plays(rt, rt.alloc(), CALLS)
+}
