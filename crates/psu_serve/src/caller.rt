@@ -146,7 +146,7 @@ impl<D: Disk + Drop, G: Gate + Drop> Caller<D, G> {
         let _place = self.door.lock(rt);
         let given = self.bench.give_back(rt, &mut self.seat, finished);
         let notifications = News::of(self.bench.take_notifications(rt, &mut self.seat));
-        (sessions_over(given), take_notifications)
+        (sessions_over(given), notifications)
     }
 
     /// Opens the session of the least free number.
