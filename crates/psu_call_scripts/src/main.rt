@@ -2,40 +2,46 @@
 //! its scripts are about; `psu_call_steps` has the table of their steps.
 //!
 //! A script begins with a line `== ` and its title, and each begins on a device that is powered on with a fresh image.
-//! What is before the first script, empty lines and lines that begin with `#` are not played.
+//! What is before the first script, empty lines and lines that begin with `#` are not played. In a file `{x*64}` means
+//! 64 x, and `\n` NL.
 #![tactic(auto)]
 
 mod scripts;
 
 use psu_call_steps::StepFault;
+use psu_tables::written;
 use scripts::{Count, play_scripts};
 use std::fs;
 use std::io::{Eprint, Print};
 use std::process::ExitCode;
 use std::rt::Files;
 
-// The files whose scripts begin on an image of ordinary size, in the program's working directory.
-const FILES: [&str; 4] = ["sessions.txt", "locks.txt", "status.txt", "jobs.txt"];
-
-// The number of pages that the contents of such an image may cost.
-const LIMIT: u16 = 256;
-
-// The file whose scripts begin on an image of the smallest size.
-const LEAST_FILE: &str = "pages.txt";
-
-// The number of pages that the contents of such an image may cost.
-const LEAST_LIMIT: u16 = 4;
+// The files of scripts, in the program's working directory, and how many pages the contents of an image may cost on
+// which their scripts begin.
+const FILES: [(&str, u16); 6] = [
+    ("sessions.txt", 256),
+    ("locks.txt", 256),
+    ("status.txt", 256),
+    ("jobs.txt", 256),
+    ("pages.txt", 4),
+    ("thresholds.txt", 480),
+];
 
 fn main(rt: HostRuntime) -> ExitCode {
-    for name in FILES {
-        if !play_file(&rt, name, LIMIT) {
+    for (name, limit) in FILES {
+        if !play_file(&rt, name, limit) {
             return ExitCode::FAILURE;
         }
     }
-    if !play_file(&rt, LEAST_FILE, LEAST_LIMIT) {
-        return ExitCode::FAILURE;
-    }
     ExitCode::SUCCESS
+}
+
+// Reads the text of a file.
+fn text_of<R: Files + Alloc>(rt: &R, name: &str) -> Option<String<R::A>>
+where
+    R::A: Copy,
+{
+    written(rt.alloc(), &fs::read_to_string(rt, name).ok()?)
 }
 
 // Plays the scripts of a file, prints how many there are, and returns whether all of them hold.
@@ -43,9 +49,9 @@ fn play_file<R: Files + Alloc + Print + Eprint>(rt: &R, name: &str, limit: u16) 
 where
     R::A: Copy,
 {
-    match fs::read_to_string(rt, name) {
-        Ok(text) => is_reported(rt, name, play_scripts(rt.alloc(), limit, &text)),
-        Err(_) => {
+    match text_of(rt, name) {
+        Some(text) => is_reported(rt, name, play_scripts(rt.alloc(), limit, &text)),
+        None => {
             let _ = eprintln!(rt; "{name} can't be read");
             false
         }

@@ -1,5 +1,5 @@
 // Scripts of what clients do with a server, and of the results: one step a line. A text costs a proof far less than one
-// call a step, and reads as a sequence of events.
+// call a step, and reads as a sequence of events. In a message or a response `{x*64}` means 64 x.
 //
 // | step | means |
 // |---|---|

@@ -1,8 +1,9 @@
 // Scripts that are played with servers, one after another.
 //
 // A script begins with a heading: `== shared_lock 48851` has the server's image and port, and `== late_wait 48889 run`
-// also has the point at which its flusher is held, before a job runs (`run`) or before a page is written (`write`). Its
-// steps are those of `psu_client::Cast`, and two of the flusher:
+// also has the point at which its flusher is held, before a job runs (`run`) or before a page is written (`write`). The
+// contents of an image may cost 256 pages; `== items 48961 run 480` has another limit. The steps are those of
+// `psu_client::Cast`, and two of the flusher:
 //
 // | step | means |
 // |---|---|
@@ -11,7 +12,7 @@
 //
 // An empty line, and one that begins with `#`, has no effect.
 use crate::hold::Hold;
-use crate::server::new_served;
+use crate::server::{formatted, served};
 use psu_client::{Cast, Missed};
 use psu_serve::Point;
 use std::alloc::Global;
@@ -36,17 +37,36 @@ struct Stage<R: Drop> {
     hold: Hold<R>,
 }
 
-// Reads a heading: the image, the port, and where the flusher is held.
-fn heading(line: &str) -> Option<(&str, u16, Option<Point>)> {
-    let (image, rest) = line.strip_prefix("== ")?.split_once(" ")?;
-    let (port, point) = rest.split_once(" ").unwrap_or((rest, ""));
-    let port = port.parse().ok()?;
-    match point {
-        "" => Some((image, port, None)),
-        "run" => Some((image, port, Some(Point::BeforeRun))),
-        "write" => Some((image, port, Some(Point::BeforeWrite))),
+/// A heading: the image, with its limit, the port, and where the flusher is held.
+#[derive(Clone, Copy)]
+struct Heading<'s> {
+    image: &'s str,
+    port: u16,
+    point: Option<Point>,
+    limit: u16,
+}
+
+// Reads the point at which the flusher is held, if there is one.
+fn held_at(word: &str) -> Option<Option<Point>> {
+    match word {
+        "" => Some(None),
+        "run" => Some(Some(Point::BeforeRun)),
+        "write" => Some(Some(Point::BeforeWrite)),
         _ => None,
     }
+}
+
+// Reads a heading.
+fn heading_of(line: &str) -> Option<Heading<'_>> {
+    let (image, rest) = line.strip_prefix("== ")?.split_once(" ")?;
+    let (port, rest) = rest.split_once(" ").unwrap_or((rest, ""));
+    let (word, limit) = rest.split_once(" ").unwrap_or((rest, "256"));
+    Some(Heading {
+        image,
+        port: port.parse().ok()?,
+        point: held_at(word)?,
+        limit: limit.parse().ok()?,
+    })
 }
 
 // Serves a new image, with no client yet.
@@ -65,16 +85,17 @@ where
         + 'static,
     R::Dir: Send,
 {
-    let Some((image, port, point)) = heading(line) else {
+    let Some(heading) = heading_of(line) else {
         return Err(Missed::Ground("a heading"));
     };
-    let Ok(hold) = Hold::new(rt, alloc, point) else {
+    let Ok(hold) = Hold::new(rt, alloc, heading.point) else {
         return Err(Missed::Ground("memory"));
     };
     let Ok(gate) = hold.another() else {
         return Err(Missed::Ground("memory"));
     };
-    let port = new_served(rt, alloc, image, port, gate)?;
+    formatted(&rt, alloc, heading.image, heading.limit)?;
+    let port = served(rt, alloc, heading.image, heading.port, gate)?;
     Ok(Stage {
         cast: Cast::new(rt, alloc, port),
         hold,

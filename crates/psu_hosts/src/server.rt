@@ -11,7 +11,10 @@ use std::rt::{Clock, Files};
 use std::sync::Wait;
 use std::thread::{self, Threads};
 
-/// The size of an image of 256 pages.
+/// How many pages the contents of an ordinary image may cost.
+pub const LIMIT: u16 = 256;
+
+/// The size of such an image.
 const SIZE: u64 = 263_168;
 
 /// Returns the first port from this one on at which no process listens, in steps that leave other tests their ports.
@@ -25,7 +28,8 @@ fn free_port<R: Net>(rt: &R, first: u16) -> Result<u16, Missed> {
     Err(Missed::Ground("a port"))
 }
 
-/// Serves the image of this name, at this port or, where that is taken, at another, and returns the port.
+/// Serves the image of this name, at this port or, where that is taken, at another, and returns the port, at which it
+/// listens.
 pub fn served<R, G>(
     rt: R,
     alloc: Global,
@@ -52,11 +56,12 @@ where
         let _fault = serve(rt, alloc, image, port, gate);
     })
     .is_ok();
-    if begun {
-        Ok(port)
-    } else {
-        Err(Missed::Ground("a thread"))
+    if !begun {
+        return Err(Missed::Ground("a thread"));
     }
+    let stream = connected(&rt, port)?;
+    drop(stream);
+    Ok(port)
 }
 
 /// Serves a new image, at this port or, where that is taken, at another, and returns the port. The file stays: a store
@@ -82,11 +87,8 @@ where
     R::Dir: Send,
     G: Gate + Drop + Send + Sync + 'static,
 {
-    formatted(&rt, alloc, image)?;
-    let port = served(rt, alloc, image, first, gate)?;
-    let stream = connected(&rt, port)?;
-    drop(stream);
-    Ok(port)
+    formatted(&rt, alloc, image, LIMIT)?;
+    served(rt, alloc, image, first, gate)
 }
 
 /// Returns a formatted disk in memory.
@@ -94,7 +96,7 @@ pub fn new_disk(alloc: Global) -> Result<MemDisk<Global>, Missed> {
     let Ok(disk) = MemDisk::new(alloc, SIZE) else {
         return Err(Missed::Ground("memory"));
     };
-    match Store::format(alloc, disk, 256) {
+    match Store::format(alloc, disk, LIMIT) {
         Ok(store) => Ok(store.into_disk()),
         Err(_) => Err(Missed::Ground("a formatted disk")),
     }
@@ -137,13 +139,22 @@ pub fn removed<R: Files>(rt: &R, image: &str) {
     let _ = fs::remove_file(rt, image);
 }
 
-/// Formats a new image.
-pub fn formatted<R: Files<File = File>>(rt: &R, alloc: Global, image: &str) -> Result<(), Missed> {
+/// Formats a new image, whose contents may cost this many pages.
+pub fn formatted<R: Files<File = File>>(
+    rt: &R,
+    alloc: Global,
+    image: &str,
+    limit: u16,
+) -> Result<(), Missed> {
+    if limit < 4 || limit > 480 {
+        return Err(Missed::Ground("a limit of an image"));
+    }
     removed(rt, image);
-    let Ok(disk) = FileDisk::make(&mut OsFiles { files: rt }, alloc, image, SIZE) else {
+    let size = 512 * (2 + 2 * u64::from(limit));
+    let Ok(disk) = FileDisk::make(&mut OsFiles { files: rt }, alloc, image, size) else {
         return Err(Missed::Ground("a file"));
     };
-    match Store::format(alloc, disk, 256) {
+    match Store::format(alloc, disk, limit) {
         Ok(_) => Ok(()),
         Err(_) => Err(Missed::Ground("a formatted image")),
     }

@@ -4,36 +4,12 @@ use psu_sessions::Input;
 use psu_tables::written;
 use std::alloc::Global;
 
-// Appends a part as often as it says.
-fn add_often(text: &mut Vec<u8, Global>, part: &str) -> Option<()> {
-    let (once, times) = part.rsplit_once("*")?;
-    for _ in 0..times.parse::<u32>().ok()? {
-        text.extend_from_slice(once.as_bytes()).ok()?;
-    }
-    Some(())
-}
-
-// Appends a piece that follows a `{`, or is the first one.
-fn add_piece(alloc: Global, text: &mut Vec<u8, Global>, piece: &str) -> Option<()> {
-    let mut rest = piece;
-    if let Some((often, behind)) = piece.split_once("}") {
-        add_often(text, often)?;
-        rest = behind;
-    }
-    text.extend_from_slice(written(alloc, rest)?.as_bytes())
-        .ok()
-}
-
 /// Returns the bytes of a cell; `None` where it isn't well-formed, or memory is refused.
 pub fn spelled(alloc: Global, cell: &str) -> Option<Vec<u8, Global>> {
-    let mut text = Vec::new(alloc);
     if cell == "nothing" {
-        return Some(text);
+        return Some(Vec::new(alloc));
     }
-    for piece in cell.split("{") {
-        add_piece(alloc, &mut text, piece)?;
-    }
-    Some(text)
+    written(alloc, cell)?.as_bytes().to_vec(alloc).ok()
 }
 
 /// Returns what is to be executed: a text, or a fault in place of one.

@@ -3,7 +3,9 @@ use crate::holds::holds;
 use crate::images::{SIZE, formatted, image, left_by, reported, written_on};
 use crate::texts::add_line;
 use crate::transcripts::lines_behind;
+use psu_call_steps::{play, powered_on};
 use psu_disk::MemDisk;
+use psu_exec::Ended;
 use psu_server::{RecoverFault, recover};
 use std::alloc::Global;
 use std::process::Abort;
@@ -159,24 +161,19 @@ fn images_that_are_none(rt: HostRuntime) {
 }
 
 // Returns the lines that fill an image of 480 pages with 240 items of two pages each: a hundred registers, and files of
-// one byte.
-fn filling_lines(alloc: Global) -> Option<Vec<u8>> {
-    let mut lines = b"VOLT 1\n".to_vec(alloc).ok()?;
+// one byte. Each line has these texts before and after it.
+fn filling_lines(alloc: Global, before: &str, after: &str) -> Option<Vec<u8>> {
+    let mut lines = Vec::new(alloc);
+    let line = format!(in alloc; "{before}VOLT 1{after}").ok()?;
+    add_line(alloc, &mut lines, &line)?;
     for register in 0..100u8 {
-        add_line(
-            alloc,
-            &mut lines,
-            &format!(in alloc; "*SAV {register}").ok()?,
-        )?;
+        let line = format!(in alloc; "{before}*SAV {register}{after}").ok()?;
+        add_line(alloc, &mut lines, &line)?;
     }
     for file in 100..240u8 {
-        add_line(
-            alloc,
-            &mut lines,
-            &format!(in alloc; "MMEM:DATA \"F{file}\",#11x").ok()?,
-        )?;
+        let line = format!(in alloc; "{before}MMEM:DATA \"F{file}\",#11x{after}").ok()?;
+        add_line(alloc, &mut lines, &line)?;
     }
-    lines.extend_from_slice(b"*OPC?\n").ok()?;
     Some(lines)
 }
 
@@ -197,10 +194,12 @@ fn report_of_filled(alloc: Global) -> Option<Vec<u8>> {
 
 // Whether the largest image is reported correctly, and one more change does not fit.
 fn is_filled(alloc: Global) -> Option<bool> {
-    let disk = left_by(alloc, image(alloc, 480)?, &filling_lines(alloc)?)?;
+    let mut input = filling_lines(alloc, "", "")?;
+    let disk = left_by(alloc, image(alloc, 480)?, &input)?;
     let is_reported = reported(alloc, disk)? == report_of_filled(alloc)?;
-    let mut input = filling_lines(alloc)?;
-    input.extend_from_slice(b"*SRE 4;*PSC 0;:SYST:ERR?\n").ok()?;
+    input
+        .extend_from_slice(b"*OPC?\n*SRE 4;*PSC 0;:SYST:ERR?\n")
+        .ok()?;
     let written = written_on(alloc, image(alloc, 480)?, &input)?;
     Some(is_reported && written.as_slice() == b"1\n-254,\"Media full\"\n".as_slice())
 }
@@ -208,4 +207,30 @@ fn is_filled(alloc: Global) -> Option<bool> {
 #[test]
 fn an_image_of_the_greatest_limit_is_filled(rt: HostRuntime) {
     assert!(rt; is_filled(rt.alloc()) == Some(true));
+}
+
+// Returns the disk of a device after these steps, each of which holds, with a whole store.
+fn left_by_steps(alloc: Global, disk: MemDisk<Global>, steps: &str) -> Option<MemDisk<Global>> {
+    let mut exec = powered_on(alloc, disk)?;
+    let played = play(&mut exec, steps);
+    match (played, exec.end()) {
+        (Ok(_), Ended::Whole(store)) => Some(store.into_disk()),
+        _ => None,
+    }
+}
+
+// Whether the largest image is reported correctly that was filled unit by unit, with one job.
+fn is_filled_by_units(alloc: Global) -> Option<bool> {
+    let mut steps = b"open 1\n".to_vec(alloc).ok()?;
+    steps
+        .extend_from_slice(&filling_lines(alloc, "1: ", " -> done")?)
+        .ok()?;
+    steps.extend_from_slice(b"flush\nflushed\n").ok()?;
+    let disk = left_by_steps(alloc, image(alloc, 480)?, str::from_utf8(&steps).ok()?)?;
+    Some(reported(alloc, disk)? == report_of_filled(alloc)?)
+}
+
+#[test]
+fn an_image_is_filled_unit_by_unit(rt: HostRuntime) {
+    assert!(rt; is_filled_by_units(rt.alloc()) == Some(true));
 }

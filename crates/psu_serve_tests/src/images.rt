@@ -2,13 +2,10 @@
 use psu_client::Missed;
 use psu_disk::{Disk, FileDisk, MemDisk, OsFiles};
 use psu_items::Store;
-use psu_server::run;
+use psu_server::{recover, report_text, run};
 use std::alloc::Global;
 use std::fs::{self, File};
 use std::rt::Files;
-
-/// The size of an image of 256 pages.
-const SIZE: u64 = 263_168;
 
 /// Executes lines on an image, which is then at rest.
 pub fn executed<R: Files<File = File>>(
@@ -36,7 +33,7 @@ fn copied<R: Files<File = File> + Alloc<A = Global>>(
     let Ok(bytes) = fs::read(rt, image) else {
         return Err(Missed::Ground("a copy"));
     };
-    let Ok(mut disk) = MemDisk::new(rt.alloc(), SIZE) else {
+    let Ok(mut disk) = MemDisk::new(rt.alloc(), bytes.len() as u64) else {
         return Err(Missed::Ground("memory"));
     };
     if bytes.len() as u64 <= disk.size() && disk.write(0, bytes.as_slice()).is_ok() {
@@ -60,5 +57,20 @@ pub fn is_kept<R: Files<File = File> + Alloc<A = Global>>(
     match store.items().get(key) {
         Some(kept) if kept == value => Ok(()),
         _ => Err(Missed::Claim("the item is kept")),
+    }
+}
+
+/// Checks that this is the report on a copy of an image.
+pub fn is_reported<R: Files<File = File> + Alloc<A = Global>>(
+    rt: &R,
+    image: &str,
+    report: &str,
+) -> Result<(), Missed> {
+    let Ok(found) = recover(rt.alloc(), copied(rt, image)?) else {
+        return Err(Missed::Claim("the image is in order"));
+    };
+    match report_text(rt.alloc(), &found) {
+        Ok(text) if text.as_slice() == report.as_bytes() => Ok(()),
+        _ => Err(Missed::Claim("this is the report")),
     }
 }

@@ -9,6 +9,8 @@ mod clears;
 #[cfg(test)]
 mod frames;
 #[cfg(test)]
+mod full_image;
+#[cfg(test)]
 mod images;
 #[cfg(test)]
 mod reads;
@@ -22,5 +24,7 @@ mod screen;
 mod sick_disk;
 #[cfg(test)]
 mod stores;
+#[cfg(test)]
+mod thresholds;
 #[cfg(test)]
 mod transmissions;

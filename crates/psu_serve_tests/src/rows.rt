@@ -1,7 +1,7 @@
 // The responses to sessions, frame by frame.
 use crate::images::{executed, is_kept};
 use psu_client::{Client, Missed, joined_as, send, text_comes};
-use psu_hosts::{Mismatch, formatted, plays, removed, served};
+use psu_hosts::{LIMIT, Mismatch, formatted, plays, removed, served};
 use psu_serve::Open;
 
 const ANSWERS: &str = "
@@ -70,7 +70,7 @@ fn request_stands(client: &mut Client) -> Result<(), Missed> {
 #[test]
 fn a_first_request_is_prescribed(rt: HostRuntime) -> Result<(), Missed> {
     let image = "first_request.image";
-    formatted(&rt, rt.alloc(), image)?;
+    formatted(&rt, rt.alloc(), image, LIMIT)?;
     executed(&rt, rt.alloc(), image, LINES)?;
     let port = served(rt, rt.alloc(), image, 48_833, Open)?;
     let mut one = joined_as(&rt, port, 1)?;
@@ -93,7 +93,7 @@ fn save_is_confirmed(client: &mut Client) -> Result<(), Missed> {
 #[test]
 fn a_confirmed_save_is_kept(rt: HostRuntime) -> Result<(), Missed> {
     let image = "confirmed_save.image";
-    formatted(&rt, rt.alloc(), image)?;
+    formatted(&rt, rt.alloc(), image, LIMIT)?;
     let port = served(rt, rt.alloc(), image, 48_837, Open)?;
     let mut one = joined_as(&rt, port, 1)?;
     save_is_confirmed(&mut one)?;

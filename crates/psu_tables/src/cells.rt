@@ -25,14 +25,43 @@ pub fn bytes<A: Allocator>(alloc: A, cell: &str) -> Option<Vec<u8, A>> {
     Some(bytes)
 }
 
-/// Returns a text with NL for each `\n` that is written in it; `None` where memory is refused.
-pub fn written<A: Allocator>(alloc: A, cell: &str) -> Option<String<A>> {
-    let mut text = String::new(alloc);
-    for (at, line) in cell.split("\\n").enumerate() {
+// Appends a text with NL for each `\n` that is written in it.
+fn add_lines<A: Allocator>(text: &mut String<A>, part: &str) -> Option<()> {
+    for (at, line) in part.split("\\n").enumerate() {
         if at > 0 {
             text.push('\n').ok()?;
         }
         text.push_str(line).ok()?;
+    }
+    Some(())
+}
+
+// Appends a part as often as it says: `x*64`.
+fn add_often<A: Allocator>(text: &mut String<A>, part: &str) -> Option<()> {
+    let (once, times) = part.rsplit_once("*")?;
+    for _ in 0..times.parse::<u32>().ok()? {
+        add_lines(text, once)?;
+    }
+    Some(())
+}
+
+// Appends a piece that follows a `{`, or is the first one.
+fn add_piece<A: Allocator>(text: &mut String<A>, piece: &str) -> Option<()> {
+    match piece.split_once("}") {
+        Some((often, rest)) => {
+            add_often(text, often)?;
+            add_lines(text, rest)
+        }
+        None => add_lines(text, piece),
+    }
+}
+
+/// Returns a text with NL for each `\n` that is written in it, and 64 x for `{x*64}`; `None` where a part in braces has
+/// no count, or memory is refused.
+pub fn written<A: Allocator>(alloc: A, cell: &str) -> Option<String<A>> {
+    let mut text = String::new(alloc);
+    for piece in cell.split("{") {
+        add_piece(&mut text, piece)?;
     }
     Some(text)
 }
