@@ -29,12 +29,12 @@ batch_leads f k =
 
 -- an expected end is true of its own disk
 pub true_of : {D A : Type 0} {G : Ghosts D} (f : Flush) (end : EndOf D A G) → IsConsistent f → IsExpected f (finished_of end) → EndStands end → IsTrueOf (target f) (finished_of end) (Ghosts.state G (finished_disk end))
-true_of f (finished.Stored store) k expected stands = stands.stands
-true_of f (finished.Unstarted store edits cause) k expected stands = stands.stands
+true_of f (finished.Stored store) k expected stands = stands.represents
+true_of f (finished.Unstarted store edits cause) k expected stands = stands.represents
 true_of {D} {A} {G} f (finished.Broken broken) k expected stands =
     let leads : changed broken.before broken.batch ≡ target f = ap (λ (m : List Item). changed m broken.batch) expected.1 ∙ (ap (λ (edits : List Edit). changed f.before edits) expected.2 ∙ batch_leads f k) in
     subst (λ (m : List Item). EachIsEither (Ghosts.state G broken.disk) broken.limit broken.before m) leads stands
-true_of f (finished.Reopened store) k expected stands = stands.stands
+true_of f (finished.Reopened store) k expected stands = stands.represents
 
 -- each possible crash image at a moment of a job represents the map before or the target, under the state's names
 pub still_either : {D : Type 0} (G : Ghosts D) → ((d : D) (t : ℕ) (x : List ℕ) → t ≤ Ghosts.moment G d → IsCrashImage (Ghosts.state G d) x → Ghosts.left_since G d t x)
