@@ -1,18 +1,16 @@
 //! The program `psu`: a simulated power supply that takes SCPI messages and keeps what they confirmed through power loss.
 #![tactic(auto)]
 
-mod commands;
-mod fault;
 mod streams;
-mod words;
 
-use commands::{make_image, recover_image, run_image, run_in_memory};
-use fault::Fault;
+use psu_commands::{
+    Choice, Fault, WordsFault, choice_of, make_image, recover_image, run_image, run_in_memory,
+};
 use psu_serve::{Open, serve};
+use std::fmt::Display;
 use std::io::Eprint;
 use std::process::ExitCode;
 use streams::stand_ins;
-use words::{Choice, WordsFault, choice_of};
 
 /// The exit status of a command line that asks for no command.
 const REFUSED: u8 = 2;
@@ -38,13 +36,13 @@ fn main(rt: HostRuntime) -> ExitCode {
         Choice::Recover(image) => ended(&rt, recover_image(&rt, alloc, image)),
         Choice::Serve(image, port) => {
             let fault = serve(rt, alloc, image, port, Open);
-            ended(&rt, Err(Fault::Serve(fault)))
+            ended(&rt, Err(fault))
         }
     }
 }
 
 // The exit status of a command; a fault is one line on standard error.
-fn ended(rt: &impl Eprint, outcome: Result<(), Fault>) -> ExitCode {
+fn ended<F: Display + Drop>(rt: &impl Eprint, outcome: Result<(), F>) -> ExitCode {
     match outcome {
         Ok(()) => ExitCode::SUCCESS,
         Err(fault) => {

@@ -1,7 +1,6 @@
 //! Why a command of the program fails.
 use psu_disk::OpenFault;
 use psu_items::FormatCause;
-use psu_serve::ServeFault;
 use psu_server::{RecoverFault, RunCause};
 use thiserror::Error;
 
@@ -14,8 +13,6 @@ pub enum Fault {
     Run(RunCause),
     #[error("{0}")]
     Recover(RecoverFault),
-    #[error("{0}")]
-    Serve(ServeFault),
     #[error("device fault")]
     Device,
     #[error("write fault")]
