@@ -7,7 +7,7 @@ use Rattle.psu_items.specs.Image.{EachIsEither}
 use Rattle.psu_nv.specs.Contents.{items_of}
 use Rattle.psu_exec.specs.Consistent.{IsConsistent}
 use Rattle.psu_exec.specs.Device.{Reply, State, Flush, is_whole, map_held, target}
-use Rattle.psu_exec.specs.Calls.{Entry, JobData, Taken, Allows, ends_wait, job_out, settled, unparked}
+use Rattle.psu_exec.specs.Calls.{Entry, JobData, JobEnd, Taken, Allows, ends_wait, job_out, sessions_over, settled, unparked, with_stored}
 use Rattle.psu_exec.specs.Calls.Entry.{Executed, Settled, Took, GaveBack, Opened, Closed, Cleared, Sent, Delivered, Queried, Fetched, Notified, Locked, Released, Ticked, Informed, Due}
 use Rattle.psu_exec.specs.Jobs.{finished_disk, finished_of, job_data, job_disk}
 use Rattle.psu_exec.specs.World.{World, Running, DiskAfter, IsStart, Moves, recorded}
@@ -16,8 +16,9 @@ use Rattle.psu_exec.proofs.Consistent.{consistent_start}
 use Rattle.psu_exec.proofs.Staying.{each_stays_consistent}
 use Rattle.psu_turn.specs.History.{numbered}
 use Rattle.psu_turn.specs.declared.numbered.Numbered.{Numbered}
+use Rattle.psu_bench.specs.Calls.{AdmitsOn}
 use Rattle.psu_bench.specs.Lives.{Called, Moved, LeadsOverDisks, Lives, calls_in}
-use Rattle.psu_bench.specs.Threads.{DisksLeavePrefix, EndsAreTrue, HaveDisks, IsDiskCall, IsPlain, JobRun, Step, Makes, Takes, Reaches, Gives, ThreadsAreEvents, shown}
+use Rattle.psu_bench.specs.Threads.{DisksLeavePrefix, EndsAreTrue, HaveDisks, IsDiskCall, IsPlain, JobRun, SomeStepsExist, Step, Makes, Takes, Reaches, Gives, ThreadsAreEvents, shown, taken}
 use Rattle.psu_bench.proofs.Lives.{lives_are_events, over_disks, threads_leave_prefix}
 
 -- ---- a call that takes no job, and by which no end is accepted
@@ -199,3 +200,14 @@ disks_leave_prefix D A G counts honest records w first last steps state image st
     let o = threads_are_events D A G counts honest records w first last steps state start.mode (consistent_at_start w start) is have leads in
     let p = threads_leave_prefix w o.new (shown w.disk steps) image start o.lives (subst (λ (d : DiskState). IsCrashImage d image) (sym o.disk_is) left) in
     (o.new, p.0, o.lives, p.1, p.2, p.3)
+
+-- ---- such steps exist
+
+abbrev HasGiven : Type 0 → World → JobEnd → Type 0
+HasGiven honest w end = AdmitsOn honest (taken w) (GaveBack end (Some (sessions_over (with_stored (taken w)).flush))) (with_stored (taken w))
+
+pub some_steps_exist : (D A : Type 0) (G : Ghosts D) → SomeStepsExist D A G
+some_steps_exist D A G w first run store s =
+    let given : HasGiven (Ghosts.honest G) w (finished_of run.finished) = subst (λ (end : JobEnd). HasGiven (Ghosts.honest G) w end) (sym s.ended)
+    (inl (record { out = out_is w.state.flush; expected = (s.limit, s.items); gives = refl; over_is = refl }), λ honest. (Ghosts.state G store.disk, s.on.represents)) in
+    ((s.there, (s.call, ((λ honest. s.stands), refl))), (taken w, inl ((s.free, s.work, s.job), refl), (with_stored (taken w), given, refl)))

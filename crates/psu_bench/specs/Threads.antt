@@ -1,12 +1,13 @@
 -- What threads do with a disk: the calls of a history, the runs of its jobs, and the disks that these leave.
-use Rattle.std.specs.Prelude.{◌≡◌, ℕ, ◌≤◌, Option, Some, None, List, [], ◌∷◌, ⊤}
+use Rattle.std.specs.Prelude.{◌≡◌, ℕ, ◌≤◌, false, Option, Some, None, List, [], ◌∷◌, ⊤}
 use Rattle.psu_disk.specs.Disk.{DiskState, IsCrashImage, LeavesOnly}
 use Rattle.psu_disk.specs.declared.disk.Disk.{Ghosts}
 use Rattle.psu_items.specs.Image.{Represents, IsEither}
+use Rattle.psu_items.specs.Standing.{IsOnDisk, MapOn}
 use Rattle.psu_nv.specs.Contents.{items_of}
 use Rattle.psu_exec.specs.Consistent.{IsConsistent, MayBeKept}
 use Rattle.psu_exec.specs.Device.{State, target}
-use Rattle.psu_exec.specs.Calls.{Entry, Taken, Allows}
+use Rattle.psu_exec.specs.Calls.{Entry, Taken, Allows, HasWork, JobEnd, job_of, job_out, sessions_over, with_stored}
 use Rattle.psu_exec.specs.Calls.Entry.{Took, GaveBack}
 use Rattle.psu_exec.specs.Headline.{IsPrefix}
 use Rattle.psu_exec.specs.Jobs.{EndStands, finished_disk, finished_of, job_data, job_disk}
@@ -20,7 +21,8 @@ use Rattle.psu_bench.specs.Lives.{Happening, Called, Moved, Lives, calls_in}
 
 -- ---- the steps of threads
 
--- A job that was taken, and what its run came to, or will: what `Job::run` states of the moments since it began.
+-- A job that was taken, and the result that its run has, or will have: what `Job::run` states of the moments since it
+-- began.
 pub record JobRun (D A : Type 0) (G : Ghosts D) : Type 0 where
   pub job : Job D A G
   pub finished : EndOf D A G
@@ -105,3 +107,32 @@ abbrev pub DisksLeavePrefix : (D A : Type 0) → Ghosts D → Type 0
 DisksLeavePrefix D A G = (w : World) (first last : D) (steps : List (Step D A G)) (state : State) (image : List ℕ)
     → IsStart w → w.disk ≡ Ghosts.state G first → HaveDisks D A G None first steps last → Leads (AdmitsOn (Ghosts.honest G)) w.state (calls_in (shown w.disk steps)) state → IsCrashImage (Ghosts.state G last) image
     → (now : World) × (k : ℕ) × Lives w (shown w.disk steps) now × IsPrefix now k × MayBeKept now.limit (after now k) × Represents image now.limit (items_of (after now k))
+
+-- ---- such steps exist
+
+-- A run of the job that there is to take, whose result is the store of its target: what `Exec::take`, `Job::run` and
+-- the disk state of it. The run is one disk call.
+pub record StoresTarget {D A : Type 0} {G : Ghosts D} (w : World) (first : D) (run : JobRun D A G) (store : MapOn D) : Type 0 where
+  pub free : w.state.flush.out ≡ false
+  pub work : HasWork w.state.flush
+  pub job : job_data run.job ≡ job_of (job_out w.state.flush)
+  pub there : job_disk run.job ≡ first
+  pub ended : finished_of run.finished ≡ JobEnd.Stored store.limit store.items
+  pub limit : store.limit ≡ (job_out w.state.flush).limit
+  pub items : store.items ≡ target (job_out w.state.flush)
+  pub on : IsOnDisk (Ghosts.state G) store
+  pub stands : EndStands run.finished
+  pub call : IsDiskCall run first (finished_disk run.finished)
+
+-- the state after the take
+abbrev pub taken : World → State
+taken w = record w.state { flush = job_out w.state.flush }
+
+-- its steps: the job is taken, its disk call is made, and its end is given back
+abbrev pub one_job : {D A : Type 0} {G : Ghosts D} → World → JobRun D A G → List (Step D A G)
+one_job w run = Takes 1 run ∷ Reaches (finished_disk run.finished) ∷ Gives 1 run.finished (sessions_over (with_stored (taken w)).flush) ∷ []
+
+-- The premises of the laws hold of these steps: they have the disks, and their calls are a legal history.
+abbrev pub SomeStepsExist : (D A : Type 0) → Ghosts D → Type 0
+SomeStepsExist D A G = (w : World) (first : D) (run : JobRun D A G) (store : MapOn D) → StoresTarget w first run store
+    → HaveDisks D A G None first (one_job w run) (finished_disk run.finished) × Leads (AdmitsOn (Ghosts.honest G)) w.state (calls_in (shown w.disk (one_job w run))) (with_stored (taken w))

@@ -1,6 +1,6 @@
 //! Laws of the histories.
 ghost use Rattle.psu_bench.specs.Lives.{HistoriesHappen, LivesAreEvents, SeenHistoriesHappen, SomeHistoryHappens, ThreadsLeavePrefix};
-ghost use Rattle.psu_bench.specs.Threads.{DisksLeavePrefix, EndsAreTrue, ThreadsAreEvents};
+ghost use Rattle.psu_bench.specs.Threads.{DisksLeavePrefix, EndsAreTrue, SomeStepsExist, ThreadsAreEvents};
 
 use psu_disk::Disk;
 use std::alloc::Allocator;
@@ -28,4 +28,5 @@ pub fn threads_are_events<D: Disk, A: Allocator + Copy>()
     ensures ends { D.honest → EndsAreTrue D A D.Disk }
     ensures events { D.honest → D.records → ThreadsAreEvents D A D.Disk }
     ensures prefix { D.honest → D.records → DisksLeavePrefix D A D.Disk }
+    ensures some { SomeStepsExist D A D.Disk }
 {}

@@ -8,7 +8,7 @@ use Rattle.psu_hislip.specs.Frame.{frame_bytes}
 use Rattle.psu_hislip.specs.declared.message_type.MessageType.TheVariants.{Data}
 use Rattle.psu_messages.specs.Answers.{ends_text, text_sent}
 use Rattle.psu_messages.specs.Effects.{Effect, Executed, Settled, Sent}
-use Rattle.psu_exchange.specs.Exchange.{Done, IsFramed, deeds, frames}
+use Rattle.psu_exchange.specs.Exchange.{Done, IsFramed, effects, frames}
 use Rattle.psu_exchange.proofs.Splitting.{single, split}
 
 -- parts and then an end are an answer, as a law of frames says
@@ -16,16 +16,16 @@ abbrev pub PartsAreAnAnswer : Type 0
 PartsAreAnAnswer = (greatest size id : ℕ) (parts : List Part) (rest end : List ℕ) → AreParts greatest id parts → 0 < size → size ≤ greatest → IsAnswer size id rest end
     → IsAnswerCutAnywhere greatest id (bytes_of parts ++ rest) (all_frames parts ++ end)
 
--- a deed's frames have payloads of at most some size
-pub record Fits (greatest id : ℕ) (deed : Effect) (out : List ℕ) : Type 0 where
+-- an effect's frames have payloads of at most some size
+pub record Fits (greatest id : ℕ) (effect : Effect) (out : List ℕ) : Type 0 where
   pub size : ℕ
   pub some : 0 < size
   pub small : size ≤ greatest
-  pub framed : IsFramed size id deed out
+  pub framed : IsFramed size id effect out
 
 abbrev pub EachFits : ℕ → ℕ → List Done → Type 0
 EachFits greatest id [] = Unit {0}
-EachFits greatest id (d ∷ done) = Fits greatest id d.deed d.frames × EachFits greatest id done
+EachFits greatest id (d ∷ done) = Fits greatest id d.effect d.frames × EachFits greatest id done
 
 pub both_fit : (greatest id : ℕ) (front back : List Done) → EachFits greatest id (front ++ back) → EachFits greatest id front × EachFits greatest id back
 both_fit greatest id [] back f = (tt, f)
@@ -47,17 +47,17 @@ part_more greatest id first second out more (one, is, within, framed) (two, are,
   ap (λ (z : List ℕ). z ++ more) framed ∙ ap (λ (z : List ℕ). data_of id one ++ z) also ∙ sym (flat_map-append (λ (piece : List ℕ). frame_bytes Data 0 id piece) one two),
 )
 
-part_of : (greatest id : ℕ) (deed : Effect) (out : List ℕ) (rest : List Done) → Fits greatest id deed out → ends_text (deed ∷ deeds rest) ≡ false
-    → (ends_text (deeds rest) ≡ false → IsPart greatest id (text_sent (deeds rest)) (frames rest)) → IsPart greatest id (text_sent (deed ∷ deeds rest)) (out ++ frames rest)
-part_of greatest id (Executed request reply) out rest f still more = subst (λ (z : List ℕ). IsPart greatest id (text_sent (deeds rest)) (z ++ frames rest)) (sym f.framed) (more still)
-part_of greatest id (Settled reply) out rest f still more = subst (λ (z : List ℕ). IsPart greatest id (text_sent (deeds rest)) (z ++ frames rest)) (sym f.framed) (more still)
-part_of greatest id (Sent text false) out rest f still more = part_more greatest id text (text_sent (deeds rest)) out (frames rest) (wider f.size greatest id text out f.small f.framed) (more still)
+part_of : (greatest id : ℕ) (effect : Effect) (out : List ℕ) (rest : List Done) → Fits greatest id effect out → ends_text (effect ∷ effects rest) ≡ false
+    → (ends_text (effects rest) ≡ false → IsPart greatest id (text_sent (effects rest)) (frames rest)) → IsPart greatest id (text_sent (effect ∷ effects rest)) (out ++ frames rest)
+part_of greatest id (Executed request reply) out rest f still more = subst (λ (z : List ℕ). IsPart greatest id (text_sent (effects rest)) (z ++ frames rest)) (sym f.framed) (more still)
+part_of greatest id (Settled reply) out rest f still more = subst (λ (z : List ℕ). IsPart greatest id (text_sent (effects rest)) (z ++ frames rest)) (sym f.framed) (more still)
+part_of greatest id (Sent text false) out rest f still more = part_more greatest id text (text_sent (effects rest)) out (frames rest) (wider f.size greatest id text out f.small f.framed) (more still)
 part_of greatest id (Sent text true) out rest f still more = absurd (cc (still))
 
 -- what is sent of a text that goes on is a part of it
-pub parts : (greatest id : ℕ) (done : List Done) → EachFits greatest id done → ends_text (deeds done) ≡ false → IsPart greatest id (text_sent (deeds done)) (frames done)
+pub parts : (greatest id : ℕ) (done : List Done) → EachFits greatest id done → ends_text (effects done) ≡ false → IsPart greatest id (text_sent (effects done)) (frames done)
 parts greatest id [] f still = no_part greatest id
-parts greatest id (d ∷ done) f still = part_of greatest id d.deed d.frames done f.0 still (λ goes_on. parts greatest id done f.1 goes_on)
+parts greatest id (d ∷ done) f still = part_of greatest id d.effect d.frames done f.0 still (λ goes_on. parts greatest id done f.1 goes_on)
 
 -- nothing goes out of no text
 pub silent : (greatest id : ℕ) (out : List ℕ) → IsPart greatest id [] out → out ≡ []
@@ -76,11 +76,11 @@ ended law greatest id bytes out piece end part f =
     (subst (λ (z : List ℕ). IsAnswerCutAnywhere greatest id ((bytes ++ []) ++ piece) (z ++ end)) (append-nil out) (law greatest f.size id (one ∷ []) piece end are f.some f.small f.framed))
 
 -- a text with its last piece goes out as an answer
-pub whole : PartsAreAnAnswer → (greatest id : ℕ) (done : List Done) (before : List Effect) (piece : List ℕ) → EachFits greatest id done → deeds done ≡ before ++ Sent piece true ∷ [] → ends_text before ≡ false
+pub whole : PartsAreAnAnswer → (greatest id : ℕ) (done : List Done) (before : List Effect) (piece : List ℕ) → EachFits greatest id done → effects done ≡ before ++ Sent piece true ∷ [] → ends_text before ≡ false
     → IsAnswerCutAnywhere greatest id (text_sent before ++ piece) (frames done)
 whole law greatest id done before piece f e still =
-    let s = split (λ (d : Done). d.deed) done before (Sent piece true ∷ []) e in
-    let last = single (λ (d : Done). d.deed) s.back (Sent piece true) s.of_right in
+    let s = split (λ (d : Done). d.effect) done before (Sent piece true ∷ []) e in
+    let last = single (λ (d : Done). d.effect) s.back (Sent piece true) s.of_right in
     let is : done ≡ s.front ++ last.one ∷ [] = s.is ∙ ap (λ (z : List Done). s.front ++ z) last.is in
     let fit = both_fit greatest id s.front (last.one ∷ []) (subst (λ (z : List Done). EachFits greatest id z) is f) in
     let part : IsPart greatest id (text_sent before) (frames s.front)

@@ -10,7 +10,7 @@ use Rattle.psu_messages.specs.Executions.{Reaches}
 use Rattle.psu_messages.specs.Messages.{OverIsMessages, SoFarIsMessages}
 use Rattle.psu_exchange.specs.Answered.{EachIsTold, IsAnswered, TakesAtMost, Weaves, pieces}
 use Rattle.psu_exchange.specs.Answered.Weaves.{Nothing, Reply, Piece}
-use Rattle.psu_exchange.specs.Exchange.{Done, EachEnds, EachIsDone, IsExchange, Turn, core_at, deeds, happened}
+use Rattle.psu_exchange.specs.Exchange.{Done, EachEnds, EachIsDone, IsExchange, Turn, core_at, effects, happened}
 use Rattle.psu_exchange.specs.Life.{Happening, Came, Replied, Did, done_in, replied, written}
 use Rattle.psu_exchange.proofs.Framing.{EachFits, Fits, PartsAreAnAnswer}
 use Rattle.psu_exchange.proofs.Telling.{answered_turn}
@@ -22,7 +22,7 @@ abbrev pub AllFit : ℕ → List Happening → Type 0
 AllFit greatest [] = Unit {0}
 AllFit greatest (Came side message ∷ life) = AllFit greatest life
 AllFit greatest (Replied out ∷ life) = AllFit greatest life
-AllFit greatest (Did origin deed out ∷ life) = Fits greatest origin.id deed out × AllFit greatest life
+AllFit greatest (Did origin effect out ∷ life) = Fits greatest origin.id effect out × AllFit greatest life
 
 some_size : (size : Option ℕ) → 0 < answer_size size
 some_size None = omega arith
@@ -34,21 +34,21 @@ all_fit session greatest life each most before (Came side message ∷ after) is 
     all_fit session greatest life each most (before ++ Came side message ∷ []) after (is ∙ sym (append_assoc before (Came side message ∷ []) after))
 all_fit session greatest life each most before (Replied out ∷ after) is =
     all_fit session greatest life each most (before ++ Replied out ∷ []) after (is ∙ sym (append_assoc before (Replied out ∷ []) after))
-all_fit session greatest life each most before (Did origin deed out ∷ after) is =
+all_fit session greatest life each most before (Did origin effect out ∷ after) is =
     let size = (core_at session before).size in (
-      record { size = answer_size size; some = some_size size; small = most before after origin deed out is; framed = (each before after origin deed out is).framed },
-      all_fit session greatest life each most (before ++ Did origin deed out ∷ []) after (is ∙ sym (append_assoc before (Did origin deed out ∷ []) after)),
+      record { size = answer_size size; some = some_size size; small = most before after origin effect out is; framed = (each before after origin effect out is).framed },
+      all_fit session greatest life each most (before ++ Did origin effect out ∷ []) after (is ∙ sym (append_assoc before (Did origin effect out ∷ []) after)),
     )
 
 -- ---- turns
 
-turn_fits : (greatest : ℕ) (origin : Origin) (done : List Done) (later : List Happening) → AllFit greatest (map (λ (d : Done). Did origin d.deed d.frames) done ++ later)
+turn_fits : (greatest : ℕ) (origin : Origin) (done : List Done) (later : List Happening) → AllFit greatest (map (λ (d : Done). Did origin d.effect d.frames) done ++ later)
     → EachFits greatest origin.id done × AllFit greatest later
 turn_fits greatest origin [] later f = (tt, f)
 turn_fits greatest origin (d ∷ done) later f = let rest = turn_fits greatest origin done later f.1 in ((f.0, rest.0), rest.1)
 
 pub each_answered : PartsAreAnAnswer → OverIsMessages → SoFarIsMessages → (greatest : ℕ) (turns : List Turn) → AllFit greatest (flat_map happened turns)
-    → All (λ (turn : Turn). Reaches turn.order.source (deeds turn.done) turn.course) turns → All (IsAnswered greatest) turns
+    → All (λ (turn : Turn). Reaches turn.order.source (effects turn.done) turn.course) turns → All (IsAnswered greatest) turns
 each_answered law over so_far greatest [] f comes = All-nil (IsAnswered greatest)
 each_answered law over so_far greatest (turn ∷ turns) f comes =
     let fit = turn_fits greatest turn.order.origin turn.done (flat_map happened turns) f in
@@ -75,21 +75,21 @@ each_is_answered law over so_far session greatest sync async life turns x most =
 abbrev piece_in : Happening → List (List ℕ)
 piece_in (Came side message) = []
 piece_in (Replied out) = []
-piece_in (Did origin deed out) = out ∷ []
+piece_in (Did origin effect out) = out ∷ []
 
 woven : (life : List Happening) → Weaves (replied life) (flat_map piece_in life) (written life)
 woven [] = Nothing
 woven (Came side message ∷ life) = woven life
 woven (Replied out ∷ life) = Reply out (woven life)
-woven (Did origin deed out ∷ life) = Piece out (woven life)
+woven (Did origin effect out ∷ life) = Piece out (woven life)
 
 of_deeds : (life : List Happening) → flat_map piece_in (done_in life) ≡ flat_map piece_in life
 of_deeds [] = refl
 of_deeds (Came side message ∷ life) = of_deeds life
 of_deeds (Replied out ∷ life) = of_deeds life
-of_deeds (Did origin deed out ∷ life) = ap (λ (z : List (List ℕ)). out ∷ z) (of_deeds life)
+of_deeds (Did origin effect out ∷ life) = ap (λ (z : List (List ℕ)). out ∷ z) (of_deeds life)
 
-of_turn : (origin : Origin) (done : List Done) → flat_map piece_in (map (λ (d : Done). Did origin d.deed d.frames) done) ≡ map (λ (d : Done). d.frames) done
+of_turn : (origin : Origin) (done : List Done) → flat_map piece_in (map (λ (d : Done). Did origin d.effect d.frames) done) ≡ map (λ (d : Done). d.frames) done
 of_turn origin [] = refl
 of_turn origin (d ∷ done) = ap (λ (z : List (List ℕ)). d.frames ∷ z) (of_turn origin done)
 

@@ -52,19 +52,19 @@ some_clear : (t : Arrival) (later : List Arrival) → begins_clear t ≡ true �
 some_clear t later e = rw e (omega arith)
 
 pub none_of_before : NoAnswerOfBefore → (session : ℕ) (sync async : List ℕ) (life : List Happening) (turns : List Turn) → IsExchange session sync async life turns → length (came life) < 2 ^ 64
-    → (before between after : List Happening) (clear : Received) (origin : Origin) (deed : Effect) (frames : List ℕ)
-    → life ≡ before ++ Came Async clear ∷ (between ++ Did origin deed frames ∷ after) → begins_clear (record { side = Async; message = clear }) ≡ true
+    → (before between after : List Happening) (clear : Received) (origin : Origin) (effect : Effect) (frames : List ℕ)
+    → life ≡ before ++ Came Async clear ∷ (between ++ Did origin effect frames ∷ after) → begins_clear (record { side = Async; message = clear }) ≡ true
     → All (λ (o : Origin). o ≡ origin → ⊥) (origins (asked session before))
-none_of_before law session sync async life turns x few before between after clear origin deed frames is begins =
+none_of_before law session sync async life turns x few before between after clear origin effect frames is begins =
     let t : Arrival = record { side = Async; message = clear } in
     let start : List Happening = before ++ Came Async clear ∷ between in
-    let split : life ≡ start ++ Did origin deed frames ∷ after = is ∙ sym (append_assoc before (Came Async clear ∷ between) (Did origin deed frames ∷ after)) in
+    let split : life ≡ start ++ Did origin effect frames ∷ after = is ∙ sym (append_assoc before (Came Async clear ∷ between) (Did origin effect frames ∷ after)) in
     let heard : came start ≡ came before ++ t ∷ came between = flat_map-append told_by before (Came Async clear ∷ between) in
-    let long : came life ≡ came start ++ came (Did origin deed frames ∷ after) = ap came split ∙ flat_map-append told_by start (Did origin deed frames ∷ after) in
+    let long : came life ≡ came start ++ came (Did origin effect frames ∷ after) = ap came split ∙ flat_map-append told_by start (Did origin effect frames ∷ after) in
     let short : length (came before ++ t ∷ came between) < 2 ^ 64
-    = subst (λ (z : List Arrival). length z < 2 ^ 64) heard (omega (arith, few, ap length long, length-append (came start) (came (Did origin deed frames ∷ after)))) in
+    = subst (λ (z : List Arrival). length z < 2 ^ 64) heard (omega (arith, few, ap length long, length-append (came start) (came (Did origin effect frames ∷ after)))) in
     let current : IsCurrent (core_after (started session) (came before ++ t ∷ came between)) origin
-    = subst (λ (z : List Arrival). IsCurrent (core_after (started session) z) origin) heard (x.done start after origin deed frames split).current in
+    = subst (λ (z : List Arrival). IsCurrent (core_after (started session) z) origin) heard (x.done start after origin effect frames split).current in
     λ k d h same. law session (came before) (t ∷ came between) (some_clear t (came between) begins) short k d h
     (subst (λ (o : Origin). IsCurrent (core_after (started session) (came before ++ t ∷ came between)) o) (sym same) current)
 

@@ -13,7 +13,7 @@ use Rattle.psu_messages.specs.Executions.{Reaches, IsOver}
 use Rattle.psu_messages.specs.Executions.Reaches.{Begins, Ends, Tries}
 use Rattle.psu_messages.specs.Effects.{Effect, Executed, Sent}
 use Rattle.psu_messages.specs.Units.{faulty}
-use Rattle.psu_exchange.specs.Exchange.{EachIsReplied, IsDone, IsExchange, Turn, deeds, replies}
+use Rattle.psu_exchange.specs.Exchange.{EachIsReplied, IsDone, IsExchange, Turn, effects, replies}
 use Rattle.psu_exchange.specs.Life.{Happening, Came, Did, came_on, replied}
 use Rattle.psu_exchange.specs.SomeExchange.{answer, async_stream, bare, bare_message, its_deeds, its_order, its_origin, its_reply, some_life, some_turn, sync_stream, text}
 
@@ -30,17 +30,17 @@ on_sync = (
 on_async : IsStream async_stream (came_on Async some_life)
 on_async = ([], ((omega arith, omega arith, omega arith, omega arith), sym (append-nil async_stream), refl, omega arith), nothing_left)
 
-comes : Reaches its_order.source (deeds its_deeds) some_turn.course
+comes : Reaches its_order.source (effects its_deeds) some_turn.course
 comes = Ends (Tries Begins (faulty TriggerIgnored) (true, (refl, refl, refl), λ e. refl) (Executed (faulty TriggerIgnored) its_reply) its_reply (refl, refl)) (record { ends = λ e. refl; answered = refl })
 
 framed : IsAnswer (answer_size None) 2 text answer
 framed = ([], text, record { whole = refl; filled = All-nil (λ (piece : List ℕ). length piece ≡ answer_size None); within = omega arith; some = λ e. e }, refl)
 
-same_done : (known before : List Happening) (its origin : Origin) (one deed : Effect) (out frames : List ℕ) → before ≡ known → origin ≡ its → deed ≡ one → frames ≡ out → IsDone 1 known its one out
-    → IsDone 1 before origin deed frames
-same_done known before its origin one deed out frames h o d f is =
-    subst (λ (z : List Happening). IsDone 1 z origin deed frames) (sym h)
-    (subst (λ (z : Origin). IsDone 1 known z deed frames) (sym o) (subst (λ (z : Effect). IsDone 1 known its z frames) (sym d) (subst (λ (z : List ℕ). IsDone 1 known its one z) (sym f) is)))
+same_done : (known before : List Happening) (its origin : Origin) (one effect : Effect) (out frames : List ℕ) → before ≡ known → origin ≡ its → effect ≡ one → frames ≡ out → IsDone 1 known its one out
+    → IsDone 1 before origin effect frames
+same_done known before its origin one effect out frames h o d f is =
+    subst (λ (z : List Happening). IsDone 1 z origin effect frames) (sym h)
+    (subst (λ (z : Origin). IsDone 1 known z effect frames) (sym o) (subst (λ (z : Effect). IsDone 1 known its z frames) (sym d) (subst (λ (z : List ℕ). IsDone 1 known its one z) (sym f) is)))
 
 none_yet : (known before : List Happening) → before ≡ known → (owed : List (List ℕ)) × (replies 1 known ≡ replied known ++ owed) → (owed : List (List ℕ)) × (replies 1 before ≡ replied before ++ owed)
 none_yet known before h is = subst (λ (z : List Happening). (owed : List (List ℕ)) × (replies 1 z ≡ replied z ++ owed)) (sym h) is
@@ -51,15 +51,15 @@ heard = Came Async (bare_message AsyncInitialize 1) ∷ Came Sync (bare_message 
 abbrev executed : Effect
 executed = Executed (faulty TriggerIgnored) its_reply
 
--- where the deeds stand
-done : (before after : List Happening) (origin : Origin) (deed : Effect) (frames : List ℕ) → some_life ≡ before ++ Did origin deed frames ∷ after → IsDone 1 before origin deed frames
-done [] after origin deed frames e = absurd (cc (e))
-done (a ∷ []) after origin deed frames e = absurd (cc (e))
-done (a ∷ b ∷ []) after origin deed frames e = same_done heard (a ∷ b ∷ []) its_origin origin executed deed [] frames (cc (e)) (cc (e)) (cc (e)) (cc (e)) (record { has_come = ([], [], refl); current = (refl, refl); framed = refl })
-done (a ∷ b ∷ c ∷ []) after origin deed frames e =
-    same_done (heard ++ Did its_origin executed [] ∷ []) (a ∷ b ∷ c ∷ []) its_origin origin (Sent text true) deed answer frames (cc (e)) (cc (e)) (cc (e)) (cc (e)) (record { has_come = ([], [], refl); current = (refl, refl); framed = framed })
-done (a ∷ b ∷ c ∷ d ∷ []) after origin deed frames e = absurd (cc (e))
-done (a ∷ b ∷ c ∷ d ∷ f ∷ before) after origin deed frames e = absurd (cc (e))
+-- where the effects are
+done : (before after : List Happening) (origin : Origin) (effect : Effect) (frames : List ℕ) → some_life ≡ before ++ Did origin effect frames ∷ after → IsDone 1 before origin effect frames
+done [] after origin effect frames e = absurd (cc (e))
+done (a ∷ []) after origin effect frames e = absurd (cc (e))
+done (a ∷ b ∷ []) after origin effect frames e = same_done heard (a ∷ b ∷ []) its_origin origin executed effect [] frames (cc (e)) (cc (e)) (cc (e)) (cc (e)) (record { has_come = ([], [], refl); current = (refl, refl); framed = refl })
+done (a ∷ b ∷ c ∷ []) after origin effect frames e =
+    same_done (heard ++ Did its_origin executed [] ∷ []) (a ∷ b ∷ c ∷ []) its_origin origin (Sent text true) effect answer frames (cc (e)) (cc (e)) (cc (e)) (cc (e)) (record { has_come = ([], [], refl); current = (refl, refl); framed = framed })
+done (a ∷ b ∷ c ∷ d ∷ []) after origin effect frames e = absurd (cc (e))
+done (a ∷ b ∷ c ∷ d ∷ f ∷ before) after origin effect frames e = absurd (cc (e))
 
 -- the core gives nothing for the synchronous channel
 replied_then : EachIsReplied 1 some_life
@@ -78,7 +78,7 @@ some_exchange = record {
   waiting = [];
   in_order = refl;
   turns_done = refl;
-  courses = All-cons (λ (turn : Turn). Reaches turn.order.source (deeds turn.done) turn.course) some_turn [] comes (All-nil (λ (turn : Turn). Reaches turn.order.source (deeds turn.done) turn.course));
+  courses = All-cons (λ (turn : Turn). Reaches turn.order.source (effects turn.done) turn.course) some_turn [] comes (All-nil (λ (turn : Turn). Reaches turn.order.source (effects turn.done) turn.course));
   ends = tt;
   done = done;
   replies_sent = replied_then;

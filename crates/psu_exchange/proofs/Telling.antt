@@ -12,7 +12,7 @@ use Rattle.psu_messages.specs.Units.{Source}
 use Rattle.psu_messages.proofs.Answering.{answers_append, text_append}
 use Rattle.psu_exchange.specs.Answered as told
 use Rattle.psu_exchange.specs.Answered.{AreTold, IsAnswered as IsTurnAnswered, IsTold, IsToldSoFar}
-use Rattle.psu_exchange.specs.Exchange.{Done, Turn, deeds, frames}
+use Rattle.psu_exchange.specs.Exchange.{Done, Turn, effects, frames}
 use Rattle.psu_exchange.proofs.Framing.{EachFits, PartsAreAnAnswer, both_fit, parts, silent, whole}
 use Rattle.psu_exchange.proofs.Splitting.{none_mapped, split}
 
@@ -24,28 +24,28 @@ response_is message a =
     let sent : text_sent message ≡ text_sent a.before ++ a.piece = ap text_sent a.ends ∙ text_append a.before (Sent a.piece true ∷ []) ∙ ap (λ (z : List ℕ). text_sent a.before ++ z) (append-nil a.piece) in
     (some, sym sent ∙ a.text ∙ ap (λ (z : List (List ℕ)). joined z ++ 10 ∷ []) (sym given) ∙ ap (λ b. joined (answers message) ++ end_of b) (sym some))
 
-told_message : PartsAreAnAnswer → (greatest id : ℕ) (source : Source) (from to : ℕ) (message : List Done) → EachFits greatest id message → IsMessage source from to (deeds message) → IsTold greatest id message
+told_message : PartsAreAnAnswer → (greatest id : ℕ) (source : Source) (from to : ℕ) (message : List Done) → EachFits greatest id message → IsMessage source from to (effects message) → IsTold greatest id message
 told_message law greatest id source from to message f m =
     elim m.text [
       | inl a ↦
-          let r = response_is (deeds message) a in
+          let r = response_is (effects message) a in
           inl (r.0, subst (λ (z : List ℕ). IsAnswerCutAnywhere greatest id z (frames message)) r.1 (whole law greatest id message a.before a.piece f a.ends a.whole))
       | inr s ↦ inr (s.answers, silent greatest id (frames message) (subst (λ (z : List ℕ). IsPart greatest id z (frames message)) s.text (parts greatest id message f s.ends)))
     ]
 
-pub told_messages : PartsAreAnAnswer → (greatest id : ℕ) (source : Source) (units : ℕ) (all : List Effect) (done : List Done) → AreMessages source units all → deeds done ≡ all → EachFits greatest id done
+pub told_messages : PartsAreAnAnswer → (greatest id : ℕ) (source : Source) (units : ℕ) (all : List Effect) (done : List Done) → AreMessages source units all → effects done ≡ all → EachFits greatest id done
     → AreTold greatest id source units done
-told_messages law greatest id source units all done NoMessage e f = subst (λ (z : List Done). AreTold greatest id source 0 z) (sym (none_mapped (λ (d : Done). d.deed) done e)) told.AreTold.NoMessage
+told_messages law greatest id source units all done NoMessage e f = subst (λ (z : List Done). AreTold greatest id source 0 z) (sym (none_mapped (λ (d : Done). d.effect) done e)) told.AreTold.NoMessage
 told_messages law greatest id source units all done (OneMore {from = from} {effects = before} m to message is) e f =
-    let s = split (λ (d : Done). d.deed) done before message e in
+    let s = split (λ (d : Done). d.effect) done before message e in
     let fit = both_fit greatest id s.front s.back (subst (λ (z : List Done). EachFits greatest id z) s.is f) in
-    let here : IsMessage source from to (deeds s.back) = subst (λ (z : List Effect). IsMessage source from to z) (sym s.of_right) is in
+    let here : IsMessage source from to (effects s.back) = subst (λ (z : List Effect). IsMessage source from to z) (sym s.of_right) is in
     subst (λ (z : List Done). AreTold greatest id source to z) (sym s.is)
     (told.AreTold.OneMore (told_messages law greatest id source from before s.front m s.of_left fit.0) to s.back here (told_message law greatest id source from to s.back fit.1 here))
 
-told_so_far : PartsAreAnAnswer → (greatest id : ℕ) (source : Source) (done : List Done) (c : Progress) → AreSomeMessages source (deeds done) c.text → EachFits greatest id done → IsToldSoFar greatest id source done
+told_so_far : PartsAreAnAnswer → (greatest id : ℕ) (source : Source) (done : List Done) (c : Progress) → AreSomeMessages source (effects done) c.text → EachFits greatest id done → IsToldSoFar greatest id source done
 told_so_far law greatest id source done c m f =
-    let s = split (λ (d : Done). d.deed) done m.whole m.begun m.is in
+    let s = split (λ (d : Done). d.effect) done m.whole m.begun m.is in
     let fit = both_fit greatest id s.front s.back (subst (λ (z : List Done). EachFits greatest id z) s.is f) in
     record {
       units = m.units;
@@ -53,15 +53,15 @@ told_so_far law greatest id source done c m f =
       begun = s.back;
       is = s.is;
       told = told_messages law greatest id source m.units m.whole s.front m.messages s.of_left fit.0;
-      sent = text_sent (deeds s.back);
+      sent = text_sent (effects s.back);
       rest = c.text.rest;
       answered = ap (λ (z : List Effect). joined (answers z)) s.of_right ∙ sym m.text ∙ ap (λ (z : List Effect). text_sent z ++ c.text.rest) (sym s.of_right);
       parts = parts greatest id s.back fit.1 (ap ends_text s.of_right ∙ m.unended);
     }
 
-pub answered_turn : PartsAreAnAnswer → OverIsMessages → SoFarIsMessages → (greatest : ℕ) (turn : Turn) → Reaches turn.order.source (deeds turn.done) turn.course → EachFits greatest turn.order.origin.id turn.done
+pub answered_turn : PartsAreAnAnswer → OverIsMessages → SoFarIsMessages → (greatest : ℕ) (turn : Turn) → Reaches turn.order.source (effects turn.done) turn.course → EachFits greatest turn.order.origin.id turn.done
     → IsTurnAnswered greatest turn
 answered_turn law over so_far greatest turn comes f = record {
-  whole = λ ended. told_messages law greatest turn.order.origin.id turn.order.source turn.course.standing.units (deeds turn.done) turn.done (over turn.order.source (deeds turn.done) turn.course comes ended) refl f;
-  so_far = told_so_far law greatest turn.order.origin.id turn.order.source turn.done turn.course (so_far turn.order.source (deeds turn.done) turn.course comes) f;
+  whole = λ ended. told_messages law greatest turn.order.origin.id turn.order.source turn.course.standing.units (effects turn.done) turn.done (over turn.order.source (effects turn.done) turn.course comes ended) refl f;
+  so_far = told_so_far law greatest turn.order.origin.id turn.order.source turn.done turn.course (so_far turn.order.source (effects turn.done) turn.course comes) f;
 }

@@ -17,7 +17,7 @@ use Rattle.psu_messages.specs.Executions.{IsOver}
 use Rattle.psu_messages.specs.Effects.{Effect}
 use Rattle.psu_messages.specs.Messages.{IsMessage}
 use Rattle.psu_messages.specs.Units.{Fault, Source, Text}
-use Rattle.psu_exchange.specs.Exchange.{Done, IsExchange, Turn, asked, core_at, deeds, frames}
+use Rattle.psu_exchange.specs.Exchange.{Done, IsExchange, Turn, asked, core_at, effects, frames}
 use Rattle.psu_exchange.specs.Life.{Happening, Came, Did, came, came_on, replied, written}
 
 -- ---- answers
@@ -25,13 +25,13 @@ use Rattle.psu_exchange.specs.Life.{Happening, Came, Did, came, came_on, replied
 -- What went out for a message: its response whole, as Data and one DataEnd, where a unit of it has answered, and else nothing.
 abbrev pub IsTold : ℕ → ℕ → List Done → Type 0
 IsTold greatest id message =
-    ((are_some (answers (deeds message)) ≡ true) × IsAnswerCutAnywhere greatest id (response (answers (deeds message))) (frames message))
-    ⊎ ((answers (deeds message) ≡ []) × (frames message ≡ []))
+    ((are_some (answers (effects message)) ≡ true) × IsAnswerCutAnywhere greatest id (response (answers (effects message))) (frames message))
+    ⊎ ((answers (effects message) ≡ []) × (frames message ≡ []))
 
 -- messages, one after another, which have so many units together, each executed and told
 pub data AreTold (greatest id : ℕ) (source : Source) : ℕ → List Done → Type 0 where
   NoMessage : AreTold greatest id source 0 []
-  OneMore : {from : ℕ} {done : List Done} → AreTold greatest id source from done → (to : ℕ) (message : List Done) → IsMessage source from to (deeds message) → IsTold greatest id message → AreTold greatest id source to (done ++ message)
+  OneMore : {from : ℕ} {done : List Done} → AreTold greatest id source from done → (to : ℕ) (message : List Done) → IsMessage source from to (effects message) → IsTold greatest id message → AreTold greatest id source to (done ++ message)
 
 -- of an order that is executed: its first messages are told, and as Data perhaps a front of what the next one has answered so far
 pub record IsToldSoFar (greatest id : ℕ) (source : Source) (done : List Done) : Type 0 where
@@ -42,7 +42,7 @@ pub record IsToldSoFar (greatest id : ℕ) (source : Source) (done : List Done) 
   pub told : AreTold greatest id source units whole
   pub sent : List ℕ
   pub rest : List ℕ
-  pub answered : joined (answers (deeds begun)) ≡ sent ++ rest
+  pub answered : joined (answers (effects begun)) ≡ sent ++ rest
   pub parts : IsPart greatest id sent (frames begun)
 
 -- Each order that is over is answered, message by message, under its MessageID; of one that is not, a front of this went out.
@@ -53,7 +53,7 @@ pub record IsAnswered (greatest : ℕ) (turn : Turn) : Type 0 where
 -- no payload that the client takes is ever longer, when something is done for a transmission
 abbrev pub TakesAtMost : ℕ → ℕ → List Happening → Type 0
 TakesAtMost greatest session life =
-    (before after : List Happening) (origin : Origin) (deed : Effect) (frames : List ℕ) → life ≡ before ++ Did origin deed frames ∷ after → answer_size (core_at session before).size ≤ greatest
+    (before after : List Happening) (origin : Origin) (effect : Effect) (frames : List ℕ) → life ≡ before ++ Did origin effect frames ∷ after → answer_size (core_at session before).size ≤ greatest
 
 -- An order that was begun and is not answered whole is the last, or a device clear or a FatalError has ended it.
 abbrev pub EachIsTold : ℕ → Core → List Turn → Type 0
@@ -86,8 +86,8 @@ NothingElseGoesOut = (session : ℕ) (sync async : List ℕ) (life : List Happen
 -- Behind an AsyncDeviceClear nothing is done for what came before it, and so nothing of it goes out behind that clear's DeviceClearAcknowledge. (Clears are counted modulo 2^64.)
 abbrev pub NothingOfBeforeAClear : Type 0
 NothingOfBeforeAClear = (session : ℕ) (sync async : List ℕ) (life : List Happening) (turns : List Turn) → IsExchange session sync async life turns → length (came life) < 2 ^ 64
-    → (before between after : List Happening) (clear : Received) (origin : Origin) (deed : Effect) (frames : List ℕ)
-    → life ≡ before ++ Came Async clear ∷ (between ++ Did origin deed frames ∷ after) → begins_clear (record { side = Async; message = clear }) ≡ true
+    → (before between after : List Happening) (clear : Received) (origin : Origin) (effect : Effect) (frames : List ℕ)
+    → life ≡ before ++ Came Async clear ∷ (between ++ Did origin effect frames ∷ after) → begins_clear (record { side = Async; message = clear }) ≡ true
     → All (λ o. o ≡ origin → ⊥) (origins (asked session before))
 
 -- ---- the client's transmissions

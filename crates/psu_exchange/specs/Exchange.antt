@@ -38,9 +38,9 @@ order_in act = []
 abbrev pub orders : ℕ → List Happening → List Order
 orders session life = flat_map order_in (asked session life)
 
--- a deed, and the frames that went out with it
+-- an effect, and the frames that went out with it
 pub record Done : Type 0 where
-  pub deed : Effect
+  pub effect : Effect
   pub frames : List ℕ
 
 -- what was done for an order, and how far it has come with that
@@ -49,14 +49,14 @@ pub record Turn : Type 0 where
   pub done : List Done
   pub course : Progress
 
-abbrev pub deeds : List Done → List Effect
-deeds done = map (λ d. d.deed) done
+abbrev pub effects : List Done → List Effect
+effects done = map (λ d. d.effect) done
 
 abbrev pub frames : List Done → List ℕ
 frames done = flat_map (λ d. d.frames) done
 
 abbrev pub happened : Turn → List Happening
-happened turn = map (λ d. Did turn.order.origin d.deed d.frames) turn.done
+happened turn = map (λ d. Did turn.order.origin d.effect d.frames) turn.done
 
 -- an order is over, or a device clear or a FatalError has ended it
 abbrev pub HasEnded : Core → Turn → Type 0
@@ -70,7 +70,7 @@ EachEnds core (turn ∷ next ∷ later) = HasEnded core turn × EachEnds core (n
 
 -- ---- what goes out
 
--- the frames of a deed: those of a piece of an answer under the MessageID of its transmission, and for any other deed none
+-- the frames of an effect: those of a piece of an answer under the MessageID of its transmission, and for any other effect none
 abbrev pub IsFramed : ℕ → ℕ → Effect → List ℕ → Type 0
 IsFramed size id (Executed request reply) frames = frames ≡ []
 IsFramed size id (Settled reply) frames = frames ≡ []
@@ -79,14 +79,14 @@ IsFramed size id (Sent text true) frames = IsAnswer size id text frames
 
 -- What is done for an order is done behind the message that asked for it, and not behind a device clear or a FatalError that has ended it. Payloads are as long as the
 -- client takes them then.
-pub record IsDone (session : ℕ) (before : List Happening) (origin : Origin) (deed : Effect) (frames : List ℕ) : Type 0 where
+pub record IsDone (session : ℕ) (before : List Happening) (origin : Origin) (effect : Effect) (frames : List ℕ) : Type 0 where
   pub has_come : (first : List Origin) × (others : List Origin) × (origins (asked session before) ≡ first ++ origin ∷ others)
   pub current : IsCurrent (core_at session before) origin
-  pub framed : IsFramed (answer_size (core_at session before).size) origin.id deed frames
+  pub framed : IsFramed (answer_size (core_at session before).size) origin.id effect frames
 
 abbrev pub EachIsDone : ℕ → List Happening → Type 0
 EachIsDone session life =
-    (before after : List Happening) (origin : Origin) (deed : Effect) (frames : List ℕ) → life ≡ before ++ Did origin deed frames ∷ after → IsDone session before origin deed frames
+    (before after : List Happening) (origin : Origin) (effect : Effect) (frames : List ℕ) → life ≡ before ++ Did origin effect frames ∷ after → IsDone session before origin effect frames
 
 -- what the core gives to be sent on the synchronous channel as messages come
 abbrev pub reply_of : Act → List (List ℕ)
@@ -111,7 +111,7 @@ pub record IsExchange (session : ℕ) (sync async : List ℕ) (life : List Happe
   pub waiting : List Order
   pub in_order : orders session life ≡ map (λ turn. turn.order) turns ++ waiting
   pub turns_done : done_in life ≡ flat_map happened turns
-  pub courses : All (λ turn. Reaches turn.order.source (deeds turn.done) turn.course) turns
+  pub courses : All (λ turn. Reaches turn.order.source (effects turn.done) turn.course) turns
   pub ends : EachEnds (core_at session life) turns
   -- and what goes out are their answers and the core's replies
   pub done : EachIsDone session life

@@ -19,7 +19,7 @@ pub data Happening : Type 0 where
 abbrev pub told_by : Happening → List Arrival
 told_by (Came side message) = record { side = side; message = message } ∷ []
 told_by (Replied frames) = []
-told_by (Did origin deed frames) = []
+told_by (Did origin effect frames) = []
 
 abbrev pub came : List Happening → List Arrival
 came life = flat_map told_by life
@@ -39,7 +39,7 @@ came_on side life = flat_map (on side) (came life)
 abbrev pub deed_in : Happening → List Happening
 deed_in (Came side message) = []
 deed_in (Replied frames) = []
-deed_in (Did origin deed frames) = Did origin deed frames ∷ []
+deed_in (Did origin effect frames) = Did origin effect frames ∷ []
 
 abbrev pub done_in : List Happening → List Happening
 done_in life = flat_map deed_in life
@@ -48,7 +48,7 @@ done_in life = flat_map deed_in life
 abbrev pub reply_in : Happening → List (List ℕ)
 reply_in (Came side message) = []
 reply_in (Replied frames) = frames ∷ []
-reply_in (Did origin deed frames) = []
+reply_in (Did origin effect frames) = []
 
 abbrev pub replied : List Happening → List (List ℕ)
 replied life = flat_map reply_in life
@@ -57,7 +57,7 @@ replied life = flat_map reply_in life
 abbrev pub bytes_in : Happening → List ℕ
 bytes_in (Came side message) = []
 bytes_in (Replied frames) = frames
-bytes_in (Did origin deed frames) = frames
+bytes_in (Did origin effect frames) = frames
 
 abbrev pub written : List Happening → List ℕ
 written life = flat_map bytes_in life

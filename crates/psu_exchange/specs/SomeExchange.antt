@@ -52,7 +52,7 @@ abbrev pub its_order : Order
 its_order = record { origin = its_origin; source = Fault TriggerIgnored }
 
 abbrev pub its_deeds : List Done
-its_deeds = record { deed = Executed (faulty TriggerIgnored) its_reply; frames = [] } ∷ record { deed = Sent text true; frames = answer } ∷ []
+its_deeds = record { effect = Executed (faulty TriggerIgnored) its_reply; frames = [] } ∷ record { effect = Sent text true; frames = answer } ∷ []
 
 abbrev pub some_turn : Turn
 some_turn = record { order = its_order; done = its_deeds; course = ended (tried beginning its_reply) }

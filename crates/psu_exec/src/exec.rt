@@ -18,9 +18,10 @@ ghost use Rattle.psu_exec.specs.World.{asks_opc};
 ghost use Rattle.psu_instrument.specs.declared.completion.Completion.{Completion};
 ghost use Rattle.psu_exec.specs.declared.wait.Wait.TheVariants.{Until};
 
+use crate::idle_store::{idle_store_after, put_store_back};
 use crate::seal::Seal;
 use crate::{
-    Condition, Contents, Crowded, Device, End, Ended, Finished, Freed, Grant, IdleStore, Info, Job,
+    Condition, Contents, Crowded, Device, Ended, Finished, Freed, Grant, IdleStore, Info, Job,
     Kind, LockRefusal, NoJob, Outcome, Planned, PowerCause, PowerFault, Reopening, Request,
     Session, Sessions, Stranger,
 };
@@ -28,7 +29,6 @@ use psu_disk::Disk;
 use psu_items::{Batch, Store};
 use psu_nv::DecodeFault;
 use std::alloc::{AllocError, Allocator};
-use std::mem;
 
 /// The device's state with its store. While a job is out, the job has the store.
 #[derive(Drop)]
@@ -395,32 +395,4 @@ fn planned_of<D: Disk, A: Allocator + Copy>(
     ensures batch { result.batch ≡ batch }
 {
     Planned::new(alloc, store, batch)
-}
-
-// The store of a job that was given back.
-fn idle_store_after<D: Disk, A: Allocator + Copy>(finished: Finished<D, A>) -> IdleStore<D, A>
-    ensures { result ≡ idle_store_of finished.end }
-{
-    let Finished { end, seal } = finished;
-    let Seal(_) = seal;
-    match end {
-        End::Stored(store) => IdleStore::Whole(store),
-        End::Unstarted(store, _, _) => IdleStore::Whole(store),
-        End::Broken(broken) => IdleStore::Failed(broken),
-        End::Reopened(store) => IdleStore::Whole(store),
-    }
-}
-
-// Puts the store back into its place, which is empty.
-fn put_store_back<D: Disk, A: Allocator + Copy>(
-    place: &mut Option<IdleStore<D, A>>,
-    idle_store: IdleStore<D, A>,
-)
-    requires { place.old ≡ None }
-    ensures { place.new ≡ Some idle_store }
-{
-    match mem::replace(place, Some(idle_store)) {
-        None => {}
-        Some(_) => unreachable!(),
-    }
 }

@@ -1,8 +1,13 @@
 // The store while no job is out.
+ghost use Rattle.std.specs.Prelude.{◌≡◌, None, Some};
+ghost use Rattle.psu_exec.specs.Jobs.{idle_store_of};
 
+use crate::seal::Seal;
+use crate::{End, Finished};
 use psu_disk::Disk;
 use psu_items::{Broken, Store};
 use std::alloc::Allocator;
+use std::mem;
 
 /// The store while no job is out.
 #[derive(Drop)]
@@ -11,4 +16,32 @@ pub enum IdleStore<D: Disk, A: Allocator + Copy> {
     Whole(Store<D, A>),
     /// A commit has failed.
     Failed(Broken<D, A>),
+}
+
+/// Returns the store of a job that was given back.
+pub fn idle_store_after<D: Disk, A: Allocator + Copy>(finished: Finished<D, A>) -> IdleStore<D, A>
+    ensures { result ≡ idle_store_of finished.end }
+{
+    let Finished { end, seal } = finished;
+    let Seal(_) = seal;
+    match end {
+        End::Stored(store) => IdleStore::Whole(store),
+        End::Unstarted(store, _, _) => IdleStore::Whole(store),
+        End::Broken(broken) => IdleStore::Failed(broken),
+        End::Reopened(store) => IdleStore::Whole(store),
+    }
+}
+
+/// Puts the store back into its place, which is empty.
+pub fn put_store_back<D: Disk, A: Allocator + Copy>(
+    place: &mut Option<IdleStore<D, A>>,
+    idle_store: IdleStore<D, A>,
+)
+    requires { place.old ≡ None }
+    ensures { place.new ≡ Some idle_store }
+{
+    match mem::replace(place, Some(idle_store)) {
+        None => {}
+        Some(_) => unreachable!(),
+    }
 }

@@ -17,7 +17,7 @@ abbrev pub Makes : Type 0 → Sight State Entry → Entry → Sight State Entry 
 Makes honest old entry new = Calls (AdmitsOn honest) old entry new
     ⊎ ((mid : Sight State Entry) × (asking : List ℕ) × (work : Bool) × Calls (AdmitsOn honest) old entry mid × Calls (AdmitsOn honest) mid (Notified asking work) new)
 
--- what a job came to was given back
+-- the result of a job was given back
 abbrev pub GivesBack : Type 0 → JobEnd → Sight State Entry → Sight State Entry → Type 0
 GivesBack honest end old new = (over : Option (List ℕ)) × Makes honest old (GaveBack end over) new
 

@@ -17,7 +17,7 @@ use psu_messages::{Executor, Need, proceed};
 use std::alloc::Global;
 use std::sync::{MutexGuard, Wait};
 
-/// A session whose units are executed: who does it, and what is executed. Each deed is a call of the device under the caller's seat; what is written on
+/// A session whose units are executed: who does it, and what is executed. Each effect is a call of the device under the caller's seat; what is written on
 /// the connection no contract can name.
 #[derive(Drop)]
 pub struct Execution<'a, 'c, 'r, R: Wait, D: Disk, G: Gate> {
@@ -69,7 +69,7 @@ impl<'a, 'c, 'r, R: Wait, D: Disk + Drop, G: Gate + Drop> Executor<Global>
     for Execution<'a, 'c, 'r, R, D, G> {
     type Stop = Stop;
 
-    ghost does = { λ x deed y. (y.caller.ghost_name ≡ x.caller.ghost_name) × (y.member ≡ x.member) × IsMade D.honest x.member.now.session x.caller.now.seat deed y.caller.now.seat };
+    ghost does = { λ x effect y. (y.caller.ghost_name ≡ x.caller.ghost_name) × (y.member ≡ x.member) × IsMade D.honest x.member.now.session x.caller.now.seat effect y.caller.now.seat };
 
     ghost fails = { λ x request stop y. (y.caller.ghost_name ≡ x.caller.ghost_name) × (y.member ≡ x.member) × (y.caller.now.seat ≡ x.caller.now.seat) };
 
