@@ -12,7 +12,7 @@ use Rattle.psu_instrument.specs.Instrument.{Instrument}
 use Rattle.psu_instrument.specs.Meaning.{ActsAs, Meaning, Refuses, Does, Keeps, Completes}
 use Rattle.psu_instrument.specs.declared.act.Act.TheVariants as act
 use Rattle.psu_instrument.specs.declared.completion.Completion.{Completion}
-use Rattle.psu_exec.specs.Device.{Reply, Answer, Done, Error, Held, Later, State, Flush, MayMean, Step, AnswersCall, AnswersCalled, after_meant, called, followed, here, is_denied, is_later, is_whole, kept_unless, meant, refused, wants_memory, with_instrument}
+use Rattle.psu_exec.specs.Device.{Reply, Answer, Done, Error, Held, Later, State, Flush, MayMean, Step, AnswersCall, AnswersCalled, after_meant, called, followed, here, is_denied, is_later, is_whole, kept_unless, meant, refused, NeedsMemory, with_instrument}
 use Rattle.psu_exec.specs.Consistent.{IsConsistent}
 use Rattle.psu_exec.proofs.Answering.{comes_later, is_answered_now, is_held}
 use Rattle.psu_exec.proofs.RqsUpdates.{followed_same}
@@ -57,7 +57,7 @@ pub failed : (A : Type 0) (s : State) (session : ℕ) (m : Meaning) (e : ScpiErr
 failed A s session (Refuses x) e new h = (inl cc, ap (λ (i : Instrument). refused (with_instrument s i) e) h.1)
 failed A s session (Does None after) e new h = absurd (let bad = h.0 in cc)
 failed A s session (Does (Some text) after) e new (inl h) = absurd (let bad = h.0 in cc)
-failed A s session (Does (Some text) after) e new (inr h) = (inr (let same = h.0 in cc, refl), ap (λ (i : Instrument). refused (with_instrument s i) e) h.1)
+failed A s session (Does (Some text) after) e new (inr h) = (inr (let same = h.0 in cc, h.2), ap (λ (i : Instrument). refused (with_instrument s i) e) h.1)
 failed A s session (Keeps change) e new h = absurd h
 failed A s session (Completes c) e new h = absurd (let bad = h.0 in cc)
 
@@ -109,7 +109,7 @@ fits_of limit c change found h = elim (cases_Bool (fits limit (nv.apply c change
 -- a change that is not made: it doesn't fit, or an allocation fails
 pub not_made : (f : Flush) (change : nv.Command) (e : ScpiError) → nv.refused f.contents change ≡ None → is_whole f.store ≡ true
     → ((e ≡ OutOfMemory) × (fits f.limit (nv.apply f.contents change) ≡ true)) ⊎ ((e ≡ MediaFull) × (fits f.limit (nv.apply f.contents change) ≡ false)) → MayMean f (Keeps change) (Error e)
-not_made f change e found whole (inl m) = inr (ap Error m.0, ap (λ (reply : Reply). wants_memory (Some change) reply) (answers true m.1)) where
+not_made f change e found whole (inl m) = inr (ap Error m.0, subst (NeedsMemory (Some change)) (sym (answers true m.1)) refl) where
   answers : (b : Bool) → fits f.limit (nv.apply f.contents change) ≡ b → kept_unless (nv.refused f.contents change) (is_whole f.store) (fits f.limit (nv.apply f.contents change)) ≡ kept_unless None true b
   answers b fit = rw (found, whole, fit) refl
 not_made f change e found whole (inr m) = inl (ap Error m.0 ∙ sym (answers false m.1)) where

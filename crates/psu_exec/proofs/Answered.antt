@@ -11,7 +11,7 @@ use Rattle.psu_instrument.specs.Meaning.{Situation, Meaning, Refuses, Does, Keep
 use Rattle.psu_instrument.specs.declared.completion.Completion.{Completion}
 use Rattle.psu_instrument.specs.declared.completion.Completion.TheVariants as completion
 use Rattle.psu_instrument.proofs.Speaking.{each_answer_has_text, some_digit}
-use Rattle.psu_exec.specs.Calls.{MaySettle, settle_answer}
+use Rattle.psu_exec.specs.Calls.{settle_answer}
 use Rattle.psu_exec.specs.Device.{Reply, Answer, Error, Parked, Flush, State, MayAnswer, MayMean, answer_complete, answer_meant, here, is_later, is_whole, kept_unless, meant, parks, wait_of}
 use Rattle.psu_exec.specs.declared.wait.Wait.{Wait}
 use Rattle.psu_exec.specs.declared.wait.Wait.TheVariants.{Until, CutOff}
@@ -77,6 +77,5 @@ wait_told None text is = cc
 wait_told (Some CutOff) text is = cc
 wait_told (Some (Until c n)) text is = until_told (n == 0) c text is
 
-pub settle_has_text : (s : State) (session : ℕ) (reply : Reply) → MaySettle s session reply → HasText reply
-settle_has_text s session reply (inl e) text is = wait_told (wait_of s.flush session) text (sym e ∙ is)
-settle_has_text s session reply (inr (e, wanted)) text is = let bad = sym e ∙ is in cc
+pub settle_has_text : (s : State) (session : ℕ) (reply : Reply) → reply ≡ settle_answer (wait_of s.flush session) → HasText reply
+settle_has_text s session reply e text is = wait_told (wait_of s.flush session) text (sym e ∙ is)

@@ -1,5 +1,5 @@
 // Files.
-ghost use Rattle.std.specs.Prelude.{◌≡◌, ℕ, ◌++◌, Bool, IfOk, OnOk};
+ghost use Rattle.std.specs.Prelude.{◌≡◌, ◌<◌, ℕ, ◌++◌, Bool, length, IfOk, OnOk, OnErr};
 ghost use Rattle.psu_nv.specs.Contents.{Contents as Kept};
 ghost use Rattle.psu_instrument.specs.Files.{catalog_text, entries, entry_of, kind_text, macro_moved, on_name, on_two, state_moved, stored};
 ghost use Rattle.psu_instrument.specs.Instrument.{Instrument as State};
@@ -120,7 +120,8 @@ fn put_entry<A: Allocator + Copy>(
     name: &[u8],
     value: &[u8],
 ) -> Result<(), AllocError>
-    ensures { OnOk result (text.new ≡ text.old ++ entry_of name.now value.now) }
+    ensures ok { OnOk result (text.new ≡ text.old ++ entry_of name.now value.now) }
+    ensures many { OnErr result (16 < length (text.old ++ entry_of name.now value.now)) }
 {
     let [code, bytes @ ..] = value else {
         return Ok(());
@@ -139,7 +140,8 @@ fn put_entries<A: Allocator + Copy>(
     text: &mut Bytes<A>,
     files: &[Pair<A>],
 ) -> Result<(), AllocError>
-    ensures { OnOk result (text.new ≡ text.old ++ entries files.now) }
+    ensures ok { OnOk result (text.new ≡ text.old ++ entries files.now) }
+    ensures many { OnErr result (16 < length (text.old ++ entries files.now)) }
 {
     for file in files {
         put_entry(text, file.key(), file.value())?;
@@ -153,7 +155,8 @@ pub(crate) fn catalog_text<A: Allocator + Copy>(
     limit: u16,
     contents: &Contents<A>,
 ) -> Result<Bytes<A>, AllocError>
-    ensures { IfOk result (λ text. text ≡ catalog_text limit contents.now) }
+    ensures ok { IfOk result (λ text. text ≡ catalog_text limit contents.now) }
+    ensures many { OnErr result (16 < length (catalog_text limit contents.now)) }
 {
     let cost = contents.cost();
     let left = (limit as u128).saturating_sub(cost);

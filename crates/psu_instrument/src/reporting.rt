@@ -1,5 +1,5 @@
 // Errors and the groups of status registers.
-ghost use Rattle.std.specs.Prelude.{◌≡◌, ℕ, Bool, ◌++◌, IfOk, OnOk};
+ghost use Rattle.std.specs.Prelude.{◌≡◌, ◌<◌, ℕ, Bool, length, IfOk, OnErr};
 ghost use Rattle.psu_nv.specs.Contents.{Contents as Kept};
 ghost use Rattle.psu_status.specs.Registers.{fifteen_bits, with_filter};
 ghost use Rattle.psu_status.specs.Status.{all_preset, with_group};
@@ -18,7 +18,8 @@ fn error_text<A: Allocator + Copy>(
     alloc: A,
     error: Option<ScpiError>,
 ) -> Result<Bytes<A>, AllocError>
-    ensures { IfOk result (λ text. text ≡ error_text error) }
+    ensures ok { IfOk result (λ text. text ≡ error_text error) }
+    ensures many { OnErr result (16 < length (error_text error)) }
 {
     let Some(error) = error else {
         return Bytes::of(alloc, b"0,\"No error\"");

@@ -40,8 +40,8 @@ fn greatest_of(level: Level) -> u32
     ensures { result ≡ greatest_of level }
 {
     match level {
-        Level::Voltage | Level::Protection => 60000,
-        Level::Current => 5000,
+        Level::Voltage | Level::Protection => Millivolts::GREATEST.0,
+        Level::Current => Milliamperes::GREATEST.0,
     }
 }
 

@@ -1,5 +1,5 @@
 // Block data.
-ghost use Rattle.std.specs.Prelude.{ℕ, ◌≡◌, ◌==◌, ◌||◌, ◌<◌, ◌^◌, length, IfOk, IfErr};
+ghost use Rattle.std.specs.Prelude.{ℕ, ◌≡◌, ◌==◌, ◌||◌, ◌<◌, ◌^◌, length, IfOk, IfErr, OnErr};
 ghost use Rattle.psu_lex.specs.Bytes.{starts};
 ghost use Rattle.psu_lex.specs.Data.{IsBlockOf, Refuses, definite_text};
 ghost use Rattle.psu_lex.specs.declared.scpi_error.ScpiError.TheVariants.{InvalidBlockData};
@@ -36,25 +36,25 @@ pub fn block<A: Allocator + Copy>(alloc: A, text: &[u8]) -> Result<Bytes<A>, Scp
     }
     let digits = (rest[0] - b'0') as usize;
     let content = after(front(rest, end), 1 + digits);
-    let mut list = Vec::new(alloc);
-    match list.extend_from_slice(content) {
-        Ok(()) => Ok(Bytes::many(list)),
+    match Bytes::of(alloc, content) {
+        Ok(bytes) => Ok(bytes),
         Err(_) => Err(ScpiError::OutOfMemory),
     }
 }
 
 /// Returns the bytes as a block of definite length (IEEE 488.2, 8.7.9), with the length in as few digits as possible.
+/// Only a block of more than 16 bytes needs an allocation.
 pub fn definite<A: Allocator + Copy>(alloc: A, bytes: &[u8]) -> Result<Bytes<A>, AllocError>
     requires { length bytes.now < 10 ^ 9 }
     ensures exact { IfOk result (λ text. text ≡ definite_text bytes.now) }
     ensures read { IfOk result (λ text. IsBlockOf text bytes.now) }
+    ensures many { OnErr result (16 < length (definite_text bytes.now)) }
 {
     let mut buffer = Buffer::new();
     let digits = buffer.format(bytes.len()).as_bytes();
-    let mut list = Vec::new(alloc);
-    list.push(b'#')?;
-    list.push(b'0' + digits.len() as u8)?;
-    list.extend_from_slice(digits)?;
-    list.extend_from_slice(bytes)?;
-    Ok(Bytes::many(list))
+    let mut text = Bytes::new(alloc);
+    text.put(&[b'#', b'0' + digits.len() as u8])?;
+    text.put(digits)?;
+    text.put(bytes)?;
+    Ok(text)
 }

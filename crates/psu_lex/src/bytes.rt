@@ -1,5 +1,5 @@
 // Bytes that a call returns, and how they are stored.
-ghost use Rattle.std.specs.Prelude.{◌≡◌, [], ◌++◌, decimal, IfOk, OnOk, OnErr};
+ghost use Rattle.std.specs.Prelude.{◌≡◌, ◌<◌, ◌≤◌, [], ◌++◌, length, decimal, IfOk, OnOk, OnErr};
 
 use arrayvec::ArrayVec;
 use itoa::Buffer;
@@ -9,7 +9,7 @@ use std::marker::Model;
 /// The number of bytes that are stored without allocation.
 pub const FEW: usize = 16;
 
-/// Bytes: a few inline, or any number in allocated memory.
+/// Bytes: a few inline, or more in allocated memory.
 #[derive(Drop)]
 pub enum Held<A: Allocator + Copy> {
     /// A few bytes; where they become too many, memory is allocated by this allocator.
@@ -17,7 +17,7 @@ pub enum Held<A: Allocator + Copy> {
     Many(Vec<u8, A>),
 }
 
-/// Bytes that a call returns; a few bytes that are known at once need no allocation. Contracts see the list of them.
+/// Bytes that a call returns; a few bytes need no allocation. Contracts see the list of them.
 #[derive(Drop)]
 pub struct Bytes<A: Allocator + Copy> {
     held: Held<A>,
@@ -25,11 +25,13 @@ pub struct Bytes<A: Allocator + Copy> {
 
 impl<A: Allocator + Copy> Model for Bytes<A> {
     ghost use Rattle.std.specs.Prelude.{List, ℕ};
-    ghost use Rattle.psu_lex.specs.Held.{bytes_in};
+    ghost use Rattle.psu_lex.specs.Held.{bytes_in, AllocatesForMany};
 
     ghost Value = { List ℕ };
 
     ghost view = { λ bytes. bytes_in bytes.held };
+
+    ghost invariant = { λ bytes. AllocatesForMany bytes.held };
 }
 
 // Returns a list of a few bytes followed by more bytes.
@@ -46,35 +48,56 @@ impl<A: Allocator + Copy> Bytes<A> {
     pub fn new(alloc: A) -> Bytes<A>
         ensures { result ≡ [] }
     {
-        Bytes::many(Vec::new(alloc))
-    }
-
-    /// Returns the bytes of a list.
-    pub(crate) fn many(list: Vec<u8, A>) -> Bytes<A>
-        ensures { result ≡ list.items }
-    {
         Bytes {
-            held: Held::Many(list),
+            held: Held::Few(alloc, ArrayVec::new()),
         }
     }
 
-    /// Returns these bytes; allocates only for more than a few.
-    pub fn of(alloc: A, bytes: &[u8]) -> Result<Bytes<A>, AllocError>
-        ensures { IfOk result (λ copy. copy ≡ bytes.now) }
+    /// Returns a few bytes. This does not allocate.
+    pub fn few(alloc: A, bytes: &[u8]) -> Bytes<A>
+        requires { length bytes.now ≤ 16 }
+        ensures { result ≡ bytes.now }
     {
         let mut few = ArrayVec::new();
         match few.try_extend_from_slice(bytes) {
-            Ok(()) => Ok(Bytes {
+            Ok(()) => Bytes {
                 held: Held::Few(alloc, few),
-            }),
-            Err(_) => Ok(Bytes::many(bytes.to_vec(alloc)?)),
+            },
+            Err(_) => unreachable!(),
         }
     }
 
-    /// Appends bytes.
+    /// Returns the bytes of a list. This does not allocate.
+    pub(crate) fn of_list(alloc: A, list: Vec<u8, A>) -> Bytes<A>
+        ensures { result ≡ list.items }
+    {
+        let mut few = ArrayVec::new();
+        match few.try_extend_from_slice(list.as_slice()) {
+            Ok(()) => Bytes {
+                held: Held::Few(alloc, few),
+            },
+            Err(_) => Bytes {
+                held: Held::Many(list),
+            },
+        }
+    }
+
+    /// Returns these bytes. Only more than 16 bytes need an allocation.
+    pub fn of(alloc: A, bytes: &[u8]) -> Result<Bytes<A>, AllocError>
+        ensures ok { IfOk result (λ copy. copy ≡ bytes.now) }
+        ensures many { OnErr result (16 < length bytes.now) }
+    {
+        let mut copy = Bytes::new(alloc);
+        copy.put(bytes)?;
+        Ok(copy)
+    }
+
+    /// Appends bytes. Only where there are then more than 16, it needs an allocation; if that fails, nothing has
+    /// changed.
     pub fn put(&mut self, bytes: &[u8]) -> Result<(), AllocError>
         ensures ok { OnOk result (self.new ≡ self.old ++ bytes.now) }
         ensures err { OnErr result (self.new ≡ self.old) }
+        ensures many { OnErr result (16 < length (self.old ++ bytes.now)) }
     {
         match &mut self.held {
             Held::Few(alloc, few) => {
@@ -88,10 +111,11 @@ impl<A: Allocator + Copy> Bytes<A> {
         }
     }
 
-    /// Appends a number in decimal digits.
+    /// Appends a number in decimal digits, as `put` appends bytes.
     pub fn put_number(&mut self, number: u128) -> Result<(), AllocError>
         ensures ok { OnOk result (self.new ≡ self.old ++ decimal number) }
         ensures err { OnErr result (self.new ≡ self.old) }
+        ensures many { OnErr result (16 < length (self.old ++ decimal number)) }
     {
         let mut buffer = Buffer::new();
         self.put(buffer.format(number).as_bytes())

@@ -124,7 +124,7 @@ fn filled<'a, A: Allocator + Copy>(
         list.extend_from_slice(piece)?;
         rest = after(rest, used);
     }
-    Ok(Bytes::many(list))
+    Ok(Bytes::of_list(alloc, list))
 }
 
 /// Returns the expansion of a macro (IEEE 488.2, 10.8): its body with `$1` to `$9` outside strings and blocks replaced

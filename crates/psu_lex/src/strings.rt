@@ -22,7 +22,7 @@ fn undoubled<A: Allocator + Copy>(alloc: A, body: &[u8], quote: u8) -> Result<By
         list.push(*byte)?;
         second = *byte == quote;
     }
-    Ok(Bytes::many(list))
+    Ok(Bytes::of_list(alloc, list))
 }
 
 /// Whether the text is exactly one whole string.

@@ -25,7 +25,7 @@ impl OutputSettings {
     pub(crate) const RESET: OutputSettings = OutputSettings {
         voltage: Millivolts(0),
         current: Milliamperes(0),
-        level: Millivolts(60000),
+        level: Millivolts::GREATEST,
         protection: false,
         on: false,
     };
@@ -47,7 +47,9 @@ impl OutputSettings {
     pub(crate) fn is_allowed(&self) -> bool
         ensures { result ≡ is_allowed self.now }
     {
-        self.voltage.0 <= 60000 && self.current.0 <= 5000 && self.level.0 <= 60000
+        self.voltage.0 <= Millivolts::GREATEST.0
+            && self.current.0 <= Milliamperes::GREATEST.0
+            && self.level.0 <= Millivolts::GREATEST.0
     }
 
     // What is measured with a load.

@@ -25,9 +25,9 @@ impl Setting {
         ensures { result ≡ is_in_range self }
     {
         match self {
-            Setting::Voltage(voltage) => voltage.0 <= 60000,
-            Setting::Current(current) => current.0 <= 5000,
-            Setting::ProtectionLevel(level) => level.0 <= 60000,
+            Setting::Voltage(voltage) => voltage.0 <= Millivolts::GREATEST.0,
+            Setting::Current(current) => current.0 <= Milliamperes::GREATEST.0,
+            Setting::ProtectionLevel(level) => level.0 <= Millivolts::GREATEST.0,
             Setting::Protection(_) | Setting::State(_) => true,
         }
     }

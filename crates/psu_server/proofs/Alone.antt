@@ -11,7 +11,7 @@ use Rattle.psu_instrument.specs.Macros.{CallGives, ExpandsAt, written}
 use Rattle.psu_tree.specs.declared.unit_request.Request.{Request}
 use Rattle.psu_exec.specs.declared.condition.Condition.TheVariants.{Whole}
 use Rattle.psu_exec.specs.Device.{Reply, Done, Answer, Error, Expand, Parked, Held, Later, State, Flush, AnswersBeside, AnswersCalled, AnswersNow, MayAnswer, answer_call, after_unit, called, count_held, is_denied, is_later as comes_later, target, wait_of}
-use Rattle.psu_exec.specs.Calls.{JobData, JobEnd, JobKind, Commit, Stored, Unstarted, Failed, Reopened, Job, Executed, Settled, Took, GaveBack, HasNone, HasWork, MaySettle, ends_wait, job_out, kind_for, stored, with_stored, settle_answer, after_settle, settled, unparked, wait_less}
+use Rattle.psu_exec.specs.Calls.{JobData, JobEnd, JobKind, Commit, Stored, Unstarted, Failed, Reopened, Job, Executed, Settled, Took, GaveBack, HasNone, HasWork, ends_wait, job_out, kind_for, stored, with_stored, settle_answer, after_settle, settled, unparked, wait_less}
 use Rattle.psu_exec.specs.World.{World}
 use Rattle.psu_exec.proofs.Denied.{later_leaves}
 use Rattle.psu_server.specs.Lives.{Calls}
@@ -218,10 +218,6 @@ at_once r w new c Held q final call = cc
 at_once r w new c Later q final call = cc
 
 -- the end of a wait
-settle_reply : (s : State) (o : Reply) → MaySettle s 1 o → is_out_of_memory o ≡ false → o ≡ settle_answer (wait_of s.flush 1)
-settle_reply s o (inl e) long = e
-settle_reply s o (inr e) long = let bad = ap is_out_of_memory (sym e.0) ∙ long in cc
-
 settle_limit : (f : Flush) (o : Reply) → (settled f 1 o).limit ≡ f.limit
 settle_limit f o = by (ends_wait o) where
   by : (b : Bool) → (if b then unparked f 1 else f).limit ≡ f.limit
@@ -236,7 +232,7 @@ settle_keeps f o = by (ends_wait o) where
 
 settle_at : (r : Rest) (w new : World) (o : Reply) → Still r w → Calls w (Settled 1 o) new → is_final o ≡ true → is_out_of_memory o ≡ false → Same (waited r) o new
 settle_at r w new o q call final long =
-    let reply : o ≡ settle_answer (wait_of r.state.flush 1) = settle_reply w.state o call.1.2.1 long ∙ ap (λ (s : State). settle_answer (wait_of s.flush 1)) q.state in
+    let reply : o ≡ settle_answer (wait_of r.state.flush 1) = call.1.2.1 ∙ ap (λ (s : State). settle_answer (wait_of s.flush 1)) q.state in
     let there : new.disk ≡ w.disk = ap (λ (z : World). z.disk) call.1.4 ∙ call.1.3 in
     let a : Reply = settle_answer (wait_of r.state.flush 1) in
     record {

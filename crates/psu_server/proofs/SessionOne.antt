@@ -54,9 +54,8 @@ over_free f (Some (Until c n)) final = over_if f c (n == 0) final
 
 -- a final reply leaves no wait
 pub settle_free : (s new : State) (reply : Reply) → Allows s (Settled 1 reply) new → is_final reply ≡ true → is_out_of_memory reply ≡ false → wait_of new.flush 1 ≡ None
-settle_free s new reply (opened, inl may, is) final long =
+settle_free s new reply (opened, may, is) final long =
     ap (λ (z : State). wait_of z.flush 1) is ∙ ap (λ (r : Reply). wait_of (settled s.flush 1 r) 1) may ∙ over_free s.flush (wait_of s.flush 1) (ap is_final (sym may) ∙ final)
-settle_free s new reply (opened, inr may, is) final long = let bad = ap is_out_of_memory (sym may.0) ∙ long in cc
 
 pub clear_free : (s new : State) → Allows s (Cleared 1) new → wait_of new.flush 1 ≡ None
 clear_free s new (opened, is) = ap (λ (z : State). wait_of z.flush 1) is ∙ no_wait s.flush.waits

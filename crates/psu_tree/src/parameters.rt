@@ -11,6 +11,7 @@ ghost use Rattle.psu_tree.specs.Taken.{Gives};
 use crate::walks::is_same;
 use crate::{Choice, Extreme, Level, Text};
 use psu_lex::{Datum, DatumClass, ScpiError, Written, number};
+use psu_outputs::{Milliamperes, Millivolts};
 
 // Whether the text is this word, ignoring case.
 fn is_word(text: &[u8], word: &[u8]) -> bool
@@ -120,8 +121,8 @@ fn greatest_of(level: Level) -> u16
     ensures { result ≡ greatest_of level }
 {
     match level {
-        Level::Voltage | Level::Protection => 60_000,
-        Level::Current => 5_000,
+        Level::Voltage | Level::Protection => Millivolts::GREATEST.0 as u16,
+        Level::Current => Milliamperes::GREATEST.0 as u16,
     }
 }
 

@@ -1,4 +1,4 @@
-use Rattle.std.proofs.Common.{refl, sym, ap, ◌∙◌, subst, inl, inr, List, ℕ, ◌++◌, ◌+◌, ◌-◌, slice_index, drop}
+use Rattle.std.proofs.Common.{refl, sym, ap, ◌∙◌, subst, inl, inr, ◌+◌, ◌-◌, slice_index, drop}
 use Rattle.psu_lex.specs.Data.{IsBlockOf}
 use Rattle.psu_lex.proofs.PieceScans.{hash_first, no_block, not_all, block_of}
 use Rattle.psu_lex.proofs.blocks.block.Goals as goal
@@ -17,7 +17,7 @@ pub returns-in-Ok-clause-ok : goal.returns-in-Ok-clause-ok
 returns-in-Ok-clause-ok g c =
     let rest = c.after-rest.result.now in
     let text = hash_first c.args.text.now rest (sym c.begins.ensures ∙ c.if-not-begins.false) c.after-rest.ensures in
-    let is = c.many.ensures ∙ c.in-Ok.ensures.items ∙ ap (λ (z : List ℕ). z ++ c.after-content.result.now) c.new-list.ensures.items ∙ c.after-content.ensures ∙ ap (drop (1 + (slice_index rest 0 - 48))) c.front.ensures in
+    let is = c.in-Ok.ensures.ok ∙ c.after-content.ensures ∙ ap (drop (1 + (slice_index rest 0 - 48))) c.front.ensures in
     subst (IsBlockOf c.args.text.now) (sym is) (block_of c.args.text.now rest c.in-Some.end text c.in-Some.ensures.some (sym c.is_all.ensures ∙ c.if-not-is_all.false))
 
 pub returns-in-Err-clause-err : goal.returns-in-Err-clause-err

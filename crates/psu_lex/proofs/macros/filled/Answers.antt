@@ -17,4 +17,4 @@ pub returns : goal.returns
 returns g c =
     let args = map (λ arg. arg.now) c.args.args.now in
     let all = c.loop-rest.invariant 0 [] (spells_end args c.loop-rest.rest.now c.is_empty.result c.is_empty.ensures c.loop-rest-test.false) in
-    (all.0, subst (Spells args c.args.body.now all.0) (append-nil c.loop-rest.list.items ∙ sym c.many.ensures) all.1)
+    (all.0, subst (Spells args c.args.body.now all.0) (append-nil c.loop-rest.list.items ∙ sym c.of_list.ensures) all.1)
