@@ -3,6 +3,7 @@ use Rattle.std.proofs.Common.{◌≡◌, ◌⊎◌, ℕ, Bool, true, false, ◌&
 use Rattle.std.specs.List.{list_any}
 use Rattle.std.proofs.lemmas.List.Elements.{filter-append}
 use Rattle.psu_hislip.specs.Action.{Act}
+use Rattle.psu_hislip.specs.LockResponses.{lock_code}
 use Rattle.psu_hislip.specs.Core.{Core, Outcome, reply, is_sync, is_begun, after_begin, takes, row}
 use Rattle.psu_hislip.specs.Runs.{Arrival, outcome, actions_of, core_after, received_type, is_clear, begins_clear, is_complete, completes_clear, is_input, brings_input, EndsComplete, is_execution, executions, started}
 use Rattle.psu_hislip.specs.declared.header.Header.{Header}
@@ -10,6 +11,7 @@ use Rattle.psu_hislip.specs.declared.side.Side.{Side}
 use Rattle.psu_hislip.specs.declared.side.Side.TheVariants.{Sync, Async}
 use Rattle.psu_hislip.specs.declared.device_clear.DeviceClear.{DeviceClear}
 use Rattle.psu_hislip.specs.declared.device_clear.DeviceClear.TheVariants.{Idle, InProgress, Early}
+use Rattle.psu_hislip.specs.declared.lock_responses.LockResponse.TheVariants as lock
 use Rattle.psu_hislip.specs.declared.message_type.MessageType.{MessageType}
 use Rattle.psu_hislip.specs.declared.message_type.MessageType.TheVariants.{AsyncLock, AsyncLockResponse, Data, DataEnd, DeviceClearComplete, AsyncRemoteLocalControl, Trigger, AsyncMaximumMessageSize, AsyncInitialize, AsyncDeviceClear, AsyncStatusQuery, AsyncLockInfo}
 use Rattle.psu_hislip.proofs.Runs.{ends_badly, failed_before, not_failed, core_after-append}
@@ -59,7 +61,7 @@ clear_begins core t b early (Row type h p f m i n k g o) =
 -- # Between the two messages
 
 locked_executions : (b c : Bool) (timeout : ℕ) (string : List ℕ)
-    → executions ((if b then Act.Release else (if c then reply Async AsyncLockResponse 3 else Act.Lock timeout string)) ∷ []) ≡ []
+    → executions ((if b then Act.Release else (if c then reply Async AsyncLockResponse (lock_code lock.Error) else Act.Lock timeout string)) ∷ []) ≡ []
 locked_executions true c timeout string = refl
 locked_executions false true timeout string = refl
 locked_executions false false timeout string = refl

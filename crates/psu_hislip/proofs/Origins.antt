@@ -4,6 +4,7 @@ use Rattle.std.specs.List.{filter}
 use Rattle.std.proofs.lemmas.Grind.{flat_map-append}
 use Rattle.std.proofs.lemmas.List.Elements.{filter-append, All-nil, All-cons, All-append}
 use Rattle.psu_hislip.specs.Action.{Act}
+use Rattle.psu_hislip.specs.LockResponses.{lock_code}
 use Rattle.psu_hislip.specs.Transmission.{executed, added}
 use Rattle.psu_hislip.specs.Core.{Core, Outcome, reply, is_sync, takes, row, delivered, is_delivered, origin}
 use Rattle.psu_hislip.specs.Runs.{Arrival, outcome, actions_of, core_after, received_type, is_clear, begins_clear, origin_of, origins, clears_in}
@@ -11,6 +12,7 @@ use Rattle.psu_hislip.specs.declared.header.Header.{Header}
 use Rattle.psu_hislip.specs.declared.origin.Origin.{Origin}
 use Rattle.psu_hislip.specs.declared.side.Side.{Side}
 use Rattle.psu_hislip.specs.declared.side.Side.TheVariants.{Sync, Async}
+use Rattle.psu_hislip.specs.declared.lock_responses.LockResponse.TheVariants as lock
 use Rattle.psu_hislip.specs.declared.message_type.MessageType.{MessageType}
 use Rattle.psu_hislip.specs.declared.message_type.MessageType.TheVariants.{AsyncLock, AsyncLockResponse, Data, DataEnd, DeviceClearComplete, AsyncRemoteLocalControl, Trigger, AsyncMaximumMessageSize, AsyncInitialize, AsyncDeviceClear, AsyncStatusQuery, AsyncLockInfo}
 use Rattle.psu_hislip.proofs.Runs.{ends_badly, not_failed}
@@ -79,7 +81,7 @@ executed_origins : (o : Origin) (bytes : Option (List ℕ)) → origins (execute
 executed_origins o None = refl
 executed_origins o (Some bytes) = refl
 
-locked_origins : (b c : Bool) (timeout : ℕ) (string : List ℕ) → origins ((if b then Act.Release else (if c then reply Async AsyncLockResponse 3 else Act.Lock timeout string)) ∷ []) ≡ []
+locked_origins : (b c : Bool) (timeout : ℕ) (string : List ℕ) → origins ((if b then Act.Release else (if c then reply Async AsyncLockResponse (lock_code lock.Error) else Act.Lock timeout string)) ∷ []) ≡ []
 locked_origins true c timeout string = refl
 locked_origins false true timeout string = refl
 locked_origins false false timeout string = refl

@@ -3,6 +3,7 @@ use Rattle.std.proofs.Common.{◌≡◌, ℕ, Bool, true, false, Option, Some, N
 use Rattle.std.proofs.lemmas.Grind.{flat_map-append}
 use Rattle.psu_hislip.specs.Header.{header_bytes}
 use Rattle.psu_hislip.specs.Action.{Act}
+use Rattle.psu_hislip.specs.LockResponses.{lock_code}
 use Rattle.psu_hislip.specs.Transmission.{executed, added}
 use Rattle.psu_hislip.specs.Core.{Core, reply, takes, row, delivered, is_delivered, origin}
 use Rattle.psu_hislip.specs.Runs.{Answer, answer_on, answer_of, answers, due}
@@ -10,6 +11,7 @@ use Rattle.psu_hislip.specs.declared.header.Header.{Header}
 use Rattle.psu_hislip.specs.declared.origin.Origin.{Origin}
 use Rattle.psu_hislip.specs.declared.side.Side.{Side}
 use Rattle.psu_hislip.specs.declared.side.Side.TheVariants.{Sync, Async}
+use Rattle.psu_hislip.specs.declared.lock_responses.LockResponse.TheVariants as lock
 use Rattle.psu_hislip.specs.declared.message_type.MessageType.{MessageType}
 use Rattle.psu_hislip.specs.declared.message_type.MessageType.TheVariants.{AsyncLock, AsyncLockResponse, Data, DataEnd, DeviceClearComplete, AsyncRemoteLocalControl, Trigger, AsyncMaximumMessageSize, AsyncInitialize, AsyncDeviceClear, AsyncStatusQuery, AsyncLockInfo}
 
@@ -23,7 +25,7 @@ executed_answers : (o : Origin) (bytes : Option (List ℕ)) → answers (execute
 executed_answers o None = refl
 executed_answers o (Some bytes) = refl
 
-locked_answer : (b c : Bool) (timeout : ℕ) (string : List ℕ) → answers ((if b then Act.Release else (if c then reply Async AsyncLockResponse 3 else Act.Lock timeout string)) ∷ []) ≡ answer_on Async AsyncLockResponse
+locked_answer : (b c : Bool) (timeout : ℕ) (string : List ℕ) → answers ((if b then Act.Release else (if c then reply Async AsyncLockResponse (lock_code lock.Error) else Act.Lock timeout string)) ∷ []) ≡ answer_on Async AsyncLockResponse
 unfolding header_bytes
 locked_answer true c timeout string = refl
 locked_answer false true timeout string = refl

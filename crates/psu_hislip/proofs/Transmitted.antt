@@ -8,6 +8,7 @@ use Rattle.psu_hislip.specs.MessageType.{type_of}
 use Rattle.psu_hislip.specs.Stream.{Received}
 use Rattle.psu_hislip.specs.Stream.Received.{Frame}
 use Rattle.psu_hislip.specs.Action.{Act}
+use Rattle.psu_hislip.specs.LockResponses.{lock_code}
 use Rattle.psu_hislip.specs.Transmission.{executed, added, all_added}
 use Rattle.psu_hislip.specs.Core.{Core, Outcome, reply, is_begun, after_complete, takes, row, delivered, is_delivered, origin}
 use Rattle.psu_hislip.specs.Runs.{Arrival, outcome, actions_of, core_after, received_type, is_clear, begins_clear}
@@ -19,6 +20,7 @@ use Rattle.psu_hislip.specs.declared.side.Side.{Side}
 use Rattle.psu_hislip.specs.declared.side.Side.TheVariants.{Sync, Async}
 use Rattle.psu_hislip.specs.declared.device_clear.DeviceClear.{DeviceClear}
 use Rattle.psu_hislip.specs.declared.device_clear.DeviceClear.TheVariants.{Idle, InProgress, Early}
+use Rattle.psu_hislip.specs.declared.lock_responses.LockResponse.TheVariants as lock
 use Rattle.psu_hislip.specs.declared.message_type.MessageType.{MessageType}
 use Rattle.psu_hislip.specs.declared.message_type.MessageType.TheVariants.{AsyncLock, AsyncLockResponse, Data, DataEnd, DeviceClearComplete, AsyncRemoteLocalControl, Trigger, AsyncMaximumMessageSize, AsyncInitialize, AsyncDeviceClear, AsyncStatusQuery, AsyncLockInfo}
 use Rattle.psu_hislip.proofs.Transmissions.{whole_transmission}
@@ -49,7 +51,7 @@ one_executed : (o : Origin) (bytes : Option (List ℕ)) → transmissions (execu
 one_executed o None = refl
 one_executed o (Some bytes) = refl
 
-locked_none : (b c : Bool) (timeout : ℕ) (string : List ℕ) → transmissions ((if b then Act.Release else (if c then reply Async AsyncLockResponse 3 else Act.Lock timeout string)) ∷ []) ≡ []
+locked_none : (b c : Bool) (timeout : ℕ) (string : List ℕ) → transmissions ((if b then Act.Release else (if c then reply Async AsyncLockResponse (lock_code lock.Error) else Act.Lock timeout string)) ∷ []) ≡ []
 locked_none true c timeout string = refl
 locked_none false true timeout string = refl
 locked_none false false timeout string = refl

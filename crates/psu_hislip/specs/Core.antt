@@ -8,6 +8,7 @@ use Rattle.psu_hislip.specs.Faults.{fatal_code, error_code}
 use Rattle.psu_hislip.specs.Stream.{Received}
 use Rattle.psu_hislip.specs.Frame.{header_of, frame_bytes}
 use Rattle.psu_hislip.specs.Action.{Act}
+use Rattle.psu_hislip.specs.LockResponses.{lock_code}
 use Rattle.psu_hislip.specs.Transmission.{added, executed}
 use Rattle.psu_hislip.specs.declared.header.Header.{Header}
 use Rattle.psu_hislip.specs.declared.origin.Origin.{Origin}
@@ -19,6 +20,7 @@ use Rattle.psu_hislip.specs.declared.fatal_code.FatalCode.{FatalCode}
 use Rattle.psu_hislip.specs.declared.fatal_code.FatalCode.TheVariants.{PoorlyFormedHeader, ChannelsNotJoined, InvalidInitialization}
 use Rattle.psu_hislip.specs.declared.error_code.ErrorCode.{ErrorCode}
 use Rattle.psu_hislip.specs.declared.error_code.ErrorCode.TheVariants.{Unidentified, UnrecognizedType, UnrecognizedControl, UnrecognizedVendorType, TooLarge}
+use Rattle.psu_hislip.specs.declared.lock_responses.LockResponse.TheVariants as lock
 use Rattle.psu_hislip.specs.declared.message_type.MessageType.{MessageType}
 use Rattle.psu_hislip.specs.declared.message_type.MessageType.TheVariants.{Initialize, FatalError, Error, AsyncLock, AsyncLockResponse, Data, DataEnd, DeviceClearComplete, DeviceClearAcknowledge, AsyncRemoteLocalControl, AsyncRemoteLocalResponse, Trigger, AsyncMaximumMessageSize, AsyncMaximumMessageSizeResponse, AsyncInitialize, AsyncInitializeResponse, AsyncDeviceClear, AsyncStatusQuery, AsyncDeviceClearAcknowledge, AsyncLockInfo}
 
@@ -157,7 +159,7 @@ unless_discarded core side message outcome =
 abbrev pub locked : Header → List ℕ → Act
 locked h string =
     if h.control == 0 then Act.Release
-    else (if nat_lt 256 (length string) then reply Async AsyncLockResponse 3 else Act.Lock h.parameter string)
+    else (if nat_lt 256 (length string) then reply Async AsyncLockResponse (lock_code lock.Error) else Act.Lock h.parameter string)
 
 -- the maximum message size that the server accepts: 65,536 bytes
 abbrev pub own_size : List ℕ

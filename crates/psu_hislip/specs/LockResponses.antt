@@ -8,23 +8,31 @@ use Rattle.psu_locks.specs.declared.lock_refusal.LockRefusal.{LockRefusal}
 use Rattle.psu_locks.specs.declared.info.Info.{Info}
 use Rattle.psu_hislip.specs.Frame.{header_of}
 use Rattle.psu_hislip.specs.declared.header.Header.{Header}
+use Rattle.psu_hislip.specs.declared.lock_responses.LockResponse.{LockResponse}
+use Rattle.psu_hislip.specs.declared.lock_responses.LockResponse.TheVariants.{Failure, Success, SharedReleased, Error}
 use Rattle.psu_hislip.specs.declared.message_type.MessageType.TheVariants.{AsyncLockResponse, AsyncLockInfoResponse}
 
+abbrev pub lock_code : LockResponse → ℕ
+lock_code Failure = 0
+lock_code Success = 1
+lock_code SharedReleased = 2
+lock_code Error = 3
+
 -- AsyncLockResponse has its result in its control code
-abbrev pub lock_answer : ℕ → Header
-lock_answer control = header_of AsyncLockResponse control 0 0
+abbrev pub lock_answer : LockResponse → Header
+lock_answer response = header_of AsyncLockResponse (lock_code response) 0 0
 
 -- a request that waits has no response yet
 abbrev pub lock_response : Result Grant LockRefusal → Option Header
-lock_response (Ok Granted) = Some (lock_answer 1)
-lock_response (Ok Failed) = Some (lock_answer 0)
+lock_response (Ok Granted) = Some (lock_answer Success)
+lock_response (Ok Failed) = Some (lock_answer Failure)
 lock_response (Ok Queued) = None
-lock_response (Err refusal) = Some (lock_answer 3)
+lock_response (Err refusal) = Some (lock_answer Error)
 
 abbrev pub release_response : Result Freed LockRefusal → Header
-release_response (Ok Exclusive) = lock_answer 1
-release_response (Ok Shared) = lock_answer 2
-release_response (Err refusal) = lock_answer 3
+release_response (Ok Exclusive) = lock_answer Success
+release_response (Ok Shared) = lock_answer SharedReleased
+release_response (Err refusal) = lock_answer Error
 
 -- whether an exclusive lock is held, and how many sessions hold any
 abbrev pub lock_info_response : Info → Header

@@ -37,7 +37,7 @@ pub use laws::{
     fed_is_the_stream, one_division, parts_are_an_answer, pieces_do_not_count, some_division,
     whole_transmission,
 };
-pub use lock_responses::{lock_info_response, lock_response, release_response};
+pub use lock_responses::{LockResponse, lock_info_response, lock_response, release_response};
 pub use message::Message;
 pub use message_type::MessageType;
 pub use origin::Origin;

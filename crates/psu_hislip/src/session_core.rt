@@ -12,7 +12,9 @@ use crate::answer::{answer_frames, answer_size, part_frames};
 use crate::faults::error;
 use crate::frames::{one, put, put_frame, reply};
 use crate::transmission::Transmission;
-use crate::{Action, DeviceClear, FatalCode, Header, Message, MessageType, Origin, Side};
+use crate::{
+    Action, DeviceClear, FatalCode, Header, LockResponse, Message, MessageType, Origin, Side,
+};
 use std::alloc::{AllocError, Allocator};
 use std::marker::Model;
 
@@ -83,7 +85,8 @@ fn locked<A: Allocator + Copy>(
         return Ok(Action::Release);
     }
     if string.len() > LOCK_STRING {
-        return reply(alloc, Side::Async, MessageType::AsyncLockResponse, 3);
+        let kind = MessageType::AsyncLockResponse;
+        return reply(alloc, Side::Async, kind, LockResponse::Error.code());
     }
     let string = Vec::from_slice(alloc, string)?;
     Ok(Action::Lock(header.parameter, string))

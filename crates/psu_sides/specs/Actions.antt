@@ -11,6 +11,7 @@ use Rattle.psu_hislip.specs.Frame.{header_of}
 use Rattle.psu_hislip.specs.Header.{header_bytes}
 use Rattle.psu_hislip.specs.LockResponses.{lock_answer, lock_info_response, lock_response}
 use Rattle.psu_hislip.specs.declared.header.Header.{Header}
+use Rattle.psu_hislip.specs.declared.lock_responses.LockResponse.TheVariants.{Error}
 use Rattle.psu_hislip.specs.declared.message_type.MessageType.TheVariants.{AsyncStatusResponse}
 use Rattle.psu_sessions.specs.Locking.{kind_of}
 use Rattle.psu_sides.specs.Deeds.{Deed, Wrote, Executed, Reported, Delivered, Queried, Locked, Informed, Awaited, Ends}
@@ -34,7 +35,7 @@ writes_any (Some header) = writes header
 
 -- A request for a lock is answered by what it came to; one that waits is not yet. Under a string that no lock has, it is refused.
 abbrev pub IsLocked : ℕ → Option Kind → List Deed → Type 0
-IsLocked timeout None deeds = deeds ≡ writes (lock_answer 3)
+IsLocked timeout None deeds = deeds ≡ writes (lock_answer Error)
 IsLocked timeout (Some kind) deeds = (reply : Result Grant LockRefusal) × (deeds ≡ Locked kind timeout reply ∷ writes_any (lock_response reply))
 
 abbrev pub IsInformed : List Deed → Type 0

@@ -7,7 +7,7 @@ ghost use Rattle.psu_sides.specs.Running.{BreaksOff, Comes, Runs};
 
 use crate::writing::write_header;
 use crate::{Ended, Service};
-use psu_hislip::{Action, Header, MessageType, lock_info_response, lock_response};
+use psu_hislip::{Action, Header, LockResponse, MessageType, lock_info_response, lock_response};
 use psu_lex::ScpiError;
 use psu_locks::Kind;
 use psu_sessions::lock_kind;
@@ -54,10 +54,7 @@ fn answer_lock<S: Service>(service: &mut S, timeout: u32, string: &[u8]) -> Resu
 {
     match lock_kind(string) {
         Some(kind) => ask_for_lock(service, timeout, kind),
-        None => write_header(
-            service,
-            Header::new(MessageType::AsyncLockResponse, 3, 0, 0),
-        ),
+        None => write_header(service, LockResponse::Error.header()),
     }
 }
 

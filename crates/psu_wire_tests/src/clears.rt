@@ -7,7 +7,9 @@ use crate::conversations::goes_as_told;
 use crate::frames::{bare, feed_again, is_frame, leave};
 use crate::holds::holds;
 use bumpalo::Bump;
-use psu_hislip::{Channel, Message, lock_info_response, lock_response, release_response};
+use psu_hislip::{
+    Channel, LockResponse, Message, lock_info_response, lock_response, release_response,
+};
 use psu_locks::{Freed, Grant, Info, LockRefusal};
 use std::alloc::Global;
 
@@ -132,16 +134,16 @@ fn an_answer_in_parts(rt: HostRuntime) {
 }
 
 // Whether this is the response to a lock request.
-fn is_told(asked: Result<Grant, LockRefusal>, control: u8) -> bool {
+fn is_told(asked: Result<Grant, LockRefusal>, response: LockResponse) -> bool {
     match lock_response(asked) {
-        Some(header) => header.bytes() == bare(5, control),
+        Some(header) => header.bytes() == bare(5, response.code()),
         None => false,
     }
 }
 
 // Whether this is the response to a release.
-fn is_told_free(released: Result<Freed, LockRefusal>, control: u8) -> bool {
-    release_response(released).bytes() == bare(5, control)
+fn is_told_free(released: Result<Freed, LockRefusal>, response: LockResponse) -> bool {
+    release_response(released).bytes() == bare(5, response.code())
 }
 
 // Whether this is the response to a query of the locks.
@@ -151,19 +153,30 @@ fn is_told_info(exclusive: bool, holders: u8, control: u8) -> bool {
     lock_info_response(Info { exclusive, holders }).bytes() == wanted
 }
 
+// The control codes by their numbers in IVI-6.1.
+#[test]
+fn codes_of_lock_responses(rt: HostRuntime) {
+    assert!(rt;
+        LockResponse::Failure.code() == 0
+            && LockResponse::Success.code() == 1
+            && LockResponse::SharedReleased.code() == 2
+            && LockResponse::Error.code() == 3
+    );
+}
+
 #[test]
 fn answers_of_the_locks(rt: HostRuntime) {
     assert!(rt;
-        is_told(Ok(Grant::Granted), 1)
-            && is_told(Ok(Grant::Failed), 0)
+        is_told(Ok(Grant::Granted), LockResponse::Success)
+            && is_told(Ok(Grant::Failed), LockResponse::Failure)
             && lock_response(Ok(Grant::Queued)).is_none()
-            && is_told(Err(LockRefusal::AlreadyHeld), 3)
-            && is_told(Err(LockRefusal::Waiting), 3)
+            && is_told(Err(LockRefusal::AlreadyHeld), LockResponse::Error)
+            && is_told(Err(LockRefusal::Waiting), LockResponse::Error)
     );
     assert!(rt;
-        is_told_free(Ok(Freed::Exclusive), 1)
-            && is_told_free(Ok(Freed::Shared), 2)
-            && is_told_free(Err(LockRefusal::NotHeld), 3)
+        is_told_free(Ok(Freed::Exclusive), LockResponse::Success)
+            && is_told_free(Ok(Freed::Shared), LockResponse::SharedReleased)
+            && is_told_free(Err(LockRefusal::NotHeld), LockResponse::Error)
     );
     assert!(rt;
         is_told_info(true, 2, 1) && is_told_info(false, 16, 0) && is_told_info(false, 0, 0)

@@ -1,5 +1,6 @@
 use Rattle.std.proofs.Common.{◌≡◌, None, refl, sym, ◌∙◌}
 use Rattle.psu_hislip.specs.LockResponses.{lock_answer}
+use Rattle.psu_hislip.specs.declared.lock_responses.LockResponse.TheVariants.{Error}
 use Rattle.psu_sessions.specs.Locking.{kind_of}
 use Rattle.psu_sides.specs.Actions.{IsLocked, writes}
 use Rattle.psu_sides.proofs.Doing.{some_locked}
@@ -9,7 +10,7 @@ use Rattle.psu_sides.proofs.acting.answer_lock.Goals as goal
 pub returns-in-None-clause-done : goal.returns-in-None-clause-done
 returns-in-None-clause-done g c =
     let none : kind_of c.args.string.now ≡ None = sym c.lock_kind.ensures ∙ c.in-None.is in
-    on_ok c.write_header.result (λ did. (writes (lock_answer 3), rw none refl, wrote g.S.Service.does c.new.result (lock_answer 3) c.args.service.now c.write_header.new.service c.new.ensures did)) c.write_header.ensures.done
+    on_ok c.write_header.result (λ did. (writes (lock_answer Error), rw none refl, wrote g.S.Service.does c.header.result (lock_answer Error) c.args.service.now c.write_header.new.service c.header.ensures did)) c.write_header.ensures.done
 
 pub returns-in-None-clause-stopped : goal.returns-in-None-clause-stopped
 returns-in-None-clause-stopped g c =
