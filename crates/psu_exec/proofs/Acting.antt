@@ -1,5 +1,5 @@
 -- The effect of a command, as the step of its unit.
-use Rattle.std.proofs.Common.{◌≡◌, ◌⊎◌, inl, inr, ℕ, Bool, true, false, Option, Some, None, Ok, Err, List, refl, sym, ap, subst, ◌∙◌}
+use Rattle.std.proofs.Common.{◌≡◌, ◌⊎◌, inl, inr, ℕ, Bool, true, false, Some, None, Ok, Err, List, refl, sym, ap, subst, ◌∙◌}
 use Rattle.psu_lex.specs.declared.scpi_error.ScpiError.{ScpiError}
 use Rattle.psu_lex.specs.declared.scpi_error.ScpiError.TheVariants.{MediaFull, OutOfMemory}
 use Rattle.psu_nv.specs.Commands as nv
@@ -12,9 +12,8 @@ use Rattle.psu_instrument.specs.Instrument.{Instrument}
 use Rattle.psu_instrument.specs.Meaning.{ActsAs, Meaning, Refuses, Does, Keeps, Completes}
 use Rattle.psu_instrument.specs.declared.act.Act.TheVariants as act
 use Rattle.psu_instrument.specs.declared.completion.Completion.{Completion}
-use Rattle.psu_exec.specs.Device.{Reply, Answer, Done, Error, Held, Later, State, Flush, MayMean, Step, AnswersCall, AnswersCalled, after_meant, called, followed, here, is_denied, is_later, is_whole, kept_unless, meant, refused, NeedsMemory, with_instrument}
+use Rattle.psu_exec.specs.Device.{Reply, Answer, Done, Error, Held, Later, State, Flush, MayMean, MayRun, RunGives, Step, LockedOut, TooEarly, Runs, after_meant, followed, here, is_denied, is_later, is_whole, kept_unless, meant, refused, NeedsMemory, with_instrument}
 use Rattle.psu_exec.specs.Consistent.{IsConsistent}
-use Rattle.psu_exec.proofs.Answering.{comes_later, is_answered_now, is_held}
 use Rattle.psu_exec.proofs.RqsUpdates.{followed_same}
 use Rattle.psu_exec.proofs.Changes.{sound_after}
 
@@ -28,27 +27,20 @@ pub kept_sound : (f : Flush) → IsConsistent f → IsContents f.contents
 kept_sound f k = subst IsContents (sym k.made) (sound_after f.limit k.first k.rest k.sound).sound
 
 pub held_step : (s : State) (session : ℕ) (request : Request) → is_denied s session ≡ true → IsConsistent s.flush → Step s session request Held s
-held_step s session request denied k = record { may = is_held s session request denied; is = sym (followed_same s); sound = kept_sound s.flush k; fitting = k.fitting }
+held_step s session request denied k = record { may = LockedOut denied; is = sym (followed_same s); sound = kept_sound s.flush k; fitting = k.fitting }
 
 pub later_step : (s : State) (session : ℕ) (request : Request) → is_denied s session ≡ false → is_later s session request ≡ true → IsConsistent s.flush → Step s session request Later s
-later_step s session request free late k = record { may = comes_later s session request free late; is = sym (followed_same s); sound = kept_sound s.flush k; fitting = k.fitting }
+later_step s session request free late k = record { may = TooEarly free late; is = sym (followed_same s); sound = kept_sound s.flush k; fitting = k.fitting }
 
 -- the step of a unit that is executed
-pub answered_step : (s mid new : State) (session : ℕ) (request : Request) (reply : Reply) → is_denied s session ≡ false → is_later s session request ≡ false → AnswersCalled s session request (called s request) reply
+pub answered_step : (s mid new : State) (session : ℕ) (request : Request) (reply : Reply) → MayRun s session request → RunGives s session request reply
     → mid ≡ after_meant s session (meant (here s session) request.reading) reply → new ≡ followed s mid → IsConsistent new.flush → Step s session request reply new
-answered_step s mid new session request reply free now may is then k = record {
-  may = is_answered_now s session request reply free now may;
+answered_step s mid new session request reply run gives is then k = record {
+  may = Runs run gives;
   is = then ∙ ap (followed s) is;
   sound = kept_sound new.flush k;
   fitting = k.fitting;
 }
-
--- the reply to a unit that calls a macro, and to one that calls none
-pub called_so : (s : State) (session : ℕ) (request : Request) (reply : Reply) → (body : List ℕ) × (called s request ≡ Some body) × AnswersCall request body reply → AnswersCalled s session request (called s request) reply
-called_so s session request reply call = subst (λ (o : Option (List ℕ)). AnswersCalled s session request o reply) (sym call.1) call.2
-
-pub meant_so : (s : State) (session : ℕ) (request : Request) (reply : Reply) → called s request ≡ None → MayMean s.flush (meant (here s session) request.reading) reply → AnswersCalled s session request (called s request) reply
-meant_so s session request reply none may = subst (λ (o : Option (List ℕ)). AnswersCalled s session request o reply) (sym none) may
 
 -- ---- the effect of a command
 

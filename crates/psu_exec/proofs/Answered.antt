@@ -1,5 +1,5 @@
 -- No unit and no ended wait has an empty response.
-use Rattle.std.proofs.Common.{◌≡◌, ◌≢◌, ◌⊎◌, inl, inr, ℕ, Bool, true, false, ◌==◌, ◌&&◌, not, if◌then◌else◌, Option, Some, None, Result, Ok, Err, List, [], decimal, refl, sym, ◌∙◌, subst}
+use Rattle.std.proofs.Common.{◌≡◌, ◌≢◌, inl, inr, ℕ, Bool, true, false, ◌==◌, ◌&&◌, not, if◌then◌else◌, Option, Some, None, Result, Ok, Err, List, [], decimal, refl, sym, ◌∙◌, subst}
 use Rattle.psu_lex.specs.declared.scpi_error.ScpiError.{ScpiError}
 use Rattle.psu_lex.specs.declared.scpi_error.ScpiError.TheVariants.{StorageFault}
 use Rattle.psu_nv.specs.Commands as nv
@@ -12,10 +12,10 @@ use Rattle.psu_instrument.specs.declared.completion.Completion.{Completion}
 use Rattle.psu_instrument.specs.declared.completion.Completion.TheVariants as completion
 use Rattle.psu_instrument.proofs.Speaking.{each_answer_has_text, some_digit}
 use Rattle.psu_exec.specs.Calls.{settle_answer}
-use Rattle.psu_exec.specs.Device.{Reply, Answer, Error, Parked, Flush, State, MayAnswer, MayMean, answer_complete, answer_meant, here, is_later, is_whole, kept_unless, meant, parks, wait_of}
+use Rattle.psu_exec.specs.Device.{Reply, Answer, Error, Parked, Flush, State, MayAnswer, MayMean, LockedOut, TooEarly, Runs, Expands, Means, answer_complete, answer_meant, here, is_whole, kept_unless, meant, parks, wait_of}
 use Rattle.psu_exec.specs.declared.wait.Wait.{Wait}
 use Rattle.psu_exec.specs.declared.wait.Wait.TheVariants.{Until, CutOff}
-use Rattle.psu_exec.proofs.Answering.{IsCall, IsPutOff, answer_is_no_call, ways}
+use Rattle.psu_exec.proofs.Answering.{answer_is_no_call}
 
 abbrev HasText : Reply → Type 0
 HasText reply = (text : List ℕ) → reply ≡ Answer text → text ≢ []
@@ -59,14 +59,11 @@ may_told s session request reply (inr (e, wanted)) text is = let bad = sym e ∙
 
 -- ---- units, and the ends of waits
 
-reported_now : (s : State) (session : ℕ) (request : Request) (reply : Reply)
-    → IsPutOff reply ⊎ ((is_later s session request ≡ false) × (IsCall reply ⊎ MayMean s.flush (meant (here s session) request.reading) reply)) → HasText reply
-reported_now s session request reply (inl off) text is = absurd (subst IsPutOff is off)
-reported_now s session request reply (inr (now, inl call)) text is = absurd (answer_is_no_call text (subst IsCall is call))
-reported_now s session request reply (inr (now, inr may)) text is = may_told s session request reply may text is
-
 pub unit_has_text : (s : State) (session : ℕ) (request : Request) (reply : Reply) → MayAnswer s session request reply → HasText reply
-unit_has_text s session request reply may = reported_now s session request reply (ways s session request reply may)
+unit_has_text s session request reply (LockedOut denied) text is = cc
+unit_has_text s session request reply (TooEarly free late) text is = cc
+unit_has_text s session request reply (Runs run (Expands body calls call)) text is = absurd (answer_is_no_call text call.given (sym is ∙ call.is))
+unit_has_text s session request reply (Runs run (Means none may)) text is = may_told s session request reply may text is
 
 until_told : (flushed : Bool) (c : Completion) → HasText (if flushed then answer_complete c else Parked)
 until_told true c text is = complete_told c text is

@@ -1,12 +1,12 @@
 -- The reply to a unit is Held exactly if a lock denies its session.
-use Rattle.std.proofs.Common.{◌≡◌, inl, inr, ℕ, Bool, true, false, cond, Option, Some, None, Result, Ok, Err, List, refl, ap, subst, ◌∙◌}
+use Rattle.std.proofs.Common.{◌≡◌, inl, inr, ℕ, Bool, true, false, cond, Option, Some, None, Result, Ok, Err, List, refl, sym, ap, subst, ◌∙◌}
 use Rattle.psu_lex.specs.declared.scpi_error.ScpiError.{ScpiError}
 use Rattle.psu_lex.specs.declared.scpi_error.ScpiError.TheVariants.{StorageFault}
 use Rattle.psu_tree.specs.declared.unit_request.Request.{Request}
 use Rattle.psu_instrument.specs.Meaning.{Meaning, Refuses, Does, Keeps, Completes}
 use Rattle.psu_instrument.specs.declared.completion.Completion.{Completion}
 use Rattle.psu_instrument.specs.declared.completion.Completion.TheVariants as completion
-use Rattle.psu_exec.specs.Device.{Reply, Error, Parked, Held, Later, State, Flush, AnswersBeside, AnswersCalled, AnswersNow, MayAnswer, Step, after_unit, answer_call, answer_complete, answer_meant, called, here, is_denied, is_later, kept_unless, meant}
+use Rattle.psu_exec.specs.Device.{Reply, Error, Parked, Held, Later, State, Flush, MayAnswer, Step, LockedOut, TooEarly, Runs, Expands, Means, after_unit, answer_call, answer_complete, answer_meant, here, is_denied, kept_unless, meant}
 use Rattle.psu_exec.proofs.RqsUpdates.{followed_same}
 
 not_kept : (o : Option ScpiError) (whole fitting : Bool) → Held ≡ kept_unless o whole fitting → ⊥
@@ -36,24 +36,22 @@ not_call : (given : Result (List ℕ) ScpiError) → Held ≡ answer_call given 
 not_call (Ok text) h = cc
 not_call (Err e) h = cc
 
-not_called : (s : State) (session : ℕ) (request : Request) (body : Option (List ℕ)) → AnswersCalled s session request body Held → ⊥
-not_called s session request None (inl h) = never_meant s.flush (meant (here s session) request.reading) h
-not_called s session request None (inr h) = let bad = h.0 in cc
-not_called s session request (Some body) h = not_call h.given h.is
+denied_for : (s : State) (session : ℕ) (request : Request) → MayAnswer s session request Held → is_denied s session ≡ true
+denied_for s session request (LockedOut denied) = denied
+denied_for s session request (Runs run (Expands body is call)) = absurd (not_call call.given call.is)
+denied_for s session request (Runs run (Means none (inl e))) = absurd (never_meant s.flush (meant (here s session) request.reading) e)
+denied_for s session request (Runs run (Means none (inr short))) = let bad = short.0 in cc
 
-not_now : (s : State) (session : ℕ) (request : Request) (late : Bool) → AnswersNow late s session request Held → ⊥
-not_now s session request true h = cc
-not_now s session request false h = not_called s session request (called s request) h
-
-denied_at : (s : State) (session : ℕ) (request : Request) (b : Bool) → AnswersBeside b s session request Held → b ≡ true
-denied_at s session request true h = refl
-denied_at s session request false h = absurd (not_now s session request (is_later s session request) h)
+held_for : (s : State) (session : ℕ) (request : Request) (reply : Reply) → MayAnswer s session request reply → is_denied s session ≡ true → reply ≡ Held
+held_for s session request reply (LockedOut denied) is = refl
+held_for s session request reply (TooEarly free late) is = let bad = sym free ∙ is in cc
+held_for s session request reply (Runs run gives) is = let bad = sym run.free ∙ is in cc
 
 pub held_is_denied : (s new : State) (session : ℕ) (request : Request) (reply : Reply) → Step s session request reply new → reply ≡ Held → is_denied s session ≡ true
-held_is_denied s new session request reply step is = denied_at s session request (is_denied s session) (subst (MayAnswer s session request) is step.may)
+held_is_denied s new session request reply step is = denied_for s session request (subst (MayAnswer s session request) is step.may)
 
 pub denied_is_held : (s new : State) (session : ℕ) (request : Request) (reply : Reply) → Step s session request reply new → is_denied s session ≡ true → reply ≡ Held
-denied_is_held s new session request reply step denied = subst (λ (b : Bool). AnswersBeside b s session request reply) denied step.may
+denied_is_held s new session request reply step denied = held_for s session request reply step.may denied
 
 -- a unit that is not executed leaves the state unchanged
 pub held_leaves : (s new : State) (session : ℕ) (request : Request) (reply : Reply) → Step s session request reply new → reply ≡ Held → new ≡ s

@@ -10,7 +10,7 @@ use Rattle.psu_lex.specs.declared.scpi_error.ScpiError.{ScpiError}
 use Rattle.psu_instrument.specs.Macros.{CallGives, ExpandsAt, written}
 use Rattle.psu_tree.specs.declared.unit_request.Request.{Request}
 use Rattle.psu_exec.specs.declared.condition.Condition.TheVariants.{Whole}
-use Rattle.psu_exec.specs.Device.{Reply, Done, Answer, Error, Expand, Parked, Held, Later, State, Flush, AnswersBeside, AnswersCalled, AnswersNow, MayAnswer, answer_call, after_unit, called, count_held, is_denied, is_later as comes_later, target, wait_of}
+use Rattle.psu_exec.specs.Device.{Reply, Done, Answer, Error, Expand, Parked, Held, Later, State, Flush, AnswersCall, MayAnswer, RunGives, LockedOut, TooEarly, Runs, Expands, Means, answer_call, after_unit, called, count_held, target, wait_of}
 use Rattle.psu_exec.specs.Calls.{JobData, JobEnd, JobKind, Commit, Stored, Unstarted, Failed, Reopened, Job, Executed, Settled, Took, GaveBack, HasNone, HasWork, ends_wait, job_out, kind_for, stored, with_stored, settle_answer, after_settle, settled, unparked, wait_less}
 use Rattle.psu_exec.specs.World.{World}
 use Rattle.psu_exec.proofs.Denied.{later_leaves}
@@ -148,10 +148,8 @@ calm_given inside body args o (Ok text) is g m = g
 calm_given inside body args o (Err error) is (inl short) m = let bad = m (is ∙ ap (λ (e : ScpiError). (let r : Reply = Error e in r)) short.0) in cc
 calm_given inside body args o (Err error) is (inr g) m = g
 
-calm_called : (s : State) (c : Request) (o : Reply) → Holds c → (body : Option (List ℕ)) → AnswersCalled s 1 c body o → IsMeant none o → RepliesCalled s c body o
-calm_called s c o holds None (inl e) m = e
-calm_called s c o holds None (inr e) m = let bad = m e.0 in cc
-calm_called s c o holds (Some body) h m = record {
+calm_call : (s : State) (c : Request) (o : Reply) → Holds c → (body : List ℕ) → AnswersCall c body o → IsMeant none o → RepliesCalled s c (Some body) o
+calm_call s c o holds body h m = record {
   parameters = holds.0;
   holds = holds.1;
   given = h.given;
@@ -159,18 +157,20 @@ calm_called s c o holds (Some body) h m = record {
   is = h.is;
 }
 
-calm_now : (s : State) (c : Request) (o : Reply) → Holds c → (late : Bool) → AnswersNow late s 1 c o → IsMeant none o → RepliesNow late s c o
-calm_now s c o holds true h m = h
-calm_now s c o holds false h m = calm_called s c o holds (called s c) h m
+calm_run : (s : State) (c : Request) (o : Reply) → Holds c → RunGives s 1 c o → IsMeant none o → RepliesCalled s c (called s c) o
+calm_run s c o holds (Expands body is call) m = subst (λ (z : Option (List ℕ)). RepliesCalled s c z o) (sym is) (calm_call s c o holds body call m)
+calm_run s c o holds (Means no_call (inl e)) m = subst (λ (z : Option (List ℕ)). RepliesCalled s c z o) (sym no_call) e
+calm_run s c o holds (Means no_call (inr e)) m = let bad = m e.0 in cc
 
 -- no lock denies the one session
-calm_beside : (s : State) (c : Request) (o : Reply) → Holds c → (denied : Bool) → AnswersBeside denied s 1 c o → o ≢ Held → IsMeant none o → Replies s c o
-calm_beside s c o holds true h free m = absurd (free h)
-calm_beside s c o holds false h free m = calm_now s c o holds (comes_later s 1 c) h m
+calm_answer : (s : State) (c : Request) (o : Reply) → Holds c → MayAnswer s 1 c o → o ≢ Held → IsMeant none o → Replies s c o
+calm_answer s c o holds (LockedOut denied) not_held m = absurd (not_held refl)
+calm_answer s c o holds (TooEarly free late) not_held m = subst (λ (b : Bool). RepliesNow b s c o) (sym late) refl
+calm_answer s c o holds (Runs run gives) not_held m = subst (λ (b : Bool). RepliesNow b s c o) (sym run.due) (calm_run s c o holds gives m)
 
 -- a unit is answered as the script says
 calm_reply : (r : Rest) (s : State) (c : Request) (o : Reply) → s ≡ r.state → Holds c → MayAnswer s 1 c o → o ≢ Held → IsMeant none o → Replies r.state c o
-calm_reply r s c o same holds h free m = subst (λ (z : State). Replies z c o) same (calm_beside s c o holds (is_denied s 1) h free m)
+calm_reply r s c o same holds h free m = subst (λ (z : State). Replies z c o) same (calm_answer s c o holds h free m)
 
 -- a call that leaves the disk unchanged, stated on the script's state
 abbrev Answers : World → Request → Reply → World → Type 0

@@ -4,7 +4,7 @@ use Rattle.std.proofs.lemmas.Bool.Decides.{nat_tests}
 use Rattle.psu_disk.specs.Disk.{HasFailed}
 use Rattle.psu_disk.specs.declared.disk.Disk.{Ghosts}
 use Rattle.psu_exec.specs.Calls.{Executed, Allows}
-use Rattle.psu_exec.specs.Device.{Reply, Error, Parked, Later, State, Flush, AnswersBeside, AnswersCalled, AnswersNow, MayMean, answer_call, called, is_denied, is_late, is_later as comes_later, is_whole, wait_of, answer_complete, answer_done, answer_meant, here, kept_unless, meant as meaning_of, parks, reads_nonvolatile}
+use Rattle.psu_exec.specs.Device.{Reply, Error, Parked, Later, State, Flush, MayAnswer, MayMean, TooEarly, Runs, Expands, Means, answer_call, is_late, is_later as comes_later, is_whole, wait_of, answer_complete, answer_done, answer_meant, here, kept_unless, meant as meaning_of, parks, reads_nonvolatile}
 use Rattle.psu_instrument.specs.Meaning.{Meaning, Refuses, Does, Keeps, Completes}
 use Rattle.psu_instrument.specs.declared.completion.Completion.{Completion}
 use Rattle.psu_instrument.specs.declared.completion.Completion.TheVariants as completion
@@ -80,21 +80,14 @@ never_means : (f : Flush) (m : Meaning) → MayMean f m Later → ⊥
 never_means f m (inl is) = never_meant f m (sym is)
 never_means f m (inr short) = let bad = short.0 in cc
 
-never_called : (s : State) (request : Request) (body : Option (List ℕ)) → AnswersCalled s 1 request body Later → ⊥
-never_called s request None h = never_means s.flush (meaning_of (here s 1) request.reading) h
-never_called s request (Some body) h = never_call h.given (sym h.is)
-
-late_now : (s : State) (request : Request) (late : Bool) → AnswersNow late s 1 request Later → late ≡ true
-late_now s request true h = refl
-late_now s request false h = absurd (never_called s request (called s request) h)
-
-late_beside : (s : State) (request : Request) (denied : Bool) → AnswersBeside denied s 1 request Later → comes_later s 1 request ≡ true
-late_beside s request true h = cc
-late_beside s request false h = late_now s request (comes_later s 1 request) h
+later_for : (s : State) (request : Request) → MayAnswer s 1 request Later → comes_later s 1 request ≡ true
+later_for s request (TooEarly free late) = late
+later_for s request (Runs run (Expands body is call)) = absurd (never_call call.given (sym call.is))
+later_for s request (Runs run (Means none may)) = absurd (never_means s.flush (meaning_of (here s 1) request.reading) may)
 
 late_some : (s new : State) (request : Request) → Allows s (Executed 1 request Later) new → wait_of s.flush 1 ≡ None → 0 < s.flush.unflushed
 late_some s new request t free =
-    full_tail (wait_of s.flush 1) s.flush.unflushed (reads_nonvolatile request.reading (is_none s.flush.contents.enables)) free (late_beside s request (is_denied s 1) t.1.may)
+    full_tail (wait_of s.flush 1) s.flush.unflushed (reads_nonvolatile request.reading (is_none s.flush.contents.enables)) free (later_for s request t.1.may)
 
 late_halted : {D A : Type 0} {G : Ghosts D} (old mid new : Exec D A G) (request : Request) (reply : Reply) → Ghosts.honest G → Continues mid new (Acted request reply) → is_later reply ≡ true
     → wait_of mid.device.flush 1 ≡ None → HasFailed (failures_of old) (failures_of mid) ⊎ (mid.device.flush.store ≡ Worn) ⊎ (mid.device.flush.unflushed ≡ 0) → IsHaltedBy old new Device

@@ -1,17 +1,16 @@
 use Rattle.std.proofs.Common.{◌≡◌, subst}
-use Rattle.psu_exec.specs.Device.{State, MayMean, after_meant, here, meant}
+use Rattle.psu_exec.specs.Device.{State, MayMean, Expands, Means, after_meant, here, meant}
 use Rattle.psu_exec.specs.Shown.{outcome_of}
-use Rattle.psu_exec.proofs.Acting.{called_so, meant_so}
 use Rattle.psu_exec.proofs.device.Device.answer.Goals as goal
 
 pub returns-in-Some-clause-may : goal.returns-in-Some-clause-may
-returns-in-Some-clause-may g c = called_so c.args.self.now c.args.session c.args.request.now (outcome_of c.in-Some.outcome) c.in-Some.ensures.some
+returns-in-Some-clause-may g c = let call = c.in-Some.ensures.some in Expands call.0 call.1 call.2
 
 pub returns-clause-may : goal.returns-clause-may
 returns-clause-may g c =
     let none = c.in_default.ensures.none in
     let may = subst (λ (s : State). MayMean s.flush (meant (here s c.args.session) c.args.request.now.reading) (outcome_of c.act.result)) none.1 c.act.ensures.may in
-    meant_so c.args.self.now c.args.session c.args.request.now (outcome_of c.act.result) none.0 may
+    Means none.0 may
 
 pub returns-clause-is : goal.returns-clause-is
 returns-clause-is g c =

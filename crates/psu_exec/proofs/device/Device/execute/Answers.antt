@@ -21,6 +21,6 @@ returns g c =
     let is = c.answer-outcome.ensures.is in
     let follows = c.follow.ensures c.args.self.now c.enabled-old.ensures (sym (ap (λ (s : State). s.volatile.service_states) is)) in (
       c.requires,
-      answered_step c.args.self.now c.answer-outcome.new.self c.follow.new.self c.args.session c.args.request.now (outcome_of c.answer-outcome.result) (sym c.is_denied.ensures ∙ c.if-is_denied.false)
-          (sym (rw c.reads_nonvolatile.ensures at c.if-is_late.ensures)) c.answer-outcome.ensures.may is follows k,
+      answered_step c.args.self.now c.answer-outcome.new.self c.follow.new.self c.args.session c.args.request.now (outcome_of c.answer-outcome.result)
+          (record { free = sym c.is_denied.ensures ∙ c.if-is_denied.false; due = sym (rw c.reads_nonvolatile.ensures at c.if-is_late.ensures) }) c.answer-outcome.ensures.may is follows k,
     )
