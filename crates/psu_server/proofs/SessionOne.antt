@@ -78,15 +78,11 @@ answer_store f (Some CutOff) = (refl, refl)
 answer_store f (Some (Until c n)) = store_if f c (n == 0)
 
 pub settle_store : (s new : State) (reply : Reply) → Allows s (Settled 1 reply) new → KeepsStore s.flush new.flush
-settle_store s new reply (opened, inl may, is) =
+settle_store s new reply (opened, may, is) =
     let kept = answer_store s.flush (wait_of s.flush 1) in (
       ap (λ (z : State). z.flush.store) is ∙ ap (λ (r : Reply). (settled s.flush 1 r).store) may ∙ kept.0,
       ap (λ (z : State). z.flush.unflushed) is ∙ ap (λ (r : Reply). (settled s.flush 1 r).unflushed) may ∙ kept.1,
     )
-settle_store s new reply (opened, inr may, is) = (
-  ap (λ (z : State). z.flush.store) is ∙ ap (λ (r : Reply). (settled s.flush 1 r).store) may.0,
-  ap (λ (z : State). z.flush.unflushed) is ∙ ap (λ (r : Reply). (settled s.flush 1 r).unflushed) may.0,
-)
 
 -- ---- one more call, with the facts that the code has
 

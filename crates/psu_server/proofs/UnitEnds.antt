@@ -184,8 +184,7 @@ is_waiting (Some (Until c n)) e = waiting_if c (n == 0) e where
   waiting_if c false e = refl
 
 still_parked : (s new : State) (reply : Reply) → Allows s (Settled 1 reply) new → is_final reply ≡ false → reply ≡ Parked
-still_parked s new reply (opened, inl may, is) final = may ∙ is_waiting (wait_of s.flush 1) (ap is_final (sym may) ∙ final)
-still_parked s new reply (opened, inr may, is) final = let bad = ap is_final (sym may.0) ∙ final in cc
+still_parked s new reply (opened, may, is) final = may ∙ is_waiting (wait_of s.flush 1) (ap is_final (sym may) ∙ final)
 
 pub waiting_halted : {D A : Type 0} {G : Ghosts D} (old mid new : Exec D A G) (reply : Reply) → Allows mid.device (Settled 1 reply) new.device → new.idle_store ≡ mid.idle_store
     → HasFailed (failures_of old) (failures_of mid) ⊎ (mid.device.flush.store ≡ Worn) ⊎ (mid.device.flush.unflushed ≡ 0) → is_final reply ≡ false → (reply ≡ Parked → 0 < mid.device.flush.unflushed)
