@@ -9,8 +9,8 @@ use crate::Call;
 use crate::guarded::Guarded;
 use psu_disk::Disk;
 use psu_exec::{
-    Crowded, Device, Exec, Finished, Freed, Grant, Info, Job, Kind, LockRefusal, NoJob, Outcome,
-    Request, Session, Sessions, Stranger,
+    Crowded, Device, Exec, Finished, Freed, Grant, Info, Job, Kind, LockRefusal, NoJob,
+    Notifications, Outcome, Request, Session, Sessions, Stranger,
 };
 use psu_turn::{NoMemory, Turn};
 use std::alloc::Allocator;
@@ -211,9 +211,9 @@ impl<D: Disk, A: Allocator + Copy> Bench<D, A> {
 
     /// Returns the sessions that have requested service since the last call, and whether a take would return a job,
     /// in a turn.
-    pub fn take_notifications<R: Wait>(&self, rt: &R, seat: &mut Seat<A>) -> (Sessions, bool)
+    pub fn take_notifications<R: Wait>(&self, rt: &R, seat: &mut Seat<A>) -> Notifications
         requires own { IsOf self.now seat.old }
-        ensures call { Calls (AdmitsOn D.honest) seat.old (Notified result.0 result.1) seat.new }
+        ensures call { Calls (AdmitsOn D.honest) seat.old (Notified result.requesting result.has_work) seat.new }
         ensures own { IsOf self.now seat.new }
     {
         let mut taken = self.turn.enter(rt, seat);

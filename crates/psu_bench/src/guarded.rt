@@ -7,8 +7,8 @@ ghost use Rattle.psu_bench.specs.Calls.{Admits, AdmitsOn, session_of};
 use crate::Call;
 use psu_disk::Disk;
 use psu_exec::{
-    Crowded, Device, Exec, Finished, Freed, Grant, Info, Job, Kind, LockRefusal, NoJob, Outcome,
-    Request, Session, Sessions, Stranger,
+    Crowded, Device, Exec, Finished, Freed, Grant, Info, Job, Kind, LockRefusal, NoJob,
+    Notifications, Outcome, Request, Session, Sessions, Stranger,
 };
 use psu_turn::Machine;
 use std::alloc::Allocator;
@@ -135,8 +135,8 @@ impl<D: Disk, A: Allocator + Copy> Guarded<D, A> {
     }
 
     /// Returns the sessions that have requested service, and whether there is a job, as `Exec::take_notifications` does.
-    pub fn take_notifications(&mut self) -> (Sessions, bool)
-        ensures call { Admits self.old.exec.value.device (Notified result.0 result.1) self.new.exec.value.device }
+    pub fn take_notifications(&mut self) -> Notifications
+        ensures call { Admits self.old.exec.value.device (Notified result.requesting result.has_work) self.new.exec.value.device }
     {
         self.exec.take_notifications()
     }

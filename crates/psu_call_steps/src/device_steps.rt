@@ -47,8 +47,8 @@ fn notifies<D: Disk, A: Allocator + Copy>(
     wanted: &str,
     has_work: bool,
 ) -> bool {
-    let (asking, more) = exec.take_notifications();
-    are(&asking, wanted) && more == has_work
+    let notifications = exec.take_notifications();
+    are(&notifications.requesting, wanted) && notifications.has_work == has_work
 }
 
 // Whether these lock requests fail at a moment: `20 fails 2`.

@@ -22,8 +22,8 @@ use crate::idle_store::{idle_store_after, put_store_back};
 use crate::seal::Seal;
 use crate::{
     Condition, Contents, Crowded, Device, Ended, Finished, Freed, Grant, IdleStore, Info, Job,
-    Kind, LockRefusal, NoJob, Outcome, Planned, PowerCause, PowerFault, Reopening, Request,
-    Session, Sessions, Stranger,
+    Kind, LockRefusal, NoJob, Notifications, Outcome, Planned, PowerCause, PowerFault, Reopening,
+    Request, Session, Sessions, Stranger,
 };
 use psu_disk::Disk;
 use psu_items::{Batch, Store};
@@ -197,8 +197,8 @@ impl<D: Disk, A: Allocator + Copy> Exec<D, A> {
     }
 
     /// Returns the open sessions that requested service since the last call, and whether a take would return a job.
-    pub fn take_notifications(&mut self) -> (Sessions, bool)
-        ensures step { Allows self.old.device (Notified result.0 result.1) self.new.device }
+    pub fn take_notifications(&mut self) -> Notifications
+        ensures step { Allows self.old.device (Notified result.requesting result.has_work) self.new.device }
         ensures idle_store { self.new.idle_store ≡ self.old.idle_store }
     {
         self.device.take_notifications()

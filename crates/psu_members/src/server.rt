@@ -1,8 +1,7 @@
 // What all threads share.
 use crate::bell::Bell;
-use crate::news::News;
 use crate::registry::Registry;
-use psu_exec::Sessions;
+use psu_exec::{Notifications, Sessions};
 use std::alloc::Global;
 use std::rt::Clock;
 use std::sync::{Mutex, Wait};
@@ -44,9 +43,9 @@ impl Server {
     }
 
     /// Tells what a step caused: sessions that ask for service, and the flusher that there is work.
-    pub fn tell<R: Wait>(&self, rt: &R, news: &News) {
-        self.call(rt, &news.asking);
-        if news.work {
+    pub fn tell<R: Wait>(&self, rt: &R, notifications: &Notifications) {
+        self.call(rt, &notifications.requesting);
+        if notifications.has_work {
             self.bell.ring(rt);
         }
     }

@@ -11,10 +11,9 @@ use crate::shared_gate::SharedGate;
 use psu_bench::{Bench, Gate, Point, Seat};
 use psu_disk::Disk;
 use psu_exec::{
-    Crowded, Exec, Finished, Freed, Grant, Info, Job, Kind, LockRefusal, NoJob, Outcome, Request,
-    Session, Sessions, Stranger,
+    Crowded, Exec, Finished, Freed, Grant, Info, Job, Kind, LockRefusal, NoJob, Notifications,
+    Outcome, Request, Session, Sessions, Stranger,
 };
-use psu_members::News;
 use std::alloc::{AllocError, Global};
 use std::sync::{Arc, Mutex, Wait};
 
@@ -31,19 +30,22 @@ pub struct Caller<D: Disk, G: Gate> {
 }
 
 // What a unit caused. A query that is answered sets no bit and changes nothing that is kept, so it makes no notification.
-fn news_of<D: Disk, R: Wait>(
+fn notifications_of<D: Disk, R: Wait>(
     rt: &R,
     bench: &Bench<D, Global>,
     seat: &mut Seat<Global>,
     outcome: &Outcome<Global>,
-) -> News
+) -> Notifications
     requires own { IsOf bench.now seat.old }
     ensures call { (seat.new ≡ seat.old) ⊎ ((asking : List ℕ) × (work : Bool) × Calls (AdmitsOn D.honest) seat.old (Notified asking work) seat.new) }
     ensures own { IsOf bench.now seat.new }
 {
     match outcome {
-        Outcome::Answer(_) => News::none(),
-        _ => News::of(bench.take_notifications(rt, seat)),
+        Outcome::Answer(_) => Notifications {
+            requesting: Sessions::new(),
+            has_work: false,
+        },
+        _ => bench.take_notifications(rt, seat),
     }
 }
 
@@ -107,12 +109,12 @@ impl<D: Disk + Drop, G: Gate + Drop> Caller<D, G> {
         rt: &R,
         session: Session,
         request: &Request<'_>,
-    ) -> (Outcome<Global>, News)
+    ) -> (Outcome<Global>, Notifications)
         ensures call { Makes D.honest self.old.seat (Executed session request.now (outcome_of result.0)) self.new.seat }
     {
         let place = self.door.lock(rt);
         let outcome = self.bench.execute(rt, &mut self.seat, session, request);
-        let notifications = news_of(rt, &self.bench, &mut self.seat, &outcome);
+        let notifications = notifications_of(rt, &self.bench, &mut self.seat, &outcome);
         drop(place);
         self.gate.at(Point::AfterAnswer);
         (outcome, notifications)
@@ -120,12 +122,12 @@ impl<D: Disk + Drop, G: Gate + Drop> Caller<D, G> {
 
     /// What the wait of a session came to, and what that caused.
     #[tactic(auto, using(crate::proofs::Seats::is_of))]
-    pub fn settle<R: Wait>(&mut self, rt: &R, session: Session) -> (Outcome<Global>, News)
+    pub fn settle<R: Wait>(&mut self, rt: &R, session: Session) -> (Outcome<Global>, Notifications)
         ensures call { Makes D.honest self.old.seat (Settled session (outcome_of result.0)) self.new.seat }
     {
         let _place = self.door.lock(rt);
         let outcome = self.bench.settle(rt, &mut self.seat, session);
-        let notifications = News::of(self.bench.take_notifications(rt, &mut self.seat));
+        let notifications = self.bench.take_notifications(rt, &mut self.seat);
         (outcome, notifications)
     }
 
@@ -140,12 +142,16 @@ impl<D: Disk + Drop, G: Gate + Drop> Caller<D, G> {
 
     /// A job's end: the sessions whose waits are over, and what it caused. The end of another device's job is discarded.
     #[tactic(auto, using(crate::proofs::Seats::is_of))]
-    pub fn give_back<R: Wait>(&mut self, rt: &R, finished: Finished<D, Global>) -> (Sessions, News)
+    pub fn give_back<R: Wait>(
+        &mut self,
+        rt: &R,
+        finished: Finished<D, Global>,
+    ) -> (Sessions, Notifications)
         ensures call { GivesBack D.honest (finished_of finished.end) self.old.seat self.new.seat }
     {
         let _place = self.door.lock(rt);
         let given = self.bench.give_back(rt, &mut self.seat, finished);
-        let notifications = News::of(self.bench.take_notifications(rt, &mut self.seat));
+        let notifications = self.bench.take_notifications(rt, &mut self.seat);
         (sessions_over(given), notifications)
     }
 
@@ -178,12 +184,12 @@ impl<D: Disk + Drop, G: Gate + Drop> Caller<D, G> {
 
     /// An answer is sent to a session; what that caused.
     #[tactic(auto, using(crate::proofs::Seats::is_of))]
-    pub fn sent<R: Wait>(&mut self, rt: &R, session: Session) -> News
+    pub fn sent<R: Wait>(&mut self, rt: &R, session: Session) -> Notifications
         ensures call { Makes D.honest self.old.seat (Sent session) self.new.seat }
     {
         let _place = self.door.lock(rt);
         self.bench.sent(rt, &mut self.seat, session);
-        News::of(self.bench.take_notifications(rt, &mut self.seat))
+        self.bench.take_notifications(rt, &mut self.seat)
     }
 
     /// What was sent to a session is delivered.

@@ -77,17 +77,17 @@ impl<'a, 'c, 'r, R: Wait, D: Disk + Drop, G: Gate + Drop> Executor<Global>
 
     fn execute(&mut self, request: &Request<'_>) -> Result<Outcome<Global>, Stop> {
         let core = self.admitted()?;
-        let (outcome, news) = self.caller.execute(self.rt, self.member.session, request);
+        let (outcome, notifications) = self.caller.execute(self.rt, self.member.session, request);
         drop(core);
-        self.server.tell(self.rt, &news);
+        self.server.tell(self.rt, &notifications);
         Ok(outcome)
     }
 
     fn settle(&mut self) -> Result<Outcome<Global>, Stop> {
         let core = self.admitted()?;
-        let (outcome, news) = self.caller.settle(self.rt, self.member.session);
+        let (outcome, notifications) = self.caller.settle(self.rt, self.member.session);
         drop(core);
-        self.server.tell(self.rt, &news);
+        self.server.tell(self.rt, &notifications);
         Ok(outcome)
     }
 
@@ -103,9 +103,9 @@ impl<'a, 'c, 'r, R: Wait, D: Disk + Drop, G: Gate + Drop> Executor<Global>
         let Some(frames) = frames else {
             return Err(Stop::Cleared);
         };
-        let news = self.caller.sent(self.rt, self.member.session);
+        let notifications = self.caller.sent(self.rt, self.member.session);
         drop(core);
-        self.server.tell(self.rt, &news);
+        self.server.tell(self.rt, &notifications);
         let written = self.member.sync.write(frames.as_slice());
         drop(turn);
         written.map_err(|_| Stop::Ended)

@@ -80,12 +80,12 @@ impl<'a, D: Disk + Drop, G: Gate + Drop, E: Eprint> Flusher<'a, D, G, E> {
     fn give_back<R: Wait>(&mut self, rt: &R, finished: Finished<D, Global>)
         ensures call { GivesBack D.honest (finished_of finished.end) self.old.caller.seat self.new.caller.seat }
     {
-        let (over, news) = self.caller.give_back(rt, finished);
+        let (over, notifications) = self.caller.give_back(rt, finished);
         let registry = self.server.registry.lock(rt);
         registry.wake(rt, &over);
         registry.wake_late(rt);
         drop(registry);
-        self.server.call(rt, &news.asking);
+        self.server.call(rt, &notifications.requesting);
     }
 
     // Runs a job outside the device's turn, and gives its result back.

@@ -8,7 +8,7 @@ ghost use Rattle.psu_status.specs.Status.{enabled};
 
 use crate::service_states::{initial_service_state, report_all, rqs_updated, unreported};
 use crate::waits::least_free;
-use crate::{Condition, Crowded, Device, ServiceState, Session, Sessions};
+use crate::{Condition, Crowded, Device, Notifications, ServiceState, Session, Sessions};
 use std::alloc::Allocator;
 
 impl<A: Allocator + Copy> Device<A> {
@@ -165,12 +165,15 @@ impl<A: Allocator + Copy> Device<A> {
 
     /// Returns the open sessions that have requested service since the last call, and whether a take would return a
     /// job.
-    pub(crate) fn take_notifications(&mut self) -> (Sessions, bool)
-        ensures { Allows self.old (Notified result.0 result.1) self.new }
+    pub(crate) fn take_notifications(&mut self) -> Notifications
+        ensures { Allows self.old (Notified result.requesting result.has_work) self.new }
     {
-        let sessions = unreported(&self.open_now, &self.service_states);
+        let requesting = unreported(&self.open_now, &self.service_states);
         report_all(&mut self.service_states);
-        (sessions, self.has_work())
+        Notifications {
+            requesting,
+            has_work: self.has_work(),
+        }
     }
 
     // Whether a take would return a job.
