@@ -16,7 +16,7 @@ use Rattle.psu_exec.specs.World.{World}
 use Rattle.psu_exec.proofs.Denied.{later_leaves}
 use Rattle.psu_server.specs.Lives.{Calls}
 use Rattle.psu_server.specs.Script.{Rest, UnitOutcome, Replies, RepliesCalled, RepliesNow, HasOutcome, HasOutcomeFrom, flushed_by, flushed, waited, after_reply}
-use Rattle.psu_server.specs.Runs.{none, JobDone, Jobs, Flushes, IsMeant, IsSound, EndsJob, is_later, is_out_of_memory, Acts, UnitRuns, is_final}
+use Rattle.psu_server.specs.Runs.{none, JobDone, Jobs, Flushes, IsMeant, IsSound, EndsJob, is_later, Acts, UnitRuns, is_final}
 use Rattle.psu_server.proofs.JobEnds.{no_wait_after}
 use Rattle.psu_server.proofs.Scripts.{Holds}
 use Rattle.psu_server.proofs.SessionOne.{over_free}
@@ -230,8 +230,8 @@ settle_keeps f o = by (ends_wait o) where
   by true = (refl, refl, refl)
   by false = (refl, refl, refl)
 
-settle_at : (r : Rest) (w new : World) (o : Reply) → Still r w → Calls w (Settled 1 o) new → is_final o ≡ true → is_out_of_memory o ≡ false → Same (waited r) o new
-settle_at r w new o q call final long =
+settle_at : (r : Rest) (w new : World) (o : Reply) → Still r w → Calls w (Settled 1 o) new → is_final o ≡ true → Same (waited r) o new
+settle_at r w new o q call final =
     let reply : o ≡ settle_answer (wait_of r.state.flush 1) = call.1.2.1 ∙ ap (λ (s : State). settle_answer (wait_of s.flush 1)) q.state in
     let there : new.disk ≡ w.disk = ap (λ (z : World). z.disk) call.1.4 ∙ call.1.3 in
     let a : Reply = settle_answer (wait_of r.state.flush 1) in
@@ -277,12 +277,12 @@ acts_alone r w new c o q holds (final, inl (meant, call)) = record {
   now = final_now o final;
   same = at_once r w new c o q final call;
 }
-acts_alone r w new c o q holds (final, inr (long, parked, over, call, f, settle)) = record {
+acts_alone r w new c o q holds (final, inr (parked, over, call, f, settle)) = record {
   first = Parked;
   replies = calm_reply r w.state c Parked q.still.state holds call.1.2.1.may (λ e. cc) (λ e. cc);
   now = refl;
   same = settle_at (flushed (record r { state = after_unit r.state 1 c Parked })) over new o
-      (flush_alone (record r { state = after_unit r.state 1 c Parked }) parked over (still_on r w parked c Parked q.still call) f) settle final long;
+      (flush_alone (record r { state = after_unit r.state 1 c Parked }) parked over (still_on r w parked c Parked q.still call) f) settle final;
 }
 
 goes_now : (r : Rest) (c : Request) (x : Reply) → is_later x ≡ false → HasOutcomeFrom r c x (after_reply r c x)

@@ -89,7 +89,7 @@ executes_idle w mid new xs p q = executes_as w new (xs ++ []) xs (append-nil xs)
 
 pub acts_calls : (can : Mishaps) (w new : World) (request : Request) (reply : Reply) → Acts can w request reply new → Executes w (request ∷ []) new
 acts_calls can w new request reply (final, inl (meant, c)) = executes_as w new _ _ (final_unit request reply final) (executes_one w (Executed 1 request reply) new c)
-acts_calls can w new request reply (final, inr (long, parked, over, c, f, s)) =
+acts_calls can w new request reply (final, inr (parked, over, c, f, s)) =
     executes_idle w over new (request ∷ []) (executes_idle w parked over (request ∷ []) (executes_one w (Executed 1 request Parked) parked c) (flush_calls can parked over f))
     (executes_one over (Settled 1 reply) new s)
 

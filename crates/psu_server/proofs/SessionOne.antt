@@ -13,7 +13,7 @@ use Rattle.psu_exec.specs.declared.wait.Wait.{Wait}
 use Rattle.psu_exec.specs.declared.wait.Wait.TheVariants.{Until, CutOff}
 use Rattle.psu_server.specs.Failures.{failures_at, failures_of}
 use Rattle.psu_server.specs.Lives.{Life, lived, world_of, Calls}
-use Rattle.psu_server.specs.Runs.{is_final, is_out_of_memory}
+use Rattle.psu_server.specs.Runs.{is_final}
 use Rattle.psu_server.proofs.Calls.{called}
 
 -- ---- the session is the first
@@ -53,8 +53,8 @@ over_free f (Some CutOff) final = no_wait f.waits
 over_free f (Some (Until c n)) final = over_if f c (n == 0) final
 
 -- a final reply leaves no wait
-pub settle_free : (s new : State) (reply : Reply) → Allows s (Settled 1 reply) new → is_final reply ≡ true → is_out_of_memory reply ≡ false → wait_of new.flush 1 ≡ None
-settle_free s new reply (opened, may, is) final long =
+pub settle_free : (s new : State) (reply : Reply) → Allows s (Settled 1 reply) new → is_final reply ≡ true → wait_of new.flush 1 ≡ None
+settle_free s new reply (opened, may, is) final =
     ap (λ (z : State). wait_of z.flush 1) is ∙ ap (λ (r : Reply). wait_of (settled s.flush 1 r) 1) may ∙ over_free s.flush (wait_of s.flush 1) (ap is_final (sym may) ∙ final)
 
 pub clear_free : (s new : State) → Allows s (Cleared 1) new → wait_of new.flush 1 ≡ None

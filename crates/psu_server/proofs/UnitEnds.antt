@@ -16,7 +16,7 @@ use Rattle.psu_server.specs.Failures.{failures_of}
 use Rattle.psu_server.specs.Lives.{Life, lived, world_of, Calls}
 use Rattle.psu_server.specs.Progress.{Acted, Continues, DeviceStops, Lasts, Spans, WaitEnds}
 use Rattle.psu_server.specs.Reasons.{IsHaltedBy}
-use Rattle.psu_server.specs.Runs.{Mishaps, Acts, Flushes, IsMeant, UnitRuns, is_final, is_later, is_out_of_memory, is_parked}
+use Rattle.psu_server.specs.Runs.{Mishaps, Acts, Flushes, IsMeant, UnitRuns, is_final, is_later, is_parked}
 use Rattle.psu_server.specs.declared.run_cause.RunCause.{RunCause}
 use Rattle.psu_server.specs.declared.run_cause.RunCause.TheVariants.{Read, Write, Open, Device, TooLong, Memory}
 use Rattle.psu_server.proofs.Calls.{Executes, executes_join, executes_one, flush_calls, begins_all, begins_idle, begins_more, begins_then, leads_one}
@@ -80,10 +80,6 @@ halts_more old new some more cause s = record {
   why = s.why;
   own = s.own;
 }
-
--- an out-of-memory fault
-pub halts_for_memory : {D A : Type 0} {G : Ghosts D} (old new : Exec D A G) (done more : List Request) → HasExecuted old new done → DeviceStops old new (done ++ more) Memory
-halts_for_memory old new done more p = halts_here old new done more Memory p (λ h. tt) (λ e. cc)
 
 -- ---- calls after which the device continues
 
@@ -247,10 +243,10 @@ parked_call w v request Later e c = cc
 parked_call w v request (Expand text) e c = cc
 
 pub acted_waited : {D A : Type 0} {G : Ghosts D} (old mid new : Exec D A G) (request : Request) (first reply : Reply) → Allows old.device (Executed 1 request first) mid.device → mid.idle_store ≡ old.idle_store
-    → is_parked first ≡ true → Continues mid new (WaitEnds reply) → is_final reply ≡ true → is_out_of_memory reply ≡ false → Continues old new (Acted request reply)
-acted_waited old mid new request first reply t there parked ends final long =
+    → is_parked first ≡ true → Continues mid new (WaitEnds reply) → is_final reply ≡ true → Continues old new (Acted request reply)
+acted_waited old mid new request first reply t there parked ends final =
     goes_then old mid new (λ can w v. IsMeant can first × Calls w (Executed 1 request first) v) (WaitEnds reply) (Acted request reply) (executed_goes old mid request first t there) ends
-    (λ can w u v x y. inr (final, inr (long, u, y.0, parked_call w u request first parked x.1, y.1, y.2)))
+    (λ can w u v x y. inr (final, inr (u, y.0, parked_call w u request first parked x.1, y.1, y.2)))
 
 pub parked_halts : {D A : Type 0} {G : Ghosts D} (old mid new : Exec D A G) (request : Request) (first : Reply) (cause : RunCause) → Allows old.device (Executed 1 request first) mid.device → mid.idle_store ≡ old.idle_store
     → is_parked first ≡ true → DeviceStops mid new [] cause → DeviceStops old new (request ∷ []) cause

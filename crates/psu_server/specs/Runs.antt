@@ -72,10 +72,6 @@ Jobs (suc n) can w new = (mid : World) × Jobs n can w mid × JobDone can mid ne
 abbrev pub Flushes : Mishaps → World → World → Type 0
 Flushes can w new = (n : ℕ) × Jobs n can w new × ((n ≡ 4) ⊎ ((n ≤ 4) × Calls new (Took Nothing) new))
 
-abbrev pub is_out_of_memory : Reply → Bool
-is_out_of_memory (Error OutOfMemory) = true
-is_out_of_memory reply = false
-
 abbrev pub is_parked : Reply → Bool
 is_parked Parked = true
 is_parked reply = false
@@ -95,11 +91,11 @@ is_final Held = false
 is_final Later = false
 is_final reply = true
 
--- A unit that is answered at once, or once a flush has ended its wait. A wait that ends out of memory ends the run.
+-- A unit that is answered at once, or once a flush has ended its wait.
 abbrev pub Acts : Mishaps → World → Request → Reply → World → Type 0
 Acts can w request reply new = (is_final reply ≡ true)
     × ((IsMeant can reply × Calls w (Executed 1 request reply) new)
-    ⊎ ((is_out_of_memory reply ≡ false) × (parked : World) × (over : World)
+    ⊎ ((parked : World) × (over : World)
     × Calls w (Executed 1 request Parked) parked × Flushes can parked over × Calls over (Settled 1 reply) new))
 
 -- a unit; where its reply is `Later`, it is executed again after a flush

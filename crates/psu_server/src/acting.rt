@@ -3,13 +3,13 @@ ghost use Rattle.std.specs.Prelude.{◌≡◌, ◌∷◌, [], IfOk, IfErr, true,
 ghost use Rattle.psu_exec.specs.Device.{is_open, wait_of};
 ghost use Rattle.psu_exec.specs.Shown.{outcome_of};
 ghost use Rattle.psu_server.specs.Progress.{Acted, Continues, DeviceStops, WaitEnds};
-ghost use Rattle.psu_server.specs.Runs.{is_final, is_later, is_out_of_memory, is_parked, UnitRuns};
+ghost use Rattle.psu_server.specs.Runs.{is_final, is_later, is_parked, UnitRuns};
 
 use crate::RunCause;
 use crate::jobs::flush;
 use crate::powered_device::PoweredDevice;
 use psu_disk::Disk;
-use psu_exec::{Exec, Outcome, Request, ScpiError, Session};
+use psu_exec::{Exec, Outcome, Request, Session};
 use std::alloc::Allocator;
 
 fn is_parked<A: Allocator + Copy>(outcome: &Outcome<A>) -> bool
@@ -30,12 +30,6 @@ fn is_final<A: Allocator + Copy>(outcome: &Outcome<A>) -> bool
     !matches!(outcome, Outcome::Parked | Outcome::Held | Outcome::Later)
 }
 
-fn is_out_of_memory<A: Allocator + Copy>(outcome: &Outcome<A>) -> bool
-    ensures { result ≡ is_out_of_memory (outcome_of outcome.now) }
-{
-    matches!(outcome, Outcome::Error(ScpiError::OutOfMemory))
-}
-
 // Flushes, and returns the outcome of the session's wait.
 fn wait_end<D: Disk, A: Allocator + Copy>(
     exec: &mut Exec<D, A>,
@@ -46,7 +40,6 @@ fn wait_end<D: Disk, A: Allocator + Copy>(
     requires open { is_open exec.old.device 1 ≡ true }
     ensures ends { IfOk result (λ o. Continues exec.old exec.new (WaitEnds (outcome_of o))) }
     ensures ended { IfOk result (λ o. is_final (outcome_of o) ≡ true) }
-    ensures long { IfOk result (λ o. is_out_of_memory (outcome_of o) ≡ false) }
     ensures free { IfOk result (λ o. wait_of exec.new.device.flush 1 ≡ None) }
     ensures device_stops { IfErr result (DeviceStops exec.old exec.new []) }
     ensures idle { exec.new.device.flush.out ≡ false }
@@ -57,9 +50,6 @@ fn wait_end<D: Disk, A: Allocator + Copy>(
     let outcome = exec.settle(session);
     if !is_final(&outcome) {
         return Err(RunCause::Device);
-    }
-    if is_out_of_memory(&outcome) {
-        return Err(RunCause::Memory);
     }
     Ok(outcome)
 }
@@ -74,7 +64,6 @@ fn wait<D: Disk, A: Allocator + Copy>(
     requires open { is_open exec.old.device 1 ≡ true }
     ensures ends { IfOk result (λ o. Continues exec.old exec.new (WaitEnds (outcome_of o))) }
     ensures ended { IfOk result (λ o. is_final (outcome_of o) ≡ true) }
-    ensures long { IfOk result (λ o. is_out_of_memory (outcome_of o) ≡ false) }
     ensures free { wait_of exec.new.device.flush 1 ≡ None }
     ensures device_stops { IfErr result (DeviceStops exec.old exec.new []) }
     ensures idle { exec.new.device.flush.out ≡ false }

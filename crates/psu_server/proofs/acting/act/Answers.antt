@@ -29,4 +29,4 @@ returns-clause-acted g c =
     let step = executed_one c.args.powered.now.exec.device c.execute-outcome.new.self.device c.args.request.now (outcome_of c.execute-outcome.result) c.args.powered.now.session
     c.args.powered.now.first c.execute-outcome.ensures.step in
     acted_waited c.args.powered.now.exec c.execute-outcome.new.self c.wait.new.exec c.args.request.now (outcome_of c.execute-outcome.result) (outcome_of c.in_ok-outcome.outcome) step
-    c.execute-outcome.ensures.idle_store (sym c.is_parked.ensures ∙ c.if-not-is_parked.false) c.in_ok-outcome.ensures.ends c.in_ok-outcome.ensures.ended c.in_ok-outcome.ensures.long
+    c.execute-outcome.ensures.idle_store (sym c.is_parked.ensures ∙ c.if-not-is_parked.false) c.in_ok-outcome.ensures.ends c.in_ok-outcome.ensures.ended
