@@ -1,7 +1,7 @@
 // The executor of the rows.
 use crate::devices::Power;
 use crate::log::{Log, Turn};
-use psu_exec::{Outcome, Request, ScpiError, Session};
+use psu_exec::{Outcome, Request, Session};
 use psu_messages::{Executor, Need};
 use std::alloc::Global;
 
@@ -39,8 +39,7 @@ impl<'a> Executor<Global> for Probe<'a> {
         match self.log.turn() {
             Turn::Continues => self.settled(),
             Turn::Stops => Err(Stopped),
-            Turn::Held => self.put_off(Need::Flush, Outcome::Parked),
-            Turn::Later => self.put_off(Need::Memory, Outcome::Error(ScpiError::OutOfMemory)),
+            Turn::Held | Turn::Later => self.put_off(Need::Flush, Outcome::Parked),
         }
     }
 

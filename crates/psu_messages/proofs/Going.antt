@@ -1,14 +1,14 @@
 -- Effects, one after another.
-use Rattle.std.proofs.Common.{◌≡◌, ◌&&◌, if◌then◌else◌, ℕ, ◌+◌, Bool, true, false, Option, Some, None, List, [], ◌∷◌, ◌++◌, refl, sym, ap, ◌∙◌, subst, append_assoc, ◌⊎◌, inl, inr, Result, Ok, Err, OnErr, IfErr, IsErrAnd}
+use Rattle.std.proofs.Common.{◌≡◌, if◌then◌else◌, ℕ, ◌+◌, Bool, true, false, Option, Some, None, List, [], ◌∷◌, ◌++◌, refl, sym, ap, ◌∙◌, subst, append_assoc, ◌⊎◌, inl, inr, Result, Ok, Err, OnErr, IfErr, IsErrAnd}
 use Rattle.std.proofs.lemmas.List.{append-nil}
 use Rattle.psu_tree.specs.declared.unit_request.Request.{Request}
 use Rattle.psu_exec.specs.Device.{Reply, Done, Answer, Error, Expand, Parked, Held, Later}
 use Rattle.psu_answers.specs.ResponseBuffer.{Text}
 use Rattle.psu_messages.specs.Standing.{Standing, passed}
-use Rattle.psu_messages.specs.Effects.{Effect, Runs, Sent, is_memory, needs}
+use Rattle.psu_messages.specs.Effects.{Effect, Runs, Sent, needs}
 use Rattle.psu_messages.specs.Stepping.{IsBrokenOff, IsLeft, parked_by, plain, within}
 use Rattle.psu_messages.specs.declared.need.Need.{Need}
-use Rattle.psu_messages.specs.declared.need.Need.TheVariants.{Flush, Lock, Room, Memory}
+use Rattle.psu_messages.specs.declared.need.Need.TheVariants.{Flush, Lock, Room}
 use Rattle.psu_messages.specs.Units.{Source}
 use Rattle.psu_messages.specs.Executions.{Progress, Reaches, Interruption, Advances, IsInterrupted, IsUnended, StopsAt, AddsResponse, Trial, IsNext, IsExpanded, tried, outside, sent, standing_after, expansion_after, text_after}
 use Rattle.psu_messages.specs.Executions.Reaches.{Tries, Leaves, Sends}
@@ -67,34 +67,29 @@ adds {X} does source was mid now c request reply text next t (inr (answered, lon
 
 -- ---- one step
 
-waiting_expansion : (parked : Bool) (inside : Option ℕ) (expansion : Option (List ℕ)) (reply : Reply) (need : Need) → needs parked reply ≡ Some need → expansion_after inside expansion reply ≡ expansion
-waiting_expansion parked (Some n) expansion reply need e = refl
-waiting_expansion parked None expansion Done need e = refl
-waiting_expansion parked None expansion (Answer text) need e = refl
-waiting_expansion parked None expansion (Error error) need e = refl
-waiting_expansion parked None expansion (Expand text) need e = absurd (cc (e))
-waiting_expansion parked None expansion Parked need e = refl
-waiting_expansion parked None expansion Held need e = refl
-waiting_expansion parked None expansion Later need e = refl
+waiting_expansion : (inside : Option ℕ) (expansion : Option (List ℕ)) (reply : Reply) (need : Need) → needs reply ≡ Some need → expansion_after inside expansion reply ≡ expansion
+waiting_expansion (Some n) expansion reply need e = refl
+waiting_expansion None expansion Done need e = refl
+waiting_expansion None expansion (Answer text) need e = refl
+waiting_expansion None expansion (Error error) need e = refl
+waiting_expansion None expansion (Expand text) need e = absurd (cc (e))
+waiting_expansion None expansion Parked need e = refl
+waiting_expansion None expansion Held need e = refl
+waiting_expansion None expansion Later need e = refl
 
-waiting_text : (parked : Bool) (text : Text) (reply : Reply) (need : Need) → needs parked reply ≡ Some need → text_after text reply ≡ text
-waiting_text parked text Done need e = refl
-waiting_text parked text (Answer answer) need e = absurd (cc (e))
-waiting_text parked text (Error error) need e = refl
-waiting_text parked text (Expand body) need e = refl
-waiting_text parked text Parked need e = refl
-waiting_text parked text Held need e = refl
-waiting_text parked text Later need e = refl
+waiting_text : (text : Text) (reply : Reply) (need : Need) → needs reply ≡ Some need → text_after text reply ≡ text
+waiting_text text Done need e = refl
+waiting_text text (Answer answer) need e = absurd (cc (e))
+waiting_text text (Error error) need e = refl
+waiting_text text (Expand body) need e = refl
+waiting_text text Parked need e = refl
+waiting_text text Held need e = refl
+waiting_text text Later need e = refl
 
-waiting_error : (s : Standing) (short : Bool) (need : Need) → (if short then Some Memory else None) ≡ Some need → (if short then s else passed s) ≡ record { units = s.units; inside = s.inside; parked = parked_by need s.parked }
-waiting_error s true need e =
-    let same : Memory ≡ need = cc (e) in subst (λ (z : Need). s ≡ record { units = s.units; inside = s.inside; parked = parked_by z s.parked }) same refl
-waiting_error s false need e = absurd (cc (e))
-
-waiting_standing : (s : Standing) (reply : Reply) (need : Need) → needs s.parked reply ≡ Some need → standing_after s reply ≡ record { units = s.units; inside = s.inside; parked = parked_by need s.parked }
+waiting_standing : (s : Standing) (reply : Reply) (need : Need) → needs reply ≡ Some need → standing_after s reply ≡ record { units = s.units; inside = s.inside; parked = parked_by need s.parked }
 waiting_standing s Done need e = absurd (cc (e))
 waiting_standing s (Answer text) need e = absurd (cc (e))
-waiting_standing s (Error error) need e = waiting_error s (s.parked && is_memory error) need e
+waiting_standing s (Error error) need e = absurd (cc (e))
 waiting_standing s (Expand text) need e = absurd (cc (e))
 waiting_standing s Parked need e =
     let same : Flush ≡ need = cc (e) in subst (λ (z : Need). standing_after s Parked ≡ record { units = s.units; inside = s.inside; parked = parked_by z s.parked }) same refl
@@ -105,25 +100,21 @@ waiting_standing s Later need e =
 
 -- a unit that waits
 pub waits : {X : Type 0} (does : X → Effect → X → Type 0) (source : Source) (was now : X) (s : Standing) (later : Bool) (expansion : Option (List ℕ)) (text : Text) (request : Request) (reply : Reply) (need : Need) → IsNext source (progress s expansion text) request
-    → Trial does was s.parked request now reply → needs s.parked reply ≡ Some need → later ≡ parked_by need s.parked
+    → Trial does was s.parked request now reply → needs reply ≡ Some need → later ≡ parked_by need s.parked
     → Advances does source was (progress s expansion text) now (progress (record { units = s.units; inside = s.inside; parked = later }) expansion text)
 waits does source was now s later expansion text request reply need next t e is =
     subst (λ (z : Bool). Advances does source was (progress s expansion text) now (progress (record { units = s.units; inside = s.inside; parked = z }) expansion text)) (sym is)
-    (subst (λ (z : Text). Advances does source was (progress s expansion text) now (progress (record { units = s.units; inside = s.inside; parked = parked_by need s.parked }) expansion z)) (waiting_text s.parked text reply need e)
+    (subst (λ (z : Text). Advances does source was (progress s expansion text) now (progress (record { units = s.units; inside = s.inside; parked = parked_by need s.parked }) expansion z)) (waiting_text text reply need e)
     (subst (λ (z : Option (List ℕ)). Advances does source was (progress s expansion text) now (progress (record { units = s.units; inside = s.inside; parked = parked_by need s.parked }) z (text_after text reply)))
-    (waiting_expansion s.parked s.inside expansion reply need e)
+    (waiting_expansion s.inside expansion reply need e)
     (subst (λ (z : Standing). Advances does source was (progress s expansion text) now (progress z (expansion_after s.inside expansion reply) (text_after text reply))) (waiting_standing s reply need e)
     (tries does source was now (progress s expansion text) request reply next t))))
 
-ending_error : (s : Standing) (short : Bool) → (if short then Some Memory else None) ≡ None → (if short then s else passed s) ≡ passed s
-ending_error s false e = refl
-ending_error s true e = absurd (cc (e))
-
 -- a unit of the transmission that has ended
-plain_standing : (units : ℕ) (parked : Bool) (reply : Reply) → needs parked reply ≡ None → is_expansion reply ≡ false → standing_after (record { units = units; inside = None; parked = parked }) reply ≡ record { units = units + 1; inside = None; parked = false }
+plain_standing : (units : ℕ) (parked : Bool) (reply : Reply) → needs reply ≡ None → is_expansion reply ≡ false → standing_after (record { units = units; inside = None; parked = parked }) reply ≡ record { units = units + 1; inside = None; parked = false }
 plain_standing units parked Done e is = refl
 plain_standing units parked (Answer text) e is = refl
-plain_standing units parked (Error error) e is = ending_error (record { units = units; inside = None; parked = parked }) (parked && is_memory error) e
+plain_standing units parked (Error error) e is = refl
 plain_standing units parked (Expand text) e is = absurd (cc (is))
 plain_standing units parked Parked e is = absurd (cc (e))
 plain_standing units parked Held e is = absurd (cc (e))
@@ -139,7 +130,7 @@ plain_expansion Held is = refl
 plain_expansion Later is = refl
 
 pub added_plain : {X : Type 0} (does : X → Effect → X → Type 0) (source : Source) (was mid now : X) (units : ℕ) (parked later : Bool) (text after : Text) (request : Request) (reply : Reply) → IsNext source (plain units parked text) request
-    → Trial does was parked request mid reply → needs parked reply ≡ None → later ≡ false → is_expansion reply ≡ false → AddsResponse does mid text reply now after → Advances does source was (plain units parked text) now (plain (units + 1) later after)
+    → Trial does was parked request mid reply → needs reply ≡ None → later ≡ false → is_expansion reply ≡ false → AddsResponse does mid text reply now after → Advances does source was (plain units parked text) now (plain (units + 1) later after)
 added_plain does source was mid now units parked later text after request reply next t e over is adds_it =
     subst (λ (z : Bool). Advances does source was (plain units parked text) now (plain (units + 1) z after)) (sym over)
     (subst (λ (z : Option (List ℕ)). Advances does source was (plain units parked text) now (progress (record { units = units + 1; inside = None; parked = false }) z after)) (plain_expansion reply is)
@@ -153,10 +144,10 @@ replaced does source was now units parked later text request body next t over =
     subst (λ (z : Bool). Advances does source was (plain units parked text) now (within units body 0 z text)) (sym over) (tries does source was now (plain units parked text) request (Expand body) next t)
 
 -- a unit of an expansion that has ended
-within_standing : (units done : ℕ) (parked : Bool) (reply : Reply) → needs parked reply ≡ None → standing_after (record { units = units; inside = Some done; parked = parked }) reply ≡ record { units = units; inside = Some (done + 1); parked = false }
+within_standing : (units done : ℕ) (parked : Bool) (reply : Reply) → needs reply ≡ None → standing_after (record { units = units; inside = Some done; parked = parked }) reply ≡ record { units = units; inside = Some (done + 1); parked = false }
 within_standing units done parked Done e = refl
 within_standing units done parked (Answer text) e = refl
-within_standing units done parked (Error error) e = ending_error (record { units = units; inside = Some done; parked = parked }) (parked && is_memory error) e
+within_standing units done parked (Error error) e = refl
 within_standing units done parked (Expand text) e = refl
 within_standing units done parked Parked e = absurd (cc (e))
 within_standing units done parked Held e = absurd (cc (e))
@@ -167,7 +158,7 @@ pub next_within : (source : Source) (units : ℕ) (body : List ℕ) (done : ℕ)
 next_within source units body done parked text request (part, unit) = (body, part, refl, unit)
 
 pub added_within : {X : Type 0} (does : X → Effect → X → Type 0) (source : Source) (was mid now : X) (units : ℕ) (body : List ℕ) (done : ℕ) (parked later : Bool) (text after : Text) (request : Request) (reply : Reply) → IsInside body done request
-    → Trial does was parked request mid reply → needs parked reply ≡ None → later ≡ false → AddsResponse does mid text reply now after → Advances does source was (within units body done parked text) now (within units body (done + 1) later after)
+    → Trial does was parked request mid reply → needs reply ≡ None → later ≡ false → AddsResponse does mid text reply now after → Advances does source was (within units body done parked text) now (within units body (done + 1) later after)
 added_within does source was mid now units body done parked later text after request reply unit t e over adds_it =
     subst (λ (z : Bool). Advances does source was (within units body done parked text) now (within units body (done + 1) z after)) (sym over)
     (subst (λ (z : Standing). Advances does source was (within units body done parked text) now (progress z (Some body) after)) (within_standing units done parked reply e)

@@ -101,19 +101,19 @@ from_place Asked from all place parked expansion (Some next) w = units_from Aske
 
 -- ---- what is not answered yet
 
-waits_silent : (parked : Bool) (reply : Reply) (need : Need) → needs parked reply ≡ Some need → answer_in reply ≡ []
-waits_silent parked Done need e = refl
-waits_silent parked (Answer text) need e = absurd (cc (e))
-waits_silent parked (Error error) need e = refl
-waits_silent parked (Expand body) need e = refl
-waits_silent parked Parked need e = refl
-waits_silent parked Held need e = refl
-waits_silent parked Later need e = refl
+waits_silent : (reply : Reply) (need : Need) → needs reply ≡ Some need → answer_in reply ≡ []
+waits_silent Done need e = refl
+waits_silent (Answer text) need e = absurd (cc (e))
+waits_silent (Error error) need e = refl
+waits_silent (Expand body) need e = refl
+waits_silent Parked need e = refl
+waits_silent Held need e = refl
+waits_silent Later need e = refl
 
 tried_silent : (Is : Request → Type 0) (effects : List Effect) (parked : Bool) → Tried Is effects parked → answers effects ≡ []
 tried_silent Is effects parked Untried = refl
 tried_silent Is effects parked (Again {effects = before} {parked = was} t request is effect reply need try e) =
-    answers_append before (effect ∷ []) ∙ ap (λ (l : List (List ℕ)). l ++ answers (effect ∷ [])) (tried_silent Is before was t) ∙ try_gives was request effect reply try ∙ waits_silent was reply need e
+    answers_append before (effect ∷ []) ∙ ap (λ (l : List (List ℕ)). l ++ answers (effect ∷ [])) (tried_silent Is before was t) ∙ try_gives was request effect reply try ∙ waits_silent reply need e
 
 answers_acts : (effects : List Effect) → answers (acts effects) ≡ answers effects
 answers_acts [] = refl

@@ -1,16 +1,15 @@
 -- The units of a transmission, each executed to its end.
-use Rattle.std.proofs.Common.{◌≡◌, ◌&&◌, if◌then◌else◌, ℕ, ◌+◌, ◌≤◌, Bool, true, false, Option, Some, None, List, [], ◌∷◌, ◌++◌, length, drop, refl, sym, ap, ◌∙◌, subst, append_assoc, arith}
+use Rattle.std.proofs.Common.{◌≡◌, ℕ, ◌+◌, ◌≤◌, Bool, true, false, Option, Some, None, List, [], ◌∷◌, ◌++◌, length, drop, refl, sym, ap, ◌∙◌, subst, append_assoc, arith}
 use Rattle.std.proofs.lemmas.List.{append-nil}
 use Rattle.std.proofs.lemmas.Grind.{common_steps}
 use Rattle.psu_lex.specs.Message.{Part, IsMessage}
-use Rattle.psu_lex.specs.declared.scpi_error.ScpiError.{ScpiError}
 use Rattle.psu_tree.specs.declared.unit_request.Request.{Request}
 use Rattle.psu_exec.specs.Device.{Reply, Done, Answer, Error, Expand, Parked, Held, Later}
 use Rattle.psu_answers.specs.ResponseBuffer.{Text}
 use Rattle.psu_messages.specs.Standing.{Standing}
 use Rattle.psu_messages.specs.declared.need.Need.{Need}
-use Rattle.psu_messages.specs.declared.need.Need.TheVariants.{Flush, Lock, Room, Memory}
-use Rattle.psu_messages.specs.Effects.{Effect, Executed, Settled, Sent, IsTry, is_memory, needs}
+use Rattle.psu_messages.specs.declared.need.Need.TheVariants.{Flush, Lock, Room}
+use Rattle.psu_messages.specs.Effects.{Effect, Executed, Settled, Sent, IsTry, needs}
 use Rattle.psu_messages.specs.Units as units
 use Rattle.psu_messages.specs.Units.{Asks, Fault, HasNone, IsBehind, IsUnit, Source}
 use Rattle.psu_messages.specs.Executions.{Reaches, Progress, IsOver, NextAt, expansion_after, standing_after}
@@ -91,13 +90,13 @@ abbrev pub At : (ℕ → Request → Type 0) → ℕ → List Effect → ℕ →
 At Asked from all place parked expansion None = Outside Asked from all place parked
 At Asked from all place parked expansion (Some next) = Within Asked from all place parked expansion next
 
-ended : (Is : Request → Type 0) (part : List Effect) (parked : Bool) (request : Request) (effect : Effect) (reply : Reply) → Tried Is part parked → Is request → IsTry parked request effect reply → needs parked reply ≡ None → Ended Is (part ++ effect ∷ []) reply
+ended : (Is : Request → Type 0) (part : List Effect) (parked : Bool) (request : Request) (effect : Effect) (reply : Reply) → Tried Is part parked → Is request → IsTry parked request effect reply → needs reply ≡ None → Ended Is (part ++ effect ∷ []) reply
 ended Is part parked request effect reply t is try e = record { tries = part; parked = parked; tried = t; request = request; is = is; effect = effect; last = try; ends = e; all = refl }
 
 -- ---- a try outside
 
 stays_outside : (Asked : ℕ → Request → Type 0) (from : ℕ) (effects : List Effect) (place : ℕ) (parked : Bool) (request : Request) (effect : Effect) (reply : Reply) (need : Need) → Outside Asked from (acts effects) place parked → Asked place request → IsTry parked request effect reply
-    → needs parked reply ≡ Some need → Outside Asked from (acts (effects ++ effect ∷ [])) place (accepts parked reply)
+    → needs reply ≡ Some need → Outside Asked from (acts (effects ++ effect ∷ [])) place (accepts parked reply)
 stays_outside Asked from effects place parked request effect reply need o asks try e = record {
   done = o.done;
   part = o.part ++ effect ∷ [];
@@ -107,7 +106,7 @@ stays_outside Asked from effects place parked request effect reply need o asks t
 }
 
 passes_outside : (Asked : ℕ → Request → Type 0) (from : ℕ) (effects : List Effect) (place : ℕ) (parked : Bool) (request : Request) (effect : Effect) (reply : Reply) → Outside Asked from (acts effects) place parked → Asked place request → IsTry parked request effect reply
-    → needs parked reply ≡ None → is_expansion reply ≡ false → Outside Asked from (acts (effects ++ effect ∷ [])) (place + 1) false
+    → needs reply ≡ None → is_expansion reply ≡ false → Outside Asked from (acts (effects ++ effect ∷ [])) (place + 1) false
 passes_outside Asked from effects place parked request effect reply o asks try e plain =
     let next : UnitsDone Asked from (place + 1) (o.done ++ (o.part ++ effect ∷ [])) = Plain o.whole (o.part ++ effect ∷ []) reply (ended (Asked place) o.part parked request effect reply o.tries asks try e) plain in
     record {
@@ -118,20 +117,12 @@ passes_outside Asked from effects place parked request effect reply o asks try e
       tries = Untried;
     }
 
-fails_outside : (Asked : ℕ → Request → Type 0) (from : ℕ) (effects : List Effect) (place : ℕ) (parked : Bool) (expansion : Option (List ℕ)) (request : Request) (effect : Effect) (error : ScpiError) (short : Bool) → Outside Asked from (acts effects) place parked
-    → Asked place request → IsTry parked request effect (Error error) → parked && is_memory error ≡ short
-    → (let s : Standing = if short then record { units = place; inside = None; parked = parked } else record { units = place + 1; inside = None; parked = false } in At Asked from (acts (effects ++ effect ∷ [])) s.units s.parked expansion s.inside)
-fails_outside Asked from effects place parked expansion request effect error true o asks try e =
-    stays_outside Asked from effects place parked request effect (Error error) Memory o asks try (ap (λ (b : Bool). (let n : Option Need = if b then Some Memory else None in n)) e)
-fails_outside Asked from effects place parked expansion request effect error false o asks try e =
-    passes_outside Asked from effects place parked request effect (Error error) o asks try (ap (λ (b : Bool). (let n : Option Need = if b then Some Memory else None in n)) e) refl
-
 pub try_outside : (Asked : ℕ → Request → Type 0) (from : ℕ) (effects : List Effect) (place : ℕ) (parked : Bool) (expansion : Option (List ℕ)) (request : Request) (effect : Effect) (reply : Reply) → Outside Asked from (acts effects) place parked → Asked place request
     → IsTry parked request effect reply
     → (let s : Standing = standing_after (record { units = place; inside = None; parked = parked }) reply in At Asked from (acts (effects ++ effect ∷ [])) s.units s.parked (expansion_after None expansion reply) s.inside)
 try_outside Asked from effects place parked expansion request effect Done o asks try = passes_outside Asked from effects place parked request effect Done o asks try refl refl
 try_outside Asked from effects place parked expansion request effect (Answer text) o asks try = passes_outside Asked from effects place parked request effect (Answer text) o asks try refl refl
-try_outside Asked from effects place parked expansion request effect (Error error) o asks try = fails_outside Asked from effects place parked expansion request effect error (parked && is_memory error) o asks try refl
+try_outside Asked from effects place parked expansion request effect (Error error) o asks try = passes_outside Asked from effects place parked request effect (Error error) o asks try refl refl
 try_outside Asked from effects place parked expansion request effect (Expand body) o asks try = record {
   done = o.done;
   unit = o.part ++ effect ∷ [];
@@ -152,7 +143,7 @@ try_outside Asked from effects place parked expansion request effect Later o ask
 -- ---- a try in an expansion
 
 stays_within : (Asked : ℕ → Request → Type 0) (from : ℕ) (effects : List Effect) (place : ℕ) (parked : Bool) (expansion : Option (List ℕ)) (next : ℕ) (request : Request) (effect : Effect) (reply : Reply) (need : Need) → (w : Within Asked from (acts effects) place parked expansion next)
-    → IsInside w.body next request → IsTry parked request effect reply → needs parked reply ≡ Some need → Within Asked from (acts (effects ++ effect ∷ [])) place (accepts parked reply) expansion next
+    → IsInside w.body next request → IsTry parked request effect reply → needs reply ≡ Some need → Within Asked from (acts (effects ++ effect ∷ [])) place (accepts parked reply) expansion next
 stays_within Asked from effects place parked expansion next request effect reply need w asks try e = record {
   done = w.done;
   unit = w.unit;
@@ -171,7 +162,7 @@ longer : (done unit inner more : List Effect) → (done ++ (unit ++ inner)) ++ m
 longer done unit inner more = append_assoc done (unit ++ inner) more ∙ ap (λ (l : List Effect). done ++ l) (append_assoc unit inner more)
 
 passes_within : (Asked : ℕ → Request → Type 0) (from : ℕ) (effects : List Effect) (place : ℕ) (parked : Bool) (expansion : Option (List ℕ)) (next : ℕ) (request : Request) (effect : Effect) (reply : Reply) → (w : Within Asked from (acts effects) place parked expansion next)
-    → IsInside w.body next request → IsTry parked request effect reply → needs parked reply ≡ None → Within Asked from (acts (effects ++ effect ∷ [])) place false expansion (next + 1)
+    → IsInside w.body next request → IsTry parked request effect reply → needs reply ≡ None → Within Asked from (acts (effects ++ effect ∷ [])) place false expansion (next + 1)
 passes_within Asked from effects place parked expansion next request effect reply w asks try e =
     let more : List Effect = w.part ++ effect ∷ [] in
     record {
@@ -188,20 +179,12 @@ passes_within Asked from effects place parked expansion next request effect repl
       tries = Untried;
     }
 
-fails_within : (Asked : ℕ → Request → Type 0) (from : ℕ) (effects : List Effect) (place : ℕ) (parked : Bool) (expansion : Option (List ℕ)) (next : ℕ) (request : Request) (effect : Effect) (error : ScpiError) (short : Bool) → (w : Within Asked from (acts effects) place parked expansion next)
-    → IsInside w.body next request → IsTry parked request effect (Error error) → parked && is_memory error ≡ short
-    → (let s : Standing = if short then record { units = place; inside = Some next; parked = parked } else record { units = place; inside = Some (next + 1); parked = false } in At Asked from (acts (effects ++ effect ∷ [])) s.units s.parked expansion s.inside)
-fails_within Asked from effects place parked expansion next request effect error true w asks try e =
-    stays_within Asked from effects place parked expansion next request effect (Error error) Memory w asks try (ap (λ (b : Bool). (let n : Option Need = if b then Some Memory else None in n)) e)
-fails_within Asked from effects place parked expansion next request effect error false w asks try e =
-    passes_within Asked from effects place parked expansion next request effect (Error error) w asks try (ap (λ (b : Bool). (let n : Option Need = if b then Some Memory else None in n)) e)
-
 pub try_within : (Asked : ℕ → Request → Type 0) (from : ℕ) (effects : List Effect) (place : ℕ) (parked : Bool) (expansion : Option (List ℕ)) (next : ℕ) (request : Request) (effect : Effect) (reply : Reply) → (w : Within Asked from (acts effects) place parked expansion next)
     → IsInside w.body next request → IsTry parked request effect reply
     → (let s : Standing = standing_after (record { units = place; inside = Some next; parked = parked }) reply in At Asked from (acts (effects ++ effect ∷ [])) s.units s.parked (expansion_after (Some next) expansion reply) s.inside)
 try_within Asked from effects place parked expansion next request effect Done w asks try = passes_within Asked from effects place parked expansion next request effect Done w asks try refl
 try_within Asked from effects place parked expansion next request effect (Answer text) w asks try = passes_within Asked from effects place parked expansion next request effect (Answer text) w asks try refl
-try_within Asked from effects place parked expansion next request effect (Error error) w asks try = fails_within Asked from effects place parked expansion next request effect error (parked && is_memory error) w asks try refl
+try_within Asked from effects place parked expansion next request effect (Error error) w asks try = passes_within Asked from effects place parked expansion next request effect (Error error) w asks try refl
 try_within Asked from effects place parked expansion next request effect (Expand body) w asks try = passes_within Asked from effects place parked expansion next request effect (Expand body) w asks try refl
 try_within Asked from effects place parked expansion next request effect Parked w asks try = stays_within Asked from effects place parked expansion next request effect Parked Flush w asks try refl
 try_within Asked from effects place parked expansion next request effect Held w asks try = stays_within Asked from effects place parked expansion next request effect Held Lock w asks try refl

@@ -1,10 +1,8 @@
 -- The effects of a transmission: tries of its units, and sent pieces of its response messages.
-use Rattle.std.specs.Prelude.{◌≡◌, [], ◌∷◌, ℕ, ◌&&◌, Bool, true, false, if◌then◌else◌, Option, Some, None, List}
-use Rattle.psu_lex.specs.declared.scpi_error.ScpiError.{ScpiError}
-use Rattle.psu_lex.specs.declared.scpi_error.ScpiError.TheVariants.{OutOfMemory}
+use Rattle.std.specs.Prelude.{◌≡◌, [], ◌∷◌, ℕ, Bool, true, false, Option, Some, None, List}
 use Rattle.psu_tree.specs.declared.unit_request.Request.{Request}
 use Rattle.psu_messages.specs.declared.need.Need.{Need}
-use Rattle.psu_messages.specs.declared.need.Need.TheVariants.{Flush, Lock, Room, Memory}
+use Rattle.psu_messages.specs.declared.need.Need.TheVariants.{Flush, Lock, Room}
 use Rattle.psu_exec.specs.Device.{Reply, Done, Answer, Error, Expand, Parked, Held, Later}
 
 -- An effect: a unit is executed, or the wait of one that was accepted is settled, or a piece of text is sent, the
@@ -23,20 +21,12 @@ IsTry true request (Executed other reply) answer = ⊥
 IsTry true request (Settled reply) answer = reply ≡ answer
 IsTry true request (Sent text last) answer = ⊥
 
-abbrev pub is_memory : ScpiError → Bool
-is_memory OutOfMemory = true
-is_memory error = false
-
--- What a unit waits for if it is to be tried again: after Parked, Held and Later, and also after an allocation
--- failure at the end of a wait.
-abbrev pub needs : Bool → Reply → Option Need
-needs parked Parked = Some Flush
-needs parked Held = Some Lock
-needs parked Later = Some Room
-needs parked (Error error) = if parked && is_memory error then Some Memory else None
-needs parked Done = None
-needs parked (Answer text) = None
-needs parked (Expand text) = None
+-- What a unit waits for if it is to be tried again: after Parked, Held and Later.
+abbrev pub needs : Reply → Option Need
+needs Parked = Some Flush
+needs Held = Some Lock
+needs Later = Some Room
+needs reply = None
 
 -- Effects, one after another, each leading from a state to another.
 abbrev pub Runs : {X : Type 0} → (X → Effect → X → Type 0) → X → List Effect → X → Type 0
@@ -45,4 +35,4 @@ Runs {X} does x (effect ∷ effects) y = (mid : X) × does x effect mid × Runs 
 
 -- the last effect is a try of a unit, which waits for this
 abbrev pub Awaits : {X : Type 0} → (X → Effect → X → Type 0) → X → Need → Type 0
-Awaits {X} does now need = (was : X) × (effect : Effect) × (parked : Bool) × (request : Request) × (reply : Reply) × does was effect now × IsTry parked request effect reply × (needs parked reply ≡ Some need)
+Awaits {X} does now need = (was : X) × (effect : Effect) × (parked : Bool) × (request : Request) × (reply : Reply) × does was effect now × IsTry parked request effect reply × (needs reply ≡ Some need)

@@ -1,12 +1,12 @@
 -- The legal executions of a transmission: its effects, and the progress that they lead to.
-use Rattle.std.specs.Prelude.{◌≡◌, ◌⊎◌, ℕ, ◌&&◌, ◌<◌, Bool, true, false, Option, Some, None, is_some, List, [], ◌∷◌, ◌++◌, length, if◌then◌else◌}
+use Rattle.std.specs.Prelude.{◌≡◌, ◌⊎◌, ℕ, ◌<◌, Bool, true, false, Option, Some, None, is_some, List, [], ◌∷◌, ◌++◌, length, if◌then◌else◌}
 use Rattle.psu_tree.specs.declared.unit_request.Request.{Request}
 use Rattle.psu_lex.specs.Message.{Part}
 use Rattle.psu_exec.specs.Device.{Reply, Done, Answer, Error, Expand, Parked, Held, Later}
 use Rattle.psu_answers.specs.ResponseBuffer.{Text, emptied, nothing, appended}
 use Rattle.psu_messages.specs.Standing as standing
 use Rattle.psu_messages.specs.Standing.{Standing, start}
-use Rattle.psu_messages.specs.Effects.{Effect, Sent, IsTry, Runs, is_memory}
+use Rattle.psu_messages.specs.Effects.{Effect, Sent, IsTry, Runs}
 use Rattle.psu_messages.specs.Units.{Source, Asks, IsBehind, EndsMessage, HasNone, IsUnit}
 
 -- the progress of a transmission: which unit is next, the expansion that replaces a unit, and the responses that are
@@ -21,10 +21,9 @@ beginning = record { standing = start; expansion = None; text = nothing }
 
 -- ---- the progress after a try
 
--- Parked: the unit was accepted and waits. Held and Later: nothing was executed, and the unit is tried again. At the
--- end of a wait for which an allocation failed, it is tried again too.
+-- Parked: the unit was accepted and waits. Held and Later: nothing was executed, and the unit is tried again.
 abbrev pub standing_after : Standing → Reply → Standing
-standing_after s (Error error) = if s.parked && is_memory error then s else standing.passed s
+standing_after s (Error error) = standing.passed s
 standing_after s Done = standing.passed s
 standing_after s (Answer text) = standing.passed s
 standing_after s (Expand text) = standing.expanded s

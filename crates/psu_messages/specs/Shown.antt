@@ -31,5 +31,5 @@ progress_of c = progress (record { units = c.units; inside = inside_of c.expansi
 
 -- a unit was tried once, and has ended or waits
 abbrev pub IsTried : {A X : Type 0} → (X → Effect → X → Type 0) → X → Bool → Request → X → Bool → Tried A → Type 0
-IsTried does at parked request now new (tried.Ended o) = Trial does at parked request now (outcome_of o) × (needs parked (outcome_of o) ≡ None) × (new ≡ false)
-IsTried does at parked request now new (tried.Waits need) = (reply : Reply) × Trial does at parked request now reply × (needs parked reply ≡ Some need) × (new ≡ parked_by need parked)
+IsTried does at parked request now new (tried.Ended o) = Trial does at parked request now (outcome_of o) × (needs (outcome_of o) ≡ None) × (new ≡ false)
+IsTried does at parked request now new (tried.Waits need) = (reply : Reply) × Trial does at parked request now reply × (needs reply ≡ Some need) × (new ≡ parked_by need parked)

@@ -24,7 +24,7 @@ accepts parked reply = parked
 -- that only settled.
 pub data Tried (Is : Request → Type 0) : List Effect → Bool → Type 0 where
   Untried : Tried Is [] false
-  Again : {effects : List Effect} {parked : Bool} → Tried Is effects parked → (request : Request) → Is request → (effect : Effect) (reply : Reply) (need : Need) → IsTry parked request effect reply → needs parked reply ≡ Some need → Tried Is (effects ++ effect ∷ []) (accepts parked reply)
+  Again : {effects : List Effect} {parked : Bool} → Tried Is effects parked → (request : Request) → Is request → (effect : Effect) (reply : Reply) (need : Need) → IsTry parked request effect reply → needs reply ≡ Some need → Tried Is (effects ++ effect ∷ []) (accepts parked reply)
 
 -- the tries of one unit, up to the one that ended it
 pub record Ended (Is : Request → Type 0) (effects : List Effect) (reply : Reply) : Type 0 where
@@ -35,7 +35,7 @@ pub record Ended (Is : Request → Type 0) (effects : List Effect) (reply : Repl
   pub is : Is request
   pub effect : Effect
   pub last : IsTry parked request effect reply
-  pub ends : needs parked reply ≡ None
+  pub ends : needs reply ≡ None
   pub all : effects ≡ tries ++ effect ∷ []
 
 abbrev pub is_expansion : Reply → Bool

@@ -6,7 +6,7 @@ ghost use Rattle.psu_messages.specs.Shown.{IsTried};
 ghost use Rattle.psu_messages.specs.Stepping.{IsBrokenOff};
 
 use crate::{Executor, Need};
-use psu_exec::{Outcome, Request, ScpiError};
+use psu_exec::{Outcome, Request};
 use std::alloc::Allocator;
 
 /// The result of a try of a unit.
@@ -18,16 +18,15 @@ pub(crate) enum Tried<A: Allocator + Copy> {
     Waits(Need),
 }
 
-// What a unit, accepted or not, waits for if it is to be tried again.
+// What a unit waits for if it is to be tried again.
 #[inline(always)]
-fn need_of<A: Allocator + Copy>(parked: bool, outcome: &Outcome<A>) -> Option<Need>
-    ensures { result ≡ needs parked (outcome_of outcome.now) }
+fn need_of<A: Allocator + Copy>(outcome: &Outcome<A>) -> Option<Need>
+    ensures { result ≡ needs (outcome_of outcome.now) }
 {
     match outcome {
         Outcome::Parked => Some(Need::Flush),
         Outcome::Held => Some(Need::Lock),
         Outcome::Later => Some(Need::Room),
-        Outcome::Error(ScpiError::OutOfMemory) if parked => Some(Need::Memory),
         _ => None,
     }
 }
@@ -60,7 +59,7 @@ pub(crate) fn attempt<A: Allocator + Copy, F: Executor<A>>(
     ensures stopped { IfErr result (λ stop. IsBrokenOff F.fails F.stops executor.old parked.old request.now stop executor.new) }
 {
     let outcome = once(executor, *parked, request)?;
-    match need_of(*parked, &outcome) {
+    match need_of(&outcome) {
         Some(Need::Flush) => {
             *parked = true;
             Ok(Tried::Waits(Need::Flush))

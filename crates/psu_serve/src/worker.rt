@@ -8,15 +8,10 @@ use crate::serving::Serving;
 use psu_bench::Gate;
 use psu_disk::Disk;
 use psu_members::{Begun, Member, Server, Stop, Work};
-use psu_messages::Need;
 use psu_sides::give_up;
+use std::mem;
 use std::rt::Clock;
 use std::sync::Wait;
-use std::time::Duration;
-use std::{mem, thread};
-
-/// How long a wait whose end found no memory sleeps until it is looked at again, in milliseconds.
-const PAUSE: u64 = 20;
 
 /// The worker of a session.
 #[derive(Drop)]
@@ -27,20 +22,6 @@ pub struct Worker<'a, D: Disk, G: Gate> {
 }
 
 impl<'a, D: Disk + Drop, G: Gate + Drop> Worker<'a, D, G> {
-    // Sleeps until what a unit waits for may have come. Whether the session goes on.
-    fn wait<R: Wait + Clock>(&self, rt: &R, need: Need) -> bool {
-        match need {
-            Need::Flush | Need::Lock | Need::Room => self.member.alarm.sleep(rt),
-            Need::Memory => {
-                let goes_on = !self.member.alarm.is_ended(rt);
-                if goes_on {
-                    thread::sleep(rt, Duration::from_millis(PAUSE));
-                }
-                goes_on
-            }
-        }
-    }
-
     // Executes what has begun to its end, waiting as long as it has to. Whether the session goes on.
     fn execute<R: Wait + Clock>(&mut self, rt: &R, begun: &mut Begun) -> bool {
         for _ in rt.forever() {
@@ -54,8 +35,9 @@ impl<'a, D: Disk + Drop, G: Gate + Drop> Worker<'a, D, G> {
             match execution.advance(begun) {
                 Ok(None) | Err(Stop::Cleared) => return true,
                 Err(Stop::Ended) => return false,
-                Ok(Some(need)) => {
-                    if !self.wait(rt, need) {
+                // It sleeps until what the unit waits for may have come.
+                Ok(Some(_)) => {
+                    if !self.member.alarm.sleep(rt) {
                         return false;
                     }
                 }
