@@ -5,8 +5,8 @@ use Rattle.psu_tree.specs.declared.unit_request.Request.{Request}
 use Rattle.psu_exec.specs.Device.{Reply, Done, Answer, Error, Expand, Parked, Held, Later}
 use Rattle.psu_answers.specs.ResponseBuffer.{Text}
 use Rattle.psu_messages.specs.Standing.{Standing, passed}
-use Rattle.psu_messages.specs.Effects.{Effect, Runs, Sent, needs}
-use Rattle.psu_messages.specs.Stepping.{IsBrokenOff, IsLeft, parked_by, plain, within}
+use Rattle.psu_messages.specs.Effects.{Effect, IsTry, Runs, Sent, needs}
+use Rattle.psu_messages.specs.Stepping.{IsBrokenOff, IsLeft, IsResponse, parked_by, plain, within}
 use Rattle.psu_messages.specs.declared.need.Need.{Need}
 use Rattle.psu_messages.specs.declared.need.Need.TheVariants.{Flush, Lock, Room}
 use Rattle.psu_messages.specs.Units.{Source}
@@ -190,11 +190,12 @@ module _ {X S : Type 0} {does : X → Effect → X → Type 0} {fails : X → Re
   broken_off {was} {now} {c} request next (inr (parked, s)) same = some_stop (inr (inl parked)) s same
 
   -- after the next unit, whose response is gathered or is not
-  pub not_buffered : {was mid now : X} {c : Progress} {request : Request} {reply : Reply} {stop : S} {left : Text} → IsNext source c request → Trial does was c.standing.parked request mid reply → stops mid stop now → IsLeft c.text reply left
+  pub not_buffered : {was mid now : X} {c : Progress} {request : Request} {reply : Reply} {stop : S} {left : Text} → IsNext source c request → Trial does was c.standing.parked request mid reply → stops mid stop now → IsLeft c.text reply left → IsResponse reply
       → StopsAt does fails stops source was c stop now left
-  not_buffered {was} {mid} {now} {c} {request} {reply} next t s (inl same) =
-      record { mid = was; new = c; advances = stay does source was was c refl; interruption = NotBuffered mid request next t.effect reply t.is t.done s; text = same }
-  not_buffered {was} {mid} {now} {c} {request} {reply} next t s (inr (same, answered)) =
+  not_buffered {was} {mid} {now} {c} {request} {reply} next t s (inl same) (response, is) =
+      let try = subst (IsTry c.standing.parked request t.effect) is t.is in
+      record { mid = was; new = c; advances = stay does source was was c refl; interruption = NotBuffered mid request next t.effect response try t.done s; text = same }
+  not_buffered {was} {mid} {now} {c} {request} {reply} next t s (inr (same, answered)) response =
       record { mid = mid; new = tried c reply; advances = tries does source was mid c request reply next t; interruption = Stopped (inl (ap (λ (x : Text). x.answered) (sym same) ∙ answered)) s; text = same }
 
 -- the point that it had reached
@@ -205,7 +206,8 @@ reached {X} {S} {does} {fails} {stops} {source} {was} {now} {c} {stop} {left} (i
   by : Interruption does fails stops source h.mid h.new stop now → (mid : X) × (d : Progress) × Advances does source was c mid d × (((request : Request) × fails mid request stop now) ⊎ stops mid stop now)
   by (Failed request next parked f) = (h.mid, h.new, h.advances, inl (request, f))
   by (Stopped begun s) = (h.mid, h.new, h.advances, inr s)
-  by (NotBuffered here request next effect reply try d s) =
+  by (NotBuffered here request next effect response try d s) =
+      let reply = Answer response in
       (here, tried h.new reply, behind does source was h.mid here c h.new (tried h.new reply) h.advances (one does source h.mid here h.new (tried h.new reply) effect d (λ before b. Tries b request next effect reply try)), inr s)
 
 -- ---- what each effect leaves unchanged

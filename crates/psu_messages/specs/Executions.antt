@@ -111,12 +111,12 @@ abbrev pub IsUnended : Progress → Type 0
 IsUnended c = (c.text.answered ≡ true) ⊎ (c.standing.parked ≡ true) ⊎ (is_some c.standing.inside ≡ true)
 
 -- Why the execution stopped for good at some point: the next unit was executed, but not to its end; another effect
--- was not completed, or an allocation failed; or the next unit ended, and its response could not be added to the
+-- was not completed, or an allocation failed; or the next unit ended with a response, which could not be added to the
 -- response buffer.
 pub data Interruption {X S : Type 0} (does : X → Effect → X → Type 0) (fails : X → Request → S → X → Type 0) (stops : X → S → X → Type 0) (source : Source) (mid : X) (c : Progress) (stop : S) (now : X) : Type 0 where
   Failed : (request : Request) → IsNext source c request → c.standing.parked ≡ false → fails mid request stop now → Interruption does fails stops source mid c stop now
   Stopped : IsUnended c → stops mid stop now → Interruption does fails stops source mid c stop now
-  NotBuffered : (here : X) (request : Request) → IsNext source c request → (effect : Effect) (reply : Reply) → IsTry c.standing.parked request effect reply → does mid effect here → stops here stop now → Interruption does fails stops source mid c stop now
+  NotBuffered : (here : X) (request : Request) → IsNext source c request → (effect : Effect) (response : List ℕ) → IsTry c.standing.parked request effect (Answer response) → does mid effect here → stops here stop now → Interruption does fails stops source mid c stop now
 
 -- The effects between two moments lead a transmission to some point of its progress, at which it stopped. The
 -- responses that are not sent at that point are left.

@@ -1,7 +1,7 @@
 -- The progress after a step.
 use Rattle.std.specs.Prelude.{◌≡◌, ◌⊎◌, ◌+◌, Bool, true, false, Option, Some, None, List, ℕ}
 use Rattle.psu_tree.specs.declared.unit_request.Request.{Request}
-use Rattle.psu_exec.specs.Device.{Reply}
+use Rattle.psu_exec.specs.Device.{Reply, Answer}
 use Rattle.psu_answers.specs.ResponseBuffer.{Text}
 use Rattle.psu_messages.specs.Executions.{Progress, text_after}
 use Rattle.psu_messages.specs.declared.need.Need.{Need}
@@ -34,6 +34,10 @@ expanded_by (Some need) units body done parked text = within units body done par
 -- completed
 abbrev pub IsBrokenOff : {X S : Type 0} → (X → Request → S → X → Type 0) → (X → S → X → Type 0) → X → Bool → Request → S → X → Type 0
 IsBrokenOff fails stops at parked request stop now = ((parked ≡ false) × fails at request stop now) ⊎ ((parked ≡ true) × stops at stop now)
+
+-- the reply is a response
+abbrev pub IsResponse : Reply → Type 0
+IsResponse reply = (text : List ℕ) × (reply ≡ Answer text)
 
 -- after a stop, the response is in the response buffer, or is not since an allocation failed
 abbrev pub IsLeft : Text → Reply → Text → Type 0

@@ -2,7 +2,7 @@
 ghost use Rattle.std.specs.Prelude.{◌≡◌, true, IfErr, OnOk, OnErr};
 ghost use Rattle.psu_exec.specs.Shown.{outcome_of};
 ghost use Rattle.psu_messages.specs.Executions.{Closes, AddsResponse};
-ghost use Rattle.psu_messages.specs.Stepping.{IsLeft};
+ghost use Rattle.psu_messages.specs.Stepping.{IsLeft, IsResponse};
 
 use crate::Executor;
 use psu_answers::ResponseBuffer;
@@ -20,6 +20,7 @@ pub(crate) fn add_response<A: Allocator + Copy, F: Executor<A>>(
     ensures adds { OnOk result (AddsResponse F.does executor.old gathered.old (outcome_of outcome.now) executor.new gathered.new) }
     ensures stopped { IfErr result (λ stop. F.stops executor.old stop executor.new) }
     ensures left { OnErr result (IsLeft gathered.old (outcome_of outcome.now) gathered.new) }
+    ensures response { OnErr result (IsResponse (outcome_of outcome.now)) }
 {
     let Outcome::Answer(answer) = outcome else {
         return Ok(());

@@ -5,7 +5,7 @@ use Rattle.psu_lex.specs.Message.{Part}
 use Rattle.psu_tree.specs.declared.unit_request.Request.{Request}
 use Rattle.psu_answers.specs.ResponseBuffer.{Text}
 use Rattle.psu_answers.specs.Response.{are_some, joined, response}
-use Rattle.psu_exec.specs.Device.{Reply, Expand}
+use Rattle.psu_exec.specs.Device.{Reply, Answer, Expand}
 use Rattle.psu_exec.specs.declared.exec.Exec.{Exec}
 use Rattle.psu_messages.specs.Effects.{Effect, Executed}
 use Rattle.psu_messages.specs.Units.{Asks, IsUnit, Source}
@@ -218,8 +218,9 @@ module _ {D A : Type 0} {G : Ghosts D} {X : Type 0} (exec : X → Exec D A G) (o
   cut_at x mid y cause place inside true expansion text e at cut = absurd (cc (e))
   cut_at x mid y cause place inside false expansion text e at (Failed request next parked f) = failed_at x mid y cause place inside expansion text request at next f
   cut_at x mid y cause place inside false expansion text e at (Stopped begun s) = stopped_at x mid y cause place inside expansion text at begun s
-  cut_at x mid y cause place inside false expansion text e at (NotBuffered here request next effect reply try d s) =
-      untold_at x mid here y cause place inside expansion text request reply at next (executed (exec mid) (exec here) (output mid) (output here) false request effect reply refl try (on mid here effect d)) s
+  cut_at x mid y cause place inside false expansion text e at (NotBuffered here request next effect response try d s) =
+      untold_at x mid here y cause place inside expansion text request (Answer response) at next
+      (executed (exec mid) (exec here) (output mid) (output here) false request effect (Answer response) refl try (on mid here effect d)) s
 
   -- the line stopped early
   broken_off : (x y : X) (cause : RunCause) (left : Text) → CutOff does fails stops source x beginning cause y left → Ended x y cause left.rest

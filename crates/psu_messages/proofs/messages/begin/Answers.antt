@@ -37,7 +37,7 @@ pub returns-in_err-add_response-in_default-clause-stops : goal.returns-in_err-ad
 returns-in_err-add_response-in_default-clause-stops g c =
     let t = rw c.in-Ended.is at c.in_ok-need.ensures.tried in
     passed_on c.from_residual-in_err-add_response-in_default.result c.in_err-add_response-in_default.field-0.0 _ c.from_residual-in_err-add_response-in_default.ensures.1
-    (λ source next. not_buffered next t.0 c.in_err-add_response-in_default.ensures.stopped c.in_err-add_response-in_default.ensures.left)
+    (λ source next. not_buffered next t.0 c.in_err-add_response-in_default.ensures.stopped c.in_err-add_response-in_default.ensures.left c.in_err-add_response-in_default.ensures.response)
 
 pub returns-in_ok-add_response-in_default-clause-advances : goal.returns-in_ok-add_response-in_default-clause-advances
 returns-in_ok-add_response-in_default-clause-advances g c = λ source next.

@@ -12,7 +12,7 @@ pub returns-in_err-add_response-in-Ended-clause-stops : goal.returns-in_err-add_
 returns-in_err-add_response-in-Ended-clause-stops g c =
     let t = rw c.in-Ended.is at c.in_ok-need.ensures.tried in
     passed_on c.from_residual-in_err-add_response-in-Ended.result c.in_err-add_response-in-Ended.field-0.0 _ c.from_residual-in_err-add_response-in-Ended.ensures.1
-    (λ source units body done unit. not_buffered (next_within source units body done c.args.parked.now c.args.gathered.now c.args.request.now unit) t.0 c.in_err-add_response-in-Ended.ensures.stopped c.in_err-add_response-in-Ended.ensures.left)
+    (λ source units body done unit. not_buffered (next_within source units body done c.args.parked.now c.args.gathered.now c.args.request.now unit) t.0 c.in_err-add_response-in-Ended.ensures.stopped c.in_err-add_response-in-Ended.ensures.left c.in_err-add_response-in-Ended.ensures.response)
 
 pub returns-in-Waits-clause-advances : goal.returns-in-Waits-clause-advances
 returns-in-Waits-clause-advances g c = λ source units body done unit.
