@@ -2,7 +2,7 @@
 use crate::devices::Power;
 use crate::log::{Log, Turn};
 use psu_exec::{Outcome, Request, Session};
-use psu_messages::{Executor, Need};
+use psu_messages::{Executor, Need, Refused};
 use std::alloc::Global;
 
 /// The executor has stopped permanently.
@@ -50,7 +50,7 @@ impl<'a> Executor<Global> for Probe<'a> {
         self.log.send(text, is_last).ok_or(Stopped)
     }
 
-    fn out_of_memory(&self) -> Stopped {
+    fn out_of_memory(&self, _: Refused) -> Stopped {
         Stopped
     }
 }

@@ -4,6 +4,7 @@ ghost use Rattle.psu_tree.specs.declared.unit_request.Request.{Request as Reques
 ghost use Rattle.psu_exec.specs.Shown.{outcome_of};
 ghost use Rattle.psu_messages.specs.Effects.{Effect, Executed, Settled, Sent};
 
+use crate::Refused;
 use psu_exec::{Outcome, Request};
 use std::alloc::Allocator;
 
@@ -37,7 +38,7 @@ pub trait Executor<A: Allocator + Copy> {
         ensures done { OnOk result (does self.old (Sent text.now is_last) self.new) }
         ensures stopped { IfErr result (λ stop. stops self.old stop self.new) };
 
-    /// The reason why it stops after an allocation failure.
-    fn out_of_memory(&self) -> Self::Stop
+    /// The reason why it stops where memory was refused.
+    fn out_of_memory(&self, refused: Refused) -> Self::Stop
         ensures { stops self.now result self.now };
 }

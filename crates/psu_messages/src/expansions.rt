@@ -6,10 +6,10 @@ ghost use Rattle.psu_messages.specs.Stepping.{expanded_by, within};
 ghost use Rattle.psu_messages.specs.Units.{Source};
 
 use crate::reading::{pass_over, request_at};
+use crate::refused::units_of;
 use crate::steps::take_step;
 use crate::{Executor, Need};
 use psu_answers::ResponseBuffer;
-use psu_lex::split;
 use psu_tree::Path;
 use std::alloc::Allocator;
 
@@ -35,8 +35,9 @@ pub(crate) fn expand<A: Allocator + Copy, F: Executor<A>>(
     ensures stops { IfErr result (λ stop. (source : Source) (units : ℕ)
         → StopsAt F.does F.fails F.stops source executor.old (within units body.now done.old parked.old gathered.old) stop executor.new gathered.new) }
 {
-    let Ok(units) = split(alloc, body) else {
-        return Err(executor.out_of_memory());
+    let units = match units_of(alloc, body) {
+        Ok(units) => units,
+        Err(refused) => return Err(executor.out_of_memory(refused)),
     };
     let list = units.as_slice();
     let at = place_of(*done, list.len());

@@ -10,6 +10,7 @@ mod messages;
 mod need;
 mod progress;
 mod reading;
+mod refused;
 mod responses;
 mod steps;
 mod tries;
@@ -22,3 +23,4 @@ pub use laws::{
 pub use messages::{execute_fault, execute_text, proceed};
 pub use need::Need;
 pub use progress::Progress;
+pub use refused::Refused;

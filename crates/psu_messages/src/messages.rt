@@ -10,11 +10,12 @@ ghost use Rattle.psu_messages.specs.Units.{Asks, EndsMessage, Fault, IsRequest, 
 
 use crate::expansions::{expand, place_of};
 use crate::reading::{pass_over, request_at};
+use crate::refused::units_of;
 use crate::responses::{add_response, close};
 use crate::tries::{Tried, attempt};
 use crate::{Executor, Expansion, Need, Progress};
 use psu_exec::{Outcome, Request, ScpiError};
-use psu_lex::{Bytes, Unit, split};
+use psu_lex::{Bytes, Unit};
 use psu_sessions::Input;
 use psu_tree::Path;
 use std::alloc::Allocator;
@@ -203,8 +204,9 @@ pub fn execute_text<A: Allocator + Copy, F: Executor<A>>(
     ensures waits { IfOk result (λ some. IfSome some (Awaits F.does executor.new)) }
     ensures stops { IfErr result (λ stop. IsInterrupted F.does F.fails F.stops (Text bytes.now) executor.old (progress_of progress.old) stop executor.new progress.new.gathered) }
 {
-    let Ok(units) = split(alloc, bytes) else {
-        return Err(executor.out_of_memory());
+    let units = match units_of(alloc, bytes) {
+        Ok(units) => units,
+        Err(refused) => return Err(executor.out_of_memory(refused)),
     };
     let list = units.as_slice();
     let at = place_of(progress.units, list.len());

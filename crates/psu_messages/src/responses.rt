@@ -5,6 +5,7 @@ ghost use Rattle.psu_messages.specs.Executions.{Closes, AddsResponse};
 ghost use Rattle.psu_messages.specs.Stepping.{IsLeft, IsResponse};
 
 use crate::Executor;
+use crate::refused::{append_to, end};
 use psu_answers::ResponseBuffer;
 use psu_exec::Outcome;
 use std::alloc::Allocator;
@@ -25,8 +26,8 @@ pub(crate) fn add_response<A: Allocator + Copy, F: Executor<A>>(
     let Outcome::Answer(answer) = outcome else {
         return Ok(());
     };
-    if gathered.append(answer.as_slice()).is_err() {
-        return Err(executor.out_of_memory());
+    if let Err(refused) = append_to(gathered, answer.as_slice()) {
+        return Err(executor.out_of_memory(refused));
     }
     if !gathered.is_long() {
         return Ok(());
@@ -51,8 +52,8 @@ pub(crate) fn close<A: Allocator + Copy, F: Executor<A>>(
     if !gathered.has_answered() {
         return Ok(());
     }
-    if gathered.end().is_err() {
-        return Err(executor.out_of_memory());
+    if let Err(refused) = end(gathered) {
+        return Err(executor.out_of_memory(refused));
     }
     if let Err(stop) = executor.send(gathered.text(), true) {
         gathered.take_back();

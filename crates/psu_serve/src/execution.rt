@@ -13,7 +13,7 @@ use psu_disk::Disk;
 use psu_exec::{Outcome, Request};
 use psu_hislip::{Origin, SessionCore};
 use psu_members::{Begun, Member, Server, Stop};
-use psu_messages::{Executor, Need, proceed};
+use psu_messages::{Executor, Need, Refused, proceed};
 use std::alloc::Global;
 use std::sync::{MutexGuard, Wait};
 
@@ -111,7 +111,7 @@ impl<'a, 'c, 'r, R: Wait, D: Disk + Drop, G: Gate + Drop> Executor<Global>
         written.map_err(|_| Stop::Ended)
     }
 
-    fn out_of_memory(&self) -> Stop {
+    fn out_of_memory(&self, _: Refused) -> Stop {
         Stop::Ended
     }
 }

@@ -23,7 +23,7 @@ use psu_exec::{Outcome, Request, ScpiError};
 use psu_lex::laws::{
     every_list_has_units, one_header_of_a_text, one_list_of_units, one_syntax_of_a_unit,
 };
-use psu_messages::{Executor, Need, Progress, execute_fault, execute_text};
+use psu_messages::{Executor, Need, Progress, Refused, execute_fault, execute_text};
 use psu_tree::laws::{every_unit_reads, one_reading_of_a_unit};
 use std::alloc::Allocator;
 use std::io::Write;
@@ -77,7 +77,7 @@ impl<'p, 'w, W: Write, D: Disk, A: Allocator + Copy> Executor<A> for Console<'p,
 
     // Never called: `execute` returns final outcomes alone, so no unit is left to settle.
     fn settle(&mut self) -> Result<Outcome<A>, RunCause> {
-        Err(self.out_of_memory())
+        Err(RunCause::Memory)
     }
 
     #[inline(always)]
@@ -85,7 +85,7 @@ impl<'p, 'w, W: Write, D: Disk, A: Allocator + Copy> Executor<A> for Console<'p,
         append_output(&mut self.run_state.unwritten.output, text, self.writer)
     }
 
-    fn out_of_memory(&self) -> RunCause {
+    fn out_of_memory(&self, _: Refused) -> RunCause {
         RunCause::Memory
     }
 }

@@ -4,8 +4,8 @@ use Rattle.psu_messages.proofs.Inside.{inside_at, leaves_all}
 use Rattle.psu_messages.proofs.Places.{from_more}
 use Rattle.psu_messages.proofs.expansions.expand.Goals as goal
 
-pub returns-in_default-clause-stops : goal.returns-in_default-clause-stops
-returns-in_default-clause-stops g c = λ source units. some_stop (inr (inr refl)) c.out_of_memory.ensures refl
+pub returns-in-Err-clause-stops : goal.returns-in-Err-clause-stops
+returns-in-Err-clause-stops g c = λ source units. some_stop (inr (inr refl)) c.out_of_memory.ensures refl
 
 pub returns-in_err-step-clause-stops : goal.returns-in_err-step-clause-stops
 returns-in_err-step-clause-stops g c =

@@ -7,8 +7,8 @@ use Rattle.psu_messages.proofs.Outside.{asks_at, closed, closes, ends_all}
 use Rattle.psu_messages.proofs.Places.{behind_all, from_more}
 use Rattle.psu_messages.proofs.messages.execute_text.Goals as goal
 
-pub returns-in_default-clause-stops : goal.returns-in_default-clause-stops
-returns-in_default-clause-stops g c = inl (c.out_of_memory.ensures, refl)
+pub returns-in-Err-clause-stops : goal.returns-in-Err-clause-stops
+returns-in-Err-clause-stops g c = inl (c.out_of_memory.ensures, refl)
 
 pub returns-in_err-turn-clause-stops : goal.returns-in_err-turn-clause-stops
 returns-in_err-turn-clause-stops g c =

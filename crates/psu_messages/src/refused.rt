@@ -1,0 +1,64 @@
+// What asks for memory, and the sign that it was refused.
+ghost use Rattle.std.specs.Prelude.{◌≡◌, IfOk, OnOk, OnErr};
+ghost use Rattle.psu_answers.specs.ResponseBuffer.{ended, appended};
+ghost use Rattle.psu_lex.specs.Message.{IsMessage};
+
+use psu_answers::ResponseBuffer;
+use psu_lex::{Units, split};
+use std::alloc::Allocator;
+
+// Keeps all but this file from making a `Refused`.
+#[derive(Drop)]
+struct Seal;
+
+/// Memory was refused. Only the functions of this file, which ask for memory, can make one; so nothing else stops an
+/// execution for that reason. No contract can say that an allocation failed.
+#[derive(Drop)]
+pub struct Refused {
+    seal: Seal,
+}
+
+// The sign of an allocation that failed.
+fn refused() -> Refused {
+    Refused { seal: Seal }
+}
+
+/// Splits a transmission into its units.
+pub(crate) fn units_of<'a, A: Allocator + Copy>(
+    alloc: A,
+    bytes: &'a [u8],
+) -> Result<Units<'a, A>, Refused>
+    ensures { IfOk result (λ units. IsMessage bytes.now units) }
+{
+    match split(alloc, bytes) {
+        Ok(units) => Ok(units),
+        Err(_) => Err(refused()),
+    }
+}
+
+/// Appends a response to the response buffer.
+#[inline(always)]
+pub(crate) fn append_to<A: Allocator + Copy>(
+    buffer: &mut ResponseBuffer<A>,
+    answer: &[u8],
+) -> Result<(), Refused>
+    ensures ok { OnOk result (buffer.new ≡ appended buffer.old answer.now) }
+    ensures same { OnErr result (buffer.new ≡ buffer.old) }
+{
+    match buffer.append(answer) {
+        Ok(()) => Ok(()),
+        Err(_) => Err(refused()),
+    }
+}
+
+/// Appends NL to the response buffer.
+#[inline(always)]
+pub(crate) fn end<A: Allocator + Copy>(buffer: &mut ResponseBuffer<A>) -> Result<(), Refused>
+    ensures ended { OnOk result (buffer.new ≡ ended buffer.old) }
+    ensures same { OnErr result (buffer.new ≡ buffer.old) }
+{
+    match buffer.end() {
+        Ok(()) => Ok(()),
+        Err(_) => Err(refused()),
+    }
+}
