@@ -7,52 +7,52 @@ use Rattle.psu_server.specs.Causes.{NotStarted}
 use Rattle.psu_server.specs.declared.run_cause.RunCause.{RunCause}
 use Rattle.psu_server.specs.declared.run_cause.RunCause.TheVariants.{Read, Write, Open, Device, TooLong, Memory as OutOfMemory}
 use Rattle.psu_server.specs.Lines.{Message}
-use Rattle.psu_server.specs.Reasons.{StopsFor, EndsFor}
+use Rattle.psu_server.specs.Reasons.{StopsFor, EndsFor, never}
 
 -- ---- faults whose reason is not the device's
 
-pub is_write : (long : Type 0) (before now : ℕ) (rest : List Message) (last : World) (left : List ℕ) (cause : RunCause) → cause ≡ Write → StopsFor long before now rest last left cause
-is_write long before now rest last left cause is = subst (StopsFor long before now rest last left) (sym is) tt
+pub is_write : (by_input : RunCause → Type 0) (before now : ℕ) (rest : List Message) (last : World) (left : List ℕ) (cause : RunCause) → cause ≡ Write → StopsFor by_input before now rest last left cause
+is_write by_input before now rest last left cause is = subst (StopsFor by_input before now rest last left) (sym is) tt
 
--- an input that is not too long has the same reasons
-pub never_long : (long : Type 0) (before now : ℕ) (rest : List Message) (last : World) (left : List ℕ) (cause : RunCause) → StopsFor ⊥ before now rest last left cause → StopsFor long before now rest last left cause
-never_long long before now rest last left (Open start.Device) why = why
-never_long long before now rest last left (Open start.NoRoot) why = why
-never_long long before now rest last left (Open start.BadRoot) why = why
-never_long long before now rest last left (Open start.BadVersion) why = why
-never_long long before now rest last left (Open start.BadItems) why = why
-never_long long before now rest last left Device why = why
-never_long long before now rest last left OutOfMemory why = tt
-never_long long before now rest last left Read why = tt
-never_long long before now rest last left Write why = tt
-never_long long before now rest last left TooLong why = absurd why
+-- what ends a run while nothing is read ends it also where something is
+pub never_long : (by_input : RunCause → Type 0) (before now : ℕ) (rest : List Message) (last : World) (left : List ℕ) (cause : RunCause) → StopsFor never before now rest last left cause → StopsFor by_input before now rest last left cause
+never_long by_input before now rest last left (Open start.Device) why = why
+never_long by_input before now rest last left (Open start.NoRoot) why = why
+never_long by_input before now rest last left (Open start.BadRoot) why = why
+never_long by_input before now rest last left (Open start.BadVersion) why = why
+never_long by_input before now rest last left (Open start.BadItems) why = why
+never_long by_input before now rest last left Device why = why
+never_long by_input before now rest last left OutOfMemory why = tt
+never_long by_input before now rest last left Read why = absurd why
+never_long by_input before now rest last left Write why = tt
+never_long by_input before now rest last left TooLong why = absurd why
 
 -- ---- the end of a run
 
 -- once power is on
-pub ends_late : (found : List ℕ) (before now : ℕ) (rest : List Message) (last : World) (left : List ℕ) (long : Type 0) (cause : RunCause) → HasReadableRoot found
-    → StopsFor long before now rest last left cause → EndsFor found before now left long cause
-ends_late found before now rest last left long (Open start.Device) rooted why = why.1
-ends_late found before now rest last left long (Open start.NoRoot) rooted why = absurd why
-ends_late found before now rest last left long (Open start.BadRoot) rooted why = absurd why
-ends_late found before now rest last left long (Open start.BadVersion) rooted why = absurd why
-ends_late found before now rest last left long (Open start.BadItems) rooted why = absurd why
-ends_late found before now rest last left long Device rooted why = ⊎_elim inl (λ w. inr w.2) why
-ends_late found before now rest last left long OutOfMemory rooted why = rooted
-ends_late found before now rest last left long Read rooted why = tt
-ends_late found before now rest last left long Write rooted why = tt
-ends_late found before now rest last left long TooLong rooted why = why
+pub ends_late : (found : List ℕ) (before now : ℕ) (rest : List Message) (last : World) (left : List ℕ) (by_input : RunCause → Type 0) (cause : RunCause) → HasReadableRoot found
+    → StopsFor by_input before now rest last left cause → EndsFor found before now left by_input cause
+ends_late found before now rest last left by_input (Open start.Device) rooted why = why.1
+ends_late found before now rest last left by_input (Open start.NoRoot) rooted why = absurd why
+ends_late found before now rest last left by_input (Open start.BadRoot) rooted why = absurd why
+ends_late found before now rest last left by_input (Open start.BadVersion) rooted why = absurd why
+ends_late found before now rest last left by_input (Open start.BadItems) rooted why = absurd why
+ends_late found before now rest last left by_input Device rooted why = ⊎_elim inl (λ w. inr w.2) why
+ends_late found before now rest last left by_input OutOfMemory rooted why = rooted
+ends_late found before now rest last left by_input Read rooted why = why
+ends_late found before now rest last left by_input Write rooted why = tt
+ends_late found before now rest last left by_input TooLong rooted why = why
 
 -- at the start
-pub ends_at_once : (found : List ℕ) (before now : ℕ) (left : List ℕ) (long : Type 0) (cause : RunCause) → NotStarted found before now cause
-    → EndsFor found before now left long cause
-ends_at_once found before now left long (Open start.Device) why = why
-ends_at_once found before now left long (Open start.NoRoot) why = why
-ends_at_once found before now left long (Open start.BadRoot) why = why
-ends_at_once found before now left long (Open start.BadVersion) why = why
-ends_at_once found before now left long (Open start.BadItems) why = why
-ends_at_once found before now left long Device why = absurd why
-ends_at_once found before now left long OutOfMemory why = why.1
-ends_at_once found before now left long Read why = tt
-ends_at_once found before now left long Write why = tt
-ends_at_once found before now left long TooLong why = absurd why
+pub ends_at_once : (found : List ℕ) (before now : ℕ) (left : List ℕ) (by_input : RunCause → Type 0) (cause : RunCause) → NotStarted found before now cause
+    → EndsFor found before now left by_input cause
+ends_at_once found before now left by_input (Open start.Device) why = why
+ends_at_once found before now left by_input (Open start.NoRoot) why = why
+ends_at_once found before now left by_input (Open start.BadRoot) why = why
+ends_at_once found before now left by_input (Open start.BadVersion) why = why
+ends_at_once found before now left by_input (Open start.BadItems) why = why
+ends_at_once found before now left by_input Device why = absurd why
+ends_at_once found before now left by_input OutOfMemory why = why.1
+ends_at_once found before now left by_input Read why = absurd why
+ends_at_once found before now left by_input Write why = tt
+ends_at_once found before now left by_input TooLong why = absurd why

@@ -24,7 +24,7 @@ use Rattle.psu_server.specs.Lives.{Life, born, disk_at, world_of, IsLeftBy, Powe
 use Rattle.psu_server.specs.Output.{Says, SaysUntil, OutputState}
 use Rattle.psu_server.specs.Moments.{IsBetween, IsWhile, Since, disk_in}
 use Rattle.psu_server.specs.Progress.{Breaks, EachMoment, Fed, Continues, DeviceStops, RunsOn, Spans, Stopped, RunEnds, RunEndsHere}
-use Rattle.psu_server.specs.Reasons.{IsAtPower, IsHaltedBy, StopsFor}
+use Rattle.psu_server.specs.Reasons.{IsAtPower, IsHaltedBy, StopsFor, never}
 use Rattle.psu_server.specs.Runs.{Mishaps, any, none, Flushes, LineBegins, LineRuns, MessageBegins, MessageRuns, NextBegins, Reopens, Runs}
 use Rattle.psu_server.specs.declared.run_cause.RunCause.{RunCause}
 use Rattle.psu_server.specs.declared.run_cause.RunCause.TheVariants.{Read, Write, Open, Device, TooLong, Memory as RunMemory}
@@ -153,7 +153,7 @@ pub restart_stops_here : {D A : Type 0} {G : Ghosts D} (old mid : Exec D A G) (d
     → (Ghosts.honest G → length (Ghosts.state G fault.disk).bytes ≡ length (Ghosts.state G disk).bytes)
     → IsConsistent mid.device.flush → (Ghosts.honest G → NotStarted (Ghosts.state G disk).bytes (Ghosts.failures G disk) (Ghosts.failures G fault.disk) fault.cause)
     → (Ghosts.honest G → Ghosts.records G → LeavesOnly (Ghosts.moment G) (Ghosts.left_since G) disk fault.disk (IsOldOrSame (Ghosts.state G disk)))
-    → RunEndsHere ⊥ old fault (Message.Power ∷ rest) []
+    → RunEndsHere never old fault (Message.Power ∷ rest) []
 restart_stops_here {D} {A} {G} old mid disk fault rest r at same_disk same size rose whole was left long consistent why time =
     let later : failures_of old ≤ Ghosts.failures G disk = subst (λ (n : ℕ). failures_of old ≤ n) (sym same) r.lasts.later in
     record {
@@ -165,7 +165,7 @@ restart_stops_here {D} {A} {G} old mid disk fault rest r at same_disk same size 
             (within_as _ _ (λ can. Reopens can (world_of life old) (world_of g.0 mid)) (λ can. NextBegins can (world_of life old) (Message.Power ∷ rest) [] (world_of g.0 mid)) g.1
             (λ can x. inl (begins_all (world_of life old) (world_of g.0 mid) [] (reopens_calls can (world_of life old) (world_of g.0 mid) x), refl))),
         inr (mid.device.flush.limit, mid.device.flush.before, subst (λ (d : DiskState). EachRepresents d mid.device.flush.limit mid.device.flush.before) at (was h), left h _ _ (was h), long h ∙ ap (λ (d : DiskState). length d.bytes) at),
-        restart_stops ⊥ (failures_of old) (Ghosts.failures G disk) (Ghosts.failures G fault.disk) rest (world_of g.0 mid) (Ghosts.state G disk) (Ghosts.state G fault.disk).bytes fault.cause mid.device.flush
+        restart_stops never (failures_of old) (Ghosts.failures G disk) (Ghosts.failures G fault.disk) rest (world_of g.0 mid) (Ghosts.state G disk) (Ghosts.state G fault.disk).bytes fault.cause mid.device.flush
             later consistent (was h) (why h),
         λ t now reached. restart_moments old mid disk (Some fault.disk) life g.0 rest (reopens_calls any (world_of life old) (world_of g.0 mid) (within_any _ _ (λ can. Reopens can (world_of life old) (world_of g.0 mid)) g.1))
             g.2 at same_disk (was h) (time h t) t now reached,
@@ -194,7 +194,7 @@ not_at_power (Message.Units bytes) rest plain at = absurd at
 
 -- a stop in a message
 pub broken_stop : {D A : Type 0} {G : Ghosts D} (old new : Exec D A G) (fault : RunFault D) (m : Message) (rest : List Message) (part : List ℕ) (cause : RunCause)
-    → Breaks old new (λ can w v. MessageBegins can w m part v) cause → FaultOf new fault cause → is_power m ≡ false → RunEndsHere ⊥ old fault (m ∷ rest) part
+    → Breaks old new (λ can w v. MessageBegins can w m part v) cause → FaultOf new fault cause → is_power m ≡ false → RunEndsHere never old fault (m ∷ rest) part
 broken_stop {D} {A} {G} old new fault m rest part cause s f plain = record {
   hands = hands_now old new fault.disk s.goes.lasts f.extent f.failures;
   stops = λ h worn life. let k = s.goes.runs h life in (
@@ -202,7 +202,7 @@ broken_stop {D} {A} {G} old new fault m rest part cause s f plain = record {
     within_at _ _ _ (λ can. NextBegins can (world_of life old) (m ∷ rest) part (world_of k.0 new)) f.failures
         (within_as _ _ (λ can. MessageBegins can (world_of life old) m part (world_of k.0 new)) (λ can. NextBegins can (world_of life old) (m ∷ rest) part (world_of k.0 new)) k.1 (λ can x. inr x)),
     left_in (Ghosts.state G fault.disk) (world_of k.0 new) f.state,
-    halted_stops ⊥ old new (Ghosts.failures G fault.disk) (m ∷ rest) k.0 (Ghosts.state G fault.disk).bytes cause fault.cause f.cause_is f.failures (not_at_power m rest plain) (s.why h)
+    halted_stops never old new (Ghosts.failures G fault.disk) (m ∷ rest) k.0 (Ghosts.state G fault.disk).bytes cause fault.cause f.cause_is f.failures (not_at_power m rest plain) (s.why h)
         (f.reason h (s.goes.lasts.worn worn)),
     λ t now r. since_back (disk_in old.idle_store) new.idle_store fault.disk (IsWhile (world_of life old) (m ∷ rest)) f.disk
         (since_as G (disk_in old.idle_store) (disk_in new.idle_store) (IsBetween (world_of life old) (world_of k.0 new)) (IsWhile (world_of life old) (m ∷ rest)) (k.2.time t now r)
@@ -212,8 +212,8 @@ broken_stop {D} {A} {G} old new fault m rest part cause s f plain = record {
 
 -- a stop with no unit begun
 pub halts_idle : {D A : Type 0} {G : Ghosts D} (old new : Exec D A G) (fault : RunFault D) (rest : List Message) (cause : RunCause) → DeviceStops old new [] cause → FaultOf new fault cause
-    → (Ghosts.honest G → IsWornAtLast old → (life : Life) → StopsFor ⊥ (failures_of old) (Ghosts.failures G fault.disk) rest (world_of life new) (Ghosts.state G fault.disk).bytes fault.cause)
-    → RunEndsHere ⊥ old fault rest []
+    → (Ghosts.honest G → IsWornAtLast old → (life : Life) → StopsFor never (failures_of old) (Ghosts.failures G fault.disk) rest (world_of life new) (Ghosts.state G fault.disk).bytes fault.cause)
+    → RunEndsHere never old fault rest []
 halts_idle {D} {A} {G} old new fault rest cause s f why = record {
   hands = hands_now old new fault.disk s.lasts f.extent f.failures;
   stops = λ h worn life. let k = s.begun h life in (
@@ -229,23 +229,23 @@ halts_idle {D} {A} {G} old new fault rest cause s f why = record {
 
 -- a store that can't be reopened
 pub reopen_stops : {D A : Type 0} {G : Ghosts D} (old new : Exec D A G) (fault : RunFault D) (rest : List Message) (cause : RunCause) → DeviceStops old new [] cause → FaultOf new fault cause
-    → (Ghosts.honest G → cause ≡ Device → HasFailed (failures_of old) (failures_of new)) → RunEndsHere ⊥ old fault (Message.Power ∷ rest) []
+    → (Ghosts.honest G → cause ≡ Device → HasFailed (failures_of old) (failures_of new)) → RunEndsHere never old fault (Message.Power ∷ rest) []
 reopen_stops {D} {A} {G} old new fault rest cause s f failed =
     halts_idle old new fault (Message.Power ∷ rest) cause s f
-    (λ h worn life. subst (StopsFor ⊥ (failures_of old) (Ghosts.failures G fault.disk) (Message.Power ∷ rest) (world_of life new) (Ghosts.state G fault.disk).bytes) (sym f.cause_is) (by cause (s.why h) (failed h) life))
+    (λ h worn life. subst (StopsFor never (failures_of old) (Ghosts.failures G fault.disk) (Message.Power ∷ rest) (world_of life new) (Ghosts.state G fault.disk).bytes) (sym f.cause_is) (by cause (s.why h) (failed h) life))
   where
     by : (cause : RunCause) → IsHaltedBy old new cause → (cause ≡ Device → HasFailed (failures_of old) (failures_of new)) → (life : Life)
-        → StopsFor ⊥ (failures_of old) (Ghosts.failures G fault.disk) (Message.Power ∷ rest) (world_of life new) (Ghosts.state G fault.disk).bytes cause
+        → StopsFor never (failures_of old) (Ghosts.failures G fault.disk) (Message.Power ∷ rest) (world_of life new) (Ghosts.state G fault.disk).bytes cause
     by Device w only life = inl (subst (λ (n : ℕ). HasFailed (failures_of old) n) (sym f.failures) (only refl))
     by RunMemory w only life = tt
     by (Open c) w only life = absurd w
-    by Read w only life = tt
+    by Read w only life = absurd w
     by Write w only life = tt
     by TooLong w only life = absurd w
 
-pub stops_now : {D A : Type 0} {G : Ghosts D} (long : Type 0) (exec : Exec D A G) (fault : RunFault D) (rest : List Message) (cause : RunCause) → FaultOf exec fault cause
-    → ((last : World) → StopsFor long (failures_of exec) (Ghosts.failures G fault.disk) rest last (Ghosts.state G fault.disk).bytes cause) → RunEndsHere long exec fault rest []
-stops_now {D} {A} {G} long exec fault rest cause f why = record {
+pub stops_now : {D A : Type 0} {G : Ghosts D} (by_input : RunCause → Type 0) (exec : Exec D A G) (fault : RunFault D) (rest : List Message) (cause : RunCause) → FaultOf exec fault cause
+    → ((last : World) → StopsFor by_input (failures_of exec) (Ghosts.failures G fault.disk) rest last (Ghosts.state G fault.disk).bytes cause) → RunEndsHere by_input exec fault rest []
+stops_now {D} {A} {G} by_input exec fault rest cause f why = record {
   hands = hands_now exec exec fault.disk (lasts_none exec) f.extent f.failures;
   stops = λ h worn life. (
     world_of life exec,
@@ -253,15 +253,15 @@ stops_now {D} {A} {G} long exec fault rest cause f why = record {
         (within_here _ (λ can. NextBegins can (world_of life exec) rest [] (world_of life exec))
         (λ can. idle_begins can (world_of life exec) (world_of life exec) rest (begins_all (world_of life exec) (world_of life exec) [] (executes_none (world_of life exec))))),
     left_in (Ghosts.state G fault.disk) (world_of life exec) f.state,
-    subst (StopsFor long (failures_of exec) (Ghosts.failures G fault.disk) rest (world_of life exec) (Ghosts.state G fault.disk).bytes) (sym f.cause_is) (why (world_of life exec)),
+    subst (StopsFor by_input (failures_of exec) (Ghosts.failures G fault.disk) rest (world_of life exec) (Ghosts.state G fault.disk).bytes) (sym f.cause_is) (why (world_of life exec)),
     λ t now r. since_back (disk_in exec.idle_store) exec.idle_store fault.disk (IsWhile (world_of life exec) rest) f.disk
         (since_idle exec.idle_store (IsWhile (world_of life exec) rest) now (λ x left. while_here (world_of life exec) rest x (prefix_of_reached (world_of life exec) x r left))),
   );
 }
 
-pub stops_then : {D A : Type 0} {G : Ghosts D} (long : Type 0) (old mid : Exec D A G) (fault : RunFault D) (done rest : List Message) (text part : List ℕ)
-    → RunsOn old mid done text → RunEndsHere long mid fault rest part → RunEnds long old fault done rest text part
-stops_then long old mid fault done rest text part goes stop = record {
+pub stops_then : {D A : Type 0} {G : Ghosts D} (by_input : RunCause → Type 0) (old mid : Exec D A G) (fault : RunFault D) (done rest : List Message) (text part : List ℕ)
+    → RunsOn old mid done text → RunEndsHere by_input mid fault rest part → RunEnds by_input old fault done rest text part
+stops_then by_input old mid fault done rest text part goes stop = record {
   hands = hands_then old mid fault.disk goes.lasts stop.hands;
   stops = λ h worn life. let g = goes.runs h life in let s = stop.stops h (goes.lasts.worn worn) g.0 in
       (world_of g.0 mid, s.0, failures_of mid, g.1, s.1, s.2, s.3, then_moments old mid (Some fault.disk) done rest text goes h life s.4);
@@ -325,7 +325,7 @@ feed_end before mid after piece rest s s1 t0 t1 f moved =
 
 -- a fault after these lines
 pub feed_stops : {D A : Type 0} {G : Ghosts D} (before mid : List ℕ → List Message) (piece rest : List ℕ) (s s1 : Exec D A G) (fault : RunFault D) (t0 t1 t2 : OutputState) (part : List ℕ)
-    → FedSo before piece rest mid s s1 t0 t1 → SaysUntil fault.cause t1 t2 part → ((input : List ℕ) → RunEndsHere ⊥ s1 fault (mid (rest ++ input)) part) → Stopped before piece s fault t0 t2
+    → FedSo before piece rest mid s s1 t0 t1 → SaysUntil fault.cause t1 t2 part → ((input : List ℕ) → RunEndsHere never s1 fault (mid (rest ++ input)) part) → Stopped before piece s fault t0 t2
 feed_stops before mid piece rest s s1 fault t0 t1 t2 part f until stop =
     let g = f.2 in (
       g.0,
@@ -335,7 +335,7 @@ feed_stops before mid piece rest s s1 fault t0 t1 t2 part f until stop =
       λ input. (
         mid (rest ++ input),
         ap before (ap (λ (z : List ℕ). z ++ input) f.1 ∙ append_assoc f.0 rest input) ∙ g.3 (rest ++ input),
-        stops_then ⊥ s s1 fault g.0 (mid (rest ++ input)) g.1 part g.4 (stop input),
+        stops_then never s s1 fault g.0 (mid (rest ++ input)) g.1 part g.4 (stop input),
       ),
     )
 
@@ -348,10 +348,10 @@ line_first mid rest at over line input found moved free =
     ∙ moved (10 ∷ (drop (at + 1) rest ++ input)) ∙ coming_end over line (drop (at + 1) rest ++ input) free
 
 -- a flush that stops
-pub flush_stops : {D A : Type 0} {G : Ghosts D} (old new : Exec D A G) (fault : RunFault D) (cause : RunCause) → DeviceStops old new [] cause → FaultOf new fault cause → RunEndsHere ⊥ old fault [] []
+pub flush_stops : {D A : Type 0} {G : Ghosts D} (old new : Exec D A G) (fault : RunFault D) (cause : RunCause) → DeviceStops old new [] cause → FaultOf new fault cause → RunEndsHere never old fault [] []
 flush_stops {D} {A} {G} old new fault cause s f =
     halts_idle old new fault [] cause s f
-    (λ h worn life. halted_stops ⊥ old new (Ghosts.failures G fault.disk) [] life (Ghosts.state G fault.disk).bytes cause fault.cause f.cause_is f.failures (λ at. at) (s.why h) (f.reason h (s.lasts.worn worn)))
+    (λ h worn life. halted_stops never old new (Ghosts.failures G fault.disk) [] life (Ghosts.state G fault.disk).bytes cause fault.cause f.cause_is f.failures (λ at. at) (s.why h) (f.reason h (s.lasts.worn worn)))
 
 -- every moment of a flush
 pub flush_moments : {D A : Type 0} {G : Ghosts D} (old new : Exec D A G) (due : List Message) → Continues old new Flushes → (h : Ghosts.honest G) (life : Life) → EachMoment life old (disk_in new.idle_store) due
@@ -364,7 +364,7 @@ flush_moments {D} {A} {G} old new due g h life t now r =
 
 -- a stop after a flush
 pub flushed_stops : {D A : Type 0} {G : Ghosts D} (old new : Exec D A G) (fault : RunFault D) → Continues old new Flushes → FaultOf new fault Device → (Ghosts.honest G → IsHaltedBy old new Device)
-    → RunEndsHere ⊥ old fault [] []
+    → RunEndsHere never old fault [] []
 flushed_stops {D} {A} {G} old new fault g f why = record {
   hands = hands_now old new fault.disk g.lasts f.extent f.failures;
   stops = λ h worn life. let k = g.runs h life in (
@@ -373,7 +373,7 @@ flushed_stops {D} {A} {G} old new fault g f why = record {
         (within_as _ _ (λ can. Flushes can (world_of life old) (world_of k.0 new)) (λ can. NextBegins can (world_of life old) [] [] (world_of k.0 new)) k.1
         (λ can x. (begins_all (world_of life old) (world_of k.0 new) [] (flush_calls can (world_of life old) (world_of k.0 new) x), refl))),
     left_in (Ghosts.state G fault.disk) (world_of k.0 new) f.state,
-    halted_stops ⊥ old new (Ghosts.failures G fault.disk) [] k.0 (Ghosts.state G fault.disk).bytes Device fault.cause f.cause_is f.failures (λ at. at) (why h) (f.reason h (g.lasts.worn worn)),
+    halted_stops never old new (Ghosts.failures G fault.disk) [] k.0 (Ghosts.state G fault.disk).bytes Device fault.cause f.cause_is f.failures (λ at. at) (why h) (f.reason h (g.lasts.worn worn)),
     λ t now r. since_back (disk_in old.idle_store) new.idle_store fault.disk (IsWhile (world_of life old) []) f.disk (flush_moments old new [] g h life t now r),
   );
 }

@@ -24,6 +24,7 @@ use Rattle.psu_server.specs.Runs.{Mishaps, none, Flushes, NextBegins, Runs}
 use Rattle.psu_server.specs.Script.{IsScript}
 use Rattle.psu_server.specs.Within.{Within}
 use Rattle.psu_server.specs.declared.run_fault.RunFault.{RunFault}
+use Rattle.psu_server.specs.declared.run_cause.RunCause.{RunCause}
 use Rattle.psu_server.proofs.MessagesAlone.{script_is_alone}
 use Rattle.psu_server.proofs.Calls.{flush_calls, flush_running, flushed_stands, leaves_prefix, reached_calls, reached_on}
 use Rattle.psu_server.proofs.OneList.{first_leads, left_leads, reached_next, reached_runs, whole_leads}
@@ -38,9 +39,9 @@ passed_disk (Ok disk) fault P is p = absurd is
 passed_disk {D} (Err told) fault P is p = subst (λ (z : RunFault D). P z.disk) (sym is) p
 
 -- the run ended early
-pub run_early : {D A : Type 0} {G : Ghosts D} (long : Type 0) (from u v : Option (List ℕ)) (image : List ℕ) (s : Exec D A G) (fault : RunFault D) (before : ℕ) → Ghosts.honest G → PowersOn image (world_of (born s) s)
-    → failures_of s ≡ before → IsWornAtLast s → Early long s fault from u v → WritesFirst long fault.cause image from before (Ghosts.failures G fault.disk) u v (Ghosts.state G fault.disk)
-run_early {D} {A} {G} long from u v image s fault before h starts same worn (due, brought, p) =
+pub run_early : {D A : Type 0} {G : Ghosts D} (by_input : RunCause → Type 0) (from u v : Option (List ℕ)) (image : List ℕ) (s : Exec D A G) (fault : RunFault D) (before : ℕ) → Ghosts.honest G → PowersOn image (world_of (born s) s)
+    → failures_of s ≡ before → IsWornAtLast s → Early by_input s fault from u v → WritesFirst by_input fault.cause image from before (Ghosts.failures G fault.disk) u v (Ghosts.state G fault.disk)
+run_early {D} {A} {G} by_input from u v image s fault before h starts same worn (due, brought, p) =
     let e = p.stops.stops h worn (born s) in
     let went : Within before e.2 (λ can. Runs can (world_of (born s) s) p.done p.text e.0) = subst (λ (n : ℕ). Within n e.2 (λ can. Runs can (world_of (born s) s) p.done p.text e.0)) same e.3 in
     let ran = within_itself _ _ (λ can. Runs can (world_of (born s) s) p.done p.text e.0) went in
@@ -80,12 +81,12 @@ run_early {D} {A} {G} long from u v image s fault before h starts same worn (due
     }
 
 -- why the run ended early
-pub run_cause : {D A : Type 0} {G : Ghosts D} (long : Type 0) (from u v : Option (List ℕ)) (image : List ℕ) (s : Exec D A G) (fault : RunFault D) (before : ℕ) → Ghosts.honest G → PowersOn image (world_of (born s) s)
-    → failures_of s ≡ before → IsWornAtLast s → Early long s fault from u v → EndsFor image before (Ghosts.failures G fault.disk) (Ghosts.state G fault.disk).bytes long fault.cause
-run_cause {D} {A} {G} long from u v image s fault before h starts same worn early =
-    let w = run_early long from u v image s fault before h starts same worn early in
-    ends_late image before (Ghosts.failures G fault.disk) w.rest w.last (Ghosts.state G fault.disk).bytes long fault.cause (represents_readable _ _ _ starts.found)
-    (stops_since long before w.count (Ghosts.failures G fault.disk) w.rest w.last (Ghosts.state G fault.disk).bytes fault.cause w.later w.why)
+pub run_cause : {D A : Type 0} {G : Ghosts D} (by_input : RunCause → Type 0) (from u v : Option (List ℕ)) (image : List ℕ) (s : Exec D A G) (fault : RunFault D) (before : ℕ) → Ghosts.honest G → PowersOn image (world_of (born s) s)
+    → failures_of s ≡ before → IsWornAtLast s → Early by_input s fault from u v → EndsFor image before (Ghosts.failures G fault.disk) (Ghosts.state G fault.disk).bytes by_input fault.cause
+run_cause {D} {A} {G} by_input from u v image s fault before h starts same worn early =
+    let w = run_early by_input from u v image s fault before h starts same worn early in
+    ends_late image before (Ghosts.failures G fault.disk) w.rest w.last (Ghosts.state G fault.disk).bytes by_input fault.cause (represents_readable _ _ _ starts.found)
+    (stops_since by_input before w.count (Ghosts.failures G fault.disk) w.rest w.last (Ghosts.state G fault.disk).bytes fault.cause w.later w.why)
 
 -- the text that is written for a known input where nothing goes wrong
 script_of : (from : Option (List ℕ)) (image : List ℕ) (due : List Message) (text : List ℕ) (first last : World) → Brings from due → PowersOn image first → Runs none first due text last
@@ -136,8 +137,8 @@ run_moments {D} {A} {G} from given over s due t now starts some opens brought ru
     (since_to s.idle_store given (IsOldOrSame (Ghosts.state G given)) some opens) (runs t now (reached_on (Ghosts.state G given).bytes first starts))
     (λ x kept. inl (keeps_map (Ghosts.state G given) x kept)) (λ x while. inr (first, due, starts, brought, while))
 
-pub early_moments : {D A : Type 0} {G : Ghosts D} (long : Type 0) (from u v : Option (List ℕ)) (given : D) (s : Exec D A G) (fault : RunFault D) → Ghosts.honest G → Ghosts.records G → IsNow G → PowersOn (Ghosts.state G given).bytes (world_of (born s) s)
-    → IsWornAtLast s → (s.idle_store ≡ None → ⊥) → ForSome s.idle_store (λ h. LeavesOnly (Ghosts.moment G) (Ghosts.left_since G) given (idle_disk h) (IsOldOrSame (Ghosts.state G given))) → Early long s fault from u v
+pub early_moments : {D A : Type 0} {G : Ghosts D} (by_input : RunCause → Type 0) (from u v : Option (List ℕ)) (given : D) (s : Exec D A G) (fault : RunFault D) → Ghosts.honest G → Ghosts.records G → IsNow G → PowersOn (Ghosts.state G given).bytes (world_of (born s) s)
+    → IsWornAtLast s → (s.idle_store ≡ None → ⊥) → ForSome s.idle_store (λ h. LeavesOnly (Ghosts.moment G) (Ghosts.left_since G) given (idle_disk h) (IsOldOrSame (Ghosts.state G given))) → Early by_input s fault from u v
     → LeavesOnly (Ghosts.moment G) (Ghosts.left_since G) given fault.disk (IsOfRun (Ghosts.state G given) from)
-early_moments long from u v given s fault h t now starts worn some opens (due, brought, p) =
+early_moments by_input from u v given s fault h t now starts worn some opens (due, brought, p) =
     run_moments from given fault.disk s (p.done ++ p.rest) t now starts some opens (subst (Brings from) p.is brought) (p.stops.stops h worn (born s)).7

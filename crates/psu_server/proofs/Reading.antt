@@ -13,7 +13,7 @@ use Rattle.psu_server.specs.Failures.{extent_of, failures_of}
 use Rattle.psu_server.specs.Lines.{Message, Brings, message_now, messages, coming, has, is_none_begun}
 use Rattle.psu_server.specs.Lives.{disk_at, world_of}
 use Rattle.psu_server.specs.Output.{Says, OutputState, WritesShort}
-use Rattle.psu_server.specs.Reasons.{StopsFor}
+use Rattle.psu_server.specs.Reasons.{StopsFor, never}
 use Rattle.psu_server.specs.declared.run_cause.RunCause.{RunCause}
 use Rattle.psu_server.specs.declared.run_cause.RunCause.TheVariants.{Write}
 use Rattle.psu_server.specs.declared.run_fault.RunFault.{RunFault}
@@ -32,9 +32,9 @@ use Rattle.psu_server.proofs.Within.{within_at, within_then}
 
 -- ---- ends
 
-stops_more : {D A : Type 0} {G : Ghosts D} (long : Type 0) (old mid : Exec D A G) (fault : RunFault D) (xs done rest : List Message) (text more part : List ℕ)
-    → RunsOn old mid xs text → RunEnds long mid fault done rest more part → RunEnds long old fault (xs ++ done) rest (text ++ more) part
-stops_more {D} {A} {G} long old mid fault xs done rest text more part goes stop = record {
+stops_more : {D A : Type 0} {G : Ghosts D} (by_input : RunCause → Type 0) (old mid : Exec D A G) (fault : RunFault D) (xs done rest : List Message) (text more part : List ℕ)
+    → RunsOn old mid xs text → RunEnds by_input mid fault done rest more part → RunEnds by_input old fault (xs ++ done) rest (text ++ more) part
+stops_more {D} {A} {G} by_input old mid fault xs done rest text more part goes stop = record {
   hands = hands_then old mid fault.disk goes.lasts stop.hands;
   stops = λ h worn life. let g = goes.runs h life in let s = stop.stops h (goes.lasts.worn worn) g.0 in (
     s.0,
@@ -51,15 +51,15 @@ stops_more {D} {A} {G} long old mid fault xs done rest text more part goes stop 
 }
 
 -- an early end at which nothing was executed and nothing was written
-pub early_here : {D A : Type 0} {G : Ghosts D} (long : Type 0) (old : Exec D A G) (fault : RunFault D) (due : List Message) (w : Option (List ℕ)) (cause : RunCause) → FaultOf old fault cause → cause ≢ Write
-    → ((last : World) → StopsFor long (failures_of old) (Ghosts.failures G fault.disk) due last (Ghosts.state G fault.disk).bytes cause) → EndsEarly long old fault due w w
-early_here long old fault due w cause f other why = record {
+pub early_here : {D A : Type 0} {G : Ghosts D} (by_input : RunCause → Type 0) (old : Exec D A G) (fault : RunFault D) (due : List Message) (w : Option (List ℕ)) (cause : RunCause) → FaultOf old fault cause → cause ≢ Write
+    → ((last : World) → StopsFor by_input (failures_of old) (Ghosts.failures G fault.disk) due last (Ghosts.state G fault.disk).bytes cause) → EndsEarly by_input old fault due w w
+early_here by_input old fault due w cause f other why = record {
   done = [];
   rest = due;
   is = refl;
   text = [];
   part = [];
-  stops = stops_then long old old fault [] due [] [] (runs_none old) (stops_now long old fault due cause f why);
+  stops = stops_then by_input old old fault [] due [] [] (runs_none old) (stops_now by_input old fault due cause f why);
   front = [];
   appends = Appends-nil w;
   starts = refl;
@@ -68,15 +68,15 @@ early_here long old fault due w cause f other why = record {
 }
 
 -- after messages that were answered
-pub early_after : {D A : Type 0} {G : Ghosts D} (long : Type 0) (old mid : Exec D A G) (fault : RunFault D) (due done more : List Message) (text : List ℕ) (u v w : Option (List ℕ)) → due ≡ done ++ more
-    → RunsOn old mid done text → Appends u v text → EndsEarly long mid fault more v w → EndsEarly long old fault due u w
-early_after long old mid fault due done more text u v w is goes p b = record {
+pub early_after : {D A : Type 0} {G : Ghosts D} (by_input : RunCause → Type 0) (old mid : Exec D A G) (fault : RunFault D) (due done more : List Message) (text : List ℕ) (u v w : Option (List ℕ)) → due ≡ done ++ more
+    → RunsOn old mid done text → Appends u v text → EndsEarly by_input mid fault more v w → EndsEarly by_input old fault due u w
+early_after by_input old mid fault due done more text u v w is goes p b = record {
   done = done ++ b.done;
   rest = b.rest;
   is = is ∙ ap (λ (z : List Message). done ++ z) b.is ∙ sym (append_assoc done b.done b.rest);
   text = text ++ b.text;
   part = b.part;
-  stops = stops_more long old mid fault done b.done b.rest text b.text b.part goes b.stops;
+  stops = stops_more by_input old mid fault done b.done b.rest text b.text b.part goes b.stops;
   front = text ++ b.front;
   appends = Appends-trans u v w text b.front p b.appends;
   starts = subst (λ (z : List ℕ). StartsWith z (text ++ b.front)) (sym (append_assoc text b.text b.part)) (starts_after text b.front (b.text ++ b.part) b.starts);
@@ -84,9 +84,9 @@ early_after long old mid fault due done more text u v w is goes p b = record {
   missing = λ e. subst (λ (z : List ℕ). length (text ++ b.front) < length z) (sym (append_assoc text b.text b.part)) (longer text b.front (b.text ++ b.part) (b.missing e));
 }
 
--- an input that is not too long has the same reasons for an early end
-pub early_never_long : {D A : Type 0} {G : Ghosts D} (long : Type 0) (old : Exec D A G) (fault : RunFault D) (due : List Message) (u v : Option (List ℕ)) → EndsEarly ⊥ old fault due u v → EndsEarly long old fault due u v
-early_never_long {D} {A} {G} long old fault due u v p = record {
+-- what ends a run early while nothing is read ends it also where something is
+pub early_never_long : {D A : Type 0} {G : Ghosts D} (by_input : RunCause → Type 0) (old : Exec D A G) (fault : RunFault D) (due : List Message) (u v : Option (List ℕ)) → EndsEarly never old fault due u v → EndsEarly by_input old fault due u v
+early_never_long {D} {A} {G} by_input old fault due u v p = record {
   done = p.done;
   rest = p.rest;
   is = p.is;
@@ -95,7 +95,7 @@ early_never_long {D} {A} {G} long old fault due u v p = record {
   stops = record {
     hands = p.stops.hands;
     stops = λ h worn life. let s = p.stops.stops h worn life in
-        (s.0, s.1, s.2, s.3, s.4, s.5, never_long long s.2 (Ghosts.failures G fault.disk) p.rest s.1 (Ghosts.state G fault.disk).bytes fault.cause s.6, s.7);
+        (s.0, s.1, s.2, s.3, s.4, s.5, never_long by_input s.2 (Ghosts.failures G fault.disk) p.rest s.1 (Ghosts.state G fault.disk).bytes fault.cause s.6, s.7);
   };
   front = p.front;
   appends = p.appends;
@@ -153,39 +153,39 @@ brought_all (Some x) (Some y) (Some z) seen p q e = ap messages (sym (p ∙ ap (
 
 -- a run of the messages that the input brings ended early, or ran them all
 abbrev pub Early : {D A : Type 0} {G : Ghosts D} → Type 0 → Exec D A G → RunFault D → Option (List ℕ) → Option (List ℕ) → Option (List ℕ) → Type 0
-Early long s fault from u w = (due : List Message) × Brings from due × EndsEarly long s fault due u w
+Early by_input s fault from u w = (due : List Message) × Brings from due × EndsEarly by_input s fault due u w
 
 abbrev pub Whole : {D A : Type 0} {G : Ghosts D} → Exec D A G → D → Option (List ℕ) → Option (List ℕ) → Option (List ℕ) → Type 0
 Whole s disk from u w = (due : List Message) × Brings from due × RanAll s due disk u w
 
 -- why a run ends before the messages to come
 abbrev pub Reason : {D A : Type 0} {G : Ghosts D} → Type 0 → Exec D A G → RunFault D → RunCause → Type 0
-Reason {D} {A} {G} long s fault cause = (rest : List Message) (last : World) → StopsFor long (failures_of s) (Ghosts.failures G fault.disk) rest last (Ghosts.state G fault.disk).bytes cause
+Reason {D} {A} {G} by_input s fault cause = (rest : List Message) (last : World) → StopsFor by_input (failures_of s) (Ghosts.failures G fault.disk) rest last (Ghosts.state G fault.disk).bytes cause
 
-pub early_seen : {D A : Type 0} {G : Ghosts D} (long : Type 0) (f mid : List ℕ → List Message) (seen input : List ℕ) (s s1 : Exec D A G) (fault : RunFault D) (u v w : Option (List ℕ))
-    → Answered f seen mid s s1 u v → EndsEarly long s1 fault (mid input) v w → EndsEarly long s fault (f (seen ++ input)) u w
-early_seen long f mid seen input s s1 fault u v w p q = early_after long s s1 fault (f (seen ++ input)) p.0 (mid input) p.1 u v w (p.3 input) p.4 p.2 q
+pub early_seen : {D A : Type 0} {G : Ghosts D} (by_input : RunCause → Type 0) (f mid : List ℕ → List Message) (seen input : List ℕ) (s s1 : Exec D A G) (fault : RunFault D) (u v w : Option (List ℕ))
+    → Answered f seen mid s s1 u v → EndsEarly by_input s1 fault (mid input) v w → EndsEarly by_input s fault (f (seen ++ input)) u w
+early_seen by_input f mid seen input s s1 fault u v w p q = early_after by_input s s1 fault (f (seen ++ input)) p.0 (mid input) p.1 u v w (p.3 input) p.4 p.2 q
 
 -- an early end at which nothing was read and nothing was written
-pub early_unread : {D A : Type 0} {G : Ghosts D} (long : Type 0) (s : Exec D A G) (fault : RunFault D) (from w : Option (List ℕ)) (cause : RunCause) → FaultOf s fault cause → cause ≢ Write → Reason long s fault cause → Early long s fault from w w
-early_unread long s fault from w cause f other why =
-    (messages (left_of from), brought from from [] (Consumes-nil from), early_here long s fault (messages (left_of from)) w cause f other (why (messages (left_of from))))
+pub early_unread : {D A : Type 0} {G : Ghosts D} (by_input : RunCause → Type 0) (s : Exec D A G) (fault : RunFault D) (from w : Option (List ℕ)) (cause : RunCause) → FaultOf s fault cause → cause ≢ Write → Reason by_input s fault cause → Early by_input s fault from w w
+early_unread by_input s fault from w cause f other why =
+    (messages (left_of from), brought from from [] (Consumes-nil from), early_here by_input s fault (messages (left_of from)) w cause f other (why (messages (left_of from))))
 
 -- a fault in a piece
-pub ran_stop : {D A : Type 0} {G : Ghosts D} (long : Type 0) (mid : List ℕ → List Message) (piece : List ℕ) (s s1 : Exec D A G) (fault : RunFault D) (from to next u v w : Option (List ℕ))
-    → Ran mid s s1 from to u v → Consumes to next piece → ((input : List ℕ) → EndsEarly long s1 fault (mid (piece ++ input)) v w) → Early long s fault from u w
-ran_stop long mid piece s s1 fault from to next u v w r p q =
+pub ran_stop : {D A : Type 0} {G : Ghosts D} (by_input : RunCause → Type 0) (mid : List ℕ → List Message) (piece : List ℕ) (s s1 : Exec D A G) (fault : RunFault D) (from to next u v w : Option (List ℕ))
+    → Ran mid s s1 from to u v → Consumes to next piece → ((input : List ℕ) → EndsEarly by_input s1 fault (mid (piece ++ input)) v w) → Early by_input s fault from u w
+ran_stop by_input mid piece s s1 fault from to next u v w r p q =
     let rest = left_of next in (
       messages (r.0 ++ (piece ++ rest)),
       subst (λ (l : List ℕ). Brings from (messages l)) (append_assoc r.0 piece rest) (brought from next (r.0 ++ piece) (Consumes-trans from to next r.0 piece r.1 p)),
-      early_seen long messages mid r.0 (piece ++ rest) s s1 fault u v w r.2 (q rest),
+      early_seen by_input messages mid r.0 (piece ++ rest) s s1 fault u v w r.2 (q rest),
     )
 
 -- a fault before anything of the next piece is answered
-pub ran_front : {D A : Type 0} {G : Ghosts D} (long : Type 0) (mid : List ℕ → List Message) (s s1 : Exec D A G) (fault : RunFault D) (from to u v : Option (List ℕ)) (cause : RunCause) → Ran mid s s1 from to u v
-    → FaultOf s1 fault cause → cause ≢ Write → Reason long s1 fault cause → Early long s fault from u v
-ran_front long mid s s1 fault from to u v cause r f other why =
-    ran_stop long mid [] s s1 fault from to to u v v r (Consumes-nil to) (λ input. early_here long s1 fault (mid input) v cause f other (why (mid input)))
+pub ran_front : {D A : Type 0} {G : Ghosts D} (by_input : RunCause → Type 0) (mid : List ℕ → List Message) (s s1 : Exec D A G) (fault : RunFault D) (from to u v : Option (List ℕ)) (cause : RunCause) → Ran mid s s1 from to u v
+    → FaultOf s1 fault cause → cause ≢ Write → Reason by_input s1 fault cause → Early by_input s fault from u v
+ran_front by_input mid s s1 fault from to u v cause r f other why =
+    ran_stop by_input mid [] s s1 fault from to to u v v r (Consumes-nil to) (λ input. early_here by_input s1 fault (mid input) v cause f other (why (mid input)))
 
 -- the end of what was read
 ran_all_after : {D A : Type 0} {G : Ghosts D} (s s1 : Exec D A G) (disk : D) (due done more : List Message) (text : List ℕ) (u v w : Option (List ℕ)) → due ≡ done ++ more
@@ -215,12 +215,12 @@ ran_end mid s s1 disk from to next u v w r p e q = (
 )
 
 -- a fault at the end of what was read
-pub ran_end_front : {D A : Type 0} {G : Ghosts D} (long : Type 0) (mid : List ℕ → List Message) (s s1 : Exec D A G) (fault : RunFault D) (from to next u v w : Option (List ℕ))
-    → Ran mid s s1 from to u v → Consumes to next [] → IsAtEnd next → EndsEarly ⊥ s1 fault (mid []) v w → Early long s fault from u w
-ran_end_front long mid s s1 fault from to next u v w r p e q = (
+pub ran_end_front : {D A : Type 0} {G : Ghosts D} (by_input : RunCause → Type 0) (mid : List ℕ → List Message) (s s1 : Exec D A G) (fault : RunFault D) (from to next u v w : Option (List ℕ))
+    → Ran mid s s1 from to u v → Consumes to next [] → IsAtEnd next → EndsEarly never s1 fault (mid []) v w → Early by_input s fault from u w
+ran_end_front by_input mid s s1 fault from to next u v w r p e q = (
   messages (r.0 ++ []),
   brought_all from to next r.0 r.1 p e,
-  early_seen long messages mid r.0 [] s s1 fault u v w r.2 (early_never_long long s1 fault (mid []) v w q),
+  early_seen by_input messages mid r.0 [] s s1 fault u v w r.2 (early_never_long by_input s1 fault (mid []) v w q),
 )
 
 -- a text that is output to an empty buffer is written once the buffer is
@@ -244,7 +244,7 @@ pub fed_written : {D A : Type 0} {G : Ghosts D} (f mid : List ℕ → List Messa
 fed_written f mid piece s s1 a b shown v p none d w = (p.0, p.1, said_written a b p.1 v none p.2 (subst (Appends b.written v) d w), p.3, p.4)
 
 early_as : {D A : Type 0} {G : Ghosts D} (s : Exec D A G) (fault : RunFault D) (due done rest : List Message) (text part : List ℕ) (u v : Option (List ℕ)) → due ≡ done ++ rest
-    → RunEnds ⊥ s fault done rest text part → WritesShort u v (text ++ part) → fault.cause ≡ Write → EndsEarly ⊥ s fault due u v
+    → RunEnds never s fault done rest text part → WritesShort u v (text ++ part) → fault.cause ≡ Write → EndsEarly never s fault due u v
 early_as s fault due done rest text part u v is stops w write = record {
   done = done;
   rest = rest;
@@ -261,14 +261,14 @@ early_as s fault due done rest text part u v is stops w write = record {
 
 -- a proper prefix of the output of a piece is written, and the device is the one after the piece
 pub fed_front : {D A : Type 0} {G : Ghosts D} (f mid : List ℕ → List Message) (piece : List ℕ) (s s1 : Exec D A G) (fault : RunFault D) (a b : OutputState) (shown : List ℕ) (v : Option (List ℕ))
-    → Fed f piece mid s s1 a b → a.gathered ≡ [] → shown ≡ b.gathered → WritesShort b.written v shown → FaultOf s1 fault Write → (input : List ℕ) → EndsEarly ⊥ s fault (f (piece ++ input)) a.written v
+    → Fed f piece mid s s1 a b → a.gathered ≡ [] → shown ≡ b.gathered → WritesShort b.written v shown → FaultOf s1 fault Write → (input : List ℕ) → EndsEarly never s fault (f (piece ++ input)) a.written v
 fed_front f mid piece s s1 fault a b shown v p none d w at input =
-    early_as s fault (f (piece ++ input)) p.0 (mid input) p.1 [] a.written v (p.3 input) (stops_then ⊥ s s1 fault p.0 (mid input) p.1 [] p.4 (stops_now ⊥ s1 fault (mid input) Write at (λ last. tt)))
+    early_as s fault (f (piece ++ input)) p.0 (mid input) p.1 [] a.written v (p.3 input) (stops_then never s s1 fault p.0 (mid input) p.1 [] p.4 (stops_now never s1 fault (mid input) Write at (λ last. tt)))
     (subst (λ (z : List ℕ). WritesShort a.written v z) (sym (append-nil p.1)) (said_short a b p.1 v none p.2 (subst (WritesShort b.written v) d w))) at.cause_is
 
 -- a fault in a piece: the output before it is written
 pub stopped_whole : {D A : Type 0} {G : Ghosts D} (f : List ℕ → List Message) (piece : List ℕ) (s : Exec D A G) (fault : RunFault D) (a b : OutputState) (shown : List ℕ) (v : Option (List ℕ))
-    → Stopped f piece s fault a b → a.gathered ≡ [] → fault.cause ≢ Write → shown ≡ b.gathered → Appends b.written v shown → (input : List ℕ) → EndsEarly ⊥ s fault (f (piece ++ input)) a.written v
+    → Stopped f piece s fault a b → a.gathered ≡ [] → fault.cause ≢ Write → shown ≡ b.gathered → Appends b.written v shown → (input : List ℕ) → EndsEarly never s fault (f (piece ++ input)) a.written v
 stopped_whole f piece s fault a b shown v p none own d w input = record {
   done = p.0;
   rest = (p.4 input).0;
@@ -285,25 +285,25 @@ stopped_whole f piece s fault a b shown v p none own d w input = record {
 
 -- a fault of the writer in a piece
 pub stopped_short : {D A : Type 0} {G : Ghosts D} (f : List ℕ → List Message) (piece : List ℕ) (s : Exec D A G) (fault : RunFault D) (a b : OutputState)
-    → Stopped f piece s fault a b → a.gathered ≡ [] → fault.cause ≡ Write → (input : List ℕ) → EndsEarly ⊥ s fault (f (piece ++ input)) a.written b.written
+    → Stopped f piece s fault a b → a.gathered ≡ [] → fault.cause ≡ Write → (input : List ℕ) → EndsEarly never s fault (f (piece ++ input)) a.written b.written
 stopped_short f piece s fault a b p none is input =
     early_as s fault (f (piece ++ input)) p.0 (p.4 input).0 p.1 p.2 a.written b.written (p.4 input).1 (p.4 input).2
     (subst (λ (z : List ℕ). WritesShort a.written b.written (z ++ (p.1 ++ p.2))) none (p.3.missing is)) is
 
 -- a write fault replaces the fault that was to be returned
-write_instead : {D A : Type 0} {G : Ghosts D} (s : Exec D A G) (old fault : RunFault D) (done rest : List Message) (text part : List ℕ) → RunEnds ⊥ s old done rest text part → fault.cause ≡ Write → fault.disk ≡ old.disk
-    → RunEnds ⊥ s fault done rest text part
+write_instead : {D A : Type 0} {G : Ghosts D} (s : Exec D A G) (old fault : RunFault D) (done rest : List Message) (text part : List ℕ) → RunEnds never s old done rest text part → fault.cause ≡ Write → fault.disk ≡ old.disk
+    → RunEnds never s fault done rest text part
 write_instead {D} {A} {G} s old fault done rest text part p is same =
-    subst (λ (e : D). RunEnds ⊥ s (record fault { disk = e }) done rest text part) (sym same) (record {
+    subst (λ (e : D). RunEnds never s (record fault { disk = e }) done rest text part) (sym same) (record {
       hands = p.hands;
       stops = λ h worn life. let q = p.stops h worn life in
-          (q.0, q.1, q.2, q.3, q.4, q.5, is_write ⊥ q.2 (Ghosts.failures G old.disk) rest q.1 (Ghosts.state G old.disk).bytes fault.cause is, q.7);
+          (q.0, q.1, q.2, q.3, q.4, q.5, is_write never q.2 (Ghosts.failures G old.disk) rest q.1 (Ghosts.state G old.disk).bytes fault.cause is, q.7);
     })
 
 -- a fault in a piece, after which the writer failed
 pub stopped_front : {D A : Type 0} {G : Ghosts D} (f : List ℕ → List Message) (piece : List ℕ) (s : Exec D A G) (old fault : RunFault D) (a b : OutputState) (shown : List ℕ) (v : Option (List ℕ))
     → Stopped f piece s old a b → a.gathered ≡ [] → old.cause ≢ Write → shown ≡ b.gathered → WritesShort b.written v shown → fault.cause ≡ Write → fault.disk ≡ old.disk → (input : List ℕ)
-    → EndsEarly ⊥ s fault (f (piece ++ input)) a.written v
+    → EndsEarly never s fault (f (piece ++ input)) a.written v
 stopped_front f piece s old fault a b shown v p none own d w is same input =
     early_as s fault (f (piece ++ input)) p.0 (p.4 input).0 p.1 p.2 a.written v (p.4 input).1 (write_instead s old fault p.0 (p.4 input).0 p.1 p.2 (p.4 input).2 is same)
     (said_short a b (p.1 ++ p.2) v none (p.3.whole own) (subst (WritesShort b.written v) d w)) is
@@ -332,9 +332,9 @@ last_answered over next_over line next piece s s1 u v begun free none is p =
     (p.1, p.2, subst (λ (m : List Message). RunsOn s s1 m p.1) (sym due) p.4)
 
 pub last_early : {D A : Type 0} {G : Ghosts D} (over : Bool) (line piece : List ℕ) (s : Exec D A G) (fault : RunFault D) (u v : Option (List ℕ)) → is_none_begun over line ≡ false → has 10 line ≡ false
-    → piece ≡ 10 ∷ [] → ((input : List ℕ) → EndsEarly ⊥ s fault (coming over line (piece ++ input)) u v) → EndsEarly ⊥ s fault (coming over line []) u v
+    → piece ≡ 10 ∷ [] → ((input : List ℕ) → EndsEarly never s fault (coming over line (piece ++ input)) u v) → EndsEarly never s fault (coming over line []) u v
 last_early over line piece s fault u v begun free is q =
-    subst (λ (m : List Message). EndsEarly ⊥ s fault m u v) (ap (λ (z : List ℕ). coming over line (z ++ [])) is ∙ coming_end over line [] free ∙ sym (coming_last over line begun free)) (q [])
+    subst (λ (m : List Message). EndsEarly never s fault m u v) (ap (λ (z : List ℕ). coming over line (z ++ [])) is ∙ coming_end over line [] free ∙ sym (coming_last over line begun free)) (q [])
 
 -- no line has begun, and nothing is answered
 pub answers_none : {D A : Type 0} {G : Ghosts D} (over : Bool) (line : List ℕ) (s : Exec D A G) (w : Option (List ℕ)) → is_none_begun over line ≡ true → Answers (coming over line []) s s w w
@@ -342,14 +342,14 @@ answers_none over line s w none = subst (λ (m : List Message). Answers m s s w 
 
 -- responses that are complete, and then a fault
 pub answers_early : {D A : Type 0} {G : Ghosts D} (due : List Message) (s s1 : Exec D A G) (fault : RunFault D) (u v : Option (List ℕ)) → Answers due s s1 u v → fault.cause ≢ Write
-    → RunEndsHere ⊥ s1 fault [] [] → EndsEarly ⊥ s fault due u v
+    → RunEndsHere never s1 fault [] [] → EndsEarly never s fault due u v
 answers_early due s s1 fault u v p other stop = record {
   done = due;
   rest = [];
   is = sym (append-nil due);
   text = p.0;
   part = [];
-  stops = stops_then ⊥ s s1 fault due [] p.0 [] p.2 stop;
+  stops = stops_then never s s1 fault due [] p.0 [] p.2 stop;
   front = p.0;
   appends = p.1;
   starts = subst (λ (z : List ℕ). StartsWith z p.0) (sym (append-nil p.0)) (starts_whole p.0);

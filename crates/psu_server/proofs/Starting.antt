@@ -138,51 +138,51 @@ fits_on image limit contents sound stands =
     rw (one, two) refl
 
 -- an image that represents contents powers on, unless a call failed or memory ran out
-stands_stops : (long : Type 0) (before now : ℕ) (rest : List Message) (last : World) (image left : List ℕ) (limit : ℕ) (contents : Contents) (cause : RunCause) → IsContents contents
-    → Represents image limit (items_of contents) → NotStarted image before now cause → StopsFor long before now (Message.Power ∷ rest) last left cause
-stands_stops long before now rest last image left limit contents (Open start.Device) sound stands why = (tt, why)
-stands_stops long before now rest last image left limit contents (Open start.NoRoot) sound stands why = absurd (represents_rooted image limit (items_of contents) stands why)
-stands_stops long before now rest last image left limit contents (Open start.BadRoot) sound stands why = absurd (why.represents_none limit (items_of contents) stands)
-stands_stops long before now rest last image left limit contents (Open start.BadVersion) sound stands why = absurd (represents_by_version image limit (items_of contents) stands why)
-stands_stops long before now rest last image left limit contents (Open start.BadItems) sound stands why =
+stands_stops : (by_input : RunCause → Type 0) (before now : ℕ) (rest : List Message) (last : World) (image left : List ℕ) (limit : ℕ) (contents : Contents) (cause : RunCause) → IsContents contents
+    → Represents image limit (items_of contents) → NotStarted image before now cause → StopsFor by_input before now (Message.Power ∷ rest) last left cause
+stands_stops by_input before now rest last image left limit contents (Open start.Device) sound stands why = (tt, why)
+stands_stops by_input before now rest last image left limit contents (Open start.NoRoot) sound stands why = absurd (represents_rooted image limit (items_of contents) stands why)
+stands_stops by_input before now rest last image left limit contents (Open start.BadRoot) sound stands why = absurd (why.represents_none limit (items_of contents) stands)
+stands_stops by_input before now rest last image left limit contents (Open start.BadVersion) sound stands why = absurd (represents_by_version image limit (items_of contents) stands why)
+stands_stops by_input before now rest last image left limit contents (Open start.BadItems) sound stands why =
     let one = represents_one limit why.limit (items_of contents) why.map image stands why.stands in
     absurd (why.none contents sound (subst (λ (n : ℕ). fits n contents ≡ true) one.0 (fits_on image limit contents sound stands)) one.1)
-stands_stops long before now rest last image left limit contents Read sound stands why = tt
-stands_stops long before now rest last image left limit contents Write sound stands why = tt
-stands_stops long before now rest last image left limit contents Device sound stands why = absurd why
-stands_stops long before now rest last image left limit contents TooLong sound stands why = absurd why
-stands_stops long before now rest last image left limit contents Memory sound stands why = tt
+stands_stops by_input before now rest last image left limit contents Read sound stands why = absurd why
+stands_stops by_input before now rest last image left limit contents Write sound stands why = tt
+stands_stops by_input before now rest last image left limit contents Device sound stands why = absurd why
+stands_stops by_input before now rest last image left limit contents TooLong sound stands why = absurd why
+stands_stops by_input before now rest last image left limit contents Memory sound stands why = tt
 
 -- a reason that holds since a later moment holds since an earlier one
-pub stops_since : (long : Type 0) (since before now : ℕ) (rest : List Message) (last : World) (left : List ℕ) (cause : RunCause) → since ≤ before → StopsFor long before now rest last left cause
-    → StopsFor long since now rest last left cause
-stops_since long since before now rest last left (Open start.Device) later why = (why.0, failed_before since before now later why.1)
-stops_since long since before now rest last left (Open start.NoRoot) later why = why
-stops_since long since before now rest last left (Open start.BadRoot) later why = why
-stops_since long since before now rest last left (Open start.BadVersion) later why = why
-stops_since long since before now rest last left (Open start.BadItems) later why = why
-stops_since long since before now rest last left Device later why = ⊎_elim (λ f. inl (failed_before since before now later f)) inr why
-stops_since long since before now rest last left Read later why = why
-stops_since long since before now rest last left Write later why = why
-stops_since long since before now rest last left TooLong later why = why
-stops_since long since before now rest last left Memory later why = why
+pub stops_since : (by_input : RunCause → Type 0) (since before now : ℕ) (rest : List Message) (last : World) (left : List ℕ) (cause : RunCause) → since ≤ before → StopsFor by_input before now rest last left cause
+    → StopsFor by_input since now rest last left cause
+stops_since by_input since before now rest last left (Open start.Device) later why = (why.0, failed_before since before now later why.1)
+stops_since by_input since before now rest last left (Open start.NoRoot) later why = why
+stops_since by_input since before now rest last left (Open start.BadRoot) later why = why
+stops_since by_input since before now rest last left (Open start.BadVersion) later why = why
+stops_since by_input since before now rest last left (Open start.BadItems) later why = why
+stops_since by_input since before now rest last left Device later why = ⊎_elim (λ f. inl (failed_before since before now later f)) inr why
+stops_since by_input since before now rest last left Read later why = why
+stops_since by_input since before now rest last left Write later why = why
+stops_since by_input since before now rest last left TooLong later why = why
+stops_since by_input since before now rest last left Memory later why = why
 
-pub restart_stops : (long : Type 0) (since before now : ℕ) (rest : List Message) (last : World) (disk : DiskState) (left : List ℕ) (cause : RunCause) (f : Flush) → since ≤ before → IsConsistent f
-    → EachRepresents disk f.limit f.before → NotStarted disk.bytes before now cause → StopsFor long since now (Message.Power ∷ rest) last left cause
-restart_stops long since before now rest last disk left cause f later c stands why =
-    stops_since long since before now (Message.Power ∷ rest) last left cause later
-    (stands_stops long before now rest last disk.bytes left f.limit c.first cause (sound_first f.limit c.first c.rest c.sound).sound (subst (λ (m : List Item). Represents disk.bytes f.limit m) c.first_map (stands disk.bytes (reads_left disk))) why)
+pub restart_stops : (by_input : RunCause → Type 0) (since before now : ℕ) (rest : List Message) (last : World) (disk : DiskState) (left : List ℕ) (cause : RunCause) (f : Flush) → since ≤ before → IsConsistent f
+    → EachRepresents disk f.limit f.before → NotStarted disk.bytes before now cause → StopsFor by_input since now (Message.Power ∷ rest) last left cause
+restart_stops by_input since before now rest last disk left cause f later c stands why =
+    stops_since by_input since before now (Message.Power ∷ rest) last left cause later
+    (stands_stops by_input before now rest last disk.bytes left f.limit c.first cause (sound_first f.limit c.first c.rest c.sound).sound (subst (λ (m : List Item). Represents disk.bytes f.limit m) c.first_map (stands disk.bytes (reads_left disk))) why)
 
 -- ---- a fault of the device, according to its disk
 
-pub halted_stops : {D A : Type 0} {G : Ghosts D} (long : Type 0) (old new : Exec D A G) (now : ℕ) (rest : List Message) (life : Life) (left : List ℕ) (cause told : RunCause) → told ≡ cause → now ≡ failures_of new
-    → (IsAtPower rest → ⊥) → IsHaltedBy old new cause → (new.device.flush.store ≡ Worn → IsWornOut left) → StopsFor long (failures_of old) now rest (world_of life new) left told
-halted_stops long old new now rest life left cause told is same plain why worn = subst (StopsFor long (failures_of old) now rest (world_of life new) left) (sym is) (by cause why) where
-  by : (cause : RunCause) → IsHaltedBy old new cause → StopsFor long (failures_of old) now rest (world_of life new) left cause
+pub halted_stops : {D A : Type 0} {G : Ghosts D} (by_input : RunCause → Type 0) (old new : Exec D A G) (now : ℕ) (rest : List Message) (life : Life) (left : List ℕ) (cause told : RunCause) → told ≡ cause → now ≡ failures_of new
+    → (IsAtPower rest → ⊥) → IsHaltedBy old new cause → (new.device.flush.store ≡ Worn → IsWornOut left) → StopsFor by_input (failures_of old) now rest (world_of life new) left told
+halted_stops by_input old new now rest life left cause told is same plain why worn = subst (StopsFor by_input (failures_of old) now rest (world_of life new) left) (sym is) (by cause why) where
+  by : (cause : RunCause) → IsHaltedBy old new cause → StopsFor by_input (failures_of old) now rest (world_of life new) left cause
   by Device w = ⊎_elim (λ f. inl (subst (λ (n : ℕ). HasFailed (failures_of old) n) (sym same) f)) (λ w. inr (plain, w.1, worn w.0)) w
   by Memory w = tt
   by (Open c) w = absurd w
-  by Read w = tt
+  by Read w = absurd w
   by Write w = tt
   by TooLong w = absurd w
 

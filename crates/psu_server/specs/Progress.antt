@@ -14,7 +14,7 @@ use Rattle.psu_server.specs.Lines.{Message}
 use Rattle.psu_server.specs.Lives.{Life, world_of, Calls, IsLeftBy, Reached}
 use Rattle.psu_server.specs.Moments.{IsBetween, IsNow, IsWhile, Leads, Since, disk_in}
 use Rattle.psu_server.specs.Output.{OutputState, Says, SaysUntil}
-use Rattle.psu_server.specs.Reasons.{IsHaltedBy, StopsFor}
+use Rattle.psu_server.specs.Reasons.{IsHaltedBy, StopsFor, never}
 use Rattle.psu_server.specs.Runs.{Mishaps, Acts, Begins, Flushes, NextBegins, Runs}
 use Rattle.psu_server.specs.Within.{Within}
 use Rattle.psu_server.specs.declared.run_cause.RunCause.{RunCause}
@@ -85,22 +85,22 @@ pub record RunsOn {D A : Type 0} {G : Ghosts D} (old new : Exec D A G) (done : L
 
 -- A run ended early, for a reason: the first of these messages may have begun, and `part` is what was to be output of
 -- it.
-pub record RunEndsHere {D A : Type 0} {G : Ghosts D} (long : Type 0) (old : Exec D A G) (fault : RunFault D) (rest : List Message) (part : List ℕ) : Type 0 where
+pub record RunEndsHere {D A : Type 0} {G : Ghosts D} (by_input : RunCause → Type 0) (old : Exec D A G) (fault : RunFault D) (rest : List Message) (part : List ℕ) : Type 0 where
   pub hands : HandsBack old fault.disk
   pub stops : Ghosts.honest G → IsWornAtLast old → (life : Life) → (last : World)
       × Within (failures_of old) (Ghosts.failures G fault.disk) (λ can. NextBegins can (world_of life old) rest part last)
       × IsLeftBy last (Ghosts.state G fault.disk)
-      × StopsFor long (failures_of old) (Ghosts.failures G fault.disk) rest last (Ghosts.state G fault.disk).bytes fault.cause
+      × StopsFor by_input (failures_of old) (Ghosts.failures G fault.disk) rest last (Ghosts.state G fault.disk).bytes fault.cause
       × EachMoment life old (Some fault.disk) rest
 
 -- A run ended early, for a reason: these messages were executed, and of those after them the first may have begun.
-pub record RunEnds {D A : Type 0} {G : Ghosts D} (long : Type 0) (old : Exec D A G) (fault : RunFault D) (done rest : List Message) (text part : List ℕ) : Type 0 where
+pub record RunEnds {D A : Type 0} {G : Ghosts D} (by_input : RunCause → Type 0) (old : Exec D A G) (fault : RunFault D) (done rest : List Message) (text part : List ℕ) : Type 0 where
   pub hands : HandsBack old fault.disk
   pub stops : Ghosts.honest G → IsWornAtLast old → (life : Life) → (mid : World) × (last : World) × (count : ℕ)
       × Within (failures_of old) count (λ can. Runs can (world_of life old) done text mid)
       × Within count (Ghosts.failures G fault.disk) (λ can. NextBegins can mid rest part last)
       × IsLeftBy last (Ghosts.state G fault.disk)
-      × StopsFor long count (Ghosts.failures G fault.disk) rest last (Ghosts.state G fault.disk).bytes fault.cause
+      × StopsFor by_input count (Ghosts.failures G fault.disk) rest last (Ghosts.state G fault.disk).bytes fault.cause
       × EachMoment life old (Some fault.disk) (done ++ rest)
 
 -- The messages due before the piece are those that end in it, and those due after it. The former were executed, and
@@ -115,7 +115,7 @@ Fed before piece after old new output now =
 abbrev pub Stopped : {D A : Type 0} {G : Ghosts D} → (List ℕ → List Message) → List ℕ → Exec D A G → RunFault D → OutputState → OutputState → Type 0
 Stopped before piece old fault output now =
     (done : List Message) × (text : List ℕ) × (part : List ℕ) × SaysUntil fault.cause output now (text ++ part)
-    × ((input : List ℕ) → (rest : List Message) × (before (piece ++ input) ≡ done ++ rest) × RunEnds ⊥ old fault done rest text part)
+    × ((input : List ℕ) → (rest : List Message) × (before (piece ++ input) ≡ done ++ rest) × RunEnds never old fault done rest text part)
 
 -- the messages that end in the piece were executed, and the writer gained their text
 abbrev pub Answered : {D A : Type 0} {G : Ghosts D} → (List ℕ → List Message) → List ℕ → (List ℕ → List Message) → Exec D A G → Exec D A G → Option (List ℕ) → Option (List ℕ) → Type 0
@@ -131,13 +131,13 @@ Answers due old new old_written new_written =
 
 -- A run ended early. The output of the executed messages is written, and what was output of the next one; where the
 -- writer failed, a proper prefix of that.
-pub record EndsEarly {D A : Type 0} {G : Ghosts D} (long : Type 0) (old : Exec D A G) (fault : RunFault D) (due : List Message) (old_written new_written : Option (List ℕ)) : Type 0 where
+pub record EndsEarly {D A : Type 0} {G : Ghosts D} (by_input : RunCause → Type 0) (old : Exec D A G) (fault : RunFault D) (due : List Message) (old_written new_written : Option (List ℕ)) : Type 0 where
   pub done : List Message
   pub rest : List Message
   pub is : due ≡ done ++ rest
   pub text : List ℕ
   pub part : List ℕ
-  pub stops : RunEnds long old fault done rest text part
+  pub stops : RunEnds by_input old fault done rest text part
   pub front : List ℕ
   pub appends : Appends old_written new_written front
   pub starts : StartsWith (text ++ part) front

@@ -52,9 +52,9 @@ pub record DoesNotStart (cause : RunCause) (old_count new_count : ℕ) (old_rest
 -- next one. Their text and the output of the next one are written, except where the writer failed: then some of that is
 -- missing. Each possible crash image of the disk represents the contents after a prefix of all these units that
 -- contains every unit before a `*OPC?` that was answered. It ended for a reason, which arose at the message that was
--- not executed; `long` says that the input is too long. Events lead through all of it, and on to the disk that is
+-- not executed; `by_input` says which causes the input gives. Events lead through all of it, and on to the disk that is
 -- returned.
-pub record WritesFirst (long : Type 0) (cause : RunCause) (image : List ℕ) (input : Option (List ℕ)) (old_count new_count : ℕ) (old_written new_written : Option (List ℕ)) (disk : DiskState) : Type 0 where
+pub record WritesFirst (by_input : RunCause → Type 0) (cause : RunCause) (image : List ℕ) (input : Option (List ℕ)) (old_count new_count : ℕ) (old_written new_written : Option (List ℕ)) (disk : DiskState) : Type 0 where
   pub first : World
   pub starts : PowersOn image first
   pub done : List Message
@@ -75,7 +75,7 @@ pub record WritesFirst (long : Type 0) (cause : RunCause) (image : List ℕ) (in
   pub part : List ℕ
   pub last : World
   pub begun : NextBegins gone_then mid rest part last
-  pub why : StopsFor long count new_count rest last disk.bytes cause
+  pub why : StopsFor by_input count new_count rest last disk.bytes cause
   -- what is written
   pub front : List ℕ
   pub written : Appends old_written new_written front

@@ -7,6 +7,7 @@ ghost use Rattle.psu_server.specs.Lines.{Asks, Message, coming, is_power, messag
 ghost use Rattle.psu_server.specs.Output.{Says, SaysUntil, held, output_state};
 ghost use Rattle.psu_server.specs.Progress.{Breaks, Fed, Continues, RunsOn, Stopped, RunEndsHere};
 ghost use Rattle.psu_server.specs.Runs.{LineBegins, LineRuns, MessageBegins};
+ghost use Rattle.psu_server.specs.Reasons.{never};
 
 use crate::console::Console;
 use crate::halted::Halted;
@@ -27,7 +28,7 @@ fn restart_device<D: Disk, A: Allocator + Copy>(
     powered: PoweredDevice<D, A>,
 ) -> Result<PoweredDevice<D, A>, RunFault<D>>
     ensures runs { IfOk result (λ p. RunsOn powered.exec p.exec (Message.Power ∷ []) []) }
-    ensures stops { IfErr result (λ f. (rest : List Message) → RunEndsHere ⊥ powered.exec f (Message.Power ∷ rest) []) }
+    ensures stops { IfErr result (λ f. (rest : List Message) → RunEndsHere never powered.exec f (Message.Power ∷ rest) []) }
     ensures other { IfErr result (λ f. f.cause ≢ RunCause.Write) }
 {
     let mut powered = powered;
@@ -46,7 +47,7 @@ pub fn restart<D: Disk, A: Allocator + Copy>(
     run_state: RunState<D, A>,
 ) -> Result<RunState<D, A>, Halted<D, A>>
     ensures runs { IfOk result (λ d. RunsOn run_state.powered.exec d.powered.exec (Message.Power ∷ []) []) }
-    ensures stops { IfErr result (λ h. (rest : List Message) → RunEndsHere ⊥ run_state.powered.exec h.fault (Message.Power ∷ rest) []) }
+    ensures stops { IfErr result (λ h. (rest : List Message) → RunEndsHere never run_state.powered.exec h.fault (Message.Power ∷ rest) []) }
     ensures other { IfErr result (λ h. h.fault.cause ≢ RunCause.Write) }
     ensures output { IfOk result (λ d. d.unwritten ≡ run_state.unwritten) }
     ensures output_then { IfErr result (λ h. h.unwritten ≡ run_state.unwritten) }

@@ -1,4 +1,5 @@
 use Rattle.std.proofs.Common.{◌∙◌, ◌++◌, ◌∷◌, ◌+◌, arith, drop, false, refl, [], ap, subst, sym}
+use Rattle.psu_server.specs.Reasons.{never}
 use Rattle.psu_server.specs.Lines.{Message, coming, message_now}
 use Rattle.psu_server.specs.Output.{output_state}
 use Rattle.psu_server.specs.Progress.{RunEndsHere}
@@ -29,7 +30,7 @@ returns-in_default-extend-clause-stopped g c =
     rw c.fault.ensures.unwritten (feed_stops (coming c.args.lines.now.is_too_long c.args.lines.now.line.items) (coming c.loop-at.lines.is_too_long c.loop-at.lines.line.items) c.args.piece.now c.loop-at.rest.now
     c.args.run_state.powered.exec c.loop-at.run_state.powered.exec fault _ _ _ [] c.loop-at.invariant.fed
     (until_none fault.cause (output_state (g.W.Write.contents c.loop-at.writer) c.loop-at.run_state.unwritten) (not_write fault.cause f.cause))
-    (λ input. stops_now ⊥ c.loop-at.run_state.powered.exec fault _ Memory (record { cause_is = f.cause; failures = f.failures; extent = f.extent; state = f.state; reason = f.reason; disk = f.same }) (λ last. tt)))
+    (λ input. stops_now never c.loop-at.run_state.powered.exec fault _ Memory (record { cause_is = f.cause; failures = f.failures; extent = f.extent; state = f.state; reason = f.reason; disk = f.same }) (λ last. tt)))
 
 pub returns-in_default-extend-2-clause-stopped : goal.returns-in_default-extend-2-clause-stopped
 returns-in_default-extend-2-clause-stopped g c =
@@ -38,7 +39,7 @@ returns-in_default-extend-2-clause-stopped g c =
     rw c.fault-in_default-extend-2.ensures.unwritten (feed_stops (coming c.args.lines.now.is_too_long c.args.lines.now.line.items) (coming c.loop-at.lines.is_too_long c.loop-at.lines.line.items) c.args.piece.now c.loop-at.rest.now
     c.args.run_state.powered.exec c.loop-at.run_state.powered.exec fault _ _ _ [] c.loop-at.invariant.fed
     (until_none fault.cause (output_state (g.W.Write.contents c.loop-at.writer) c.loop-at.run_state.unwritten) (not_write fault.cause f.cause))
-    (λ input. stops_now ⊥ c.loop-at.run_state.powered.exec fault _ Memory (record { cause_is = f.cause; failures = f.failures; extent = f.extent; state = f.state; reason = f.reason; disk = f.same }) (λ last. tt)))
+    (λ input. stops_now never c.loop-at.run_state.powered.exec fault _ Memory (record { cause_is = f.cause; failures = f.failures; extent = f.extent; state = f.state; reason = f.reason; disk = f.same }) (λ last. tt)))
 
 pub returns-in_err-run_state-clause-stopped : goal.returns-in_err-run_state-clause-stopped
 returns-in_err-run_state-clause-stopped g c =
@@ -51,7 +52,7 @@ returns-in_err-run_state-clause-stopped g c =
     (rw c.in_err-run_state.ensures.output_then (feed_stops (coming c.args.lines.now.is_too_long c.args.lines.now.line.items) mid c.args.piece.now c.loop-at.rest.now
     c.args.run_state.powered.exec c.loop-at.run_state.powered.exec fault _ _ _ [] c.loop-at.invariant.fed
     (until_none fault.cause (output_state (g.W.Write.contents c.loop-at.writer) c.loop-at.run_state.unwritten) c.in_err-run_state.ensures.other)
-    (λ input. subst (λ z. RunEndsHere ⊥ c.loop-at.run_state.powered.exec fault z [])
+    (λ input. subst (λ z. RunEndsHere never c.loop-at.run_state.powered.exec fault z [])
     (sym (line_first mid c.loop-at.rest.now c.in-Some.at over line input c.in-Some.ensures c.in-Ok.ensures c.extend.new.self.free ∙ ap (λ (m : Message). m ∷ coming false [] (drop (c.in-Some.at + 1) c.loop-at.rest.now ++ input)) power))
     (c.in_err-run_state.ensures.stops (coming false [] (drop (c.in-Some.at + 1) c.loop-at.rest.now ++ input))))))
 
@@ -65,7 +66,7 @@ returns-in-Err-clause-stopped g c =
     let s = c.in-Err.ensures.breaks in
     rw c.fault-in-Err.ensures.unwritten (feed_stops (coming c.args.lines.now.is_too_long c.args.lines.now.line.items) mid c.args.piece.now c.loop-at.rest.now c.args.run_state.powered.exec c.loop-at.run_state.powered.exec fault _ _ _ s.0 c.loop-at.invariant.fed
     (until_for fault.cause c.in-Err.cause _ _ s.0 f.cause s.1)
-    (λ input. subst (λ z. RunEndsHere ⊥ c.loop-at.run_state.powered.exec fault z s.0)
+    (λ input. subst (λ z. RunEndsHere never c.loop-at.run_state.powered.exec fault z s.0)
     (sym (line_first mid c.loop-at.rest.now c.in-Some.at over line input c.in-Some.ensures c.in-Ok.ensures c.extend.new.self.free))
     (broken_stop c.loop-at.run_state.powered.exec c.answer_line.new.run_state.powered.exec fault (message_now over line) (coming false [] (drop (c.in-Some.at + 1) c.loop-at.rest.now ++ input)) s.0 c.in-Err.cause s.2
     (record { cause_is = f.cause; failures = f.failures; extent = f.extent; state = f.state; reason = f.reason; disk = f.same }) (sym c.is_power.ensures ∙ c.if-is_power.false))))
