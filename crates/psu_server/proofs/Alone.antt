@@ -10,12 +10,13 @@ use Rattle.psu_lex.specs.declared.scpi_error.ScpiError.{ScpiError}
 use Rattle.psu_instrument.specs.Macros.{CallGives, ExpandsAt, written}
 use Rattle.psu_tree.specs.declared.unit_request.Request.{Request}
 use Rattle.psu_exec.specs.declared.condition.Condition.TheVariants.{Whole}
-use Rattle.psu_exec.specs.Device.{Reply, Done, Answer, Error, Expand, Parked, Held, Later, State, Flush, AnswersCall, MayAnswer, RunGives, LockedOut, TooEarly, Runs, Expands, Means, answer_call, after_unit, called, count_held, target, wait_of}
+use Rattle.psu_exec.specs.Device.{Reply, Done, Answer, Error, Expand, Parked, Held, Later, State, Flush, AnswersCall, MayAnswer, LockedOut, TooEarly, Runs, Expands, Means, answer_call, after_unit, count_held, target, wait_of}
 use Rattle.psu_exec.specs.Calls.{JobData, JobEnd, JobKind, Commit, Stored, Unstarted, Failed, Reopened, Job, Executed, Settled, Took, GaveBack, HasNone, HasWork, ends_wait, job_out, kind_for, stored, with_stored, settle_answer, after_settle, settled, unparked, wait_less}
 use Rattle.psu_exec.specs.World.{World}
 use Rattle.psu_exec.proofs.Denied.{later_leaves}
 use Rattle.psu_server.specs.Lives.{Calls}
-use Rattle.psu_server.specs.Script.{Rest, UnitOutcome, Replies, RepliesCalled, RepliesNow, HasOutcome, HasOutcomeFrom, flushed_by, flushed, waited, after_reply}
+use Rattle.psu_server.specs.Script as script
+use Rattle.psu_server.specs.Script.{Rest, UnitOutcome, Replies, Early, ByMacro, ByMeaning, HasOutcome, HasOutcomeFrom, flushed_by, flushed, waited, after_reply}
 use Rattle.psu_server.specs.Runs.{none, JobDone, Jobs, Flushes, IsMeant, IsSound, EndsJob, is_later, Acts, UnitRuns, is_final}
 use Rattle.psu_server.proofs.JobEnds.{no_wait_after}
 use Rattle.psu_server.proofs.Scripts.{Holds}
@@ -148,8 +149,8 @@ calm_given inside body args o (Ok text) is g m = g
 calm_given inside body args o (Err error) is (inl short) m = let bad = m (is ∙ ap (λ (e : ScpiError). (let r : Reply = Error e in r)) short.0) in cc
 calm_given inside body args o (Err error) is (inr g) m = g
 
-calm_call : (s : State) (c : Request) (o : Reply) → Holds c → (body : List ℕ) → AnswersCall c body o → IsMeant none o → RepliesCalled s c (Some body) o
-calm_call s c o holds body h m = record {
+calm_call : (c : Request) (o : Reply) → Holds c → (body : List ℕ) → AnswersCall c body o → IsMeant none o → script.Expands c body o
+calm_call c o holds body h m = record {
   parameters = holds.0;
   holds = holds.1;
   given = h.given;
@@ -157,16 +158,13 @@ calm_call s c o holds body h m = record {
   is = h.is;
 }
 
-calm_run : (s : State) (c : Request) (o : Reply) → Holds c → RunGives s 1 c o → IsMeant none o → RepliesCalled s c (called s c) o
-calm_run s c o holds (Expands body is call) m = subst (λ (z : Option (List ℕ)). RepliesCalled s c z o) (sym is) (calm_call s c o holds body call m)
-calm_run s c o holds (Means no_call (inl e)) m = subst (λ (z : Option (List ℕ)). RepliesCalled s c z o) (sym no_call) e
-calm_run s c o holds (Means no_call (inr e)) m = let bad = m e.0 in cc
-
 -- no lock denies the one session
 calm_answer : (s : State) (c : Request) (o : Reply) → Holds c → MayAnswer s 1 c o → o ≢ Held → IsMeant none o → Replies s c o
 calm_answer s c o holds (LockedOut denied) not_held m = absurd (not_held refl)
-calm_answer s c o holds (TooEarly free late) not_held m = subst (λ (b : Bool). RepliesNow b s c o) (sym late) refl
-calm_answer s c o holds (Runs run gives) not_held m = subst (λ (b : Bool). RepliesNow b s c o) (sym run.due) (calm_run s c o holds gives m)
+calm_answer s c o holds (TooEarly free late) not_held m = Early late
+calm_answer s c o holds (Runs run (Expands body is call)) not_held m = ByMacro run.due body is (calm_call c o holds body call m)
+calm_answer s c o holds (Runs run (Means no_call (inl e))) not_held m = ByMeaning run.due no_call e
+calm_answer s c o holds (Runs run (Means no_call (inr e))) not_held m = let bad = m e.0 in cc
 
 -- a unit is answered as the script says
 calm_reply : (r : Rest) (s : State) (c : Request) (o : Reply) → s ≡ r.state → Holds c → MayAnswer s 1 c o → o ≢ Held → IsMeant none o → Replies r.state c o

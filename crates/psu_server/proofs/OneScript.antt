@@ -9,7 +9,7 @@ use Rattle.psu_instrument.specs.Macros.{ExpandsAt, body_called, written}
 use Rattle.psu_answers.specs.Response.{response}
 use Rattle.psu_exec.specs.Device.{Reply, Done, Answer, Error, Expand, Parked, Held, Later, State, answer_call, answer_meant, called, here, is_late, is_later, meant, reads_nonvolatile, wait_of}
 use Rattle.psu_server.specs.Lines.{Message}
-use Rattle.psu_server.specs.Script.{Rest, UnitOutcome, Spoken, MessageOutcome, Expands, RepliesCalled, RepliesNow, Replies, HasOutcomeFrom, HasOutcome, SpeaksInside, SpeaksReply, Speaks, HasMessageOutcome, Scripted, after_reply, flushed, with_answer}
+use Rattle.psu_server.specs.Script.{Rest, UnitOutcome, Spoken, MessageOutcome, Expands, Replies, Early, ByMacro, ByMeaning, HasOutcomeFrom, HasOutcome, SpeaksInside, SpeaksReply, Speaks, HasMessageOutcome, Scripted, after_reply, flushed, with_answer}
 use Rattle.psu_server.proofs.Scripts.{Alike, Ones, Same, one_asked, one_asking}
 
 -- no body has two expansions
@@ -29,23 +29,25 @@ one_call one a b same body x y p q =
     = subst (λ (z : Bool). ExpandsAt z body (written p.parameters) q.given) (sym same.place) (subst (λ (z : List Datum). ExpandsAt b.inside body (written z) q.given) listed q.gives) in
     p.is ∙ ap answer_call (one_given one a.inside body (written p.parameters) p.given q.given p.gives gives) ∙ sym q.is
 
-one_called : OneExpansion → (s : State) (a b : Request) → Same a b → (body : Option (List ℕ)) (x y : Reply) → RepliesCalled s a body x → RepliesCalled s b body y → x ≡ y
-one_called one s a b same None x y p q = p ∙ ap (λ (z : Result Command ScpiError). answer_meant s.flush (meant (here s 1) z)) same.reading ∙ sym q
-one_called one s a b same (Some body) x y p q = one_call one a b same body x y p q
-
 called_same : (s : State) (a b : Request) → Same a b → called s b ≡ called s a
 called_same s a b same = ap (λ (z : Option (List ℕ)). body_called s.volatile.instrument s.flush.contents.macros z) (sym same.label)
-
-one_now : OneExpansion → (s : State) (a b : Request) → Same a b → (late : Bool) (x y : Reply) → RepliesNow late s a x → RepliesNow late s b y → x ≡ y
-one_now one s a b same true x y p q = p ∙ sym q
-one_now one s a b same false x y p q = one_called one s a b same (called s a) x y p (subst (λ (z : Option (List ℕ)). RepliesCalled s b z y) (called_same s a b same) q)
 
 later_same_unit : (s : State) (a b : Request) → Same a b → is_later s 1 b ≡ is_later s 1 a
 later_same_unit s a b same =
     ap (λ (z : Result Command ScpiError). is_late (wait_of s.flush 1) s.flush.unflushed (reads_nonvolatile z (is_none s.flush.contents.enables))) (sym same.reading)
 
 one_reply : OneExpansion → (s : State) (a b : Request) → Same a b → (x y : Reply) → Replies s a x → Replies s b y → x ≡ y
-one_reply one s a b same x y p q = one_now one s a b same (is_later s 1 a) x y p (subst (λ (z : Bool). RepliesNow z s b y) (later_same_unit s a b same) q)
+one_reply one s a b same x y (Early p) (Early q) = refl
+one_reply one s a b same x y (Early p) (ByMacro q body g h) = let bad = sym p ∙ sym (later_same_unit s a b same) ∙ q in cc
+one_reply one s a b same x y (Early p) (ByMeaning q g h) = let bad = sym p ∙ sym (later_same_unit s a b same) ∙ q in cc
+one_reply one s a b same x y (ByMacro p body f e) (Early q) = let bad = sym p ∙ sym (later_same_unit s a b same) ∙ q in cc
+one_reply one s a b same x y (ByMacro p body f e) (ByMacro q other g h) =
+    let both : Some body ≡ Some other = sym f ∙ sym (called_same s a b same) ∙ g in
+    let is : other ≡ body = cc (both) in one_call one a b same body x y e (subst (λ (z : List ℕ). Expands b z y) is h)
+one_reply one s a b same x y (ByMacro p body f e) (ByMeaning q g h) = let bad = sym f ∙ sym (called_same s a b same) ∙ g in cc
+one_reply one s a b same x y (ByMeaning p f e) (Early q) = let bad = sym p ∙ sym (later_same_unit s a b same) ∙ q in cc
+one_reply one s a b same x y (ByMeaning p f e) (ByMacro q body g h) = let bad = sym f ∙ sym (called_same s a b same) ∙ g in cc
+one_reply one s a b same x y (ByMeaning p f e) (ByMeaning q g h) = e ∙ ap (λ (z : Result Command ScpiError). answer_meant s.flush (meant (here s 1) z)) same.reading ∙ sym h
 
 -- ---- units
 

@@ -8,7 +8,7 @@ use Rattle.psu_instrument.specs.Macros.{ExpandsAt, written}
 use Rattle.psu_answers.specs.Response.{response}
 use Rattle.psu_exec.specs.Device.{Reply, Done, Answer, Error, Expand, Parked, Held, Later, State, answer_call, answer_meant, called, here, is_later, meant}
 use Rattle.psu_server.specs.Lines.{Message}
-use Rattle.psu_server.specs.Script.{Rest, UnitOutcome, Spoken, MessageOutcome, RepliesCalled, RepliesNow, Replies, HasOutcomeFrom, HasOutcome, SpeaksInside, SpeaksReply, Speaks, HasMessageOutcome, Scripted, after_reply, flushed, restarted, with_answer}
+use Rattle.psu_server.specs.Script.{Rest, UnitOutcome, Spoken, MessageOutcome, Replies, Early, ByMacro, ByMeaning, HasOutcomeFrom, HasOutcome, SpeaksInside, SpeaksReply, Speaks, HasMessageOutcome, Scripted, after_reply, flushed, restarted, with_answer}
 use Rattle.psu_server.proofs.Readings.{SomeReading}
 use Rattle.psu_server.proofs.Scripts.{AllHold, Holds, SomeUnits, asked_hold, message_holds, some_asked, some_asking}
 
@@ -26,18 +26,17 @@ some_given : Somes → (inside : Bool) (body : List ℕ) (args : List (List ℕ)
 some_given some true body args = (Err MacroRecursionError, refl)
 some_given some false body args = some.expansion body args
 
-some_called : Somes → (s : State) (request : Request) → Holds request → (body : Option (List ℕ)) → (reply : Reply) × RepliesCalled s request body reply
-some_called some s request holds None = (answer_meant s.flush (meant (here s 1) request.reading), refl)
-some_called some s request holds (Some body) =
+some_run : Somes → (s : State) (request : Request) → Holds request → is_later s 1 request ≡ false → (body : Option (List ℕ)) → called s request ≡ body → (reply : Reply) × Replies s request reply
+some_run some s request holds due None is = (answer_meant s.flush (meant (here s 1) request.reading), ByMeaning due is refl)
+some_run some s request holds due (Some body) is =
     let given = some_given some request.inside body (written holds.0) in
-    (answer_call given.0, record { parameters = holds.0; holds = holds.1; given = given.0; gives = given.1; is = refl })
-
-some_now : Somes → (s : State) (request : Request) → Holds request → (late : Bool) → (reply : Reply) × RepliesNow late s request reply
-some_now some s request holds true = (Later, refl)
-some_now some s request holds false = some_called some s request holds (called s request)
+    (answer_call given.0, ByMacro due body is (record { parameters = holds.0; holds = holds.1; given = given.0; gives = given.1; is = refl }))
 
 some_reply : Somes → (s : State) (request : Request) → Holds request → (reply : Reply) × Replies s request reply
-some_reply some s request holds = some_now some s request holds (is_later s 1 request)
+some_reply some s request holds = at (is_later s 1 request) refl where
+  at : (late : Bool) → is_later s 1 request ≡ late → (reply : Reply) × Replies s request reply
+  at true is = (Later, Early is)
+  at false is = some_run some s request holds is (called s request) refl
 
 some_from : Somes → (r : Rest) (request : Request) → Holds request → (reply : Reply) → (went : UnitOutcome) × HasOutcomeFrom r request reply went
 some_from some r request holds Later =

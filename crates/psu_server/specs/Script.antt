@@ -61,18 +61,12 @@ pub record Expands (request : Request) (body : List ℕ) (reply : Reply) : Type 
   pub gives : ExpandsAt request.inside body (written parameters) given
   pub is : reply ≡ answer_call given
 
--- a macro call takes precedence over what the unit reads as
-abbrev pub RepliesCalled : State → Request → Option (List ℕ) → Reply → Type 0
-RepliesCalled s request None reply = reply ≡ answer_meant s.flush (meant (here s 1) request.reading)
-RepliesCalled s request (Some body) reply = Expands request body reply
-
-abbrev pub RepliesNow : Bool → State → Request → Reply → Type 0
-RepliesNow true s request reply = reply ≡ Later
-RepliesNow false s request reply = RepliesCalled s request (called s request) reply
-
--- the reply to a unit where no memory is refused
-abbrev pub Replies : State → Request → Reply → Type 0
-Replies s request reply = RepliesNow (is_later s 1 request) s request reply
+-- The reply to a unit where no memory is refused: that it is too early comes first, then the macro that it calls, then
+-- what it reads as.
+pub data Replies (s : State) (request : Request) : Reply → Type 0 where
+  Early : is_later s 1 request ≡ true → Replies s request Later
+  ByMacro : {reply : Reply} → is_later s 1 request ≡ false → (body : List ℕ) → called s request ≡ Some body → Expands request body reply → Replies s request reply
+  ByMeaning : {reply : Reply} → is_later s 1 request ≡ false → called s request ≡ None → reply ≡ answer_meant s.flush (meant (here s 1) request.reading) → Replies s request reply
 
 -- a unit whose reply is `Later` is executed after a flush
 abbrev pub HasOutcomeFrom : Rest → Request → Reply → UnitOutcome → Type 0
