@@ -178,29 +178,19 @@ fn go_with_little_memory(rt: &impl Abort, alloc: Global, cases: &str) {
     }
 }
 
-// An answer that is refused sets EXE (16) in addition to PON (128), and status byte bit 2 (4).
+// An answer of at most 16 bytes is never refused: the lines end as they do with ample memory, or the run ends.
 const ANSWERS: &str = "
 before: *PSC 0;*SRE 32;*ESE 128;*OPC? / !POWER
 told before: 1
 line: *STB?;*ESR?;*STB?
 then: SYST:ERR:COUN?
 - 1 / 96;128;0 / 0
-- 1 / 96;128 / 1
-- 1 / 96;100 / 1
-- 1 / 96 / 2
-- 1 / 144;4 / 1
-- 1 / 144 / 2
-- 1 / 100 / 2
-- 1 / 3
 
 before: VOLT 5.25;*SAV 3;*OPC? / !POWER
 told before: 1
 line: VOLT?;*RCL 3;VOLT?
 then: SYST:ERR:COUN?;:VOLT?
 - 1 / 0.000;5.250 / 0;5.250
-- 1 / 0.000 / 1;5.250
-- 1 / 5.250 / 1;5.250
-- 1 / 2;5.250
 ";
 
 #[test]
@@ -218,7 +208,6 @@ line: MMEM:DATA "A",#13xyz;*OPC?
 then: SYST:ERR:COUN?;:MMEM:CAT?
 - 1 / 0;1024,1024,"A,BIN,3"
 - 1 / 1;0,2048
-- 2;0,2048
 "#;
 
 #[test]
@@ -231,22 +220,16 @@ const MACROS: &str = r#"
 line: *DMC "SETA",#17VOLT $1;*EMC 1;SETA 3;VOLT?
 then: SYST:ERR:COUN?;*LMC?;:VOLT?;:SYST:ERR?;:SYST:ERR?
 - 3.000 / 0;"SETA";3.000;0,"No error";0,"No error"
-- 1;"SETA";3.000;-225,"Out of memory";0,"No error"
 - 0.000 / 1;"SETA";0.000;-225,"Out of memory";0,"No error"
-- 2;"SETA";0.000;-225,"Out of memory";-225,"Out of memory"
 - 0.000 / 2;"";0.000;-225,"Out of memory";-113,"Undefined header"
-- 3;"";0.000;-225,"Out of memory";-113,"Undefined header"
 
 before: *DMC "SETA",#17VOLT $1;*EMC 1;SETA 3;VOLT?
 told before: 3.000
 line: *DMC "seta",#10;*LMC?;SYST:ERR?
 then: SYST:ERR:COUN?;*LMC?
 - 3.000 / "SETA";-277,"Macro redefinition not allowed" / 0;"SETA"
-- 3.000 / -277,"Macro redefinition not allowed" / 1;"SETA"
 - 3.000 / "SETA" / 2;"SETA"
-- 3.000 / 3;"SETA"
 - 3.000 / "SETA";-225,"Out of memory" / 0;"SETA"
-- 3.000 / -225,"Out of memory" / 1;"SETA"
 "#;
 
 #[test]
@@ -261,14 +244,12 @@ line: MMEM:DATA? "A";:MMEM:DEL "B"
 then: SYST:ERR?;:SYST:ERR:COUN?;:MMEM:CAT?
 - 1 / #13xyz / -256,"File name not found";0;1024,1024,"A,BIN,3"
 - 1 / #13xyz / -225,"Out of memory";0;1024,1024,"A,BIN,3"
-- 1 / -225,"Out of memory";1;1024,1024,"A,BIN,3"
 
 line: MMEM:STOR:STAT 0,"S";:MMEM:CAT?
 then: SYST:ERR:COUN?;:MMEM:CAT?
 - 1024,1024,"S,STAT,28" / 0;1024,1024,"S,STAT,28"
 - 1;1024,1024,"S,STAT,28"
 - 0,2048 / 1;0,2048
-- 2;0,2048
 "#;
 
 #[test]
