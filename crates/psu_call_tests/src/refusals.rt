@@ -1,12 +1,9 @@
-// Each allocation of a take and of a settle is refused: nothing has changed, and with memory both continue.
-ghost use Rattle.std.specs.Prelude.{◌≡◌, true};
-ghost use Rattle.psu_exec.specs.Device.{is_open};
-
+// Each allocation of a take is refused: nothing has changed, and with memory it continues. A settle needs none.
 use crate::holds::holds;
 use crate::plays::{LEAST, ends, image_of, played, plays, whole};
 use bumpalo::Bump;
 use psu_disk::Disk;
-use psu_exec::{Exec, Job, NoJob, Outcome, ScpiError, Session};
+use psu_exec::{Exec, Job, NoJob};
 use std::alloc::Allocator;
 use std::process::Abort;
 
@@ -131,57 +128,25 @@ fn each_allocation_of_a_take_refused(rt: HostRuntime) {
     holds(&rt, refused > 0 && refused < 64, &refused);
 }
 
-// Whether memory is refused for the answer of a wait that is over.
-fn is_unanswered<D: Disk, B: Allocator + Copy>(exec: &mut Exec<D, B>, session: Session) -> bool
-    requires { is_open exec.old.device session ≡ true }
-{
-    matches!(exec.settle(session), Outcome::Error(ScpiError::OutOfMemory))
-}
-
-// Whether memory is refused for the answer of the session with a number, whose wait is over.
-fn settle_is_refused<D: Disk, B: Allocator + Copy>(exec: &mut Exec<D, B>, number: u8) -> bool {
-    let Some(session) = Session::new(number) else {
-        return false;
-    };
-    if !exec.is_open(session) {
-        return false;
-    }
-    is_unanswered(exec, session)
-}
-
-// Checks that a wait stays over through two refusals, and is answered with memory.
-fn stays_over<D: Disk + Drop, B: Allocator + Copy, A: Allocator>(
-    rt: &impl Abort,
-    arena: &Bump<A>,
-    exec: &mut Exec<D, B>,
-) {
-    plays(rt, exec, "flush 1");
-    leave(rt, arena, 0);
-    for _ in 0..2 {
-        assert!(rt; settle_is_refused(exec, 1));
-    }
-    arena.set_allocation_limit(None);
-    plays(rt, exec, ANSWERED);
-}
-
-// Checks that a wait stays over on a device, which then ends.
-fn stays_over_with<D: Disk + Drop, B: Allocator + Copy, A: Allocator>(
+// Checks that a wait that is over is answered where no memory is left.
+fn is_answered<D: Disk + Drop, B: Allocator + Copy, A: Allocator>(
     rt: &impl Abort,
     arena: &Bump<A>,
     mut exec: Exec<D, B>,
 ) {
-    stays_over(rt, arena, &mut exec);
+    plays(rt, &mut exec, "flush 1");
+    leave(rt, arena, 0);
+    plays(rt, &mut exec, ANSWERED);
     whole(rt, exec);
 }
 
-// Checks that a wait stays over on a device of its own, whose memory is the arena's.
-fn stays_over_in<A: Allocator + Copy>(rt: &impl Abort, alloc: A, arena: &Bump<A>) {
+// Checks this on a device of its own, whose memory is the arena's.
+fn is_answered_in<A: Allocator + Copy>(rt: &impl Abort, alloc: A, arena: &Bump<A>) {
     let exec = played(rt, arena, image_of(rt, alloc, LEAST), WAITING);
-    stays_over_with(rt, arena, exec);
+    is_answered(rt, arena, exec);
 }
 
-// A wait that is over stays over while there is no memory for its answer.
 #[test]
-fn the_allocation_of_a_settle_refused(rt: HostRuntime) {
-    stays_over_in(&rt, rt.alloc(), &arena(&rt, rt.alloc()));
+fn a_settle_needs_no_memory(rt: HostRuntime) {
+    is_answered_in(&rt, rt.alloc(), &arena(&rt, rt.alloc()));
 }
