@@ -18,9 +18,11 @@ pub struct Refused {
     seal: Seal,
 }
 
-// The sign of an allocation that failed.
-fn refused() -> Refused {
-    Refused { seal: Seal }
+impl Refused {
+    // The sign of an allocation that failed.
+    fn new() -> Refused {
+        Refused { seal: Seal }
+    }
 }
 
 /// Splits a transmission into its units.
@@ -32,7 +34,7 @@ pub(crate) fn units_of<'a, A: Allocator + Copy>(
 {
     match split(alloc, bytes) {
         Ok(units) => Ok(units),
-        Err(_) => Err(refused()),
+        Err(_) => Err(Refused::new()),
     }
 }
 
@@ -47,7 +49,7 @@ pub(crate) fn append_to<A: Allocator + Copy>(
 {
     match buffer.append(answer) {
         Ok(()) => Ok(()),
-        Err(_) => Err(refused()),
+        Err(_) => Err(Refused::new()),
     }
 }
 
@@ -59,6 +61,6 @@ pub(crate) fn end<A: Allocator + Copy>(buffer: &mut ResponseBuffer<A>) -> Result
 {
     match buffer.end() {
         Ok(()) => Ok(()),
-        Err(_) => Err(refused()),
+        Err(_) => Err(Refused::new()),
     }
 }

@@ -28,7 +28,7 @@ loop-unit-preserved g c =
     let next = inside_at c.args.body.now _ c.as_slice-list.result.now c.split_at.result.0.now c.split_at.result.1.now c.place_of-at.result c.args.done.now c.loop-unit.unit-index _ c.pass_over.new.path c.loop-unit.path
     c.request_at-request.new.path c.request_at-request.result c.in-Ok.ensures c.as_slice-list.ensures c.split_at.ensures.front c.split_at.ensures.back within c.place_of-at.ensures
     c.pass_over.ensures c.loop-unit.invariant.path c.request_at-request.ensures c.loop-unit.done c.loop-unit.invariant.done in
-    let went = rw c.in_default-step.is at c.in_ok-step.ensures.advances in
+    let went = rw c.in_default.is at c.in_ok-step.ensures.advances in
     record {
       path = from_more true c.split_at.result.1.now c.place_of-at.result c.loop-unit.unit-index _ c.pass_over.new.path c.loop-unit.path c.request_at-request.new.path c.request_at-request.result within c.loop-unit.invariant.path c.request_at-request.ensures;
       done = omega (arith, c.loop-unit.invariant.done);

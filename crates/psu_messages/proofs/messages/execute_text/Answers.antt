@@ -41,7 +41,7 @@ loop-unit-preserved g c =
     let next : (c.args.progress.now.units + c.loop-unit.unit-index) + 1 ≡ c.args.progress.now.units + (c.loop-unit.unit-index + 1) = omega arith in
     record {
       path = from_more false c.split_at.result.1.now c.place_of-at.result c.loop-unit.unit-index _ c.pass_over.new.path c.loop-unit.path c.take_unit.new.path t.0 within c.loop-unit.invariant.path t.1;
-      units = c.in_ok-turn.ensures.units c.in_default-turn.is ∙ ap (λ (n : ℕ). n + 1) c.loop-unit.invariant.units ∙ next;
+      units = c.in_ok-turn.ensures.units c.in_default.is ∙ ap (λ (n : ℕ). n + 1) c.loop-unit.invariant.units ∙ next;
       advances = behind g.F.Executor.does (Text c.args.bytes.now) c.args.executor.now c.loop-unit.executor c.take_unit.new.executor _ _ _ c.loop-unit.invariant.advances (t.2 (Text c.args.bytes.now) asks);
     }
 
