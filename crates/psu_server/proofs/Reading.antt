@@ -152,14 +152,14 @@ brought_all (Some x) (Some y) None seen p q e = absurd q
 brought_all (Some x) (Some y) (Some z) seen p q e = ap messages (sym (p ∙ ap (λ (l : List ℕ). seen ++ l) (q ∙ e)))
 
 -- a run of the messages that the input brings ended early, or ran them all
-abbrev pub Early : {D A : Type 0} {G : Ghosts D} → Type 0 → Exec D A G → RunFault D → Option (List ℕ) → Option (List ℕ) → Option (List ℕ) → Type 0
+abbrev pub Early : {D A : Type 0} {G : Ghosts D} → (RunCause → Type 0) → Exec D A G → RunFault D → Option (List ℕ) → Option (List ℕ) → Option (List ℕ) → Type 0
 Early by_input s fault from u w = (due : List Message) × Brings from due × EndsEarly by_input s fault due u w
 
 abbrev pub Whole : {D A : Type 0} {G : Ghosts D} → Exec D A G → D → Option (List ℕ) → Option (List ℕ) → Option (List ℕ) → Type 0
 Whole s disk from u w = (due : List Message) × Brings from due × RanAll s due disk u w
 
 -- why a run ends before the messages to come
-abbrev pub Reason : {D A : Type 0} {G : Ghosts D} → Type 0 → Exec D A G → RunFault D → RunCause → Type 0
+abbrev pub Reason : {D A : Type 0} {G : Ghosts D} → (RunCause → Type 0) → Exec D A G → RunFault D → RunCause → Type 0
 Reason {D} {A} {G} by_input s fault cause = (rest : List Message) (last : World) → StopsFor by_input (failures_of s) (Ghosts.failures G fault.disk) rest last (Ghosts.state G fault.disk).bytes cause
 
 pub early_seen : {D A : Type 0} {G : Ghosts D} (by_input : RunCause → Type 0) (f mid : List ℕ → List Message) (seen input : List ℕ) (s s1 : Exec D A G) (fault : RunFault D) (u v w : Option (List ℕ))

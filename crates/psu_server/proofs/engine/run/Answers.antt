@@ -10,6 +10,7 @@ use Rattle.psu_items.specs.Finding.{IsOldOrSame}
 use Rattle.psu_exec.proofs.Moments.{keeps_map}
 use Rattle.psu_server.specs.Lives.{born}
 use Rattle.psu_server.specs.Moments.{IsOfRun}
+use Rattle.psu_server.specs.Reasons.{GivenByInput, never}
 use Rattle.psu_server.proofs.Outcomes.{early_moments, passed_disk, run_cause, run_early, run_moments, run_whole}
 use Rattle.psu_server.proofs.Reading.{early_unread}
 use Rattle.psu_server.proofs.engine.run.Goals as goal
@@ -24,7 +25,9 @@ returns-in-Err-clause-early g c = λ h. inl (record {
 
 pub returns-in-Err-clause-cause : goal.returns-in-Err-clause-cause
 returns-in-Err-clause-cause g c = λ h. ends_at_once (g.D.Disk.state c.args.disk).bytes (g.D.Disk.failures c.args.disk) (g.D.Disk.failures c.in-Err.fault.disk)
-    (g.D.Disk.state c.in-Err.fault.disk).bytes _ c.in-Err.fault.cause (c.in-Err.ensures.refused h)
+    (g.D.Disk.state c.in-Err.fault.disk).bytes
+    (GivenByInput (g.R.Source.remaining c.args.reader.now) (g.R.Source.remaining c.args.reader.now) (g.R.Source.reads c.args.reader.now) (g.R.Source.reads c.args.reader.now))
+    c.in-Err.fault.cause (c.in-Err.ensures.refused h)
 
 pub returns-in_default-clause-extent : goal.returns-in_default-clause-extent
 returns-in_default-clause-extent g c = c.fault.ensures.extent ∙ c.in-Ok.ensures.size
@@ -44,7 +47,9 @@ pub returns-in_default-clause-cause : goal.returns-in_default-clause-cause
 returns-in_default-clause-cause g c = λ h.
     let on = c.in-Ok.ensures in
     let f = c.fault.ensures in
-    run_cause _ (g.R.Source.remaining c.args.reader.now) _ _ (g.D.Disk.state c.args.disk).bytes c.in-Ok.powered.exec c.fault.result (g.D.Disk.failures c.args.disk) h (on.starts h) on.works on.last
+    run_cause
+    (GivenByInput (g.R.Source.remaining c.args.reader.now) (g.R.Source.remaining c.args.reader.now) (g.R.Source.reads c.args.reader.now) (g.R.Source.reads c.args.reader.now))
+    (g.R.Source.remaining c.args.reader.now) _ _ (g.D.Disk.state c.args.disk).bytes c.in-Ok.powered.exec c.fault.result (g.D.Disk.failures c.args.disk) h (on.starts h) on.works on.last
     (early_unread _ c.in-Ok.powered.exec c.fault.result (g.R.Source.remaining c.args.reader.now) (g.W.Write.contents c.args.writer.now) Memory
     (record { cause_is = f.cause; failures = f.failures; extent = f.extent; state = f.state; reason = f.reason; disk = f.same }) (λ e. cc) (λ rest last. tt))
 
@@ -92,8 +97,8 @@ returns-in_default-clause-time g c = λ h t.
     let on = c.in-Ok.ensures in
     let p = c.in-Ok.powered in
     let f = c.fault.ensures in
-    early_moments ⊥ (g.R.Source.remaining c.args.reader.now) _ _ c.args.disk p.exec c.fault.result h t (g.met.D.Disk.only_now t) (on.starts h) on.last (λ none. let bad = sym p.idle ∙ p.exec.away ∙ ap is_none none in cc) (on.time h t)
-    (early_unread ⊥ p.exec c.fault.result (g.R.Source.remaining c.args.reader.now) (g.W.Write.contents c.args.writer.now) Memory
+    early_moments never (g.R.Source.remaining c.args.reader.now) _ _ c.args.disk p.exec c.fault.result h t (g.met.D.Disk.only_now t) (on.starts h) on.last (λ none. let bad = sym p.idle ∙ p.exec.away ∙ ap is_none none in cc) (on.time h t)
+    (early_unread never p.exec c.fault.result (g.R.Source.remaining c.args.reader.now) (g.W.Write.contents c.args.writer.now) Memory
     (record { cause_is = f.cause; failures = f.failures; extent = f.extent; state = f.state; reason = f.reason; disk = f.same }) (λ e. cc) (λ rest last. tt))
 
 pub returns-in_err-disk-clause-time : goal.returns-in_err-disk-clause-time
