@@ -2,9 +2,8 @@
 use Rattle.std.specs.Prelude.{◌≡◌, ⊤, ℕ, List, [], length, None, Some}
 use Rattle.psu_disk.specs.Disk.{DiskState, IsCrashImage}
 use Rattle.psu_items.specs.Image.{EachRepresents, current_root, number_in}
-use Rattle.psu_server.specs.Input.{IsTooLong}
 use Rattle.psu_server.specs.Results.{WritesRun}
-use Rattle.psu_server.specs.Reasons.{EndsFor}
+use Rattle.psu_server.specs.Reasons.{EndsFor, GivenByInput}
 use Rattle.psu_server.specs.declared.run_cause.RunCause.{RunCause}
 use Rattle.psu_guide.specs.declared.play_fault.PlayFault.{PlayFault}
 use Rattle.psu_guide.specs.declared.play_fault.PlayFault.TheVariants.{Memory, Run}
@@ -30,7 +29,7 @@ pub record FailsWith (sent : List ℕ) (cause : RunCause) : Type 0 where
   pub is_new : IsNew disk
   pub left : List ℕ
   pub rest : List ℕ
-  pub why : EndsFor disk.bytes 0 0 left (IsTooLong (Some sent) (Some rest) None None) cause
+  pub why : EndsFor disk.bytes 0 0 left (GivenByInput (Some sent) (Some rest) None None) cause
 
 -- Why a new instrument cannot answer. A contract cannot see that an allocation failed.
 abbrev pub CannotAnswer : List ℕ → PlayFault → Type 0

@@ -1,7 +1,6 @@
 //! The responses of the instrument.
 ghost use Rattle.std.specs.Prelude.{IfErr, IfOk, IfSome, List, None, Some, [], ℕ};
-ghost use Rattle.psu_server.specs.Input.{IsTooLong};
-ghost use Rattle.psu_server.specs.Reasons.{EndsFor};
+ghost use Rattle.psu_server.specs.Reasons.{EndsFor, GivenByInput};
 ghost use Rattle.psu_server.specs.Results.{WritesRun};
 ghost use Rattle.psu_guide.specs.Plays.{CannotAnswer, IsNew, Plays};
 
@@ -39,7 +38,7 @@ fn written<D: Disk + Drop, A: Allocator + Copy>(
 ) -> Result<Vec<u8, A>, RunCause>
     ensures whole { D.honest → IfOk result (λ text. (over : D) × WritesRun (D.state disk).bytes (Some sent.now) (D.failures disk) (D.failures over) (Some []) (Some text.items) (D.state over)) }
     ensures early { D.honest → IfErr result (λ cause. (over : D) × (rest : List ℕ) × EndsFor (D.state disk).bytes (D.failures disk) (D.failures over) (D.state over).bytes
-        (IsTooLong (Some sent.now) (Some rest) None None) cause) }
+        (GivenByInput (Some sent.now) (Some rest) None None) cause) }
 {
     let mut reader = sent;
     let mut text = Vec::new(alloc);
