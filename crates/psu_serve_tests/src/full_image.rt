@@ -4,12 +4,14 @@ use psu_hosts::{plays, removed};
 use std::test::Fail;
 
 const ITEMS: &str = "
-# A hundred registers and 140 files of one byte, of two pages each, fill 480 pages; one more item does not fit. The first job is held until
-# all changes are made, so that there are two.
+# A hundred registers and 140 files of one byte, of two pages each, fill 480 pages; one more item does not fit. The first job has the first
+# save, and is held until all other changes are made, so that there are two.
 == full.image 48961 run 480
 1 joins
-1 says VOLT 1;\
-*SAV 0;*SAV 1;*SAV 2;*SAV 3;*SAV 4;*SAV 5;*SAV 6;*SAV 7;*SAV 8;*SAV 9;\
+1 says VOLT 1;*SAV 0
+flusher held
+1 says \
+*SAV 1;*SAV 2;*SAV 3;*SAV 4;*SAV 5;*SAV 6;*SAV 7;*SAV 8;*SAV 9;\
 *SAV 10;*SAV 11;*SAV 12;*SAV 13;*SAV 14;*SAV 15;*SAV 16;*SAV 17;*SAV 18;*SAV 19;\
 *SAV 20;*SAV 21;*SAV 22;*SAV 23;*SAV 24;*SAV 25;*SAV 26;*SAV 27;*SAV 28;*SAV 29;\
 *SAV 30;*SAV 31;*SAV 32;*SAV 33;*SAV 34;*SAV 35;*SAV 36;*SAV 37;*SAV 38;*SAV 39;\
@@ -48,7 +50,6 @@ DATA \"F225\",#11x;DATA \"F226\",#11x;DATA \"F227\",#11x;DATA \"F228\",#11x;DATA
 DATA \"F230\",#11x;DATA \"F231\",#11x;DATA \"F232\",#11x;DATA \"F233\",#11x;DATA \"F234\",#11x;\
 DATA \"F235\",#11x;DATA \"F236\",#11x;DATA \"F237\",#11x;DATA \"F238\",#11x;DATA \"F239\",#11x
 1 asks *ESR? -> 128
-flusher held
 flusher goes
 1 asks *OPC?;*PSC 0;:SYST:ERR? -> 1;-254,\"Media full\"
 1 asks MMEM:DATA \"G\",#10;:SYST:ERR? -> -254,\"Media full\"
